@@ -1,0 +1,26 @@
+PROGRAMS = icont
+PREFIX = /usr/local
+SOURCES = $(shell find crates -type f -not -path '*/out/*')
+
+.PHONY: all test install run clean
+
+all: $(PROGRAMS:%=bin/%)
+
+# A program is built by proving it, and by one run on the first example.
+bin/%: crates.txt examples/hello.icn $(SOURCES)
+	@mkdir -p bin
+	@echo "proving and building $* (the first time takes some minutes; bin/$*.log)"
+	@cd crates/$* && rt run -- ../../examples/hello.icn -x > ../../bin/$*.log 2>&1 || { tail -20 ../../bin/$*.log; exit 1; }
+	@cp crates/$*/out/$* $@
+
+test:
+	.ci/run
+
+install: all
+	install -d $(PREFIX)/bin && install $(PROGRAMS:%=bin/%) $(PREFIX)/bin
+
+run: all
+	@bin/icont $(FILE) -x
+
+clean:
+	rm -rf bin crates/*/out

@@ -1,0 +1,4 @@
+pub mod Stores
+pub mod SinkSteps
+pub mod ReaderSteps
+pub mod LineSteps

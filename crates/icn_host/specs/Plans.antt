@@ -1,0 +1,35 @@
+-- Which calls of an object in memory fail.
+use Rattle.std.specs.Prelude.{ℕ, ◌+◌, ◌-◌, ◌^◌, List, min, Contains}
+use Rattle.icn_host.specs.declared.failing.FailingCalls.{FailingCalls}
+use Rattle.icn_host.specs.declared.memory.MemSource.{MemSource}
+use Rattle.icn_host.specs.declared.memory.MemSink.{MemSink}
+use Rattle.icn_host.specs.declared.memory.MemFiles.{MemFiles}
+
+-- the numbers of the calls that fail, and the number of the next call
+pub record Plan : Type 0 where
+  pub failing : List ℕ
+  pub next : ℕ
+
+abbrev pub plan_of : FailingCalls → Plan
+plan_of calls = record { failing = calls.numbers.items; next = calls.next }
+
+abbrev pub source_plan : MemSource → Plan
+source_plan source = plan_of source.failing
+
+abbrev pub sink_plan : MemSink → Plan
+sink_plan sink = plan_of sink.failing
+
+abbrev pub files_plan : MemFiles → Plan
+files_plan files = plan_of files.failing
+
+-- the calls are counted from 0
+abbrev pub first_plan : List ℕ → Plan
+first_plan failing = record { failing = failing; next = 0 }
+
+-- the next call fails
+abbrev pub FailsNext : Plan → Type 0
+FailsNext plan = Contains plan.failing plan.next
+
+-- the same calls fail, one call later, where the number of the next call stays at the greatest `u64`
+abbrev pub later_plan : Plan → Plan
+later_plan plan = record plan { next = min (plan.next + 1) (2 ^ 64 - 1) }

@@ -1,0 +1,37 @@
+-- How far a loop has read.
+use Rattle.std.specs.Prelude.{◌≡◌, ℕ, ◌+◌, ◌-◌, List, ◌++◌, length, take, Option}
+use Rattle.std.specs.List.{slice_range, position_or_len}
+use Rattle.icn_host.specs.Sources.{is_newline}
+use Rattle.icn_host.specs.declared.input.Ahead.{Ahead}
+use Rattle.icn_host.specs.declared.input.StdSource.{StdSource}
+use Rattle.std.specs.Io.KnownBytes.{Consumes, prepend_known}
+
+-- the reader gave some bytes, and the first of them, up to so many, were appended, with room for so many more
+pub record HasRead (before after : Option (List ℕ)) (had has : List ℕ) (most room : ℕ) : Type 0 where
+  pub given : List ℕ
+  pub consumes : Consumes before after given
+  pub appended : has ≡ had ++ take most given
+  pub left : room ≡ most - length given
+
+-- what is left of some bytes, from one place up to another, and of the reader behind them
+abbrev pub left_of : List ℕ → ℕ → ℕ → Option (List ℕ) → Option (List ℕ)
+left_of bytes at end behind = prepend_known (slice_range bytes at end) behind
+
+abbrev pub ahead_left : {R : Type 0} → (R → Option (List ℕ)) → Ahead R → Option (List ℕ)
+ahead_left remaining ahead = left_of ahead.bytes ahead.at ahead.end (remaining ahead.reader)
+
+-- what a source has left over a reader that tells it
+abbrev pub source_left : {R : Type 0} → (R → Option (List ℕ)) → StdSource R → Option (List ℕ)
+source_left remaining source = ahead_left remaining source.ahead
+
+-- some bytes were taken and appended, with room for so many more
+pub record HasTaken (before after : Option (List ℕ)) (had has : List ℕ) (most room : ℕ) : Type 0 where
+  pub given : List ℕ
+  pub consumes : Consumes before after given
+  pub appended : has ≡ had ++ given
+  pub counted : length given + room ≡ most
+
+-- a part of a line was taken and appended, and its end was not seen
+pub record HasLinePart (before after : Option (List ℕ)) (had has : List ℕ) (most room : ℕ) : Type 0 where
+  pub taken : HasTaken before after had has most room
+  pub clean : position_or_len is_newline taken.given ≡ length taken.given

@@ -1,0 +1,24 @@
+//! What the programs are handed from outside: a source of input, a sink for output and a store of files. Each stands
+//! here three times: over the real things, over memory, and over memory with faults at the calls that a list names.
+#![tactic(auto)]
+
+mod bytes;
+mod disk;
+mod failing;
+mod fault;
+mod input;
+mod memory;
+mod output;
+mod retry;
+mod store;
+mod sure;
+mod traits;
+
+pub use disk::DiskFiles;
+pub use fault::{Fault, Line, Look};
+pub use input::StdSource;
+pub use memory::{MemFiles, MemSink, MemSource};
+pub use output::StdSink;
+pub use store::Store;
+pub use sure::{SureFiles, SureSink, SureSource};
+pub use traits::{Files, Sink, Source};

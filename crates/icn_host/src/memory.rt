@@ -1,0 +1,245 @@
+// Objects over memory that fail at the calls of a list.
+ghost use Rattle.std.specs.Prelude.{◌≡◌, ◌+◌, ◌≤◌, ◌↔◌, drop, length, Some, OnOk, OnErr, IfOk, IsErrOf, vec_len};
+ghost use Rattle.icn_host.specs.Buffers.{Extends};
+ghost use Rattle.icn_host.specs.Counts.{HasCause};
+ghost use Rattle.icn_host.specs.FileMaps.{file_map, Reads, ReadsPart, NotHeld, Sets, SetsPart};
+ghost use Rattle.icn_host.specs.Sinks.{Gains, GainsPart};
+ghost use Rattle.icn_host.specs.Sources.{TakesLine, TakesLinePart, TakesFirst, TakesFirstPart};
+
+use crate::bytes::{next_line, take_first};
+use crate::failing::FailingCalls;
+use crate::fault::{Fault, Line, Look};
+use crate::store::{Store, look, set};
+use crate::traits::{Files, Sink, Source};
+use std::alloc::Global;
+
+/// A sink over memory that fails at the calls whose numbers a list names.
+///
+/// A call that fails appends nothing, answers `Failed` and raises the count of faults.
+#[derive(Drop)]
+pub struct MemSink {
+    held: Vec<u8>,
+    failing: FailingCalls,
+    faults: u64,
+}
+
+impl MemSink {
+    ghost use Rattle.icn_host.specs.Plans.{sink_plan, first_plan};
+
+    /// A sink that holds these bytes. `failing` has the numbers, from 0, of the calls that fail.
+    pub fn new(start: Vec<u8>, failing: Vec<u64>) -> Self
+        ensures held { ⟦<MemSink as Sink>⟧.held result ≡ Some start.items }
+        ensures faults { ⟦<MemSink as Sink>⟧.faults result ≡ 0 }
+        ensures plan { sink_plan result ≡ first_plan failing.items }
+    {
+        MemSink {
+            held: start,
+            failing: FailingCalls::new(failing),
+            faults: 0,
+        }
+    }
+
+    /// The bytes that it holds.
+    pub fn content(&self) -> &[u8]
+        ensures { ⟦<MemSink as Sink>⟧.held self.now ≡ Some result.now }
+    {
+        &self.held
+    }
+}
+
+impl Sink for MemSink {
+    ghost use Rattle.icn_host.specs.Plans.{sink_plan, later_plan, FailsNext};
+
+    ghost held = { λ s. Some s.held.items };
+
+    ghost faults = { λ s. s.faults };
+
+    fn put(&mut self, piece: &[u8]) -> Result<(), Fault>
+        ensures ok { OnOk result (Gains (⟦<MemSink as Sink>⟧.held self.old) (⟦<MemSink as Sink>⟧.held self.new) piece.now) }
+        ensures err { OnErr result (⟦<MemSink as Sink>⟧.held self.new ≡ ⟦<MemSink as Sink>⟧.held self.old) }
+        ensures cause { HasCause (⟦<MemSink as Sink>⟧.faults self.old) (⟦<MemSink as Sink>⟧.faults self.new) (IsErrOf result Fault.Failed) }
+        ensures fails { IsErrOf result Fault.Failed ↔ FailsNext (sink_plan self.old) }
+        ensures plan { sink_plan self.new ≡ later_plan (sink_plan self.old) }
+    {
+        if self.failing.fails_now() {
+            self.faults = self.faults.saturating_add(1);
+            return Err(Fault::Failed);
+        }
+        self.held.extend_from_slice(piece)?;
+        Ok(())
+    }
+}
+
+/// A source over memory that fails at the calls whose numbers a list names.
+///
+/// A call that fails takes and appends nothing, answers `Failed` and raises the count of faults.
+#[derive(Drop)]
+pub struct MemSource {
+    bytes: Vec<u8>,
+    at: usize,
+    failing: FailingCalls,
+    faults: u64,
+    ghost within: { at ≤ length bytes.items },
+}
+
+impl MemSource {
+    ghost use Rattle.icn_host.specs.Plans.{source_plan, first_plan};
+
+    /// A source of these bytes. `failing` has the numbers, from 0, of the calls that fail: those of `line` and of
+    /// `take` are counted together.
+    pub fn new(start: Vec<u8>, failing: Vec<u64>) -> Self
+        ensures left { ⟦<MemSource as Source>⟧.left result ≡ Some start.items }
+        ensures faults { ⟦<MemSource as Source>⟧.faults result ≡ 0 }
+        ensures plan { source_plan result ≡ first_plan failing.items }
+    {
+        MemSource {
+            bytes: start,
+            at: 0,
+            failing: FailingCalls::new(failing),
+            faults: 0,
+        }
+    }
+
+    /// The bytes that it has left.
+    pub fn content(&self) -> &[u8]
+        ensures { ⟦<MemSource as Source>⟧.left self.now ≡ Some result.now }
+    {
+        &self.bytes[self.at..]
+    }
+}
+
+impl Source for MemSource {
+    ghost use Rattle.icn_host.specs.Plans.{source_plan, later_plan, FailsNext};
+
+    ghost left = { λ s. Some (drop s.at s.bytes.items) };
+
+    ghost faults = { λ s. s.faults };
+
+    fn line(&mut self, into: &mut Vec<u8>) -> Result<Line, Fault>
+        ensures ok { IfOk result (TakesLine (⟦<MemSource as Source>⟧.left self.old) (⟦<MemSource as Source>⟧.left self.new) into.old.items into.new.items) }
+        ensures kept { Extends into.old.items into.new.items }
+        ensures none { IfOk result (λ line. line ≡ Line.End → into.new.items ≡ into.old.items) }
+        ensures same_left { OnErr result (⟦<MemSource as Source>⟧.left self.new ≡ ⟦<MemSource as Source>⟧.left self.old) }
+        ensures same_into { OnErr result (into.new.items ≡ into.old.items) }
+        ensures cause { HasCause (⟦<MemSource as Source>⟧.faults self.old) (⟦<MemSource as Source>⟧.faults self.new) (IsErrOf result Fault.Failed) }
+        ensures fails { IsErrOf result Fault.Failed ↔ FailsNext (source_plan self.old) }
+        ensures plan { source_plan self.new ≡ later_plan (source_plan self.old) }
+    {
+        if self.failing.fails_now() {
+            self.faults = self.faults.saturating_add(1);
+            return Err(Fault::Failed);
+        }
+        let (count, line) = next_line(&self.bytes[self.at..], into)?;
+        self.at += count;
+        Ok(line)
+    }
+
+    fn take(&mut self, n: u64, into: &mut Vec<u8>) -> Result<u64, Fault>
+        ensures ok { IfOk result (TakesFirst (⟦<MemSource as Source>⟧.left self.old) (⟦<MemSource as Source>⟧.left self.new) into.old.items into.new.items n) }
+        ensures kept { Extends into.old.items into.new.items }
+        ensures counted { IfOk result (λ count. vec_len into.new ≡ vec_len into.old + count) }
+        ensures within { vec_len into.new ≤ vec_len into.old + n }
+        ensures same_left { OnErr result (⟦<MemSource as Source>⟧.left self.new ≡ ⟦<MemSource as Source>⟧.left self.old) }
+        ensures same_into { OnErr result (into.new.items ≡ into.old.items) }
+        ensures cause { HasCause (⟦<MemSource as Source>⟧.faults self.old) (⟦<MemSource as Source>⟧.faults self.new) (IsErrOf result Fault.Failed) }
+        ensures fails { IsErrOf result Fault.Failed ↔ FailsNext (source_plan self.old) }
+        ensures plan { source_plan self.new ≡ later_plan (source_plan self.old) }
+    {
+        if self.failing.fails_now() {
+            self.faults = self.faults.saturating_add(1);
+            return Err(Fault::Failed);
+        }
+        let count = take_first(&self.bytes[self.at..], n, into)?;
+        self.at += count;
+        Ok(count as u64)
+    }
+}
+
+/// Files over memory that fail at the calls whose numbers a list names.
+///
+/// A call that fails changes and appends nothing, answers `Failed` and raises the count of faults.
+#[derive(Drop)]
+pub struct MemFiles {
+    alloc: Global,
+    files: Store,
+    failing: FailingCalls,
+    faults: u64,
+    absences: u64,
+}
+
+impl MemFiles {
+    ghost use Rattle.icn_host.specs.Plans.{files_plan, first_plan};
+
+    /// A store of these files. `failing` has the numbers, from 0, of the calls that fail: those of `read` and of
+    /// `write` are counted together.
+    pub fn new(alloc: Global, start: Store, failing: Vec<u64>) -> Self
+        ensures held { ⟦<MemFiles as Files>⟧.held result ≡ Some (file_map start) }
+        ensures faults { ⟦<MemFiles as Files>⟧.faults result ≡ 0 }
+        ensures absences { ⟦<MemFiles as Files>⟧.absences result ≡ 0 }
+        ensures plan { files_plan result ≡ first_plan failing.items }
+    {
+        MemFiles {
+            alloc,
+            files: start,
+            failing: FailingCalls::new(failing),
+            faults: 0,
+            absences: 0,
+        }
+    }
+
+    /// The files that it holds, by their names.
+    pub fn content(&self) -> &Store
+        ensures { ⟦<MemFiles as Files>⟧.held self.now ≡ Some (file_map result.now) }
+    {
+        &self.files
+    }
+}
+
+impl Files for MemFiles {
+    ghost use Rattle.icn_host.specs.Plans.{files_plan, later_plan, FailsNext};
+
+    ghost held = { λ s. Some (file_map s.files) };
+
+    ghost faults = { λ s. s.faults };
+
+    ghost absences = { λ s. s.absences };
+
+    fn read(&mut self, name: &str, most: u64, into: &mut Vec<u8>) -> Result<(), Look>
+        ensures ok { OnOk result (Reads (⟦<MemFiles as Files>⟧.held self.old) name.now (most + 1) into.old.items into.new.items) }
+        ensures within { vec_len into.new ≤ vec_len into.old + (most + 1) }
+        ensures kept { Extends into.old.items into.new.items }
+        ensures err { OnErr result (into.new.items ≡ into.old.items) }
+        ensures absent { IsErrOf result Look.NotThere → NotHeld (⟦<MemFiles as Files>⟧.held self.old) name.now }
+        ensures same { ⟦<MemFiles as Files>⟧.held self.new ≡ ⟦<MemFiles as Files>⟧.held self.old }
+        ensures cause { HasCause (⟦<MemFiles as Files>⟧.faults self.old) (⟦<MemFiles as Files>⟧.faults self.new) (IsErrOf result Look.Failed) }
+        ensures absence { HasCause (⟦<MemFiles as Files>⟧.absences self.old) (⟦<MemFiles as Files>⟧.absences self.new) (IsErrOf result Look.NotThere) }
+        ensures fails { IsErrOf result Look.Failed ↔ FailsNext (files_plan self.old) }
+        ensures plan { files_plan self.new ≡ later_plan (files_plan self.old) }
+    {
+        if self.failing.fails_now() {
+            self.faults = self.faults.saturating_add(1);
+            return Err(Look::Failed);
+        }
+        let result = look(&self.files, name, most, into);
+        if result == Err(Look::NotThere) {
+            self.absences = self.absences.saturating_add(1);
+        }
+        result
+    }
+
+    fn write(&mut self, name: &str, bytes: &[u8]) -> Result<(), Fault>
+        ensures ok { OnOk result (Sets (⟦<MemFiles as Files>⟧.held self.old) (⟦<MemFiles as Files>⟧.held self.new) name.now bytes.now) }
+        ensures err { OnErr result (SetsPart (⟦<MemFiles as Files>⟧.held self.old) (⟦<MemFiles as Files>⟧.held self.new) name.now bytes.now) }
+        ensures cause { HasCause (⟦<MemFiles as Files>⟧.faults self.old) (⟦<MemFiles as Files>⟧.faults self.new) (IsErrOf result Fault.Failed) }
+        ensures absences { ⟦<MemFiles as Files>⟧.absences self.new ≡ ⟦<MemFiles as Files>⟧.absences self.old }
+        ensures fails { IsErrOf result Fault.Failed ↔ FailsNext (files_plan self.old) }
+        ensures same { OnErr result (⟦<MemFiles as Files>⟧.held self.new ≡ ⟦<MemFiles as Files>⟧.held self.old) }
+        ensures plan { files_plan self.new ≡ later_plan (files_plan self.old) }
+    {
+        if self.failing.fails_now() {
+            self.faults = self.faults.saturating_add(1);
+            return Err(Fault::Failed);
+        }
+        set(self.alloc, &mut self.files, name, bytes)
+    }
+}

@@ -1,0 +1,52 @@
+// A writer as a sink. It doesn't tell what it holds.
+ghost use Rattle.std.specs.Prelude.{◌≡◌, None, OnOk, OnErr, IsErrOf};
+ghost use Rattle.icn_host.specs.Counts.{HasCause};
+ghost use Rattle.icn_host.specs.Sinks.{Gains, GainsPart};
+
+use crate::fault::Fault;
+use crate::retry::write_whole;
+use crate::traits::Sink;
+use std::io::Write;
+
+/// A writer as a sink, for a standard output.
+///
+/// Its count of faults rises at each error of the writer but want of memory. A write that takes nothing of a piece
+/// that is not empty is such an error, and so is an interruption after 1000 others in a row.
+#[derive(Drop)]
+pub struct StdSink<W> {
+    writer: W,
+    faults: u64,
+}
+
+impl<W: Write> StdSink<W> {
+    ghost use Rattle.icn_host.specs.Writers.{writer_of};
+
+    /// The sink over this writer. Nothing is written yet.
+    pub fn new(writer: W) -> Self
+        ensures writer { writer_of result ≡ writer }
+        ensures faults { ⟦<StdSink<W> as Sink>⟧.faults result ≡ 0 }
+    {
+        StdSink { writer, faults: 0 }
+    }
+}
+
+impl<W: Write> Sink for StdSink<W> {
+    ghost use Rattle.icn_host.specs.Writers.{writer_of};
+
+    ghost held = { λ _. None };
+
+    ghost faults = { λ s. s.faults };
+
+    // The sink tells nothing, but where the writer tells what it holds, it holds the piece.
+    fn put(&mut self, piece: &[u8]) -> Result<(), Fault>
+        ensures ok { OnOk result (Gains (W.contents (writer_of self.old)) (W.contents (writer_of self.new)) piece.now) }
+        ensures err { OnErr result (GainsPart (W.contents (writer_of self.old)) (W.contents (writer_of self.new)) piece.now) }
+        ensures cause { HasCause (⟦<StdSink<W> as Sink>⟧.faults self.old) (⟦<StdSink<W> as Sink>⟧.faults self.new) (IsErrOf result Fault.Failed) }
+    {
+        let result = write_whole(&mut self.writer, piece);
+        if result == Err(Fault::Failed) {
+            self.faults = self.faults.saturating_add(1);
+        }
+        result
+    }
+}

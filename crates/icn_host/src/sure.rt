@@ -1,0 +1,136 @@
+// Objects over memory that never fail.
+ghost use Rattle.std.specs.Prelude.{◌≡◌, ◌≤◌, drop, length, Some};
+ghost use Rattle.icn_host.specs.FileMaps.{file_map};
+
+use crate::bytes::{next_line, take_first};
+use crate::fault::{Fault, Line, Look};
+use crate::store::{Store, look, set};
+use crate::traits::{Files, Sink, Source};
+use std::alloc::Global;
+
+/// A sink over memory that never fails: it gives up only for want of memory.
+#[derive(Drop)]
+pub struct SureSink {
+    held: Vec<u8>,
+}
+
+impl SureSink {
+    /// A sink that holds these bytes.
+    pub fn new(start: Vec<u8>) -> Self
+        ensures { ⟦<SureSink as Sink>⟧.held result ≡ Some start.items }
+    {
+        SureSink { held: start }
+    }
+
+    /// The bytes that it holds.
+    pub fn content(&self) -> &[u8]
+        ensures { ⟦<SureSink as Sink>⟧.held self.now ≡ Some result.now }
+    {
+        &self.held
+    }
+}
+
+impl Sink for SureSink {
+    ghost held = { λ s. Some s.held.items };
+
+    ghost faults = { λ _. 0 };
+
+    fn put(&mut self, piece: &[u8]) -> Result<(), Fault> {
+        self.held.extend_from_slice(piece)?;
+        Ok(())
+    }
+}
+
+/// Files over memory that never fail: they give up only for want of memory, or where a file is not there.
+#[derive(Drop)]
+pub struct SureFiles {
+    alloc: Global,
+    files: Store,
+    absences: u64,
+}
+
+impl SureFiles {
+    /// A store of these files.
+    pub fn new(alloc: Global, start: Store) -> Self
+        ensures held { ⟦<SureFiles as Files>⟧.held result ≡ Some (file_map start) }
+        ensures absences { ⟦<SureFiles as Files>⟧.absences result ≡ 0 }
+    {
+        SureFiles {
+            alloc,
+            files: start,
+            absences: 0,
+        }
+    }
+
+    /// The files that it holds, by their names.
+    pub fn content(&self) -> &Store
+        ensures { ⟦<SureFiles as Files>⟧.held self.now ≡ Some (file_map result.now) }
+    {
+        &self.files
+    }
+}
+
+impl Files for SureFiles {
+    ghost held = { λ s. Some (file_map s.files) };
+
+    ghost faults = { λ _. 0 };
+
+    ghost absences = { λ s. s.absences };
+
+    fn read(&mut self, name: &str, most: u64, into: &mut Vec<u8>) -> Result<(), Look> {
+        let result = look(&self.files, name, most, into);
+        if result == Err(Look::NotThere) {
+            self.absences = self.absences.saturating_add(1);
+        }
+        result
+    }
+
+    fn write(&mut self, name: &str, bytes: &[u8]) -> Result<(), Fault> {
+        set(self.alloc, &mut self.files, name, bytes)
+    }
+}
+
+/// A source over memory that never fails: it gives up only for want of memory.
+#[derive(Drop)]
+pub struct SureSource {
+    bytes: Vec<u8>,
+    at: usize,
+    ghost within: { at ≤ length bytes.items },
+}
+
+impl SureSource {
+    /// A source of these bytes.
+    pub fn new(start: Vec<u8>) -> Self
+        ensures { ⟦<SureSource as Source>⟧.left result ≡ Some start.items }
+    {
+        SureSource {
+            bytes: start,
+            at: 0,
+        }
+    }
+
+    /// The bytes that it has left.
+    pub fn content(&self) -> &[u8]
+        ensures { ⟦<SureSource as Source>⟧.left self.now ≡ Some result.now }
+    {
+        &self.bytes[self.at..]
+    }
+}
+
+impl Source for SureSource {
+    ghost left = { λ s. Some (drop s.at s.bytes.items) };
+
+    ghost faults = { λ _. 0 };
+
+    fn line(&mut self, into: &mut Vec<u8>) -> Result<Line, Fault> {
+        let (count, line) = next_line(&self.bytes[self.at..], into)?;
+        self.at += count;
+        Ok(line)
+    }
+
+    fn take(&mut self, n: u64, into: &mut Vec<u8>) -> Result<u64, Fault> {
+        let count = take_first(&self.bytes[self.at..], n, into)?;
+        self.at += count;
+        Ok(count as u64)
+    }
+}

@@ -1,0 +1,94 @@
+// A source, a sink and a store of files: what they hold or have left where they tell it, and how often they have failed.
+ghost use Rattle.std.specs.Prelude.{◌≡◌, ◌+◌, ◌≤◌, ℕ, List, Option, OnOk, OnErr, IfOk, IsErrOf, vec_len};
+ghost use Rattle.icn_host.specs.Buffers.{Extends};
+ghost use Rattle.icn_host.specs.Counts.{HasCause};
+ghost use Rattle.icn_host.specs.Sinks.{Gains, GainsPart};
+ghost use Rattle.icn_host.specs.FileMaps.{Reads, ReadsPart, NotHeld, Sets, SetsPart, FileMap};
+ghost use Rattle.icn_host.specs.Sources.{TakesLine, TakesLinePart, TakesFirst, TakesFirstPart};
+
+use crate::fault::{Fault, Line, Look};
+
+/// Gives bytes in order.
+pub trait Source {
+    /// The bytes left, where the source tells them.
+    ghost left: { Self → Option (List ℕ) };
+
+    /// How often it has failed, up to the greatest `u64`.
+    ghost faults: { Self → ℕ };
+
+    /// Appends the bytes before the next newline, and takes that newline too.
+    fn line(&mut self, into: &mut Vec<u8>) -> Result<Line, Fault>
+        ensures ok { IfOk result (TakesLine (left self.old) (left self.new) into.old.items into.new.items) }
+        ensures err { OnErr result (TakesLinePart (left self.old) (left self.new) into.old.items into.new.items
+            (IsErrOf result Fault.Failed)) }
+
+        // Whatever comes of the call, the buffer begins with what it had, and where there was no line it has no more.
+        ensures kept { Extends into.old.items into.new.items }
+        ensures none { IfOk result (λ line. line ≡ Line.End → into.new.items ≡ into.old.items) }
+        ensures cause { HasCause (faults self.old) (faults self.new) (IsErrOf result Fault.Failed) };
+
+    /// Appends and takes the first `n` bytes, or all that are left, and answers how many.
+    fn take(&mut self, n: u64, into: &mut Vec<u8>) -> Result<u64, Fault>
+        ensures ok { IfOk result (TakesFirst (left self.old) (left self.new) into.old.items into.new.items n) }
+        ensures err { OnErr result (TakesFirstPart (left self.old) (left self.new) into.old.items into.new.items n) }
+
+        // Whatever comes of the call, the buffer begins with what it had, and at most so many bytes came to it.
+        ensures kept { Extends into.old.items into.new.items }
+        ensures counted { IfOk result (λ count. vec_len into.new ≡ vec_len into.old + count) }
+        ensures within { vec_len into.new ≤ vec_len into.old + n }
+        ensures cause { HasCause (faults self.old) (faults self.new) (IsErrOf result Fault.Failed) };
+}
+
+/// Takes bytes in order.
+pub trait Sink {
+    /// The bytes taken so far, where the sink tells them.
+    ghost held: { Self → Option (List ℕ) };
+
+    /// How often it has failed, up to the greatest `u64`.
+    ghost faults: { Self → ℕ };
+
+    /// Appends the piece. After an `Err` a part of it from its start was appended.
+    fn put(&mut self, piece: &[u8]) -> Result<(), Fault>
+        ensures ok { OnOk result (Gains (held self.old) (held self.new) piece.now) }
+        ensures err { OnErr result (GainsPart (held self.old) (held self.new) piece.now) }
+        ensures cause { HasCause (faults self.old) (faults self.new) (IsErrOf result Fault.Failed) };
+}
+
+/// Files by their names.
+pub trait Files {
+    /// What each name holds, where the store tells it.
+    ghost held: { Self → Option FileMap };
+
+    /// How often it has failed, up to the greatest `u64`.
+    ghost faults: { Self → ℕ };
+
+    /// How often a file was not there, up to the greatest `u64`.
+    ghost absences: { Self → ℕ };
+
+    /// Appends the first `most + 1` bytes of a file, or all of it, so that the caller sees by the length whether it is
+    /// longer than `most`. After an `Err` a part of them was appended.
+    fn read(&mut self, name: &str, most: u64, into: &mut Vec<u8>) -> Result<(), Look>
+        ensures ok { OnOk result (Reads (held self.old) name.now (most + 1) into.old.items into.new.items) }
+        ensures err { OnErr result (ReadsPart (held self.old) name.now (most + 1) into.old.items into.new.items) }
+
+        // Whatever comes of the call, the buffer begins with what it had, and at most so many bytes came to it.
+        ensures kept { Extends into.old.items into.new.items }
+        ensures within { vec_len into.new ≤ vec_len into.old + (most + 1) }
+
+        // A file that is not there gives nothing.
+        ensures absent { IsErrOf result Look.NotThere → NotHeld (held self.old) name.now }
+        ensures nothing { IsErrOf result Look.NotThere → into.new.items ≡ into.old.items }
+        ensures same { held self.new ≡ held self.old }
+        ensures cause { HasCause (faults self.old) (faults self.new) (IsErrOf result Look.Failed) }
+        ensures absence { HasCause (absences self.old) (absences self.new) (IsErrOf result Look.NotThere) };
+
+    /// Sets the whole content of a file. After an `Err` the name is absent, holds what it held, or holds a part of the
+    /// new bytes from their start. Each other name stays.
+    fn write(&mut self, name: &str, bytes: &[u8]) -> Result<(), Fault>
+        ensures ok { OnOk result (Sets (held self.old) (held self.new) name.now bytes.now) }
+        ensures err { OnErr result (SetsPart (held self.old) (held self.new) name.now bytes.now) }
+        ensures cause { HasCause (faults self.old) (faults self.new) (IsErrOf result Fault.Failed) }
+
+        // No look-up is made.
+        ensures absences { absences self.new ≡ absences self.old };
+}

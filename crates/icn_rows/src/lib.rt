@@ -1,0 +1,339 @@
+//! Worked rows: calls of the programs over objects in memory, with what they answer, write and print.
+#![tactic(auto)]
+
+#[cfg(test)]
+mod tests {
+    use icn_host::{MemFiles, MemSink, MemSource};
+    use icn_text::decimal;
+    use icn_tree::Bytes;
+    use icont_top::{Answer, Ending, icont_main};
+    use std::alloc::Global;
+    use std::collections::BTreeMap;
+    use std::test::Fail;
+
+    const HI: &[u8] = b"procedure main()\nwrite(\"hi\")\nend\n";
+
+    const USAGE: &[u8] =
+        b"usage: icont [-c] [-o name] [-n turns] [-g number] file ... [-x argument ...]\n";
+
+    const REFUSED: &[u8] = b"f.icn:0: S4 form not in this profile\n";
+
+    // What a call of a program did.
+    #[derive(Drop)]
+    struct Row {
+        answer: Answer,
+        output: Vec<u8>,
+        errors: Vec<u8>,
+        // Whether the file holds what it held, and the input is all there.
+        untouched: bool,
+    }
+
+    // The numbers of the calls that fail, for each object.
+    #[derive(Clone, Copy)]
+    struct Failing {
+        files: &'static [u64],
+        output: &'static [u64],
+        errors: &'static [u64],
+    }
+
+    const NONE: Failing = Failing {
+        files: &[],
+        output: &[],
+        errors: &[],
+    };
+
+    // Runs `icont` with these words, where `f.icn` holds this source.
+    fn icont(alloc: Global, given: &[&str], source: &[u8], failing: Failing) -> Result<Row, Fail> {
+        let mut words = Vec::new(alloc);
+        for word in given {
+            words.push(String::from_str(alloc, word)?)?;
+        }
+        let mut held = BTreeMap::new(alloc);
+        held.insert(String::from_str(alloc, "f.icn")?, source.to_vec(alloc)?)?;
+        let mut files = MemFiles::new(alloc, held, failing.files.to_vec(alloc)?);
+        let mut input = MemSource::new(b"input\n".to_vec(alloc)?, Vec::new(alloc));
+        let mut out = MemSink::new(Vec::new(alloc), failing.output.to_vec(alloc)?);
+        let mut err = MemSink::new(Vec::new(alloc), failing.errors.to_vec(alloc)?);
+        let answer = icont_main(alloc, &words, &mut files, &mut input, &mut out, &mut err);
+        let same = match files.content().get("f.icn") {
+            Some(bytes) => bytes.as_slice() == source,
+            None => false,
+        };
+        Ok(Row {
+            answer,
+            output: out.content().to_vec(alloc)?,
+            errors: err.content().to_vec(alloc)?,
+            untouched: same
+                && files.content().len() == 1
+                && input.content() == b"input\n".as_slice(),
+        })
+    }
+
+    fn name_of(answer: &Answer) -> &'static str {
+        match answer {
+            Answer::Ran(Ending::Done) => "Ran(Done)",
+            Answer::Refused { .. } => "Refused",
+            Answer::Command(_) => "Command",
+            Answer::Missing(_) => "Missing",
+            Answer::FileFault => "FileFault",
+            Answer::WriteFault => "WriteFault",
+            Answer::NoMemory => "NoMemory",
+        }
+    }
+
+    #[test]
+    fn programs_run(rt: HostRuntime) -> Result<(), Fail> {
+        let alloc = rt.alloc();
+        let rows: [(&[u8], &[u8]); 11] = [
+            (HI, b"hi\n"),
+            // written semicolons, and those of ends of lines
+            (b"procedure main();write(\"hi\");end", b"hi\n"),
+            (b"procedure main()\nwrite(\"hi\");end", b"hi\n"),
+            (b"procedure main();write(\"hi\")\nend", b"hi\n"),
+            // white space, and ends of lines where none stands for a semicolon
+            (b"procedure main()\r\nwrite(\"hi\")\r\nend\r\n", b"hi\n"),
+            (
+                b"\n \nprocedure\nmain()\n\n\nwrite(\"hi\")\n\nend\n\n",
+                b"hi\n",
+            ),
+            (b"procedure main(\n)\nwrite(\n\"hi\"\n)\nend", b"hi\n"),
+            (
+                b"procedure main ( ) ;\twrite\x0b(\x0c\"hi\"\r) ; end",
+                b"hi\n",
+            ),
+            // literals
+            (b"procedure main()\nwrite(\"\")\nend\n", b"\n"),
+            (
+                b"procedure main()\nwrite(\" !#$%&'()*+,-./09:;<=>?@AZ[]^_`az{|}~\")\nend\n",
+                b" !#$%&'()*+,-./09:;<=>?@AZ[]^_`az{|}~\n",
+            ),
+            (
+                b"procedure main()\nwrite(\"procedure end ;\")\nend",
+                b"procedure end ;\n",
+            ),
+        ];
+        for (source, output) in rows {
+            let row = icont(alloc, &["icont", "f.icn", "-x"], source, NONE)?;
+            let source = String::from_utf8_lossy(alloc, source)?;
+            assert_eq!(rt; name_of(&row.answer), "Ran(Done)", "at {source}");
+            assert_eq!(rt; row.output.as_slice(), output, "at {source}");
+            assert!(rt; row.errors.is_empty(), "at {source}");
+            assert!(rt; row.untouched, "at {source}");
+        }
+        Ok(())
+    }
+
+    #[test]
+    fn other_texts_are_refused(rt: HostRuntime) -> Result<(), Fail> {
+        let alloc = rt.alloc();
+        let rows: [&[u8]; 30] = [
+            b"",
+            b"\n",
+            b"write",
+            b"procedure main()\nend\n",
+            b"procedure main()\nwrite(x)\nend\n",
+            b"procedure main()\nwrite(1)\nend\n",
+            b"procedure main()\nwrite()\nend\n",
+            b"procedure main()\nwrite(\"a\", \"b\")\nend\n",
+            b"procedure main()\nwrite(\"a\"\"b\")\nend\n",
+            b"procedure main()\nwrite(\"a\")\nwrite(\"b\")\nend\n",
+            b"procedure main()\nwrites(\"hi\")\nend\n",
+            b"procedure main()\nWrite(\"hi\")\nend\n",
+            b"procedure Main()\nwrite(\"hi\")\nend\n",
+            b"procedure p()\nwrite(\"hi\")\nend\n",
+            b"procedure main(x)\nwrite(\"hi\")\nend\n",
+            b"procedures main()\nwrite(\"hi\")\nend\n",
+            b"Procedure main()\nwrite(\"hi\")\nend\n",
+            b"proceduremain()\nwrite(\"hi\")\nend\n",
+            // a semicolon too few, or too many
+            b"procedure main()write(\"hi\")\nend\n",
+            b"procedure main()\nwrite(\"hi\")end\n",
+            b"procedure main()\nwrite(\"hi\");;end\n",
+            b"procedure main\n()\nwrite(\"hi\")\nend\n",
+            b"procedure main()\nwrite\n(\"hi\")\nend\n",
+            // before the procedure, and behind it
+            b";procedure main()\nwrite(\"hi\")\nend\n",
+            b"procedure main()\nwrite(\"hi\")\nend;",
+            b"procedure main()\nwrite(\"hi\")\nendx\n",
+            b"procedure main()\nwrite(\"hi\")\n",
+            // bytes that begin no token, and literals
+            b"procedure main() # comment\nwrite(\"hi\")\nend\n",
+            b"procedure main()\nwrite(\"h\\i\")\nend\n",
+            b"procedure main()\nwrite(\"hi)\nend\n",
+        ];
+        for source in rows {
+            let row = icont(alloc, &["icont", "f.icn", "-x"], source, NONE)?;
+            let source = String::from_utf8_lossy(alloc, source)?;
+            assert_eq!(rt; name_of(&row.answer), "Refused", "at {source}");
+            assert_eq!(rt; row.answer.code(), 2, "at {source}");
+            assert_eq!(rt; row.errors.as_slice(), REFUSED, "at {source}");
+            assert!(rt; row.output.is_empty(), "at {source}");
+            assert!(rt; row.untouched, "at {source}");
+        }
+        Ok(())
+    }
+
+    // Each byte alone: in a literal, between tokens, and as a part of the name that is called.
+    #[test]
+    fn each_byte_has_its_place(rt: HostRuntime) -> Result<(), Fail> {
+        let alloc = rt.alloc();
+        let places: [(&[u8], &[u8], &[u8]); 3] = [
+            (
+                b"procedure main()\nwrite(\"",
+                b"\")\nend\n",
+                b" !#$%&'()*+,-./0123456789:;<=>?@ABCDEFGHIJKLMNOPQRSTUVWXYZ[]^_`abcdefghijklmnopqrstuvwxyz{|}~",
+            ),
+            (
+                b"procedure main(",
+                b")\nwrite(\"hi\")\nend\n",
+                b"\t\n\x0b\x0c\r ",
+            ),
+            (
+                b"procedure main()\nwrite",
+                b"(\"hi\")\nend\n",
+                b"\t\x0b\x0c\r ",
+            ),
+        ];
+        for (before, after, taken) in places {
+            for byte in 0..=255u8 {
+                let mut source = before.to_vec(alloc)?;
+                source.push(byte)?;
+                source.extend_from_slice(after)?;
+                let row = icont(alloc, &["icont", "f.icn", "-x"], &source, NONE)?;
+                let name = if taken.contains(&byte) {
+                    "Ran(Done)"
+                } else {
+                    "Refused"
+                };
+                assert_eq!(rt; name_of(&row.answer), name, "at {byte}");
+            }
+        }
+        Ok(())
+    }
+
+    #[test]
+    fn a_text_has_at_most_16_mib(rt: HostRuntime) -> Result<(), Fail> {
+        let alloc = rt.alloc();
+        for (more, name, output) in [
+            (16777216 - HI.len(), "Ran(Done)", b"hi\n".as_slice()),
+            (16777217 - HI.len(), "Refused", b"".as_slice()),
+        ] {
+            let mut source = HI.to_vec(alloc)?;
+            for _ in 0..more {
+                source.push(b'\n')?;
+            }
+            let row = icont(alloc, &["icont", "f.icn", "-x"], &source, NONE)?;
+            assert_eq!(rt; name_of(&row.answer), name, "with {more} more");
+            assert_eq!(rt; row.output.as_slice(), output, "with {more} more");
+        }
+        Ok(())
+    }
+
+    #[test]
+    fn words_are_taken_as_they_stand(rt: HostRuntime) -> Result<(), Fail> {
+        let alloc = rt.alloc();
+        let rows: [(&[&str], &str, u8, &[u8]); 12] = [
+            (&["icont", "f.icn", "-x"], "Ran(Done)", 0, b""),
+            (&["", "f.icn", "-x"], "Ran(Done)", 0, b""),
+            (
+                &["icont", "nofile.icn", "-x"],
+                "Missing",
+                2,
+                b"nofile.icn: not there\n",
+            ),
+            (&["icont", ".icn", "-x"], "Missing", 2, b".icn: not there\n"),
+            (&[], "Command", 2, USAGE),
+            (&["icont"], "Command", 2, USAGE),
+            (&["icont", "f.icn"], "Command", 2, USAGE),
+            (&["icont", "f", "-x"], "Command", 2, USAGE),
+            (&["icont", "f.icn", "-X"], "Command", 2, USAGE),
+            (&["icont", "f.icn", "x"], "Command", 2, USAGE),
+            (&["icont", "-x", "f.icn"], "Command", 2, USAGE),
+            (&["icont", "f.icn", "-x", "a"], "Command", 2, USAGE),
+        ];
+        for (words, name, status, errors) in rows {
+            let row = icont(alloc, words, HI, NONE)?;
+            assert_eq!(rt; name_of(&row.answer), name, "at {words:?}");
+            assert_eq!(rt; row.answer.code(), status, "at {words:?}");
+            assert_eq!(rt; row.errors.as_slice(), errors, "at {words:?}");
+            let output: &[u8] = if status == 0 { b"hi\n" } else { b"" };
+            assert_eq!(rt; row.output.as_slice(), output, "at {words:?}");
+            assert!(rt; row.untouched, "at {words:?}");
+        }
+        Ok(())
+    }
+
+    // Each call of each object fails in turn.
+    #[test]
+    fn faults_are_answered(rt: HostRuntime) -> Result<(), Fail> {
+        let alloc = rt.alloc();
+        let files = Failing {
+            files: &[0],
+            ..NONE
+        };
+        let output = Failing {
+            output: &[0],
+            ..NONE
+        };
+        let errors = Failing {
+            errors: &[0],
+            ..NONE
+        };
+        let both = Failing {
+            files: &[0],
+            errors: &[0],
+            ..NONE
+        };
+        let later = Failing {
+            files: &[1],
+            output: &[1],
+            errors: &[1],
+        };
+        let rows: [(&str, &[u8], Failing, &str, &[u8], &[u8]); 10] = [
+            ("f.icn", HI, files, "FileFault", b"", b"file fault\n"),
+            ("no.icn", HI, files, "FileFault", b"", b"file fault\n"),
+            ("f.icn", HI, both, "FileFault", b"", b""),
+            ("f.icn", HI, output, "WriteFault", b"", b""),
+            ("f.icn", HI, errors, "Ran(Done)", b"hi\n", b""),
+            ("f.icn", b"end", errors, "WriteFault", b"", b""),
+            ("no.icn", HI, errors, "WriteFault", b"", b""),
+            ("f", HI, errors, "WriteFault", b"", b""),
+            ("f.icn", HI, later, "Ran(Done)", b"hi\n", b""),
+            ("f.icn", b"end", later, "Refused", b"", REFUSED),
+        ];
+        for (name, source, failing, answer, output, errors) in rows {
+            let row = icont(alloc, &["icont", name, "-x"], source, failing)?;
+            assert_eq!(rt; name_of(&row.answer), answer, "at {name}");
+            assert_eq!(rt; row.output.as_slice(), output, "at {name}");
+            assert_eq!(rt; row.errors.as_slice(), errors, "at {name}");
+            assert!(rt; row.untouched, "at {name}");
+        }
+        Ok(())
+    }
+
+    #[test]
+    fn plain_types_hold_what_they_are_given(rt: HostRuntime) -> Result<(), Fail> {
+        let alloc = rt.alloc();
+        for (number, text) in [
+            (0, b"0".as_slice()),
+            (7, b"7"),
+            (-10, b"-10"),
+            (i64::MAX, b"9223372036854775807"),
+            (i64::MIN, b"-9223372036854775808"),
+        ] {
+            assert_eq!(rt; decimal(number).as_bytes(), text);
+        }
+        assert_eq!(rt;
+            Bytes::from_slice(alloc, b"ab")?.as_slice(),
+            b"ab".as_slice()
+        );
+        assert_eq!(rt;
+            Bytes::new(b"ab".to_vec(alloc)?).as_slice(),
+            b"ab".as_slice()
+        );
+        assert_eq!(rt; Answer::FileFault.code(), 2);
+        assert_eq!(rt; Answer::WriteFault.code(), 2);
+        assert_eq!(rt; Answer::NoMemory.code(), 5);
+        Ok(())
+    }
+}

@@ -1,0 +1,7 @@
+pub mod Composing
+pub mod Parsing
+pub mod Reporting
+pub mod Running
+pub mod Scanning
+pub mod Working
+pub mod Separating

@@ -1,0 +1,29 @@
+use Rattle.std.proofs.Common.{[], map, string_bytes, refl}
+use Rattle.icont_top.specs.Words.{file_asked}
+use Rattle.icont_top.proofs.Working.{if_some}
+use Rattle.icont_top.proofs.Composing.{at_some, completes, leaves, runs, command_of, refused_of}
+use Rattle.icont_top.proofs.top.icont_main.Goals as goal
+
+pub returns-clause-completeness : goal.returns-clause-completeness
+returns-clause-completeness g c =
+    let files = g.F.Files.held c.args.files.now in
+    let left = g.I.Source.left c.args.input.now in
+    if_some files _ (λ held e. if_some left _ (λ bytes d.
+    completes held bytes files left c.work-answer.ensures.files refl e d (at_some _ files held e c.work-answer.ensures.done bytes) c.report.ensures.line))
+
+pub returns-clause-leaves : goal.returns-clause-leaves
+returns-clause-leaves g c =
+    let files = g.F.Files.held c.args.files.now in
+    let left = g.I.Source.left c.args.input.now in
+    if_some files _ (λ held e. if_some left _ (λ bytes d.
+    leaves held bytes files left c.work-answer.ensures.files refl (at_some _ files held e c.work-answer.ensures.done bytes) c.report.ensures.line))
+
+pub returns-clause-headline : goal.returns-clause-headline
+returns-clause-headline g c = λ name source program asked holds is.
+    runs holds.0 [] name source program asked holds.2 is (at_some _ (g.F.Files.held c.args.files.now) holds.0 holds.1 c.work-answer.ensures.done []) c.report.ensures.line
+
+pub returns-clause-command : goal.returns-clause-command
+returns-clause-command g c = command_of (file_asked (map string_bytes c.args.words.now)) c.report.ensures.line c.work-answer.ensures.command
+
+pub returns-clause-refused : goal.returns-clause-refused
+returns-clause-refused g c = refused_of c.report.ensures.line c.work-answer.ensures.refused

@@ -1,0 +1,17 @@
+use Rattle.icn_tree.specs.declared.rule.Rule.TheVariants.{S4}
+use Rattle.icont_top.specs.declared.answer.Answer.TheVariants.{Refused, WriteFault, NoMemory}
+use Rattle.icont_top.specs.Jobs.{refused}
+use Rattle.icont_top.proofs.Working.{source_broke, source_ran, refuses}
+use Rattle.icont_top.proofs.work.work_on_source.Goals as goal
+
+pub returns-in-Ok-clause-done : goal.returns-in-Ok-clause-done
+returns-in-Ok-clause-done g c = source_ran c.in-Ok-Some.tree (rw c.in-Ok-Some.field-0-is at c.in-Ok-Some.ensures.found) c.in-Ok.ensures.ok
+
+pub returns-in-Err-Failed-clause-done : goal.returns-in-Err-Failed-clause-done
+returns-in-Err-Failed-clause-done g c = source_broke WriteFault c.in-Ok-Some.tree tt (rw c.in-Ok-Some.field-0-is at c.in-Ok-Some.ensures.found) c.in-Err-Failed.ensures.err
+
+pub returns-in-Ok-Some-clause-done : goal.returns-in-Ok-Some-clause-done
+returns-in-Ok-Some-clause-done g c = source_broke NoMemory c.in-Ok-Some.tree tt (rw c.in-Ok-Some.field-0-is at c.in-Ok-Some.ensures.found) c.in-Err-NoMemory.ensures.err
+
+pub returns-in-Ok-None-clause-done : goal.returns-in-Ok-None-clause-done
+returns-in-Ok-None-clause-done g c = λ held left. refuses held left (Refused c.args.name.now 0 S4) c.refuse.result _ (refused (rw c.in-Ok-None.field-0-is at c.in-Ok-None.ensures.none)) c.refuse.ensures

@@ -1,0 +1,9 @@
+pub mod Answers
+pub mod Jobs
+pub mod Machines
+pub mod Outcomes
+pub mod Reading
+pub mod Words
+pub use Rattle.icn_host.specs.Counts
+pub use Rattle.icn_host.specs.FileMaps
+pub use Rattle.icn_host.specs.Sinks

@@ -1,0 +1,38 @@
+// The program that a text is.
+ghost use Rattle.std.specs.Prelude.{◌≡◌, ◌≤◌, length, IfOk, IfSome, IfNone};
+ghost use Rattle.icn_tree.specs.declared.tree.Procedure.{Procedure as Tree};
+ghost use Rattle.icn_tree.specs.Programs.{IsProgram};
+ghost use Rattle.icont_top.specs.Reading.{is_built};
+
+use crate::parser::parse;
+use crate::scanner::{LONGEST, tokens};
+use icn_tree::Procedure;
+use std::alloc::{AllocError, Global};
+
+/// The program that the text is. `None` exactly where it is none.
+pub fn program(alloc: Global, text: &[u8]) -> Result<Option<Procedure>, AllocError>
+    ensures found { IfOk result (λ found. IfSome found (IsProgram text.now)) }
+    ensures none { IfOk result (λ found. IfNone found ((tree : Tree) → IsProgram text.now tree → ⊥)) }
+{
+    if text.len() as u64 > LONGEST {
+        return Ok(None);
+    }
+    let Some(tokens) = tokens(alloc, text)? else {
+        return Ok(None);
+    };
+    let Some(tree) = parse(alloc, &tokens)? else {
+        return Ok(None);
+    };
+    if is_built(&tree) {
+        Ok(Some(tree))
+    } else {
+        Ok(None)
+    }
+}
+
+// Whether the procedure is `main`, and calls `write`.
+fn is_built(tree: &Procedure) -> bool
+    ensures { result ≡ is_built tree.now }
+{
+    tree.name.as_slice() == b"main".as_slice() && tree.body.name.as_slice() == b"write".as_slice()
+}
