@@ -304,6 +304,26 @@ mod tests {
     }
 
     #[test]
+    fn real_streams(rt: HostRuntime) -> Result<(), Fail> {
+        if fs::exists(&rt, "stream")? {
+            fs::remove_file(&rt, "stream")?;
+        }
+        let mut sink = StdSink::new(fs::File::create(&rt, "stream")?);
+        assert_eq!(rt; sink.put(b"one\n\ntw"), Ok(()));
+        assert_eq!(rt; sink.put(b"o"), Ok(()));
+        drop(sink);
+        let mut source = StdSource::new(fs::File::open(&rt, "stream")?);
+        let mut bytes = Vec::new(rt.alloc());
+        assert_eq!(rt; source.line(&mut bytes), Ok(Line::Whole));
+        assert_eq!(rt; source.take(2, &mut bytes), Ok(2));
+        assert_eq!(rt; source.line(&mut bytes), Ok(Line::Last));
+        assert_eq!(rt; source.line(&mut bytes), Ok(Line::End));
+        assert_eq!(rt; bytes.as_slice(), b"one\ntwo".as_slice());
+        fs::remove_file(&rt, "stream")?;
+        Ok(())
+    }
+
+    #[test]
     fn real_files(rt: HostRuntime) -> Result<(), Fail> {
         let mut bytes = Vec::new(rt.alloc());
         if fs::exists(&rt, "host")? {

@@ -1,9 +1,11 @@
 //! Worked rows: calls of the programs over objects in memory, with what they answer, write and print.
 #![tactic(auto)]
 
+ghost use Rattle.std.specs.Prelude.{None};
+
 #[cfg(test)]
 mod tests {
-    use icn_host::{MemFiles, MemSink, MemSource};
+    use icn_host::{Fault, MemFiles, MemSink, MemSource, Sink, SureFiles, SureSink, SureSource};
     use icn_text::decimal;
     use icn_tree::Bytes;
     use icont_top::{Answer, Ending, icont_main};
@@ -17,6 +19,43 @@ mod tests {
         b"usage: icont [-c] [-o name] [-n turns] [-g number] file ... [-x argument ...]\n";
 
     const REFUSED: &[u8] = b"f.icn:0: S4 form not in this profile\n";
+
+    // Texts that are no program.
+    const OTHER_TEXTS: [&[u8]; 30] = [
+        b"",
+        b"\n",
+        b"write",
+        b"procedure main()\nend\n",
+        b"procedure main()\nwrite(x)\nend\n",
+        b"procedure main()\nwrite(1)\nend\n",
+        b"procedure main()\nwrite()\nend\n",
+        b"procedure main()\nwrite(\"a\", \"b\")\nend\n",
+        b"procedure main()\nwrite(\"a\"\"b\")\nend\n",
+        b"procedure main()\nwrite(\"a\")\nwrite(\"b\")\nend\n",
+        b"procedure main()\nwrites(\"hi\")\nend\n",
+        b"procedure main()\nWrite(\"hi\")\nend\n",
+        b"procedure Main()\nwrite(\"hi\")\nend\n",
+        b"procedure p()\nwrite(\"hi\")\nend\n",
+        b"procedure main(x)\nwrite(\"hi\")\nend\n",
+        b"procedures main()\nwrite(\"hi\")\nend\n",
+        b"Procedure main()\nwrite(\"hi\")\nend\n",
+        b"proceduremain()\nwrite(\"hi\")\nend\n",
+        // a semicolon too few, or too many
+        b"procedure main()write(\"hi\")\nend\n",
+        b"procedure main()\nwrite(\"hi\")end\n",
+        b"procedure main()\nwrite(\"hi\");;end\n",
+        b"procedure main\n()\nwrite(\"hi\")\nend\n",
+        b"procedure main()\nwrite\n(\"hi\")\nend\n",
+        // before the procedure, and behind it
+        b";procedure main()\nwrite(\"hi\")\nend\n",
+        b"procedure main()\nwrite(\"hi\")\nend;",
+        b"procedure main()\nwrite(\"hi\")\nendx\n",
+        b"procedure main()\nwrite(\"hi\")\n",
+        // bytes that begin no token, and literals
+        b"procedure main() # comment\nwrite(\"hi\")\nend\n",
+        b"procedure main()\nwrite(\"h\\i\")\nend\n",
+        b"procedure main()\nwrite(\"hi)\nend\n",
+    ];
 
     // What a call of a program did.
     #[derive(Drop)]
@@ -41,6 +80,27 @@ mod tests {
         output: &[],
         errors: &[],
     };
+
+    // A sink whose first put takes nothing, since it wants memory.
+    #[derive(Drop)]
+    struct WantingSink {
+        wants: bool,
+        held: SureSink,
+    }
+
+    impl Sink for WantingSink {
+        ghost held = { λ _. None };
+
+        ghost faults = { λ _. 0 };
+
+        fn put(&mut self, piece: &[u8]) -> Result<(), Fault> {
+            if self.wants {
+                self.wants = false;
+                return Err(Fault::NoMemory);
+            }
+            self.held.put(piece)
+        }
+    }
 
     // Runs `icont` with these words, where `f.icn` holds this source.
     fn icont(alloc: Global, given: &[&str], source: &[u8], failing: Failing) -> Result<Row, Fail> {
@@ -126,42 +186,7 @@ mod tests {
     #[test]
     fn other_texts_are_refused(rt: HostRuntime) -> Result<(), Fail> {
         let alloc = rt.alloc();
-        let rows: [&[u8]; 30] = [
-            b"",
-            b"\n",
-            b"write",
-            b"procedure main()\nend\n",
-            b"procedure main()\nwrite(x)\nend\n",
-            b"procedure main()\nwrite(1)\nend\n",
-            b"procedure main()\nwrite()\nend\n",
-            b"procedure main()\nwrite(\"a\", \"b\")\nend\n",
-            b"procedure main()\nwrite(\"a\"\"b\")\nend\n",
-            b"procedure main()\nwrite(\"a\")\nwrite(\"b\")\nend\n",
-            b"procedure main()\nwrites(\"hi\")\nend\n",
-            b"procedure main()\nWrite(\"hi\")\nend\n",
-            b"procedure Main()\nwrite(\"hi\")\nend\n",
-            b"procedure p()\nwrite(\"hi\")\nend\n",
-            b"procedure main(x)\nwrite(\"hi\")\nend\n",
-            b"procedures main()\nwrite(\"hi\")\nend\n",
-            b"Procedure main()\nwrite(\"hi\")\nend\n",
-            b"proceduremain()\nwrite(\"hi\")\nend\n",
-            // a semicolon too few, or too many
-            b"procedure main()write(\"hi\")\nend\n",
-            b"procedure main()\nwrite(\"hi\")end\n",
-            b"procedure main()\nwrite(\"hi\");;end\n",
-            b"procedure main\n()\nwrite(\"hi\")\nend\n",
-            b"procedure main()\nwrite\n(\"hi\")\nend\n",
-            // before the procedure, and behind it
-            b";procedure main()\nwrite(\"hi\")\nend\n",
-            b"procedure main()\nwrite(\"hi\")\nend;",
-            b"procedure main()\nwrite(\"hi\")\nendx\n",
-            b"procedure main()\nwrite(\"hi\")\n",
-            // bytes that begin no token, and literals
-            b"procedure main() # comment\nwrite(\"hi\")\nend\n",
-            b"procedure main()\nwrite(\"h\\i\")\nend\n",
-            b"procedure main()\nwrite(\"hi)\nend\n",
-        ];
-        for source in rows {
+        for source in OTHER_TEXTS {
             let row = icont(alloc, &["icont", "f.icn", "-x"], source, NONE)?;
             let source = String::from_utf8_lossy(alloc, source)?;
             assert_eq!(rt; name_of(&row.answer), "Refused", "at {source}");
@@ -307,6 +332,36 @@ mod tests {
             assert_eq!(rt; row.output.as_slice(), output, "at {name}");
             assert_eq!(rt; row.errors.as_slice(), errors, "at {name}");
             assert!(rt; row.untouched, "at {name}");
+        }
+        Ok(())
+    }
+
+    // The put of the output, or of the answer's line, wants memory.
+    #[test]
+    fn want_of_memory_has_its_line(rt: HostRuntime) -> Result<(), Fail> {
+        let alloc = rt.alloc();
+        for (source, output, errors) in [(HI, true, false), (b"end".as_slice(), false, true)] {
+            let mut held = BTreeMap::new(alloc);
+            held.insert(String::from_str(alloc, "f.icn")?, source.to_vec(alloc)?)?;
+            let mut files = SureFiles::new(alloc, held);
+            let mut input = SureSource::new(Vec::new(alloc));
+            let mut out = WantingSink {
+                wants: output,
+                held: SureSink::new(Vec::new(alloc)),
+            };
+            let mut err = WantingSink {
+                wants: errors,
+                held: SureSink::new(Vec::new(alloc)),
+            };
+            let words = vec![in alloc;
+                String::from_str(alloc, "icont")?,
+                String::from_str(alloc, "f.icn")?,
+                String::from_str(alloc, "-x")?,
+            ]?;
+            let answer = icont_main(alloc, &words, &mut files, &mut input, &mut out, &mut err);
+            assert_eq!(rt; name_of(&answer), "NoMemory");
+            assert!(rt; out.held.content().is_empty());
+            assert_eq!(rt; err.held.content(), b"no memory\n".as_slice());
         }
         Ok(())
     }

@@ -24,6 +24,7 @@ impl Model for Digits {
 }
 
 impl Digits {
+    /// The bytes of the text.
     pub fn as_bytes(&self) -> &[u8]
         ensures { result.now ≡ self.now }
     {

@@ -28,6 +28,8 @@ pub enum Kind {
 /// line of the token before it.
 #[derive(Debug, Drop)]
 pub struct Token {
+    /// What it is.
     pub kind: Kind,
+    /// The number of its line.
     pub line: u32,
 }

@@ -10,7 +10,8 @@ pub data Operand : Type 0 where
   Variable : List ℕ → Operand
   Text : List ℕ → Operand
 
--- an open mark: where what fails in it goes on, and how many operands stood on the stack as it was opened
+-- An open mark: where what fails in it goes on, and how many operands stood on the stack as it was opened. No instruction
+-- fails yet but the last, so no step reads the label.
 pub record OpenMark : Type 0 where
   pub label : ℕ
   pub height : ℕ

@@ -179,3 +179,9 @@ refused_by (inr e) h is = h (rw e at is)
 
 pub refused_of : {rose P : Type 0} {given answer : Answer} {err err' : Option (List ℕ)} → Reports rose answer err err' given → (IsRefusal answer → P) → IsRefusal given → P
 refused_of line h is = refused_by (reported line) h is
+
+pub line_put : {rose : Type 0} {answer given : Answer} {before after : Option (List ℕ)} → Reports rose answer before after given → IsFault given ⊎ Gains before after (line_of given)
+line_put (put h) = inr h
+line_put (own f h) = inl f
+line_put (write_fault n h) = inl tt
+line_put (want n between h p) = inl tt

@@ -5,3 +5,4 @@ pub mod Running
 pub mod Scanning
 pub mod Working
 pub mod Separating
+pub mod Deciding

@@ -3,7 +3,8 @@ ghost use Rattle.std.specs.Prelude.{◌≡◌, ℕ, List};
 ghost use Rattle.icn_host.specs.FileMaps.{FileMap};
 ghost use Rattle.icont_top.specs.Jobs.{Job, IsJob};
 
-/// The words, the files and the input ask for one job.
+/// The words, the files and the input ask for a job, and for one alone.
 pub fn one_job()
-    ensures { (words : List (List ℕ)) (files : FileMap) (left : List ℕ) (a b : Job) → IsJob words files left a → IsJob words files left b → a ≡ b }
+    ensures some { (words : List (List ℕ)) (files : FileMap) (left : List ℕ) → (job : Job) × IsJob words files left job }
+    ensures one { (words : List (List ℕ)) (files : FileMap) (left : List ℕ) (a b : Job) → IsJob words files left a → IsJob words files left b → a ≡ b }
 {}

@@ -9,7 +9,7 @@ ghost use Rattle.icn_tree.specs.declared.token.Kind.TheVariants.{Symbol as Symbo
 use icn_tree::{Bytes, Kind, Symbol, Token};
 use std::alloc::{AllocError, Global};
 
-/// The longest text that may be scanned.
+/// The length of the longest text that may be scanned, in bytes.
 pub const LONGEST: u64 = 16777216;
 
 /// The tokens of a text, with the semicolons that its lines' ends stand for. `None` where a byte begins no token.

@@ -5,7 +5,7 @@ ghost use Rattle.icn_host.specs.Sinks.{Gains};
 ghost use Rattle.icn_tree.specs.declared.tree.Procedure.{Procedure};
 ghost use Rattle.icn_tree.specs.Meaning.{meaning};
 ghost use Rattle.icn_tree.specs.Programs.{IsProgram};
-ghost use Rattle.icont_top.specs.Answers.{IsFault, IsRefusal, IsCommand, IsMissing};
+ghost use Rattle.icont_top.specs.Answers.{IsFault, IsRefusal, IsCommand, IsMissing, line_of};
 ghost use Rattle.icont_top.specs.Jobs.{Job, IsJob};
 ghost use Rattle.icont_top.specs.Outcomes.{told, Holds, Completes, Leaves, Runs};
 ghost use Rattle.icont_top.specs.Words.{file_asked};
@@ -55,6 +55,9 @@ pub fn icont_main<F: Files, I: Source, O: Sink, E: Sink>(
 
     // A refusal leaves the output as it was.
     ensures refused { IsRefusal result → O.held out.new ≡ O.held out.old }
+
+    // Every other answer's line was put, whatever the files and the input tell.
+    ensures line { IsFault result ⊎ Gains (E.held err.old) (E.held err.new) (line_of result) }
 
     // A fault is answered only where the count of its object rose, and no count falls.
     ensures file_fault { HasCause (F.faults files.old) (F.faults files.new) (result ≡ Answer.FileFault) }

@@ -1,5 +1,9 @@
 use Rattle.icont_top.proofs.Composing.{one_job}
+use Rattle.icont_top.proofs.Deciding.{some_job}
 use Rattle.icont_top.proofs.laws.one_job.Goals as goal
 
-pub returns : goal.returns
-returns c = one_job
+pub returns-clause-some : goal.returns-clause-some
+returns-clause-some c = some_job
+
+pub returns-clause-one : goal.returns-clause-one
+returns-clause-one c = one_job

@@ -1,7 +1,7 @@
 use Rattle.std.proofs.Common.{[], map, string_bytes, refl}
 use Rattle.icont_top.specs.Words.{file_asked}
 use Rattle.icont_top.proofs.Working.{if_some}
-use Rattle.icont_top.proofs.Composing.{at_some, completes, leaves, runs, command_of, refused_of}
+use Rattle.icont_top.proofs.Composing.{at_some, completes, leaves, runs, command_of, refused_of, line_put}
 use Rattle.icont_top.proofs.top.icont_main.Goals as goal
 
 pub returns-clause-completeness : goal.returns-clause-completeness
@@ -27,3 +27,6 @@ returns-clause-command g c = command_of (file_asked (map string_bytes c.args.wor
 
 pub returns-clause-refused : goal.returns-clause-refused
 returns-clause-refused g c = refused_of c.report.ensures.line c.work-answer.ensures.refused
+
+pub returns-clause-line : goal.returns-clause-line
+returns-clause-line g c = line_put c.report.ensures.line
