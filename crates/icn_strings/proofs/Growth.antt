@@ -1,0 +1,62 @@
+-- A region's buffer: what is kept as it grows, and what a part of it holds.
+use Rattle.std.proofs.Common.{◌≡◌, ◌∙◌, ℕ, zero, suc, ◌+◌, ◌-◌, ◌<◌, ◌≤◌, List, [], ◌++◌, length, take, drop, refl, sym, ap, arith, length-append, length-drop, append-nil}
+use Rattle.std.proofs.lemmas.List.{take-append-le, drop-append-le, drop-take, drop-drop, take-take}
+use Rattle.icn_strings.specs.declared.place.Place.{Place}
+use Rattle.icn_strings.specs.declared.region.Region.{Region}
+use Rattle.icn_strings.specs.Places.{IsPart}
+use Rattle.icn_strings.specs.Regions.{limit_of, sum_of, IsHeld, bytes_of, Keeps, IsUnchanged}
+
+-- bytes that lie within stay where more is appended
+within_stays : (n at : ℕ) (had more : List ℕ) → (0 < n → at + n ≤ length had) → take n (drop at (had ++ more)) ≡ take n (drop at had)
+within_stays zero at had more h = refl
+within_stays (suc n) at had more h =
+    let within : at + suc n ≤ length had = h (omega arith) in
+    let start : at ≤ length had = omega arith in
+    let rest : suc n ≤ length (drop at had) = simp length-drop (omega arith) in
+    rw (drop-append-le at had more start) (take-append-le (suc n) (drop at had) more rest)
+
+-- bytes were appended, or none
+pub keeps_more : {a b : Region} (more : List ℕ) → b.bytes.items ≡ a.bytes.items ++ more → b.limit ≡ a.limit → Keeps a b
+unfolding limit_of IsHeld bytes_of
+keeps_more {a} {b} more is same = record {
+  limit = same;
+  of = λ p h. record {
+    held = λ some.
+        let old : p.place + p.len ≤ length a.bytes.items = h.held some in
+        rw is (rw length-append (omega arith));
+  };
+  bytes = λ p h. rw is (within_stays p.len p.place a.bytes.items more h.held);
+}
+
+-- the bytes and the limit are the same
+pub keeps_same : {a b : Region} → b.bytes.items ≡ a.bytes.items → b.limit ≡ a.limit → Keeps a b
+keeps_same {a} {b} is same = keeps_more [] (is ∙ sym (append-nil a.bytes.items)) same
+
+-- the bytes, the limit and the sum are the same
+pub unchanged : {a b : Region} → b.bytes.items ≡ a.bytes.items → b.limit ≡ a.limit → b.sum ≡ a.sum → IsUnchanged a b
+unfolding sum_of
+unchanged {a} {b} is limit sum = record {
+  sum = sum;
+  kept = keeps_same is limit;
+  back = keeps_same (sym is) (sym limit);
+}
+
+-- the bytes of a part are its part of the bytes
+pub part_bytes : (xs : List ℕ) (part whole : Place) → IsPart part whole
+    → take part.len (drop part.place xs) ≡ take part.len (drop (part.place - whole.place) (take whole.len (drop whole.place xs)))
+part_bytes xs part whole is =
+    let before : ℕ = part.place - whole.place in
+    let behind : ℕ = whole.len - before in
+    let from : whole.place ≤ part.place = is.from in
+    let to : part.place + part.len ≤ whole.place + whole.len = is.to in
+    let lens : whole.len ≡ before + behind = omega arith in
+    let places : part.place ≡ whole.place + before = omega arith in
+    let within : part.len ≤ behind = omega arith in
+    let cut : drop before (take (before + behind) (drop whole.place xs)) ≡ take behind (drop (whole.place + before) xs) =
+    drop-take before behind (drop whole.place xs) ∙ ap (λ ys. take behind ys) (drop-drop before whole.place xs) in
+    ap (λ at. take part.len (drop at xs)) places
+    ∙ (sym (take-take part.len behind (drop (whole.place + before) xs) within)
+    ∙ (ap (λ ys. take part.len ys) (sym cut)
+    ∙ ap (λ n. take part.len (drop before (take n (drop whole.place xs)))) (sym lens)))
+
+pub ruleset growth = (keeps_more, keeps_same, unchanged)

@@ -1,0 +1,12 @@
+-- What a region keeps over calls.
+use Rattle.std.proofs.Common.{◌∙◌}
+use Rattle.icn_strings.specs.Regions.{Keeps}
+use Rattle.icn_strings.specs.declared.region.Region.{Region}
+
+-- what is kept over two calls, one after the other
+pub keeps_then : {a b c : Region} → Keeps a b → Keeps b c → Keeps a c
+keeps_then {a} {b} {c} first second = record {
+  limit = second.limit ∙ first.limit;
+  of = λ place is. second.of place (first.of place is);
+  bytes = λ place is. second.bytes place (first.of place is) ∙ first.bytes place is;
+}

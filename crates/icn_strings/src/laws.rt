@@ -1,0 +1,44 @@
+// What holds of every region. A call does nothing: it tells a caller's proof the law.
+ghost use Rattle.std.specs.Prelude.{◌≡◌, ◌+◌, ◌-◌, ◌^◌, ◌<◌, ◌≤◌, [], length, take, drop};
+ghost use Rattle.icn_strings.specs.Places.{IsPart};
+ghost use Rattle.icn_strings.specs.Regions.{limit_of, sum_of, IsOf, bytes_of};
+
+use crate::place::Place;
+use crate::region::Region;
+
+/// A place of length 0 is of every region, and has no bytes.
+#[tactic(auto, unfolding(crate::specs::Regions::IsHeld, crate::specs::Regions::bytes_of))]
+pub fn empty_place(region: &Region, place: Place)
+    requires { place.len ≡ 0 }
+    ensures of { IsOf region.now place }
+    ensures bytes { bytes_of region.now place ≡ [] }
+{}
+
+/// A part of a place of a region is of it too, and has its part of the bytes.
+#[tactic(auto, using(crate::proofs::Growth::part_bytes), unfolding(crate::specs::Regions::IsHeld, crate::specs::Regions::bytes_of))]
+pub fn part_of_place(region: &Region, part: Place, whole: Place)
+    requires of { IsOf region.now whole }
+    requires part { IsPart part whole }
+    ensures of { IsOf region.now part }
+    ensures bytes { bytes_of region.now part ≡ take part.len (drop (part.place - whole.place) (bytes_of region.now whole)) }
+{}
+
+/// A place of a region has as many bytes as it says.
+#[tactic(auto, unfolding(crate::specs::Regions::IsHeld, crate::specs::Regions::bytes_of))]
+pub fn length_of_bytes(region: &Region, place: Place)
+    requires { IsOf region.now place }
+    ensures { length (bytes_of region.now place) ≡ place.len }
+{}
+
+/// The end of a place of a region is a `u64`, so that the place of a part can be computed.
+#[tactic(auto, unfolding(crate::specs::Regions::IsHeld))]
+pub fn end_of_place(region: &Region, place: Place)
+    requires { IsOf region.now place }
+    ensures { place.place + place.len < 2 ^ 64 }
+{}
+
+/// No region has charged more than its limit.
+#[tactic(auto, unfolding(crate::specs::Regions::sum_of, crate::specs::Regions::limit_of))]
+pub fn within_limit(region: &Region)
+    ensures { sum_of region.now ≤ limit_of region.now }
+{}
