@@ -20,18 +20,34 @@ mod tests {
 
     const REFUSED: &[u8] = b"f.icn:0: S4 form not in this profile\n";
 
+    const TWO: &[u8] = b"procedure main()\nwrite(\"a\")\nwrite(2)\nend\n";
+
     // Texts that are no program.
-    const OTHER_TEXTS: [&[u8]; 30] = [
+    const OTHER_TEXTS: [&[u8]; 41] = [
         b"",
         b"\n",
         b"write",
-        b"procedure main()\nend\n",
         b"procedure main()\nwrite(x)\nend\n",
-        b"procedure main()\nwrite(1)\nend\n",
         b"procedure main()\nwrite()\nend\n",
-        b"procedure main()\nwrite(\"a\", \"b\")\nend\n",
         b"procedure main()\nwrite(\"a\"\"b\")\nend\n",
-        b"procedure main()\nwrite(\"a\")\nwrite(\"b\")\nend\n",
+        b"procedure main()\nwrite(\"a\" 1)\nend\n",
+        b"procedure main()\nwrite(1 2)\nend\n",
+        b"procedure main()\nwrite(,1)\nend\n",
+        b"procedure main()\nwrite(1,)\nend\n",
+        b"procedure main()\nwrite(1,,2)\nend\n",
+        b"procedure main()\nwrite(1;2)\nend\n",
+        b"procedure main()\nwrite(-1)\nend\n",
+        b"procedure main()\nwrite(1x)\nend\n",
+        b"procedure main()\nwrite(write(1))\nend\n",
+        b"procedure main()\nwrite(1),write(2)\nend\n",
+        b"procedure main()\n1\nend\n",
+        b"procedure main()\n\"a\"\nend\n",
+        // a newline between two literals is a semicolon
+        b"procedure main()\nwrite(1\n2)\nend\n",
+        // 19 digits
+        b"procedure main()\nwrite(1234567890123456789)\nend\n",
+        b"procedure main()\nwrite(0000000000000000001)\nend\n",
+        b"procedure main()\nwrite(1)\nwrites(1)\nend\n",
         b"procedure main()\nwrites(\"hi\")\nend\n",
         b"procedure main()\nWrite(\"hi\")\nend\n",
         b"procedure Main()\nwrite(\"hi\")\nend\n",
@@ -40,10 +56,9 @@ mod tests {
         b"procedures main()\nwrite(\"hi\")\nend\n",
         b"Procedure main()\nwrite(\"hi\")\nend\n",
         b"proceduremain()\nwrite(\"hi\")\nend\n",
-        // a semicolon too few, or too many
+        // a semicolon too few
         b"procedure main()write(\"hi\")\nend\n",
         b"procedure main()\nwrite(\"hi\")end\n",
-        b"procedure main()\nwrite(\"hi\");;end\n",
         b"procedure main\n()\nwrite(\"hi\")\nend\n",
         b"procedure main()\nwrite\n(\"hi\")\nend\n",
         // before the procedure, and behind it
@@ -144,7 +159,7 @@ mod tests {
     #[test]
     fn programs_run(rt: HostRuntime) -> Result<(), Fail> {
         let alloc = rt.alloc();
-        let rows: [(&[u8], &[u8]); 11] = [
+        let rows: [(&[u8], &[u8]); 22] = [
             (HI, b"hi\n"),
             // written semicolons, and those of ends of lines
             (b"procedure main();write(\"hi\");end", b"hi\n"),
@@ -160,6 +175,34 @@ mod tests {
             (
                 b"procedure main ( ) ;\twrite\x0b(\x0c\"hi\"\r) ; end",
                 b"hi\n",
+            ),
+            // several expressions, and none
+            (TWO, b"a\n2\n"),
+            (b"procedure main()\nend\n", b""),
+            (b"procedure main();;;end\n", b""),
+            (
+                b"procedure main()\nwrite(\"a\");;write(\"b\");end\n",
+                b"a\nb\n",
+            ),
+            (
+                b"procedure main()\nwrite(1);\n;write(2);write(3);\nend\n",
+                b"1\n2\n3\n",
+            ),
+            // several literals: a comma neither ends an expression nor begins one
+            (b"procedure main()\nwrite(\"a\", 007)\nend\n", b"a7\n"),
+            (
+                b"procedure main()\nwrite(\"a\",\n\"b\",\n3)\nend\n",
+                b"ab3\n",
+            ),
+            (b"procedure main()\nwrite(1\n,2\n,\"c\"\n)\nend\n", b"12c\n"),
+            (b"procedure main()\nwrite(0, 00, 10)\nend\n", b"0010\n"),
+            (
+                b"procedure main()\nwrite(999999999999999999, 000000000000000001)\nend\n",
+                b"9999999999999999991\n",
+            ),
+            (
+                b"procedure main()\nwrite(\"\",1,\"\",\"b\")\nend\n",
+                b"1b\n",
             ),
             // literals
             (b"procedure main()\nwrite(\"\")\nend\n", b"\n"),
@@ -254,6 +297,32 @@ mod tests {
         Ok(())
     }
 
+    // Many calls, and many literals in one call.
+    #[test]
+    fn long_bodies_and_long_calls_run(rt: HostRuntime) -> Result<(), Fail> {
+        let alloc = rt.alloc();
+        let rows: [(&[u8], &[u8], &[u8], &[u8]); 2] = [
+            (b"procedure main()\n", b"write(7)\n", b"end\n", b"7\n"),
+            (b"procedure main()\nwrite(7", b",7", b")\nend\n", b"7"),
+        ];
+        for (before, each, after, output) in rows {
+            let mut source = before.to_vec(alloc)?;
+            let mut wanted = Vec::new(alloc);
+            for _ in 0..100000 {
+                source.extend_from_slice(each)?;
+                wanted.extend_from_slice(output)?;
+            }
+            source.extend_from_slice(after)?;
+            if output.len() == 1 {
+                wanted.extend_from_slice(b"7\n")?;
+            }
+            let row = icont(alloc, &["icont", "f.icn", "-x"], &source, NONE)?;
+            assert_eq!(rt; name_of(&row.answer), "Ran(Done)");
+            assert!(rt; row.output == wanted);
+        }
+        Ok(())
+    }
+
     #[test]
     fn words_are_taken_as_they_stand(rt: HostRuntime) -> Result<(), Fail> {
         let alloc = rt.alloc();
@@ -314,7 +383,12 @@ mod tests {
             output: &[1],
             errors: &[1],
         };
-        let rows: [(&str, &[u8], Failing, &str, &[u8], &[u8]); 10] = [
+        let second = Failing {
+            output: &[1],
+            ..NONE
+        };
+        let rows: [(&str, &[u8], Failing, &str, &[u8], &[u8]); 11] = [
+            ("f.icn", TWO, second, "WriteFault", b"a\n", b""),
             ("f.icn", HI, files, "FileFault", b"", b"file fault\n"),
             ("no.icn", HI, files, "FileFault", b"", b"file fault\n"),
             ("f.icn", HI, both, "FileFault", b"", b""),

@@ -1,26 +1,61 @@
--- A list of tokens has at most one tree.
-use Rattle.std.proofs.Common.{◌≡◌, List, [], ◌∷◌, ◌++◌, refl}
-use Rattle.std.proofs.lemmas.List.{append_cancel_right}
+-- A list of tokens has at most one tree: what it spells is what a reader finds.
+use Rattle.std.proofs.Common.{◌≡◌, ℕ, ◌+◌, ◌<◌, ◌≤◌, zero, suc, List, [], ◌∷◌, ◌++◌, length, Option, None, Some, refl, sym, ap, ◌∙◌, arith, append_assoc, length-append}
+use Rattle.std.proofs.lemmas.Option.{same_Some}
 use Rattle.icn_tree.specs.declared.token.Kind.{Kind}
-use Rattle.icn_tree.specs.declared.token.Kind.TheVariants.{Symbol}
-use Rattle.icn_tree.specs.declared.token.Symbol.TheVariants.{End, Semicolon}
-use Rattle.icn_tree.specs.declared.tree.Call.{Call}
+use Rattle.icn_tree.specs.declared.token.Kind.TheVariants.{Name, Symbol}
+use Rattle.icn_tree.specs.declared.token.Symbol.TheVariants.{Procedure as WordProcedure, End, OpenParenthesis, CloseParenthesis, Comma, Semicolon}
+use Rattle.icn_tree.specs.declared.tree.Literal.{Literal}
+use Rattle.icn_tree.specs.declared.tree.Expr.{Expr}
+use Rattle.icn_tree.specs.declared.tree.Expr.TheVariants.{Empty}
 use Rattle.icn_tree.specs.declared.tree.Procedure.{Procedure}
-use Rattle.icn_tree.specs.Grammar.{SpellsCall, call, Spells, procedure}
+use Rattle.icn_tree.specs.Grammar.{SpellsLiteral, integer, text, SpellsArguments, last, more, SpellsExpr, empty, call, SpellsBody, nothing, next, Spells, procedure}
+use Rattle.icn_tree.specs.Reading.{◌>>=◌, literal_of, literal_read, more_read, arguments_read, call_of, call_read, symbol_read, expr_by, expr_read, body_by, body_read, head_read, procedure_read, procedure_of}
 
--- two calls that begin as their tokens do are one call
-same_call : (a b : Call) (s t : List Kind) → SpellsCall a s → SpellsCall b t → s ≡ t → a ≡ b
-same_call _ _ _ _ (call m x) (call n y) e =
-    let names : m ≡ n = cc in
-    let texts : x ≡ y = cc in
-    cc
+literal_again : (literal : Literal) (token : Kind) → SpellsLiteral literal token → literal_of token ≡ Some literal
+literal_again _ _ (integer n) = refl
+literal_again _ _ (text bytes) = refl
 
-same_procedure : (a b : Procedure) (s t : List Kind) → Spells a s → Spells b t → s ≡ t → a ≡ b
-same_procedure _ _ _ _ (procedure m x s p) (procedure n y t q) e =
-    let names : m ≡ n = cc in
-    let rests : s ++ (Symbol Semicolon ∷ Symbol End ∷ []) ≡ t ++ (Symbol Semicolon ∷ Symbol End ∷ []) = cc in
-    let bodies : x ≡ y = same_call x y s t p q (append_cancel_right s t (Symbol Semicolon ∷ Symbol End ∷ []) rests) in
-    cc
+-- what is spelled before a closing parenthesis is read
+arguments_again : (literals : List Literal) (tokens rest : List Kind) → SpellsArguments literals tokens → (n : ℕ) → length tokens ≤ n
+    → arguments_read n (tokens ++ (Symbol CloseParenthesis ∷ rest)) ≡ Some (literals, Symbol CloseParenthesis ∷ rest)
+arguments_again _ _ rest (last literal token s) zero h = absurd (omega arith)
+arguments_again _ _ rest (last literal token s) (suc n) h =
+    ap (λ found. (found >>= λ l. Some (l, Symbol CloseParenthesis ∷ rest)) >>= λ first. more_read (symbol_read Comma first.1) first (λ others. arguments_read n others)) (literal_again literal token s)
+arguments_again _ _ rest (more literal token literals tokens s others) zero h = absurd (omega arith)
+arguments_again _ _ rest (more literal token literals tokens s others) (suc n) h =
+    ap (λ found. (found >>= λ l. Some (l, Symbol Comma ∷ (tokens ++ (Symbol CloseParenthesis ∷ rest)))) >>= λ first. more_read (symbol_read Comma first.1) first (λ later. arguments_read n later)) (literal_again literal token s)
+    ∙ ap (λ found. found >>= λ f. Some (literal ∷ f.0, f.1)) (arguments_again literals tokens rest others n (omega arith))
+
+-- an expression and its semicolon
+expr_again : (expr : Expr) (tokens rest : List Kind) → SpellsExpr expr tokens → (n : ℕ) → length tokens ≤ n → expr_read n (tokens ++ (Symbol Semicolon ∷ rest)) ≡ Some (expr, rest)
+expr_again _ _ rest empty n h = refl
+expr_again _ _ rest (call name arguments tokens s) n h =
+    let regrouped : tokens ++ Symbol CloseParenthesis ∷ [] ++ (Symbol Semicolon ∷ rest) ≡ tokens ++ (Symbol CloseParenthesis ∷ Symbol Semicolon ∷ rest) = append_assoc tokens (Symbol CloseParenthesis ∷ []) (Symbol Semicolon ∷ rest) in
+    ap (λ later. expr_read n (Name name ∷ Symbol OpenParenthesis ∷ later)) regrouped
+    ∙ ap (λ found. expr_by None (found >>= λ a. symbol_read CloseParenthesis a.1 >>= λ closed. Some (call_of name a.0, closed)))
+    (arguments_again arguments tokens (Symbol Semicolon ∷ rest) s n (omega (arith, h, length-append tokens (Symbol CloseParenthesis ∷ []))))
+
+-- no expression with its semicolon begins with the word that ends a procedure
+no_end : (expr : Expr) (tokens rest : List Kind) → SpellsExpr expr tokens → symbol_read End (tokens ++ (Symbol Semicolon ∷ rest)) ≡ None
+no_end _ _ rest empty = refl
+no_end _ _ rest (call name arguments tokens s) = refl
+
+body_again : (exprs : List Expr) (tokens : List Kind) → SpellsBody exprs tokens → (n : ℕ) → length tokens < n → body_read n (tokens ++ Symbol End ∷ []) ≡ Some exprs
+body_again _ _ nothing zero h = absurd (omega arith)
+body_again _ _ nothing (suc n) h = refl
+body_again _ _ (next expr exprs tokens rest s others) zero h = absurd (omega arith)
+body_again _ _ (next expr exprs tokens rest s others) (suc n) h =
+    let regrouped : tokens ++ (Symbol Semicolon ∷ rest) ++ Symbol End ∷ [] ≡ tokens ++ (Symbol Semicolon ∷ (rest ++ Symbol End ∷ [])) = append_assoc tokens (Symbol Semicolon ∷ rest) (Symbol End ∷ []) in
+    let size : length (tokens ++ (Symbol Semicolon ∷ rest)) ≡ length tokens + suc (length rest) = length-append tokens (Symbol Semicolon ∷ rest) in
+    ap (body_read (suc n)) regrouped
+    ∙ ap (λ end. body_by end (expr_read n (tokens ++ (Symbol Semicolon ∷ (rest ++ Symbol End ∷ []))) >>= λ first. body_read n first.1 >>= λ found. Some (first.0 ∷ found))) (no_end expr tokens (rest ++ Symbol End ∷ []) s)
+    ∙ ap (λ found. found >>= λ first. body_read n first.1 >>= λ later. Some (first.0 ∷ later)) (expr_again expr tokens (rest ++ Symbol End ∷ []) s n (omega (arith, h, size)))
+    ∙ ap (λ found. found >>= λ later. Some (expr ∷ later)) (body_again exprs rest others n (omega (arith, h, size)))
+
+pub procedure_again : (tree : Procedure) (tokens : List Kind) → Spells tree tokens → (n : ℕ) → length tokens ≤ n → procedure_read n tokens ≡ Some tree
+procedure_again _ _ (procedure name body tokens s) n h =
+    ap (λ found. found >>= λ exprs. Some (procedure_of name exprs)) (body_again body tokens s n (omega (arith, h, length-append tokens (Symbol End ∷ []))))
 
 pub one_tree : (a b : Procedure) (tokens : List Kind) → Spells a tokens → Spells b tokens → a ≡ b
-one_tree a b tokens p q = same_procedure a b tokens tokens p q refl
+one_tree a b tokens s t =
+    same_Some a b (sym (procedure_again a tokens s (length tokens) (omega arith)) ∙ procedure_again b tokens t (length tokens) (omega arith))

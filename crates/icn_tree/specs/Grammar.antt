@@ -1,17 +1,38 @@
 -- The tree of a list of tokens.
-use Rattle.std.specs.Prelude.{ℕ, List, [], ◌∷◌, ◌++◌}
+use Rattle.std.specs.Prelude.{ℕ, ℤ, List, [], ◌∷◌, ◌++◌}
 use Rattle.icn_tree.specs.declared.token.Kind.{Kind}
-use Rattle.icn_tree.specs.declared.token.Kind.TheVariants.{Name, Text, Symbol}
-use Rattle.icn_tree.specs.declared.token.Symbol.TheVariants.{Procedure as WordProcedure, End, OpenParenthesis, CloseParenthesis, Semicolon}
+use Rattle.icn_tree.specs.declared.token.Kind.TheVariants.{Name, Integer as IntegerToken, Text as TextToken, Symbol}
+use Rattle.icn_tree.specs.declared.token.Symbol.TheVariants.{Procedure as WordProcedure, End, OpenParenthesis, CloseParenthesis, Comma, Semicolon}
+use Rattle.icn_tree.specs.declared.tree.Literal.{Literal}
+use Rattle.icn_tree.specs.declared.tree.Literal.TheVariants.{Integer, Text}
 use Rattle.icn_tree.specs.declared.tree.Call.{Call}
+use Rattle.icn_tree.specs.declared.tree.Expr.{Expr}
+use Rattle.icn_tree.specs.declared.tree.Expr.TheVariants.{Empty, Call as CallExpr}
 use Rattle.icn_tree.specs.declared.tree.Procedure.{Procedure}
 
--- call = ID "(" STRING ")"
-pub data SpellsCall : Call → List Kind → Type 0 where
-  call : (name text : List ℕ) → SpellsCall (record { name = name; text = text }) (Name name ∷ Symbol OpenParenthesis ∷ Text text ∷ Symbol CloseParenthesis ∷ [])
+-- literal = INTEGER | STRING
+pub data SpellsLiteral : Literal → Kind → Type 0 where
+  integer : (n : ℤ) → SpellsLiteral (Integer n) (IntegerToken n)
+  text : (bytes : List ℕ) → SpellsLiteral (Text bytes) (TextToken bytes)
 
--- procedure = "procedure" ID "(" ")" ";" call ";" "end"
+-- arguments = literal { "," literal }
+pub data SpellsArguments : List Literal → List Kind → Type 0 where
+  last : (literal : Literal) (token : Kind) → SpellsLiteral literal token → SpellsArguments (literal ∷ []) (token ∷ [])
+  more : (literal : Literal) (token : Kind) (literals : List Literal) (tokens : List Kind) → SpellsLiteral literal token → SpellsArguments literals tokens
+      → SpellsArguments (literal ∷ literals) (token ∷ Symbol Comma ∷ tokens)
+
+-- n = [ ID "(" arguments ")" ]
+pub data SpellsExpr : Expr → List Kind → Type 0 where
+  empty : SpellsExpr Empty []
+  call : (name : List ℕ) (arguments : List Literal) (tokens : List Kind) → SpellsArguments arguments tokens
+      → SpellsExpr (CallExpr (record { name = name; arguments = arguments })) (Name name ∷ Symbol OpenParenthesis ∷ (tokens ++ Symbol CloseParenthesis ∷ []))
+
+-- body = { n ";" }
+pub data SpellsBody : List Expr → List Kind → Type 0 where
+  nothing : SpellsBody [] []
+  next : (expr : Expr) (exprs : List Expr) (tokens rest : List Kind) → SpellsExpr expr tokens → SpellsBody exprs rest → SpellsBody (expr ∷ exprs) (tokens ++ (Symbol Semicolon ∷ rest))
+
+-- procedure = "procedure" ID "(" ")" ";" body "end"
 pub data Spells : Procedure → List Kind → Type 0 where
-  procedure : (name : List ℕ) (body : Call) (tokens : List Kind) → SpellsCall body tokens
-      → Spells (record { name = name; body = body }) (Symbol WordProcedure ∷ Name name ∷ Symbol OpenParenthesis ∷ Symbol CloseParenthesis ∷ Symbol Semicolon
-      ∷ (tokens ++ (Symbol Semicolon ∷ Symbol End ∷ [])))
+  procedure : (name : List ℕ) (body : List Expr) (tokens : List Kind) → SpellsBody body tokens
+      → Spells (record { name = name; body = body }) (Symbol WordProcedure ∷ Name name ∷ Symbol OpenParenthesis ∷ Symbol CloseParenthesis ∷ Symbol Semicolon ∷ (tokens ++ Symbol End ∷ []))

@@ -1,5 +1,6 @@
 pub mod Grammar
 pub mod Meaning
 pub mod Programs
+pub mod Reading
 pub mod Rules
 pub mod Tokens

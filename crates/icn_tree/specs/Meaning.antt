@@ -1,7 +1,22 @@
 -- What a program writes.
 use Rattle.std.specs.Prelude.{ℕ, List, [], ◌∷◌, ◌++◌}
+use Rattle.std.specs.Fmt.{signed_decimal}
+use Rattle.std.specs.List.{flat_map}
+use Rattle.icn_tree.specs.declared.tree.Literal.{Literal}
+use Rattle.icn_tree.specs.declared.tree.Literal.TheVariants.{Integer, Text}
+use Rattle.icn_tree.specs.declared.tree.Expr.{Expr}
+use Rattle.icn_tree.specs.declared.tree.Expr.TheVariants.{Empty, Call}
 use Rattle.icn_tree.specs.declared.tree.Procedure.{Procedure}
 
--- the text of the call's literal, and a newline
+-- the text of a literal: an integer in decimal
+abbrev pub text_of : Literal → List ℕ
+text_of (Integer n) = signed_decimal n
+text_of (Text bytes) = bytes
+
+-- a call writes the texts of its literals and a newline
+abbrev pub written_by : Expr → List ℕ
+written_by Empty = []
+written_by (Call call) = flat_map text_of call.arguments ++ 10 ∷ []
+
 abbrev pub meaning : Procedure → List ℕ
-meaning procedure = procedure.body.text ++ 10 ∷ []
+meaning procedure = flat_map written_by procedure.body

@@ -1,11 +1,11 @@
 -- The tokens of a program text.
-use Rattle.std.specs.Prelude.{◌==◌, ℕ, ◌+◌, ◌-◌, zero, suc, Bool, true, false, ◌&&◌, ◌||◌, not, nat_lt, nat_le, List, [], ◌∷◌, ◌++◌, length, take, map, codes, Option, Some, None, if◌then◌else◌}
+use Rattle.std.specs.Prelude.{◌==◌, ℕ, ◌+◌, ◌-◌, ◌*◌, pos, zero, suc, Bool, true, false, ◌&&◌, ◌||◌, not, nat_lt, nat_le, List, [], ◌∷◌, ◌++◌, length, take, map, codes, Option, Some, None, if◌then◌else◌}
 use Rattle.std.specs.List.{list_all}
 use Rattle.std.specs.Option.{option_map, option_and_then}
 use Rattle.std.specs.Str.{bytes_eq}
 use Rattle.icn_tree.specs.declared.token.Kind.{Kind}
-use Rattle.icn_tree.specs.declared.token.Kind.TheVariants.{Name, Text, Symbol}
-use Rattle.icn_tree.specs.declared.token.Symbol.TheVariants.{Procedure, End, OpenParenthesis, CloseParenthesis, Semicolon}
+use Rattle.icn_tree.specs.declared.token.Kind.TheVariants.{Name, Integer, Text, Symbol}
+use Rattle.icn_tree.specs.declared.token.Symbol.TheVariants.{Procedure, End, OpenParenthesis, CloseParenthesis, Comma, Semicolon}
 use Rattle.icn_tree.specs.declared.token.Token.{Token}
 
 -- Bytes
@@ -24,9 +24,12 @@ is_space b = is_between 9 13 b || b == 32
 abbrev pub begins_name : ℕ → Bool
 begins_name b = is_between 65 90 b || is_between 97 122 b || b == 95
 
+abbrev pub is_digit : ℕ → Bool
+is_digit b = is_between 48 57 b
+
 -- a letter, an underscore or a digit
 abbrev pub continues_name : ℕ → Bool
-continues_name b = begins_name b || is_between 48 57 b
+continues_name b = begins_name b || is_digit b
 
 abbrev pub is_quote : ℕ → Bool
 is_quote b = b == 34
@@ -52,8 +55,17 @@ closed [] = None
 closed (b ∷ []) = if is_quote b then Some [] else None
 closed (b ∷ c ∷ rest) = if is_plain b then option_map (λ text. b ∷ text) (closed (c ∷ rest)) else None
 
+-- the number that digits write behind those of a number
+abbrev pub number_from : ℕ → List ℕ → ℕ
+number_from n [] = n
+number_from n (b ∷ rest) = number_from (n * 10 + (b - 48)) rest
+
+-- an integer literal is a run of at most 18 digits, of which this is the first
+abbrev pub integer : ℕ → List ℕ → Option Kind
+integer b rest = if list_all is_digit rest && nat_le (length rest) 17 then Some (Integer (pos (number_from 0 (b ∷ rest)))) else None
+
 abbrev pub punctuation : ℕ → Option Kind
-punctuation b = if b == 40 then Some (Symbol OpenParenthesis) else (if b == 41 then Some (Symbol CloseParenthesis) else (if b == 59 then Some (Symbol Semicolon) else None))
+punctuation b = if b == 40 then Some (Symbol OpenParenthesis) else (if b == 41 then Some (Symbol CloseParenthesis) else (if b == 44 then Some (Symbol Comma) else (if b == 59 then Some (Symbol Semicolon) else None)))
 
 -- a punctuation mark is one byte
 abbrev pub alone : ℕ → List ℕ → Option Kind
@@ -65,7 +77,7 @@ abbrev pub spelled : List ℕ → Option Kind
 spelled [] = None
 spelled (b ∷ rest) =
     if is_name (b ∷ rest) then Some (word (b ∷ rest))
-    else (if is_quote b then option_map Text (closed rest) else alone b rest)
+    else (if is_quote b then option_map Text (closed rest) else (if is_digit b then integer b rest else alone b rest))
 
 abbrev pub longer : Option Kind → ℕ → Option (Kind × ℕ) → Option (Kind × ℕ)
 longer (Some kind) count shorter = Some (kind, count)
@@ -95,6 +107,7 @@ tokens_from zero line (b ∷ rest) =
 -- a token that can end an expression
 abbrev pub is_ender : Kind → Bool
 is_ender (Name name) = true
+is_ender (Integer n) = true
 is_ender (Text text) = true
 is_ender (Symbol CloseParenthesis) = true
 is_ender (Symbol _) = false
@@ -102,6 +115,7 @@ is_ender (Symbol _) = false
 -- a token that can begin an expression, or the end of a procedure
 abbrev pub is_beginner : Kind → Bool
 is_beginner (Name name) = true
+is_beginner (Integer n) = true
 is_beginner (Text text) = true
 is_beginner (Symbol OpenParenthesis) = true
 is_beginner (Symbol End) = true

@@ -11,4 +11,4 @@ pub use bytes::Bytes;
 pub use laws::one_tree;
 pub use rule::Rule;
 pub use token::{Kind, Symbol, Token};
-pub use tree::{Call, Procedure};
+pub use tree::{Call, Expr, Exprs, Literal, Literals, Procedure};

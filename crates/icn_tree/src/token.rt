@@ -10,6 +10,7 @@ pub enum Symbol {
     End,
     OpenParenthesis,
     CloseParenthesis,
+    Comma,
     Semicolon,
 }
 
@@ -18,6 +19,8 @@ pub enum Symbol {
 pub enum Kind {
     /// An identifier.
     Name(Bytes),
+    /// An integer literal, from 0 on.
+    Integer(i64),
     /// A string literal, by the bytes between its quotes.
     Text(Bytes),
     /// A word of the language or a punctuation mark.

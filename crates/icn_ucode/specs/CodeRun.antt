@@ -1,13 +1,15 @@
 -- The run of a procedure's code.
-use Rattle.std.specs.Prelude.{ℕ, ◌-◌, ◌&&◌, Bool, false, List, [], ◌∷◌, ◌++◌, length, take, drop, nat_lt, codes, slice_get, Option, None, Some, if◌then◌else◌}
+use Rattle.std.specs.Prelude.{ℕ, ℤ, ◌-◌, ◌&&◌, Bool, false, List, [], ◌∷◌, ◌++◌, length, take, drop, nat_lt, codes, slice_get, Option, None, Some, if◌then◌else◌}
+use Rattle.std.specs.Fmt.{signed_decimal}
 use Rattle.std.specs.Option.{option_map}
 use Rattle.std.specs.Str.{bytes_eq}
 use Rattle.icn_ucode.specs.declared.instr.Instr.{Instr}
-use Rattle.icn_ucode.specs.declared.instr.Instr.TheVariants.{Mark, Global, Str, Invoke, Unmark, Pfail}
+use Rattle.icn_ucode.specs.declared.instr.Instr.TheVariants.{Mark, Global, Int, Str, Invoke, Unmark, Pfail}
 
--- a cell of the stack: a global variable by its name, or a text
+-- a cell of the stack: a global variable by its name, an integer or a text
 pub data Operand : Type 0 where
   Variable : List ℕ → Operand
+  Integer : ℤ → Operand
   Text : List ℕ → Operand
 
 -- An open mark: where what fails in it goes on, and how many operands stood on the stack as it was opened. No instruction
@@ -30,15 +32,17 @@ pub data Step : Type 0 where
 abbrev pub pushed : Operand → State → Step
 pushed operand state = goes_on (record { marks = state.marks; operands = state.operands ++ operand ∷ [] }) []
 
--- the texts one after the other, where each argument is a text
+-- the texts one after the other, an integer in decimal, where each argument is an integer or a text
 abbrev pub texts : List Operand → Option (List ℕ)
 texts [] = Some []
+texts (Integer n ∷ rest) = option_map (λ more. signed_decimal n ++ more) (texts rest)
 texts (Text text ∷ rest) = option_map (λ more. text ++ more) (texts rest)
 texts (Variable name ∷ rest) = None
 
 -- the function `write`
 abbrev pub is_write : Operand → Bool
 is_write (Variable name) = bytes_eq name (codes "write")
+is_write (Integer n) = false
 is_write (Text text) = false
 
 -- the line that a call writes: the called function is `write`, and its arguments are texts
@@ -65,6 +69,7 @@ unmarked None state = stuck
 abbrev pub step : Instr → State → Step
 step (Mark label) state = goes_on (record { marks = state.marks ++ record { label = label; height = length state.operands } ∷ []; operands = state.operands }) []
 step (Global name) state = pushed (Variable name) state
+step (Int n) state = pushed (Integer n) state
 step (Str text) state = pushed (Text text) state
 step (Invoke count) state = invoked count state
 step Unmark state = unmarked (slice_get state.marks (length state.marks - 1)) state

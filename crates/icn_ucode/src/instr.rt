@@ -5,13 +5,15 @@ use icn_tree::Bytes;
 #[derive(Debug, Drop)]
 pub enum Instr {
     /// Opens a mark. What fails in it goes on at this place, which counts the procedure's instructions from 0.
-    Mark(u32),
+    Mark(u64),
     /// Puts the global variable of this name on the stack.
     Global(Bytes),
+    /// Puts an integer on the stack.
+    Int(i64),
     /// Puts a text on the stack.
     Str(Bytes),
     /// Calls what stands below so many arguments with them, and leaves its result in their place.
-    Invoke(u32),
+    Invoke(u64),
     /// Drops the newest mark with all that stands above it.
     Unmark,
     /// Ends the procedure, which fails.

@@ -7,30 +7,30 @@ use Rattle.icn_tree.specs.declared.token.Token.{Token}
 use Rattle.icn_tree.specs.declared.tree.Procedure.{Procedure as Tree}
 use Rattle.icn_tree.specs.Meaning.{meaning}
 use Rattle.icn_tree.specs.Programs.{IsProgram}
-use Rattle.icn_tree.specs.Tokens.{kinds, tokens}
+use Rattle.icn_tree.specs.Tokens.{tokens}
 use Rattle.icn_tree.specs.declared.rule.Rule.TheVariants.{S4}
 use Rattle.icont_top.specs.declared.answer.Answer.TheVariants.{Refused, Command, Missing}
 use Rattle.icont_top.specs.Jobs.{Job, refusal, success, IsSourceJob, refused, ran, IsFileJob, absent, of_source, IsJob, wrong_words, of_file}
-use Rattle.icont_top.specs.Reading.{procedure_read, is_built}
+use Rattle.icont_top.specs.Reading.{is_built}
 use Rattle.icont_top.specs.Words.{file_asked}
-use Rattle.icont_top.proofs.Parsing.{program_at, read_of, is_built_of, no_program}
+use Rattle.icont_top.proofs.Programs.{tree_read, program_at, read_of, is_built_of, no_program}
 
 abbrev Decided : List ℕ → Type 0
 Decided text = ((tree : Tree) × IsProgram text tree) ⊎ ((tree : Tree) → IsProgram text tree → ⊥)
 
-by_build : (text : List ℕ) (found : List Token) (tree : Tree) (b : Bool) → length text ≤ 16777216 → tokens text ≡ Some found → procedure_read (kinds found) ≡ Some tree → is_built tree ≡ b → Decided text
+by_build : (text : List ℕ) (found : List Token) (tree : Tree) (b : Bool) → length text ≤ 16777216 → tokens text ≡ Some found → tree_read found ≡ Some tree → is_built tree ≡ b → Decided text
 by_build text found tree true within e read built = inl (tree, program_at text found tree within e read built)
 by_build text found tree false within e read built = inr (λ other is.
     let same : tree ≡ other = same_Some tree other (sym read ∙ read_of text other found e is) in
     false≢true (sym built ∙ (rw same (is_built_of text other is))))
 
-by_tree : (text : List ℕ) (found : List Token) (read : Option Tree) → length text ≤ 16777216 → tokens text ≡ Some found → procedure_read (kinds found) ≡ read → Decided text
+by_tree : (text : List ℕ) (found : List Token) (read : Option Tree) → length text ≤ 16777216 → tokens text ≡ Some found → tree_read found ≡ read → Decided text
 by_tree text found None within e read = inr (λ tree is. no_program text tree found e read is)
 by_tree text found (Some tree) within e read = by_build text found tree (is_built tree) within e read refl
 
 by_tokens : (text : List ℕ) (found : Option (List Token)) → length text ≤ 16777216 → tokens text ≡ found → Decided text
 by_tokens text None within e = inr (λ tree is. none-some is.found (sym e ∙ is.scanned))
-by_tokens text (Some found) within e = by_tree text found (procedure_read (kinds found)) within e refl
+by_tokens text (Some found) within e = by_tree text found (tree_read found) within e refl
 
 by_length : (text : List ℕ) (b : Bool) → nat_le (length text) 16777216 ≡ b → Decided text
 by_length text true e = by_tokens text (tokens text) (search rules) refl

@@ -1,8 +1,10 @@
 pub mod Composing
+pub mod Deciding
+pub mod Numbers
 pub mod Parsing
+pub mod Programs
 pub mod Reporting
 pub mod Running
 pub mod Scanning
-pub mod Working
 pub mod Separating
-pub mod Deciding
+pub mod Working

@@ -1,150 +1,158 @@
--- What the parser reads is what the tokens spell.
-use Rattle.std.proofs.Common.{◌≡◌, ℕ, ◌≤◌, Bool, true, false, ◌&&◌, List, [], ◌∷◌, ◌++◌, length, Option, None, Some, refl, sym, ap, ◌∙◌, codes}
-use Rattle.std.specs.Str.{bytes_eq}
-use Rattle.std.proofs.lemmas.Bool.{false≢true}
-use Rattle.std.proofs.lemmas.Option.{none-some, same_Some}
-use Rattle.std.proofs.lemmas.Slice.Eq.{bytes_eq-Decides}
+-- The tree that is read from tokens, expression by expression.
+use Rattle.std.proofs.Common.{◌≡◌, ℕ, ◌+◌, ◌-◌, ◌<◌, ◌≤◌, zero, suc, List, [], ◌∷◌, ◌++◌, length, Option, None, Some, refl, sym, ap, ◌∙◌, arith, add-one, append_assoc}
+use Rattle.std.specs.Option.{option_map}
+use Rattle.std.proofs.lemmas.List.{length_push, append-nil}
 use Rattle.icn_tree.specs.declared.token.Kind.{Kind}
-use Rattle.icn_tree.specs.declared.token.Kind.TheVariants.{Name, Text, Symbol as SymbolKind}
-use Rattle.icn_tree.specs.declared.token.Symbol.{Symbol}
-use Rattle.icn_tree.specs.declared.token.Symbol.TheVariants.{Procedure, End, OpenParenthesis, CloseParenthesis, Semicolon}
+use Rattle.icn_tree.specs.declared.token.Symbol.TheVariants.{End, Comma}
 use Rattle.icn_tree.specs.declared.token.Token.{Token}
-use Rattle.icn_tree.specs.declared.tree.Call.{Call}
-use Rattle.icn_tree.specs.declared.tree.Procedure.{Procedure as Tree}
-use Rattle.icn_tree.specs.Grammar.{SpellsCall, call, Spells, procedure}
-use Rattle.icn_tree.specs.Programs.{IsProgram}
-use Rattle.icn_tree.specs.Tokens.{kinds, tokens}
-use Rattle.icont_top.specs.Reading.{symbol_read, name_read, text_read, call_read, call_of, head_read, procedure_read, procedure_of, nothing_after, is_built, ◌>>=◌}
+use Rattle.icn_tree.specs.declared.tree.Literal.{Literal}
+use Rattle.icn_tree.specs.declared.tree.Expr.{Expr}
+use Rattle.icn_tree.specs.Reading.{◌>>=◌, symbol_read, literal_read, more_read, arguments_read, expr_read, nothing_after, body_by, body_read}
+use Rattle.icn_tree.specs.Tokens.{kinds}
 
--- What is spelled is read.
+suc_of : (n : ℕ) → 0 < n → n ≡ suc (n - 1)
+suc_of n h = omega (arith, add-one (n - 1))
 
-call_again : (body : Call) (spelled rest : List Kind) → SpellsCall body spelled → call_read (spelled ++ rest) ≡ Some (body, rest)
-call_again _ _ rest (call name text) = refl
+no_less : (n : ℕ) → n - 0 ≡ n
+no_less n = omega arith
 
-pub procedure_again : (tree : Tree) (spelled : List Kind) → Spells tree spelled → procedure_read spelled ≡ Some tree
-procedure_again _ _ (procedure name body spelled s) =
-    ap (λ found. found >>= λ b. (symbol_read Semicolon b.1 >>= λ closed. (symbol_read End closed >>= λ rest. nothing_after (procedure_of name b.0) rest)))
-    (call_again body spelled (SymbolKind Semicolon ∷ SymbolKind End ∷ []) s)
+less_one : (n : ℕ) → n ≡ suc n - 1
+less_one n = omega arith
 
--- What is read is spelled so.
+-- Arguments
 
-bind_some : {A B : Type 0} (o : Option A) (f : A → Option B) (y : B) → (o >>= f) ≡ Some y → (x : A) × (o ≡ Some x) × (f x ≡ Some y)
-bind_some None f y e = absurd (none-some y e)
-bind_some (Some x) f y e = (x, refl, e)
+abbrev behind : List Literal → Option (List Literal × List Kind) → Option (List Literal × List Kind)
+behind done found = option_map (λ f. (done ++ f.0, f.1)) found
 
-symbol_at : (wanted : Symbol) (spelled rest : List Kind) → symbol_read wanted spelled ≡ Some rest → spelled ≡ SymbolKind wanted ∷ rest
-symbol_at wanted [] rest e = absurd (none-some rest e)
-symbol_at wanted (Name name ∷ later) rest e = absurd (none-some rest e)
-symbol_at wanted (Text text ∷ later) rest e = absurd (none-some rest e)
-symbol_at Procedure (SymbolKind Procedure ∷ later) rest e = ap (λ r. SymbolKind Procedure ∷ r) (same_Some later rest e)
-symbol_at End (SymbolKind End ∷ later) rest e = ap (λ r. SymbolKind End ∷ r) (same_Some later rest e)
-symbol_at OpenParenthesis (SymbolKind OpenParenthesis ∷ later) rest e = ap (λ r. SymbolKind OpenParenthesis ∷ r) (same_Some later rest e)
-symbol_at CloseParenthesis (SymbolKind CloseParenthesis ∷ later) rest e = ap (λ r. SymbolKind CloseParenthesis ∷ r) (same_Some later rest e)
-symbol_at Semicolon (SymbolKind Semicolon ∷ later) rest e = ap (λ r. SymbolKind Semicolon ∷ r) (same_Some later rest e)
-symbol_at _ (SymbolKind _ ∷ later) rest e = absurd (none-some rest e)
+-- the arguments read so far, and those that the rest of the tokens are read as, are those of the tokens
+pub record ArgumentsSo (tokens rest : List Token) (done : List Literal) : Type 0 where
+  pub within : length done + length rest ≤ length tokens
+  pub same : (n : ℕ) → length tokens ≤ n → behind done (arguments_read (n - length done) (kinds rest)) ≡ arguments_read n (kinds tokens)
 
-name_at : (spelled : List Kind) (name : List ℕ) (rest : List Kind) → name_read spelled ≡ Some (name, rest) → spelled ≡ Name name ∷ rest
-name_at [] name rest e = absurd (none-some _ e)
-name_at (Name found ∷ later) name rest e = ap (λ (p : List ℕ × List Kind). Name p.0 ∷ p.1) (same_Some (found, later) (name, rest) e)
-name_at (Text text ∷ later) name rest e = absurd (none-some _ e)
-name_at (SymbolKind symbol ∷ later) name rest e = absurd (none-some _ e)
+behind_nothing : (found : Option (List Literal × List Kind)) → behind [] found ≡ found
+behind_nothing None = refl
+behind_nothing (Some f) = refl
 
-text_at : (spelled : List Kind) (text : List ℕ) (rest : List Kind) → text_read spelled ≡ Some (text, rest) → spelled ≡ Text text ∷ rest
-text_at [] text rest e = absurd (none-some _ e)
-text_at (Name found ∷ later) text rest e = absurd (none-some _ e)
-text_at (Text found ∷ later) text rest e = ap (λ (p : List ℕ × List Kind). Text p.0 ∷ p.1) (same_Some (found, later) (text, rest) e)
-text_at (SymbolKind symbol ∷ later) text rest e = absurd (none-some _ e)
+pub arguments_begin : (tokens : List Token) → ArgumentsSo tokens tokens []
+arguments_begin tokens = record { within = omega arith; same = λ n h. behind_nothing (arguments_read (n - 0) (kinds tokens)) ∙ ap (λ k. arguments_read k (kinds tokens)) (no_less n) }
 
-same_call : (a b : Call) (spelled : List Kind) → a ≡ b → SpellsCall a spelled → SpellsCall b spelled
-same_call a b spelled e h = rw (← e) h
+no_literal : (n : ℕ) (spelled : List Kind) → literal_read spelled ≡ None → arguments_read n spelled ≡ None
+no_literal zero spelled e = refl
+no_literal (suc n) spelled e = rw e refl
 
-same_tree : (a b : Tree) (s t : List Kind) → a ≡ b → s ≡ t → Spells a s → Spells b t
-same_tree a b s t e f h = rw (← e, ← f) h
+pub arguments_none : (tokens rest : List Token) (done : List Literal) → ArgumentsSo tokens rest done → None ≡ literal_read (kinds rest)
+    → (n : ℕ) → length tokens ≤ n → None ≡ arguments_read n (kinds tokens)
+arguments_none tokens rest done so e n h = sym (ap (behind done) (no_literal (n - length done) (kinds rest) (sym e))) ∙ so.same n h
 
-call_at : (spelled : List Kind) (body : Call) (rest : List Kind) → call_read spelled ≡ Some (body, rest) → (front : List Kind) × SpellsCall body front × (spelled ≡ front ++ rest)
-call_at spelled body rest e =
-    let a = bind_some (name_read spelled) _ (body, rest) e in
-    let b = bind_some (symbol_read OpenParenthesis a.0.1) _ (body, rest) a.2 in
-    let c = bind_some (text_read b.0) _ (body, rest) b.2 in
-    let d = bind_some (symbol_read CloseParenthesis c.0.1) _ (body, rest) c.2 in
-    let is_body : call_of a.0.0 c.0.0 ≡ body = ap (λ (p : Call × List Kind). p.0) (same_Some (call_of a.0.0 c.0.0, d.0) (body, rest) d.2) in
-    let is_rest : d.0 ≡ rest = ap (λ (p : Call × List Kind). p.1) (same_Some (call_of a.0.0 c.0.0, d.0) (body, rest) d.2) in
-    let at_name : spelled ≡ Name a.0.0 ∷ a.0.1 = name_at spelled a.0.0 a.0.1 a.1 in
-    let at_open : a.0.1 ≡ SymbolKind OpenParenthesis ∷ b.0 = symbol_at OpenParenthesis a.0.1 b.0 b.1 in
-    let at_text : b.0 ≡ Text c.0.0 ∷ c.0.1 = text_at b.0 c.0.0 c.0.1 c.1 in
-    let at_close : c.0.1 ≡ SymbolKind CloseParenthesis ∷ d.0 = symbol_at CloseParenthesis c.0.1 d.0 d.1 in
-    let front : List Kind = Name a.0.0 ∷ SymbolKind OpenParenthesis ∷ Text c.0.0 ∷ SymbolKind CloseParenthesis ∷ [] in
-    let spells : SpellsCall body front = same_call (call_of a.0.0 c.0.0) body front is_body (call a.0.0 c.0.0) in
-    (front, spells, cc)
+one_literal : (n : ℕ) (spelled others : List Kind) (literal : Literal) → 0 < n → Some (literal, others) ≡ literal_read spelled
+    → arguments_read n spelled ≡ more_read (symbol_read Comma others) (literal, others) (λ rest. arguments_read (n - 1) rest)
+one_literal n spelled others literal h e =
+    ap (λ k. arguments_read k spelled) (suc_of n h) ∙ ap (λ o. o >>= λ first. more_read (symbol_read Comma first.1) first (λ rest. arguments_read (n - 1) rest)) (sym e)
 
-head_at : (spelled : List Kind) (name : List ℕ) (rest : List Kind) → head_read spelled ≡ Some (name, rest)
-    → spelled ≡ SymbolKind Procedure ∷ Name name ∷ SymbolKind OpenParenthesis ∷ SymbolKind CloseParenthesis ∷ SymbolKind Semicolon ∷ rest
-head_at spelled name rest e =
-    let a = bind_some (symbol_read Procedure spelled) _ (name, rest) e in
-    let b = bind_some (name_read a.0) _ (name, rest) a.2 in
-    let c = bind_some (symbol_read OpenParenthesis b.0.1) _ (name, rest) b.2 in
-    let d = bind_some (symbol_read CloseParenthesis c.0) _ (name, rest) c.2 in
-    let f = bind_some (symbol_read Semicolon d.0) _ (name, rest) d.2 in
-    let is_name : b.0.0 ≡ name = ap (λ (p : List ℕ × List Kind). p.0) (same_Some (b.0.0, f.0) (name, rest) f.2) in
-    let is_rest : f.0 ≡ rest = ap (λ (p : List ℕ × List Kind). p.1) (same_Some (b.0.0, f.0) (name, rest) f.2) in
-    let at_word : spelled ≡ SymbolKind Procedure ∷ a.0 = symbol_at Procedure spelled a.0 a.1 in
-    let at_name : a.0 ≡ Name b.0.0 ∷ b.0.1 = name_at a.0 b.0.0 b.0.1 b.1 in
-    let at_open : b.0.1 ≡ SymbolKind OpenParenthesis ∷ c.0 = symbol_at OpenParenthesis b.0.1 c.0 c.1 in
-    let at_close : c.0 ≡ SymbolKind CloseParenthesis ∷ d.0 = symbol_at CloseParenthesis c.0 d.0 d.1 in
-    let at_semicolon : d.0 ≡ SymbolKind Semicolon ∷ f.0 = symbol_at Semicolon d.0 f.0 f.1 in
-    cc
+pub arguments_last : (tokens rest others : List Token) (done : List Literal) (literal : Literal) → ArgumentsSo tokens rest done → length others < length rest
+    → Some (literal, kinds others) ≡ literal_read (kinds rest) → None ≡ symbol_read Comma (kinds others)
+    → (n : ℕ) → length tokens ≤ n → Some (done ++ literal ∷ [], kinds others) ≡ arguments_read n (kinds tokens)
+arguments_last tokens rest others done literal so less e ends n h =
+    let fuel : 0 < n - length done = omega (arith, so.within) in
+    let here : arguments_read (n - length done) (kinds rest) ≡ Some (literal ∷ [], kinds others) =
+    one_literal (n - length done) (kinds rest) (kinds others) literal fuel e
+    ∙ ap (λ o. more_read o (literal, kinds others) (λ later. arguments_read (n - length done - 1) later)) (sym ends) in
+    sym (ap (behind done) here) ∙ so.same n h
 
-nothing_left : (a b : Tree) (rest : List Kind) → nothing_after a rest ≡ Some b → (a ≡ b) × (rest ≡ [])
-nothing_left a b [] e = (same_Some a b e, refl)
-nothing_left a b (kind ∷ rest) e = absurd (none-some b e)
+behind_more : (done : List Literal) (literal : Literal) (found : Option (List Literal × List Kind))
+    → behind (done ++ literal ∷ []) found ≡ behind done (found >>= λ f. Some (literal ∷ f.0, f.1))
+behind_more done literal None = refl
+behind_more done literal (Some f) = ap (λ literals. Some (literals, f.1)) (append_assoc done (literal ∷ []) f.0)
 
-pub procedure_at : (tree : Tree) (spelled : List Kind) → procedure_read spelled ≡ Some tree → Spells tree spelled
-procedure_at tree spelled e =
-    let a = bind_some (head_read spelled) _ tree e in
-    let b = bind_some (call_read a.0.1) _ tree a.2 in
-    let c = bind_some (symbol_read Semicolon b.0.1) _ tree b.2 in
-    let d = bind_some (symbol_read End c.0) _ tree c.2 in
-    let left = nothing_left (procedure_of a.0.0 b.0.0) tree d.0 d.2 in
-    let is_tree : procedure_of a.0.0 b.0.0 ≡ tree = left.0 in
-    let nothing : d.0 ≡ [] = left.1 in
-    let body = call_at a.0.1 b.0.0 b.0.1 b.1 in
-    let at_head : spelled ≡ SymbolKind Procedure ∷ Name a.0.0 ∷ SymbolKind OpenParenthesis ∷ SymbolKind CloseParenthesis ∷ SymbolKind Semicolon ∷ a.0.1 = head_at spelled a.0.0 a.0.1 a.1 in
-    let at_body : a.0.1 ≡ body.0 ++ b.0.1 = body.2 in
-    let at_semicolon : b.0.1 ≡ SymbolKind Semicolon ∷ c.0 = symbol_at Semicolon b.0.1 c.0 c.1 in
-    let at_end : c.0 ≡ SymbolKind End ∷ d.0 = symbol_at End c.0 d.0 d.1 in
-    let whole : spelled ≡ SymbolKind Procedure ∷ Name a.0.0 ∷ SymbolKind OpenParenthesis ∷ SymbolKind CloseParenthesis ∷ SymbolKind Semicolon
-    ∷ (body.0 ++ (SymbolKind Semicolon ∷ SymbolKind End ∷ [])) = cc in
-    same_tree (procedure_of a.0.0 b.0.0) tree _ spelled is_tree (sym whole) (procedure a.0.0 b.0.0 body.0 body.1)
+pub arguments_more : (tokens rest others later : List Token) (done : List Literal) (literal : Literal) → ArgumentsSo tokens rest done → length others < length rest → length later < length others
+    → Some (literal, kinds others) ≡ literal_read (kinds rest) → Some (kinds later) ≡ symbol_read Comma (kinds others) → ArgumentsSo tokens later (done ++ literal ∷ [])
+arguments_more tokens rest others later done literal so less shorter e comma = record {
+  within = omega (arith, so.within, length_push done literal);
+  same = λ n h.
+      let fuel : 0 < n - length done = omega (arith, so.within) in
+      let left : n - length (done ++ literal ∷ []) ≡ n - length done - 1 = omega (arith, length_push done literal) in
+      let here : arguments_read (n - length done) (kinds rest) ≡ (arguments_read (n - length done - 1) (kinds later) >>= λ f. Some (literal ∷ f.0, f.1)) =
+      one_literal (n - length done) (kinds rest) (kinds others) literal fuel e
+      ∙ ap (λ o. more_read o (literal, kinds others) (λ t. arguments_read (n - length done - 1) t)) (sym comma) in
+      rw left (behind_more done literal (arguments_read (n - length done - 1) (kinds later))) ∙ (sym (ap (behind done) here) ∙ so.same n h);
+}
 
--- Programs
+-- Bodies
 
-both_true : (a b : Bool) → (a && b) ≡ true → (a ≡ true) × (b ≡ true)
-both_true true true e = (refl, refl)
-both_true true false e = absurd (false≢true e)
-both_true false b e = absurd (false≢true e)
+abbrev after_done : List Expr → Option (List Expr) → Option (List Expr)
+after_done done found = option_map (λ exprs. done ++ exprs) found
 
--- the tree that was read is the program, where it is built
-pub program_at : (text : List ℕ) (found : List Token) (tree : Tree) → length text ≤ 16777216 → tokens text ≡ Some found → procedure_read (kinds found) ≡ Some tree
-    → is_built tree ≡ true → IsProgram text tree
-program_at text found tree within scanned read built =
-    let names = both_true (bytes_eq tree.name (codes "main")) (bytes_eq tree.body.name (codes "write")) built in
-    record {
-      within = within;
-      found = found;
-      scanned = scanned;
-      spelled = procedure_at tree (kinds found) read;
-      is_main = (bytes_eq-Decides tree.name (codes "main")).0 names.0;
-      calls_write = (bytes_eq-Decides tree.body.name (codes "write")).0 names.1;
-    }
+-- the expressions read so far, and those that the rest of the tokens are read as, are those of the tokens
+pub record BodySo (tokens rest : List Token) (done : List Expr) : Type 0 where
+  pub within : length done + length rest ≤ length tokens
+  pub same : (n : ℕ) → length tokens ≤ n → after_done done (body_read (n - length done) (kinds rest)) ≡ body_read n (kinds tokens)
 
--- what a program's tokens and tree are
-pub read_of : (text : List ℕ) (tree : Tree) (found : List Token) → tokens text ≡ Some found → IsProgram text tree → procedure_read (kinds found) ≡ Some tree
-read_of text tree found e is =
-    let same : found ≡ is.found = same_Some found is.found (sym e ∙ is.scanned) in
-    rw same (procedure_again tree (kinds is.found) is.spelled)
+after_nothing : (found : Option (List Expr)) → after_done [] found ≡ found
+after_nothing None = refl
+after_nothing (Some exprs) = refl
 
-pub is_built_of : (text : List ℕ) (tree : Tree) → IsProgram text tree → is_built tree ≡ true
-is_built_of text tree is = rw ((bytes_eq-Decides tree.name (codes "main")).1 is.is_main, (bytes_eq-Decides tree.body.name (codes "write")).1 is.calls_write) refl
+pub body_begin : (tokens : List Token) → BodySo tokens tokens []
+body_begin tokens = record { within = omega arith; same = λ n h. after_nothing (body_read (n - 0) (kinds tokens)) ∙ ap (λ k. body_read k (kinds tokens)) (no_less n) }
 
-pub no_program : (text : List ℕ) (tree : Tree) (found : List Token) → tokens text ≡ Some found → procedure_read (kinds found) ≡ None → IsProgram text tree → ⊥
-no_program text tree found e read is = none-some tree (sym read ∙ read_of text tree found e is)
+abbrev next_read : ℕ → List Kind → Option (List Expr)
+next_read n spelled = expr_read n spelled >>= λ first. body_read n first.1 >>= λ exprs. Some (first.0 ∷ exprs)
+
+one_step : (n : ℕ) (spelled : List Kind) → 0 < n → body_read n spelled ≡ body_by (symbol_read End spelled) (next_read (n - 1) spelled)
+one_step n spelled h = ap (λ k. body_read k spelled) (suc_of n h)
+
+pub body_ended : (tokens rest : List Token) (done : List Expr) (left : List Kind) (found : Option (List Expr)) → BodySo tokens rest done → 0 < length rest
+    → Some left ≡ symbol_read End (kinds rest) → nothing_after left ≡ found
+    → (n : ℕ) → length tokens ≤ n → after_done done found ≡ body_read n (kinds tokens)
+body_ended tokens rest done left found so some e is n h =
+    let fuel : 0 < n - length done = omega (arith, so.within) in
+    let here : body_read (n - length done) (kinds rest) ≡ found =
+    one_step (n - length done) (kinds rest) fuel ∙ (ap (λ o. body_by o (next_read (n - length done - 1) (kinds rest))) (sym e) ∙ is) in
+    sym (ap (after_done done) here) ∙ so.same n h
+
+no_expr : (n : ℕ) (spelled : List Kind) → symbol_read End spelled ≡ None → (0 < n → expr_read (n - 1) spelled ≡ None) → body_read n spelled ≡ None
+no_expr zero spelled e none = refl
+no_expr (suc n) spelled e none = let found : expr_read n spelled ≡ None = ap (λ k. expr_read k spelled) (less_one n) ∙ none (omega arith) in rw (e, found) refl
+
+pub body_none : (tokens rest : List Token) (done : List Expr) → BodySo tokens rest done → None ≡ symbol_read End (kinds rest)
+    → ((n : ℕ) → length rest ≤ n + 1 → None ≡ expr_read n (kinds rest))
+    → (n : ℕ) → length tokens ≤ n → None ≡ body_read n (kinds tokens)
+body_none tokens rest done so e none n h =
+    sym (ap (after_done done) (no_expr (n - length done) (kinds rest) (sym e) (λ fuel. sym (none (n - length done - 1) (omega (arith, so.within)))))) ∙ so.same n h
+
+after_more : (done : List Expr) (expr : Expr) (found : Option (List Expr)) → after_done (done ++ expr ∷ []) found ≡ after_done done (found >>= λ exprs. Some (expr ∷ exprs))
+after_more done expr None = refl
+after_more done expr (Some exprs) = ap Some (append_assoc done (expr ∷ []) exprs)
+
+pub body_more : (tokens rest others : List Token) (done : List Expr) (expr : Expr) → BodySo tokens rest done → length others < length rest → None ≡ symbol_read End (kinds rest)
+    → ((n : ℕ) → length rest ≤ n + 1 → Some (expr, kinds others) ≡ expr_read n (kinds rest)) → BodySo tokens others (done ++ expr ∷ [])
+body_more tokens rest others done expr so less e is = record {
+  within = omega (arith, so.within, length_push done expr);
+  same = λ n h.
+      let k = n - length done - 1 in
+      let fuel : 0 < n - length done = omega (arith, so.within) in
+      let enough : length rest ≤ k + 1 = omega (arith, so.within) in
+      let left : n - length (done ++ expr ∷ []) ≡ k = omega (arith, length_push done expr) in
+      let here : body_read (n - length done) (kinds rest) ≡ (body_read k (kinds others) >>= λ exprs. Some (expr ∷ exprs)) =
+      one_step (n - length done) (kinds rest) fuel
+      ∙ (ap (λ o. body_by o (next_read k (kinds rest))) (sym e) ∙ ap (λ o. o >>= λ first. body_read k first.1 >>= λ exprs. Some (first.0 ∷ exprs)) (sym (is k enough))) in
+      rw left (after_more done expr (body_read k (kinds others))) ∙ (sym (ap (after_done done) here) ∙ so.same n h);
+}
+
+-- The two ways in which a body ends
+
+none_left : (left : List Token) → length left ≡ 0 → nothing_after (kinds left) ≡ Some []
+none_left [] h = refl
+none_left (token ∷ left) h = let no : ⊥ = omega arith in absurd no
+
+some_left : (left : List Token) → 0 < length left → nothing_after (kinds left) ≡ None
+some_left [] h = let no : ⊥ = omega arith in absurd no
+some_left (token ∷ left) h = refl
+
+pub body_done : (tokens rest left : List Token) (done : List Expr) → BodySo tokens rest done → length left < length rest → Some (kinds left) ≡ symbol_read End (kinds rest)
+    → length left ≡ 0 → (n : ℕ) → length tokens ≤ n → Some done ≡ body_read n (kinds tokens)
+body_done tokens rest left done so less e h n enough =
+    ap Some (sym (append-nil done)) ∙ body_ended tokens rest done (kinds left) (Some []) so (omega arith) e (none_left left h) n enough
+
+pub body_not_done : (tokens rest left : List Token) (done : List Expr) → BodySo tokens rest done → length left < length rest → Some (kinds left) ≡ symbol_read End (kinds rest)
+    → 0 < length left → (n : ℕ) → length tokens ≤ n → None ≡ body_read n (kinds tokens)
+body_not_done tokens rest left done so less e h n enough = body_ended tokens rest done (kinds left) None so (omega arith) e (some_left left h) n enough

@@ -1,16 +1,17 @@
 -- What the scanner finds at a place is the longest token there.
-use Rattle.std.proofs.Common.{◌≡◌, ℕ, ◌+◌, ◌<◌, ◌≤◌, zero, suc, Bool, true, false, cond, ◌&&◌, add-one, List, [], ◌∷◌, length, take, drop, get_or, Option, None, Some, refl, sym, ap, ◌∙◌, arith, ◌⊎◌, inl, inr}
+use Rattle.std.proofs.Common.{pos, min, nat_le, ◌≡◌, ℕ, ◌+◌, ◌<◌, ◌≤◌, zero, suc, Bool, true, false, cond, ◌&&◌, add-one, List, [], ◌∷◌, length, take, drop, get_or, Option, None, Some, refl, sym, ap, ◌∙◌, arith, ◌⊎◌, inl, inr}
 use Rattle.std.specs.List.{prefix_len, list_all}
 use Rattle.std.specs.Option.{option_map}
+use Rattle.std.proofs.lemmas.Bool.Decides.{nat_tests}
 use Rattle.std.proofs.lemmas.Bool.{eqb-true, cond-true, cond-false, false_from_ne_true, false≢true, cases_lt}
 use Rattle.std.proofs.lemmas.List.{length-take-le, get_or-take}
 use Rattle.std.proofs.lemmas.Option.{none-some, same_Some}
 use Rattle.std.proofs.lemmas.List.Folds.{list_all_at}
 use Rattle.std.proofs.lemmas.List.Sums.{prefix_len_stops, prefix_len-le-length}
 use Rattle.icn_tree.specs.declared.token.Kind.{Kind}
-use Rattle.icn_tree.specs.declared.token.Kind.TheVariants.{Text}
-use Rattle.icn_tree.specs.Tokens.{begins_name, continues_name, is_plain, is_quote, word, closed, punctuation, alone, spelled, longer, longest}
-use Rattle.icont_top.specs.Reading.{is_closed, literal_read, first_read}
+use Rattle.icn_tree.specs.declared.token.Kind.TheVariants.{Integer, Text}
+use Rattle.icn_tree.specs.Tokens.{begins_name, continues_name, is_plain, is_quote, is_digit, number_from, integer, word, closed, punctuation, alone, spelled, longer, longest}
+use Rattle.icont_top.specs.Reading.{is_closed, string_read, first_read}
 
 longer_some : (found : Option Kind) (kind : Kind) (count : ℕ) (shorter : Option (Kind × ℕ)) → found ≡ Some kind → longer found count shorter ≡ Some (kind, count)
 longer_some found kind count shorter e = rw e refl
@@ -58,6 +59,12 @@ quote_not_letter b h = rw (eqb-true b 34 h) refl
 letter_not_quote : (b : ℕ) → begins_name b ≡ true → is_quote b ≡ false
 letter_not_quote b h = false_from_ne_true (is_quote b) (λ q. absurd (false≢true (sym (quote_not_letter b q) ∙ h)))
 
+quote_not_digit : (b : ℕ) → is_quote b ≡ true → is_digit b ≡ false
+quote_not_digit b h = rw (eqb-true b 34 h) refl
+
+letter_not_digit : (b : ℕ) → begins_name b ≡ true → is_digit b ≡ false
+letter_not_digit b h = grind (arith, nat_tests)
+
 quote_not_plain : (b : ℕ) → is_quote b ≡ true → is_plain b ≡ false
 quote_not_plain b h = rw (eqb-true b 34 h) refl
 
@@ -67,7 +74,8 @@ spelled_name b rest h all = cond-true (begins_name b && list_all continues_name 
 spelled_no_name : (b : ℕ) (rest : List ℕ) → begins_name b ≡ true → list_all continues_name rest ≡ false → spelled (b ∷ rest) ≡ None
 spelled_no_name b [] h all = absurd (false≢true (sym all))
 spelled_no_name b (c ∷ rest) h all =
-    cond-false (begins_name b && list_all continues_name (c ∷ rest)) _ _ (rw (h, all) refl) ∙ cond-false (is_quote b) _ _ (letter_not_quote b h)
+    cond-false (begins_name b && list_all continues_name (c ∷ rest)) _ _ (rw (h, all) refl)
+    ∙ (cond-false (is_quote b) _ _ (letter_not_quote b h) ∙ cond-false (is_digit b) _ _ (letter_not_digit b h))
 
 front_step : (p : ℕ → Bool) (x : ℕ) (xs : List ℕ) (k : ℕ) (b : Bool) → p x ≡ b → suc k ≤ cond b (1 + prefix_len p xs) 0
     → (k ≤ prefix_len p xs → list_all p (take k xs) ≡ true) → (p x && list_all p (take k xs)) ≡ true
@@ -79,6 +87,10 @@ pub front_passes : (p : ℕ → Bool) (xs : List ℕ) (k : ℕ) → k ≤ prefix
 front_passes p xs zero h = refl
 front_passes p [] (suc k) h = refl
 front_passes p (x ∷ xs) (suc k) h = front_step p x xs k (p x) refl h (front_passes p xs k)
+
+-- a byte of the kind, and the run of such bytes behind it
+pub first_run : (p : ℕ → Bool) (b : ℕ) (rest bytes : List ℕ) (k : ℕ) → bytes ≡ b ∷ rest → p b ≡ true → k ≤ prefix_len p rest → list_all p (take (k + 1) bytes) ≡ true
+first_run p b rest bytes k is passes h = rw (is, add-one, passes) (front_passes p rest k h)
 
 -- a front with the first byte that fails does not
 pub front_fails : (p : ℕ → Bool) (xs : List ℕ) (k : ℕ) → prefix_len p xs < k → k ≤ length xs → list_all p (take k xs) ≡ false
@@ -177,36 +189,88 @@ first_literal b rest h false e = longest_none (suc (length rest)) (b ∷ rest) (
 
 -- Punctuation
 
-spelled_alone : (b : ℕ) (rest : List ℕ) → begins_name b ≡ false → is_quote b ≡ false → spelled (b ∷ rest) ≡ alone b rest
-spelled_alone b rest h q =
-    cond-false (begins_name b && list_all continues_name rest) _ _ (rw h refl) ∙ cond-false (is_quote b) _ _ q
+spelled_alone : (b : ℕ) (rest : List ℕ) → begins_name b ≡ false → is_quote b ≡ false → is_digit b ≡ false → spelled (b ∷ rest) ≡ alone b rest
+spelled_alone b rest h q d =
+    cond-false (begins_name b && list_all continues_name rest) _ _ (rw h refl) ∙ (cond-false (is_quote b) _ _ q ∙ cond-false (is_digit b) _ _ d)
 
-not_longer : (b : ℕ) (rest : List ℕ) → begins_name b ≡ false → is_quote b ≡ false → (m : ℕ) → 1 < m → m ≤ suc (length rest) → spelled (take m (b ∷ rest)) ≡ None
-not_longer b rest h q zero l g = absurd (omega arith)
-not_longer b rest h q (suc zero) l g = absurd (omega arith)
-not_longer b [] h q (suc (suc m)) l g = absurd (omega arith)
-not_longer b (c ∷ rest) h q (suc (suc m)) l g = spelled_alone b (c ∷ take m rest) h q
+not_longer : (b : ℕ) (rest : List ℕ) → begins_name b ≡ false → is_quote b ≡ false → is_digit b ≡ false → (m : ℕ) → 1 < m → m ≤ suc (length rest) → spelled (take m (b ∷ rest)) ≡ None
+not_longer b rest h q d zero l g = absurd (omega arith)
+not_longer b rest h q d (suc zero) l g = absurd (omega arith)
+not_longer b [] h q d (suc (suc m)) l g = absurd (omega arith)
+not_longer b (c ∷ rest) h q d (suc (suc m)) l g = spelled_alone b (c ∷ take m rest) h q d
 
-none_at : (b : ℕ) (rest : List ℕ) → begins_name b ≡ false → is_quote b ≡ false → punctuation b ≡ None → (m : ℕ) → 0 < m → m ≤ suc (length rest) → spelled (take m (b ∷ rest)) ≡ None
-none_at b rest h q none zero p l = absurd (omega arith)
-none_at b rest h q none (suc zero) p l = spelled_alone b [] h q ∙ none
-none_at b rest h q none (suc (suc m)) p l = not_longer b rest h q (suc (suc m)) (omega arith) l
+none_at : (b : ℕ) (rest : List ℕ) → begins_name b ≡ false → is_quote b ≡ false → is_digit b ≡ false → punctuation b ≡ None → (m : ℕ) → 0 < m → m ≤ suc (length rest) → spelled (take m (b ∷ rest)) ≡ None
+none_at b rest h q d none zero p l = absurd (omega arith)
+none_at b rest h q d none (suc zero) p l = spelled_alone b [] h q d ∙ none
+none_at b rest h q d none (suc (suc m)) p l = not_longer b rest h q d (suc (suc m)) (omega arith) l
 
-first_mark : (b : ℕ) (rest : List ℕ) → begins_name b ≡ false → is_quote b ≡ false → (found : Option Kind) → punctuation b ≡ found
+first_mark : (b : ℕ) (rest : List ℕ) → begins_name b ≡ false → is_quote b ≡ false → is_digit b ≡ false → (found : Option Kind) → punctuation b ≡ found
     → longest (suc (length rest)) (b ∷ rest) ≡ option_map (λ kind. (kind, 1)) found
-first_mark b rest h q None e = longest_none (suc (length rest)) (b ∷ rest) (none_at b rest h q e)
-first_mark b rest h q (Some kind) e =
-    longest_is (suc (length rest)) 1 (b ∷ rest) kind (omega arith) (omega arith) (spelled_alone b [] h q ∙ e) (not_longer b rest h q)
+first_mark b rest h q d None e = longest_none (suc (length rest)) (b ∷ rest) (none_at b rest h q d e)
+first_mark b rest h q d (Some kind) e =
+    longest_is (suc (length rest)) 1 (b ∷ rest) kind (omega arith) (omega arith) (spelled_alone b [] h q d ∙ e) (not_longer b rest h q d)
+
+-- Numbers
+
+spelled_number : (b : ℕ) (rest : List ℕ) → begins_name b ≡ false → is_quote b ≡ false → is_digit b ≡ true → spelled (b ∷ rest) ≡ integer b rest
+spelled_number b rest h q d =
+    cond-false (begins_name b && list_all continues_name rest) _ _ (rw h refl) ∙ (cond-false (is_quote b) _ _ q ∙ cond-true (is_digit b) _ _ d)
+
+digit_not_letter : (b : ℕ) → is_digit b ≡ true → begins_name b ≡ false
+digit_not_letter b d = false_from_ne_true (begins_name b) (λ h. absurd (false≢true (sym (letter_not_digit b h) ∙ d)))
+
+and_false : (x y : Bool) → y ≡ false → (x && y) ≡ false
+and_false true y e = e
+and_false false y e = refl
+
+-- at most 18 digits
+few_digits : (b : ℕ) (rest : List ℕ) (k : ℕ) → k ≤ prefix_len is_digit rest → k ≤ 17 → k ≤ length rest → integer b (take k rest) ≡ Some (Integer (pos (number_from 0 (b ∷ take k rest))))
+few_digits b rest k h few within =
+    let size : length (take k rest) ≡ k = length-take-le k rest within in
+    let test : (list_all is_digit (take k rest) && nat_le (length (take k rest)) 17) ≡ true = rw (front_passes is_digit rest k h, size) (grind (arith, nat_tests)) in
+    cond-true (list_all is_digit (take k rest) && nat_le (length (take k rest)) 17) _ _ test
+
+many_digits : (b : ℕ) (rest : List ℕ) (k : ℕ) → k ≤ length rest → (prefix_len is_digit rest < k) ⊎ (17 < k) → integer b (take k rest) ≡ None
+many_digits b rest k within (inl h) =
+    cond-false (list_all is_digit (take k rest) && nat_le (length (take k rest)) 17) _ _ (rw (front_fails is_digit rest k h within) refl)
+many_digits b rest k within (inr h) =
+    let size : length (take k rest) ≡ k = length-take-le k rest within in
+    let long : nat_le (length (take k rest)) 17 ≡ false = rw size (grind (arith, nat_tests)) in
+    cond-false (list_all is_digit (take k rest) && nat_le (length (take k rest)) 17) _ _ (and_false (list_all is_digit (take k rest)) (nat_le (length (take k rest)) 17) long)
+
+either : (n m : ℕ) → min n 17 < m → (n < m) ⊎ (17 < m)
+either n m h = elim (cases_lt n m) as (λ _. (n < m) ⊎ (17 < m)) [ inl l ↦ inl l | inr g ↦ inr (omega arith) ]
+
+longer_numbers : (b : ℕ) (rest : List ℕ) → begins_name b ≡ false → is_quote b ≡ false → is_digit b ≡ true → (m : ℕ) → suc (min (prefix_len is_digit rest) 17) < m → m ≤ suc (length rest)
+    → spelled (take m (b ∷ rest)) ≡ None
+longer_numbers b rest h q d zero l g = absurd (omega arith)
+longer_numbers b rest h q d (suc m) l g = spelled_number b (take m rest) h q d ∙ many_digits b rest m (omega arith) (either (prefix_len is_digit rest) m (omega arith))
+
+first_number : (b : ℕ) (rest : List ℕ) → begins_name b ≡ false → is_quote b ≡ false → is_digit b ≡ true → let count = min (prefix_len is_digit rest) 17 in
+    longest (length (b ∷ rest)) (b ∷ rest) ≡ Some (Integer (pos (number_from 0 (b ∷ take count rest))), suc count)
+first_number b rest h q d =
+    let count = min (prefix_len is_digit rest) 17 in
+    let within : prefix_len is_digit rest ≤ length rest = prefix_len-le-length is_digit rest in
+    longest_is (suc (length rest)) (suc count) (b ∷ rest) _ (omega arith) (omega arith)
+    (spelled_number b (take count rest) h q d ∙ few_digits b rest count (omega arith) (omega arith) (omega arith)) (longer_numbers b rest h q d)
 
 -- All together
 
-by_quote : (b : ℕ) (rest : List ℕ) → begins_name b ≡ false → (quote : Bool) → is_quote b ≡ quote
-    → cond quote (literal_read rest) (option_map (λ kind. (kind, 1)) (punctuation b)) ≡ longest (suc (length rest)) (b ∷ rest)
-by_quote b rest h true q = sym (first_literal b rest q (is_closed (drop (prefix_len is_plain rest) rest)) refl)
-by_quote b rest h false q = sym (first_mark b rest h q (punctuation b) refl)
+by_digit : (b : ℕ) (rest : List ℕ) → begins_name b ≡ false → is_quote b ≡ false → (digit : Bool) → is_digit b ≡ digit → let count = min (prefix_len is_digit rest) 17 + 1 in
+    cond digit (Some (Integer (pos (number_from 0 (take count (b ∷ rest)))), count)) (option_map (λ kind. (kind, 1)) (punctuation b)) ≡ longest (suc (length rest)) (b ∷ rest)
+by_digit b rest h q true d = rw add-one (sym (first_number b rest h q d))
+by_digit b rest h q false d = sym (first_mark b rest h q d (punctuation b) refl)
 
-by_letter : (b : ℕ) (rest : List ℕ) → (letter : Bool) → begins_name b ≡ letter → let count = prefix_len continues_name rest + 1 in
-    cond letter (Some (word (take count (b ∷ rest)), count)) (cond (is_quote b) (literal_read rest) (option_map (λ kind. (kind, 1)) (punctuation b))) ≡ longest (suc (length rest)) (b ∷ rest)
+by_quote : (b : ℕ) (rest : List ℕ) → begins_name b ≡ false → (quote : Bool) → is_quote b ≡ quote → let count = min (prefix_len is_digit rest) 17 + 1 in
+    cond quote (string_read rest) (cond (is_digit b) (Some (Integer (pos (number_from 0 (take count (b ∷ rest)))), count)) (option_map (λ kind. (kind, 1)) (punctuation b)))
+    ≡ longest (suc (length rest)) (b ∷ rest)
+by_quote b rest h true q = sym (first_literal b rest q (is_closed (drop (prefix_len is_plain rest) rest)) refl)
+by_quote b rest h false q = by_digit b rest h q (is_digit b) refl
+
+by_letter : (b : ℕ) (rest : List ℕ) → (letter : Bool) → begins_name b ≡ letter → let long = prefix_len continues_name rest + 1 in let count = min (prefix_len is_digit rest) 17 + 1 in
+    cond letter (Some (word (take long (b ∷ rest)), long))
+    (cond (is_quote b) (string_read rest) (cond (is_digit b) (Some (Integer (pos (number_from 0 (take count (b ∷ rest)))), count)) (option_map (λ kind. (kind, 1)) (punctuation b))))
+    ≡ longest (suc (length rest)) (b ∷ rest)
 by_letter b rest true h = rw add-one (sym (first_name b rest h))
 by_letter b rest false h = by_quote b rest h (is_quote b) refl
 

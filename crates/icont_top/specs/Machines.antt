@@ -1,9 +1,9 @@
 -- What the machine keeps, as a state of a run.
 use Rattle.std.specs.Prelude.{ℕ, ◌-◌, ◌&&◌, ◌++◌, List, map, take, drop, length, nat_lt, Option, None, if◌then◌else◌}
 use Rattle.std.specs.Option.{option_map}
-use Rattle.icn_ucode.specs.CodeRun.{Operand, Variable, Text, OpenMark, State, Step, goes_on, ends, stuck, line_written}
+use Rattle.icn_ucode.specs.CodeRun.{Operand, Variable, Integer, Text, OpenMark, State, Step, goes_on, ends, stuck, line_written}
 use Rattle.icont_top.specs.declared.machine.Operand.{Operand as Kept}
-use Rattle.icont_top.specs.declared.machine.Operand.TheVariants.{Variable as KeptVariable, Text as KeptText}
+use Rattle.icont_top.specs.declared.machine.Operand.TheVariants.{Variable as KeptVariable, Integer as KeptInteger, Text as KeptText}
 use Rattle.icont_top.specs.declared.machine.OpenMark.{OpenMark as KeptMark}
 use Rattle.icont_top.specs.declared.machine.Machine.{Machine}
 use Rattle.icont_top.specs.declared.machine.Stepped.{Stepped}
@@ -11,6 +11,7 @@ use Rattle.icont_top.specs.declared.machine.Stepped.TheVariants.{On, Ended, Stuc
 
 abbrev pub operand_of : Kept → Operand
 operand_of (KeptVariable name) = Variable name.now
+operand_of (KeptInteger n) = Integer n
 operand_of (KeptText text) = Text text.now
 
 abbrev pub operands_of : List Kept → List Operand

@@ -7,6 +7,7 @@ ghost use Rattle.icn_ucode.specs.CodeRun.{writes, step, texts, is_write, line_wr
 ghost use Rattle.icont_top.specs.Machines.{operand_of, operands_of, state_of, call_of, step_of};
 
 use icn_host::{Fault, Sink};
+use icn_text::decimal;
 use icn_ucode::Instr;
 use std::alloc::{AllocError, Global};
 
@@ -15,13 +16,15 @@ use std::alloc::{AllocError, Global};
 enum Operand<'a> {
     // The global variable of this name.
     Variable(&'a [u8]),
+    // An integer.
+    Integer(i64),
     Text(&'a [u8]),
 }
 
 // An open mark: where what fails in it goes on, and how many operands stood on the stack as it was opened.
 #[derive(Clone, Copy)]
 struct OpenMark {
-    label: u32,
+    label: u64,
     height: usize,
 }
 
@@ -95,6 +98,10 @@ fn step<'a>(
             machine.operands.push(Operand::Variable(name.as_slice()))?;
             Ok(Stepped::On(Vec::new(alloc)))
         }
+        Instr::Int(n) => {
+            machine.operands.push(Operand::Integer(*n))?;
+            Ok(Stepped::On(Vec::new(alloc)))
+        }
         Instr::Str(text) => {
             machine.operands.push(Operand::Text(text.as_slice()))?;
             Ok(Stepped::On(Vec::new(alloc)))
@@ -161,7 +168,7 @@ fn is_write(function: &Operand) -> bool
 {
     match function {
         Operand::Variable(name) => *name == b"write".as_slice(),
-        Operand::Text(_) => false,
+        Operand::Integer(_) | Operand::Text(_) => false,
     }
 }
 
@@ -172,6 +179,7 @@ fn texts(alloc: Global, arguments: &[Operand]) -> Result<Option<Vec<u8>>, AllocE
     let mut line = Vec::new(alloc);
     for argument in arguments {
         match argument {
+            Operand::Integer(n) => line.extend_from_slice(decimal(*n).as_bytes())?,
             Operand::Text(text) => line.extend_from_slice(text)?,
             Operand::Variable(_) => return Ok(None),
         }

@@ -1,44 +1,31 @@
 // The tree of a list of tokens.
-ghost use Rattle.std.specs.Prelude.{◌≡◌, IfOk};
+ghost use Rattle.std.specs.Prelude.{◌≡◌, ◌≤◌, ◌<◌, ◌+◌, ℕ, length, IfOk, IfSome};
 ghost use Rattle.std.specs.Option.{option_map};
+ghost use Rattle.icn_tree.specs.declared.tree.Expr.TheVariants.{Call as CallExpr};
+ghost use Rattle.icn_tree.specs.Reading.{is_symbol, symbol_read, name_read, literal_of, literal_read, arguments_read, call_read, expr_read, body_read, head_read, procedure_read};
 ghost use Rattle.icn_tree.specs.Tokens.{kinds};
-ghost use Rattle.icont_top.specs.Reading.{is_symbol, symbol_read, name_read, text_read, call_of, call_read, head_read, procedure_of, procedure_read};
 
-use icn_tree::{Bytes, Call, Kind, Procedure, Symbol, Token};
+use icn_tree::{Bytes, Call, Expr, Exprs, Kind, Literal, Literals, Procedure, Symbol, Token};
 use std::alloc::{AllocError, Global};
 
 /// The tree of the tokens, if they spell one.
 pub fn parse(alloc: Global, tokens: &[Token]) -> Result<Option<Procedure>, AllocError>
-    ensures { IfOk result (λ found. found ≡ procedure_read (kinds tokens.now)) }
+    ensures { IfOk result (λ found. found ≡ procedure_read (length tokens.now) (kinds tokens.now)) }
 {
-    let Some((name, (callee, text))) = procedure(tokens) else {
+    let Some((name, rest)) = head(tokens) else {
         return Ok(None);
     };
-    let body = Call {
-        name: Bytes::from_slice(alloc, callee)?,
-        text: Bytes::from_slice(alloc, text)?,
+    let Some(body) = body(alloc, rest)? else {
+        return Ok(None);
     };
     let name = Bytes::from_slice(alloc, name)?;
     Ok(Some(Procedure { name, body }))
 }
 
-// A procedure without parameters whose body is a call, after which nothing stands: its name and the call.
-fn procedure(tokens: &[Token]) -> Option<(&[u8], (&[u8], &[u8]))>
-    ensures { option_map (λ found. procedure_of found.0.now (call_of found.1.0.now found.1.1.now)) result ≡ procedure_read (kinds tokens.now) }
-{
-    let (name, rest) = head(tokens)?;
-    let (body, rest) = call(rest)?;
-    let rest = after(rest, Symbol::Semicolon)?;
-    let rest = after(rest, Symbol::End)?;
-    match rest.split_first() {
-        None => Some((name, body)),
-        Some(_) => None,
-    }
-}
-
 // The head of a procedure without parameters: its name, and the tokens after it.
 fn head(tokens: &[Token]) -> Option<(&[u8], &[Token])>
-    ensures { option_map (λ found. (found.0.now, kinds found.1.now)) result ≡ head_read (kinds tokens.now) }
+    ensures read { option_map (λ found. (found.0.now, kinds found.1.now)) result ≡ head_read (kinds tokens.now) }
+    ensures shorter { IfSome result (λ found. length found.1.now < length tokens.now) }
 {
     let rest = after(tokens, Symbol::Procedure)?;
     let (name, rest) = name(rest)?;
@@ -48,20 +35,113 @@ fn head(tokens: &[Token]) -> Option<(&[u8], &[Token])>
     Some((name, rest))
 }
 
-// A call with one string literal: the name that is called and the text, and the tokens after it.
-fn call(tokens: &[Token]) -> Option<((&[u8], &[u8]), &[Token])>
-    ensures { option_map (λ found. (call_of found.0.0.now found.0.1.now, kinds found.1.now)) result ≡ call_read (kinds tokens.now) }
+// The expressions up to the word that ends the procedure, after which nothing stands.
+fn body(alloc: Global, tokens: &[Token]) -> Result<Option<Exprs>, AllocError>
+    ensures { IfOk result (λ found. (n : ℕ) → length tokens.now ≤ n → found ≡ body_read n (kinds tokens.now)) }
 {
-    let (name, rest) = name(tokens)?;
-    let rest = after(rest, Symbol::OpenParenthesis)?;
-    let (text, rest) = text(rest)?;
-    let rest = after(rest, Symbol::CloseParenthesis)?;
-    Some(((name, text), rest))
+    let mut exprs = Vec::new(alloc);
+    let mut rest = tokens;
+    loop {
+        if let Some(left) = after(rest, Symbol::End) {
+            if left.is_empty() {
+                return Ok(Some(Exprs::new(exprs)));
+            }
+            return Ok(None);
+        }
+        let Some((next, others)) = expr(alloc, rest)? else {
+            return Ok(None);
+        };
+        exprs.push(next)?;
+        rest = others;
+    }
+}
+
+// An expression with its semicolon, and the tokens after it.
+fn expr(alloc: Global, tokens: &[Token]) -> Result<Option<(Expr, &[Token])>, AllocError>
+    ensures read { IfOk result (λ found. (n : ℕ) → length tokens.now ≤ n + 1 → option_map (λ f. (f.0, kinds f.1.now)) found ≡ expr_read n (kinds tokens.now)) }
+    ensures shorter { IfOk result (λ found. IfSome found (λ f. length f.1.now < length tokens.now)) }
+{
+    if let Some(rest) = after(tokens, Symbol::Semicolon) {
+        return Ok(Some((Expr::Empty, rest)));
+    }
+    let Some((call, rest)) = call(alloc, tokens)? else {
+        return Ok(None);
+    };
+    let Some(rest) = after(rest, Symbol::Semicolon) else {
+        return Ok(None);
+    };
+    Ok(Some((Expr::Call(call), rest)))
+}
+
+// A call, and the tokens after it.
+fn call(alloc: Global, tokens: &[Token]) -> Result<Option<(Call, &[Token])>, AllocError>
+    ensures read { IfOk result (λ found. (n : ℕ) → length tokens.now ≤ n + 1 → option_map (λ f. (CallExpr f.0, kinds f.1.now)) found ≡ call_read n (kinds tokens.now)) }
+    ensures shorter { IfOk result (λ found. IfSome found (λ f. length f.1.now < length tokens.now)) }
+{
+    let Some((name, rest)) = name(tokens) else {
+        return Ok(None);
+    };
+    let Some(rest) = after(rest, Symbol::OpenParenthesis) else {
+        return Ok(None);
+    };
+    let Some((arguments, rest)) = arguments(alloc, rest)? else {
+        return Ok(None);
+    };
+    let Some(rest) = after(rest, Symbol::CloseParenthesis) else {
+        return Ok(None);
+    };
+    let name = Bytes::from_slice(alloc, name)?;
+    Ok(Some((Call { name, arguments }, rest)))
+}
+
+// Literals with commas between them, and the tokens after them.
+fn arguments(alloc: Global, tokens: &[Token]) -> Result<Option<(Literals, &[Token])>, AllocError>
+    ensures read { IfOk result (λ found. (n : ℕ) → length tokens.now ≤ n → option_map (λ f. (f.0, kinds f.1.now)) found ≡ arguments_read n (kinds tokens.now)) }
+    ensures shorter { IfOk result (λ found. IfSome found (λ f. length f.1.now < length tokens.now)) }
+{
+    let mut literals = Vec::new(alloc);
+    let mut rest = tokens;
+    loop {
+        let Some((next, others)) = literal(alloc, rest)? else {
+            return Ok(None);
+        };
+        literals.push(next)?;
+        let Some(more) = after(others, Symbol::Comma) else {
+            return Ok(Some((Literals::new(literals), others)));
+        };
+        rest = more;
+    }
+}
+
+// A literal, and the tokens after it.
+fn literal(alloc: Global, tokens: &[Token]) -> Result<Option<(Literal, &[Token])>, AllocError>
+    ensures read { IfOk result (λ found. option_map (λ f. (f.0, kinds f.1.now)) found ≡ literal_read (kinds tokens.now)) }
+    ensures shorter { IfOk result (λ found. IfSome found (λ f. length f.1.now < length tokens.now)) }
+{
+    let Some((first, rest)) = tokens.split_first() else {
+        return Ok(None);
+    };
+    match literal_of(alloc, &first.kind)? {
+        Some(literal) => Ok(Some((literal, rest))),
+        None => Ok(None),
+    }
+}
+
+// The literal that a token is, if it is one.
+fn literal_of(alloc: Global, kind: &Kind) -> Result<Option<Literal>, AllocError>
+    ensures { IfOk result (λ found. found ≡ literal_of kind.now) }
+{
+    match kind {
+        Kind::Integer(n) => Ok(Some(Literal::Integer(*n))),
+        Kind::Text(text) => Ok(Some(Literal::Text(Bytes::from_slice(alloc, text.as_slice())?))),
+        Kind::Name(_) | Kind::Symbol(_) => Ok(None),
+    }
 }
 
 // The tokens after this symbol, if they begin with it.
 fn after(tokens: &[Token], wanted: Symbol) -> Option<&[Token]>
-    ensures { option_map (λ rest. kinds rest.now) result ≡ symbol_read wanted (kinds tokens.now) }
+    ensures read { option_map (λ rest. kinds rest.now) result ≡ symbol_read wanted (kinds tokens.now) }
+    ensures shorter { IfSome result (λ rest. length rest.now < length tokens.now) }
 {
     let (first, rest) = tokens.split_first()?;
     if is_symbol(&first.kind, wanted) {
@@ -76,28 +156,18 @@ fn is_symbol(kind: &Kind, wanted: Symbol) -> bool
 {
     match kind {
         Kind::Symbol(found) => *found == wanted,
-        Kind::Name(_) | Kind::Text(_) => false,
+        Kind::Name(_) | Kind::Integer(_) | Kind::Text(_) => false,
     }
 }
 
 // The name that the tokens begin with, if they do, and the tokens after it.
 fn name(tokens: &[Token]) -> Option<(&[u8], &[Token])>
-    ensures { option_map (λ found. (found.0.now, kinds found.1.now)) result ≡ name_read (kinds tokens.now) }
+    ensures read { option_map (λ found. (found.0.now, kinds found.1.now)) result ≡ name_read (kinds tokens.now) }
+    ensures shorter { IfSome result (λ found. length found.1.now < length tokens.now) }
 {
     let (first, rest) = tokens.split_first()?;
     match &first.kind {
         Kind::Name(name) => Some((name.as_slice(), rest)),
-        Kind::Text(_) | Kind::Symbol(_) => None,
-    }
-}
-
-// The text of the string literal that the tokens begin with, if they do, and the tokens after it.
-fn text(tokens: &[Token]) -> Option<(&[u8], &[Token])>
-    ensures { option_map (λ found. (found.0.now, kinds found.1.now)) result ≡ text_read (kinds tokens.now) }
-{
-    let (first, rest) = tokens.split_first()?;
-    match &first.kind {
-        Kind::Text(text) => Some((text.as_slice(), rest)),
-        Kind::Name(_) | Kind::Symbol(_) => None,
+        Kind::Integer(_) | Kind::Text(_) | Kind::Symbol(_) => None,
     }
 }

@@ -1,12 +1,13 @@
 // The program that a text is.
 ghost use Rattle.std.specs.Prelude.{◌≡◌, ◌≤◌, length, IfOk, IfSome, IfNone};
+ghost use Rattle.std.specs.List.{list_all};
 ghost use Rattle.icn_tree.specs.declared.tree.Procedure.{Procedure as Tree};
 ghost use Rattle.icn_tree.specs.Programs.{IsProgram};
-ghost use Rattle.icont_top.specs.Reading.{is_built};
+ghost use Rattle.icont_top.specs.Reading.{calls_write, is_built};
 
 use crate::parser::parse;
 use crate::scanner::{LONGEST, tokens};
-use icn_tree::Procedure;
+use icn_tree::{Expr, Procedure};
 use std::alloc::{AllocError, Global};
 
 /// The program that the text is. `None` exactly where it is none.
@@ -30,9 +31,31 @@ pub fn program(alloc: Global, text: &[u8]) -> Result<Option<Procedure>, AllocErr
     }
 }
 
-// Whether the procedure is `main`, and calls `write`.
+// Whether the procedure is `main`, and calls `write` alone.
 fn is_built(tree: &Procedure) -> bool
     ensures { result ≡ is_built tree.now }
 {
-    tree.name.as_slice() == b"main".as_slice() && tree.body.name.as_slice() == b"write".as_slice()
+    tree.name.as_slice() == b"main".as_slice() && all_call_write(tree.body.as_slice())
+}
+
+// Whether each call is of `write`.
+fn all_call_write(exprs: &[Expr]) -> bool
+    ensures { result ≡ list_all calls_write exprs.now }
+{
+    for expr in exprs {
+        if !calls_write(expr) {
+            return false;
+        }
+    }
+    true
+}
+
+// Whether a call is of `write`.
+fn calls_write(expr: &Expr) -> bool
+    ensures { result ≡ calls_write expr.now }
+{
+    match expr {
+        Expr::Empty => true,
+        Expr::Call(call) => call.name.as_slice() == b"write".as_slice(),
+    }
 }

@@ -1,9 +1,9 @@
 // The tokens of a program text.
-ghost use Rattle.std.specs.Prelude.{◌≡◌, ◌≤◌, ◌<◌, ◌∷◌, [], ◌++◌, length, take, IfOk, OnOk, IfSome};
-ghost use Rattle.std.specs.List.{prefix_len};
+ghost use Rattle.std.specs.Prelude.{◌≡◌, ◌≤◌, ◌<◌, ◌∷◌, [], ◌++◌, length, take, IfOk, OnOk, true, pos};
+ghost use Rattle.std.specs.List.{prefix_len, list_all};
 ghost use Rattle.std.specs.Option.{option_map};
-ghost use Rattle.icn_tree.specs.Tokens.{is_space, begins_name, continues_name, is_plain, is_ender, is_beginner, is_statement_end, word, punctuation, tokens};
-ghost use Rattle.icont_top.specs.Reading.{joint, semicolon_at, is_closed, literal_read, first_read};
+ghost use Rattle.icn_tree.specs.Tokens.{is_space, begins_name, continues_name, is_plain, is_digit, number_from, is_ender, is_beginner, is_statement_end, word, punctuation, tokens};
+ghost use Rattle.icont_top.specs.Reading.{joint, semicolon_at, is_closed, string_read, first_read};
 ghost use Rattle.icn_tree.specs.declared.token.Kind.TheVariants.{Symbol as SymbolKind};
 
 use icn_tree::{Bytes, Kind, Symbol, Token};
@@ -72,7 +72,7 @@ fn is_ender(kind: &Kind) -> bool
     ensures { result ≡ is_ender kind.now }
 {
     match kind {
-        Kind::Name(_) | Kind::Text(_) => true,
+        Kind::Name(_) | Kind::Integer(_) | Kind::Text(_) => true,
         Kind::Symbol(symbol) => *symbol == Symbol::CloseParenthesis,
     }
 }
@@ -82,7 +82,7 @@ fn is_beginner(kind: &Kind) -> bool
     ensures { result ≡ is_beginner kind.now }
 {
     match kind {
-        Kind::Name(_) | Kind::Text(_) => true,
+        Kind::Name(_) | Kind::Integer(_) | Kind::Text(_) => true,
         Kind::Symbol(symbol) => matches!(symbol, Symbol::OpenParenthesis | Symbol::End),
     }
 }
@@ -98,15 +98,19 @@ fn first_token(alloc: Global, bytes: &[u8]) -> Result<Option<(Kind, usize)>, All
         let count = name_len(rest) + 1;
         Ok(Some((word(alloc, bytes.split_at(count).0)?, count)))
     } else if *first == b'"' {
-        literal(alloc, rest)
+        string(alloc, rest)
+    } else if is_digit(*first) {
+        let count = digits_len(rest).min(17) + 1;
+        let value = number(bytes.split_at(count).0);
+        Ok(Some((Kind::Integer(value), count)))
     } else {
         Ok(punctuation(*first).map(|symbol| (Kind::Symbol(symbol), 1)))
     }
 }
 
-// The literal that stands behind an opening quote, and how many bytes it has with both quotes.
-fn literal(alloc: Global, bytes: &[u8]) -> Result<Option<(Kind, usize)>, AllocError>
-    ensures { IfOk result (λ found. found ≡ literal_read bytes.now) }
+// The string literal that stands behind an opening quote, and how many bytes it has with both quotes.
+fn string(alloc: Global, bytes: &[u8]) -> Result<Option<(Kind, usize)>, AllocError>
+    ensures { IfOk result (λ found. found ≡ string_read bytes.now) }
 {
     let count = plain_len(bytes);
     let (text, rest) = bytes.split_at(count);
@@ -146,6 +150,7 @@ fn punctuation(byte: u8) -> Option<Symbol>
     match byte {
         b'(' => Some(Symbol::OpenParenthesis),
         b')' => Some(Symbol::CloseParenthesis),
+        b',' => Some(Symbol::Comma),
         b';' => Some(Symbol::Semicolon),
         _ => None,
     }
@@ -157,6 +162,27 @@ fn name_len(bytes: &[u8]) -> usize
     ensures within { result ≤ length bytes.now }
 {
     bytes.iter().take_while(|b| continues_name(**b)).count()
+}
+
+// How many of the first bytes are digits.
+fn digits_len(bytes: &[u8]) -> usize
+    ensures counted { result ≡ prefix_len is_digit bytes.now }
+    ensures within { result ≤ length bytes.now }
+{
+    bytes.iter().take_while(|b| is_digit(**b)).count()
+}
+
+// The number that a run of digits writes.
+fn number(digits: &[u8]) -> i64
+    requires few { length digits.now ≤ 18 }
+    requires digits { list_all is_digit digits.now ≡ true }
+    ensures { result ≡ pos (number_from 0 digits.now) }
+{
+    let mut value = 0u64;
+    for digit in digits {
+        value = value * 10 + u64::from(*digit - b'0');
+    }
+    value as i64
 }
 
 // How many of the first bytes stand for themselves in a string literal.
@@ -182,7 +208,13 @@ fn begins_name(byte: u8) -> bool
 fn continues_name(byte: u8) -> bool
     ensures { result ≡ continues_name byte }
 {
-    begins_name(byte) || byte.is_ascii_digit()
+    begins_name(byte) || is_digit(byte)
+}
+
+fn is_digit(byte: u8) -> bool
+    ensures { result ≡ is_digit byte }
+{
+    byte.is_ascii_digit()
 }
 
 fn is_plain(byte: u8) -> bool

@@ -1,11 +1,13 @@
 // The job that the words ask for, but for the answer's own line.
-ghost use Rattle.std.specs.Prelude.{◌≡◌, ◌⊎◌, ◌≤◌, ℕ, List, length, map, string_bytes, IfSome, MatchOption, OnOk, OnErr, IsErrOf, codes};
+ghost use Rattle.std.specs.Prelude.{◌≡◌, ◌⊎◌, ◌≤◌, ℕ, List, length, map, string_bytes, IfSome, MatchOption, OnOk, OnErr, IsErrOf, Some};
 ghost use Rattle.icn_host.specs.Counts.{HasCause};
 ghost use Rattle.icn_host.specs.FileMaps.{FileMap};
 ghost use Rattle.icn_host.specs.Sinks.{Gains, GainsPart};
 ghost use Rattle.icn_tree.specs.declared.rule.Rule.TheVariants.{S4};
 ghost use Rattle.icont_top.specs.declared.answer.Answer.TheVariants.{Refused, Missing};
 ghost use Rattle.icn_tree.specs.Meaning.{meaning};
+ghost use Rattle.icn_ucode.specs.CodeRun.{writes};
+ghost use Rattle.icn_ucode.specs.Translated.{code_of};
 ghost use Rattle.icont_top.specs.Answers.{IsRefusal, IsCommand, IsMissing, IsOfSource};
 ghost use Rattle.icont_top.specs.Jobs.{IsSourceJob, IsFileJob, IsJob};
 ghost use Rattle.icont_top.specs.Outcomes.{Does};
@@ -107,7 +109,7 @@ fn refuse(alloc: Global, name: &str) -> Answer
 
 // Translates a program and runs its code.
 fn run_program<O: Sink>(alloc: Global, tree: &Procedure, out: &mut O) -> Result<(), Fault>
-    requires { tree.now.body.name ≡ codes "write" }
+    requires { writes (code_of tree.now) ≡ Some (meaning tree.now) }
     ensures ok { OnOk result (Gains (O.held out.old) (O.held out.new) (meaning tree.now)) }
     ensures err { OnErr result (GainsPart (O.held out.old) (O.held out.new) (meaning tree.now)) }
     ensures cause { HasCause (O.faults out.old) (O.faults out.new) (IsErrOf result Fault.Failed) }

@@ -1,6 +1,7 @@
 use Rattle.icn_tree.specs.declared.rule.Rule.TheVariants.{S4}
 use Rattle.icont_top.specs.declared.answer.Answer.TheVariants.{Refused, WriteFault, NoMemory}
 use Rattle.icont_top.specs.Jobs.{refused}
+use Rattle.icn_ucode.proofs.Meanings.{translation_means}
 use Rattle.icont_top.proofs.Working.{source_broke, source_ran, refuses}
 use Rattle.icont_top.proofs.work.work_on_source.Goals as goal
 
@@ -15,3 +16,6 @@ returns-in-Ok-Some-clause-done g c = source_broke NoMemory c.in-Ok-Some.tree tt 
 
 pub returns-in-Ok-None-clause-done : goal.returns-in-Ok-None-clause-done
 returns-in-Ok-None-clause-done g c = λ held left. refuses held left (Refused c.args.name.now 0 S4) c.refuse.result _ (refused (rw c.in-Ok-None.field-0-is at c.in-Ok-None.ensures.none)) c.refuse.ensures
+
+pub run_program-requires : goal.run_program-requires
+run_program-requires g c = translation_means c.args.source.now c.in-Ok-Some.tree (rw c.in-Ok-Some.field-0-is at c.in-Ok-Some.ensures.found)
