@@ -22,6 +22,64 @@ mod tests {
 
     const TWO: &[u8] = b"procedure main()\nwrite(\"a\")\nwrite(2)\nend\n";
 
+    // Programs, with what they write.
+    const PROGRAMS: [(&[u8], &[u8]); 22] = [
+        (HI, b"hi\n"),
+        // written semicolons, and those of ends of lines
+        (b"procedure main();write(\"hi\");end", b"hi\n"),
+        (b"procedure main()\nwrite(\"hi\");end", b"hi\n"),
+        (b"procedure main();write(\"hi\")\nend", b"hi\n"),
+        // white space, and ends of lines where none stands for a semicolon
+        (b"procedure main()\r\nwrite(\"hi\")\r\nend\r\n", b"hi\n"),
+        (
+            b"\n \nprocedure\nmain()\n\n\nwrite(\"hi\")\n\nend\n\n",
+            b"hi\n",
+        ),
+        (b"procedure main(\n)\nwrite(\n\"hi\"\n)\nend", b"hi\n"),
+        (
+            b"procedure main ( ) ;\twrite\x0b(\x0c\"hi\"\r) ; end",
+            b"hi\n",
+        ),
+        // several expressions, and none
+        (TWO, b"a\n2\n"),
+        (b"procedure main()\nend\n", b""),
+        (b"procedure main();;;end\n", b""),
+        (
+            b"procedure main()\nwrite(\"a\");;write(\"b\");end\n",
+            b"a\nb\n",
+        ),
+        (
+            b"procedure main()\nwrite(1);\n;write(2);write(3);\nend\n",
+            b"1\n2\n3\n",
+        ),
+        // several literals: a comma neither ends an expression nor begins one
+        (b"procedure main()\nwrite(\"a\", 007)\nend\n", b"a7\n"),
+        (
+            b"procedure main()\nwrite(\"a\",\n\"b\",\n3)\nend\n",
+            b"ab3\n",
+        ),
+        (b"procedure main()\nwrite(1\n,2\n,\"c\"\n)\nend\n", b"12c\n"),
+        (b"procedure main()\nwrite(0, 00, 10)\nend\n", b"0010\n"),
+        (
+            b"procedure main()\nwrite(999999999999999999, 000000000000000001)\nend\n",
+            b"9999999999999999991\n",
+        ),
+        (
+            b"procedure main()\nwrite(\"\",1,\"\",\"b\")\nend\n",
+            b"1b\n",
+        ),
+        // literals
+        (b"procedure main()\nwrite(\"\")\nend\n", b"\n"),
+        (
+            b"procedure main()\nwrite(\" !#$%&'()*+,-./09:;<=>?@AZ[]^_`az{|}~\")\nend\n",
+            b" !#$%&'()*+,-./09:;<=>?@AZ[]^_`az{|}~\n",
+        ),
+        (
+            b"procedure main()\nwrite(\"procedure end ;\")\nend",
+            b"procedure end ;\n",
+        ),
+    ];
+
     // Texts that are no program.
     const OTHER_TEXTS: [&[u8]; 41] = [
         b"",
@@ -159,63 +217,7 @@ mod tests {
     #[test]
     fn programs_run(rt: HostRuntime) -> Result<(), Fail> {
         let alloc = rt.alloc();
-        let rows: [(&[u8], &[u8]); 22] = [
-            (HI, b"hi\n"),
-            // written semicolons, and those of ends of lines
-            (b"procedure main();write(\"hi\");end", b"hi\n"),
-            (b"procedure main()\nwrite(\"hi\");end", b"hi\n"),
-            (b"procedure main();write(\"hi\")\nend", b"hi\n"),
-            // white space, and ends of lines where none stands for a semicolon
-            (b"procedure main()\r\nwrite(\"hi\")\r\nend\r\n", b"hi\n"),
-            (
-                b"\n \nprocedure\nmain()\n\n\nwrite(\"hi\")\n\nend\n\n",
-                b"hi\n",
-            ),
-            (b"procedure main(\n)\nwrite(\n\"hi\"\n)\nend", b"hi\n"),
-            (
-                b"procedure main ( ) ;\twrite\x0b(\x0c\"hi\"\r) ; end",
-                b"hi\n",
-            ),
-            // several expressions, and none
-            (TWO, b"a\n2\n"),
-            (b"procedure main()\nend\n", b""),
-            (b"procedure main();;;end\n", b""),
-            (
-                b"procedure main()\nwrite(\"a\");;write(\"b\");end\n",
-                b"a\nb\n",
-            ),
-            (
-                b"procedure main()\nwrite(1);\n;write(2);write(3);\nend\n",
-                b"1\n2\n3\n",
-            ),
-            // several literals: a comma neither ends an expression nor begins one
-            (b"procedure main()\nwrite(\"a\", 007)\nend\n", b"a7\n"),
-            (
-                b"procedure main()\nwrite(\"a\",\n\"b\",\n3)\nend\n",
-                b"ab3\n",
-            ),
-            (b"procedure main()\nwrite(1\n,2\n,\"c\"\n)\nend\n", b"12c\n"),
-            (b"procedure main()\nwrite(0, 00, 10)\nend\n", b"0010\n"),
-            (
-                b"procedure main()\nwrite(999999999999999999, 000000000000000001)\nend\n",
-                b"9999999999999999991\n",
-            ),
-            (
-                b"procedure main()\nwrite(\"\",1,\"\",\"b\")\nend\n",
-                b"1b\n",
-            ),
-            // literals
-            (b"procedure main()\nwrite(\"\")\nend\n", b"\n"),
-            (
-                b"procedure main()\nwrite(\" !#$%&'()*+,-./09:;<=>?@AZ[]^_`az{|}~\")\nend\n",
-                b" !#$%&'()*+,-./09:;<=>?@AZ[]^_`az{|}~\n",
-            ),
-            (
-                b"procedure main()\nwrite(\"procedure end ;\")\nend",
-                b"procedure end ;\n",
-            ),
-        ];
-        for (source, output) in rows {
+        for (source, output) in PROGRAMS {
             let row = icont(alloc, &["icont", "f.icn", "-x"], source, NONE)?;
             let source = String::from_utf8_lossy(alloc, source)?;
             assert_eq!(rt; name_of(&row.answer), "Ran(Done)", "at {source}");
