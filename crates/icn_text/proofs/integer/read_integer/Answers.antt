@@ -1,0 +1,11 @@
+use Rattle.icn_text.proofs.Deciding.{no_integer, read, refused}
+use Rattle.icn_text.proofs.integer.read_integer.Goals as goal
+
+pub returns-in-Some-clause-read : goal.returns-in-Some-clause-read
+returns-in-Some-clause-read c = read c.args.text.now c.in-Some.is_negative c.in-Some.magnitude c.signed.result c.in-Some.ensures c.signed.ensures
+
+pub returns-in-Some-clause-refused : goal.returns-in-Some-clause-refused
+returns-in-Some-clause-refused c = refused c.args.text.now c.in-Some.is_negative c.in-Some.magnitude c.signed.result c.in-Some.ensures c.signed.ensures
+
+pub returns-in-None-clause-refused : goal.returns-in-None-clause-refused
+returns-in-None-clause-refused c = no_integer c.args.text.now c.in-None.ensures

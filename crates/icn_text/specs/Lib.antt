@@ -1,0 +1,5 @@
+pub mod Funcs
+pub mod Integers
+pub mod Keywords
+pub mod Ops
+pub mod Reading

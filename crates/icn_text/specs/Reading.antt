@@ -1,0 +1,40 @@
+-- What the functions that read an integer find, step by step.
+use Rattle.std.specs.Prelude.{◌==◌, ◌^◌, ◌&&◌, nat_lt, nat_le, ℕ, Bool, true, false, List, [], ◌∷◌, take, drop, Option, Some, None, if◌then◌else◌}
+use Rattle.std.specs.List.{list_all, prefix_len}
+use Rattle.std.specs.Option.{option_map}
+use Rattle.std.specs.Str.Parse.{digits_value}
+use Rattle.icn_text.specs.Integers.{is_space, is_digit_of, is_radix_mark}
+
+-- a number that 64 bits hold
+abbrev pub held : ℕ → Option ℕ
+held n = if nat_lt n (2 ^ 64) then Some n else None
+
+-- digits of the radix, behind which white space alone stands
+abbrev pub digits_read : ℕ → List ℕ → Option ℕ
+digits_read radix text = let count = prefix_len (is_digit_of radix) text in
+    if nat_lt 0 count && list_all is_space (drop count text) then Some (digits_value radix (take count text)) else None
+
+-- what stands behind a radix and its mark
+abbrev pub radix_read : ℕ → List ℕ → Option ℕ
+radix_read radix text = if nat_le 2 radix && nat_le radix 36 then digits_read radix text else None
+
+-- a numeral by what stands behind its first digits
+abbrev pub numeral_by : List ℕ → List ℕ → List ℕ → Option ℕ
+numeral_by text digits [] = digits_read 10 text
+numeral_by text digits (mark ∷ rest) = if is_radix_mark mark then radix_read (digits_value 10 digits) rest else digits_read 10 text
+
+abbrev pub numeral_read : List ℕ → Option ℕ
+numeral_read text = let count = prefix_len (is_digit_of 10) text in numeral_by text (take count text) (drop count text)
+
+-- whether a sign makes it negative, and its magnitude
+abbrev pub signed_read : List ℕ → Option (Bool × ℕ)
+signed_read [] = None
+signed_read (sign ∷ rest) =
+    if sign == 45 then option_map (λ n. (true, n)) (numeral_read rest)
+    else (if sign == 43 then option_map (λ n. (false, n)) (numeral_read rest) else option_map (λ n. (false, n)) (numeral_read (sign ∷ rest)))
+
+abbrev pub integer_read : List ℕ → Option (Bool × ℕ)
+integer_read text = signed_read (drop (prefix_len is_space text) text)
+
+abbrev pub pair_held : Bool × ℕ → Option (Bool × ℕ)
+pair_held found = option_map (λ n. (found.0, n)) (held found.1)
