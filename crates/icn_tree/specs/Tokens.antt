@@ -1,142 +1,147 @@
--- The tokens of a program text.
-use Rattle.std.specs.Prelude.{◌==◌, ℕ, ◌+◌, ◌-◌, ◌*◌, pos, zero, suc, Bool, true, false, ◌&&◌, ◌||◌, not, nat_lt, nat_le, List, [], ◌∷◌, ◌++◌, length, take, map, codes, Option, Some, None, if◌then◌else◌}
-use Rattle.std.specs.List.{list_all}
-use Rattle.std.specs.Option.{option_map, option_and_then}
-use Rattle.std.specs.Str.{bytes_eq}
+-- The tokens of the lines of a program text, or the first fault among them.
+use Rattle.std.specs.Prelude.{◌==◌, ℕ, ◌-◌, zero, suc, Bool, true, false, ◌&&◌, nat_le, List, [], ◌∷◌, length, take, drop, Option, Some, None, Result, Ok, Err, if◌then◌else◌}
+use Rattle.std.specs.List.{list_all, prefix_len}
+use Rattle.std.specs.Option.{option_map}
+use Rattle.icn_tree.specs.declared.lines.SourceLine.{SourceLine}
+use Rattle.icn_tree.specs.declared.rule.Rule.{Rule}
+use Rattle.icn_tree.specs.declared.rule.Rule.TheVariants.{L1, L2, L3, L6, L7}
 use Rattle.icn_tree.specs.declared.token.Kind.{Kind}
-use Rattle.icn_tree.specs.declared.token.Kind.TheVariants.{Name, Integer, Text, Symbol}
-use Rattle.icn_tree.specs.declared.token.Symbol.TheVariants.{Procedure, End, OpenParenthesis, CloseParenthesis, Comma, Semicolon}
+use Rattle.icn_tree.specs.declared.token.Kind.TheVariants.{Operator}
+use Rattle.icn_tree.specs.declared.token.Operator.TheVariants.{Dot}
 use Rattle.icn_tree.specs.declared.token.Token.{Token}
+use Rattle.icn_tree.specs.Characters.{is_space, is_blank, begins_comment, begins_identifier, is_digit, continues_identifier, is_quote}
+use Rattle.icn_tree.specs.Literals.{Literal, with_byte, literal_kind, escape_of}
+use Rattle.icn_tree.specs.Numbers.{is_nothing, number, sized}
+use Rattle.icn_tree.specs.Semicolons.{Piece, with_semicolons}
+use Rattle.icn_tree.specs.Spellings.{lookup_text, name_of, marks_of}
 
--- Bytes
+-- One token, where no literal begins
 
-abbrev pub is_between : ℕ → ℕ → ℕ → Bool
-is_between low high b = nat_le low b && nat_le b high
+-- a letter or an underscore and what goes on with it
+abbrev pub name : ℕ → List ℕ → Option (Result Kind Rule)
+name b rest = if list_all continues_identifier rest then Some (sized (b ∷ rest) (Ok (name_of (b ∷ rest)))) else None
 
-abbrev pub is_newline : ℕ → Bool
-is_newline b = b == 10
+-- a dot, which with a digit behind it begins a number that is not whole
+abbrev pub dotted : List ℕ → Option (Result Kind Rule)
+dotted [] = Some (Ok (Operator Dot))
+dotted (b ∷ []) = if is_digit b then Some (Err L6) else None
+dotted (b ∷ c ∷ rest) = None
 
--- tab, newline, vertical tab, form feed, carriage return or blank
-abbrev pub is_space : ℕ → Bool
-is_space b = is_between 9 13 b || b == 32
+abbrev pub mark : ℕ → List ℕ → Option (Result Kind Rule)
+mark b rest = option_map (λ kind. Ok kind) (lookup_text (marks_of b) (b ∷ rest))
 
--- a letter or an underscore
-abbrev pub begins_name : ℕ → Bool
-begins_name b = is_between 65 90 b || is_between 97 122 b || b == 95
-
-abbrev pub is_digit : ℕ → Bool
-is_digit b = is_between 48 57 b
-
--- a letter, an underscore or a digit
-abbrev pub continues_name : ℕ → Bool
-continues_name b = begins_name b || is_digit b
-
-abbrev pub is_quote : ℕ → Bool
-is_quote b = b == 34
-
--- a byte that stands for itself in a string literal: from the blank to `~`, but for the quote and the backslash
-abbrev pub is_plain : ℕ → Bool
-is_plain b = is_between 32 126 b && not (is_quote b) && not (b == 92)
-
--- One token
-
--- a name begins with a letter or an underscore, and goes on with letters, underscores and digits
-abbrev pub is_name : List ℕ → Bool
-is_name [] = false
-is_name (b ∷ rest) = begins_name b && list_all continues_name rest
-
--- a name that is a word of the language, or an identifier
-abbrev pub word : List ℕ → Kind
-word name = if bytes_eq name (codes "procedure") then Symbol Procedure else (if bytes_eq name (codes "end") then Symbol End else Name name)
-
--- plain bytes and then one quote, the last byte: the bytes before that quote
-abbrev pub closed : List ℕ → Option (List ℕ)
-closed [] = None
-closed (b ∷ []) = if is_quote b then Some [] else None
-closed (b ∷ c ∷ rest) = if is_plain b then option_map (λ text. b ∷ text) (closed (c ∷ rest)) else None
-
--- the number that digits write behind those of a number
-abbrev pub number_from : ℕ → List ℕ → ℕ
-number_from n [] = n
-number_from n (b ∷ rest) = number_from (n * 10 + (b - 48)) rest
-
--- an integer literal is a run of at most 18 digits, of which this is the first
-abbrev pub integer : ℕ → List ℕ → Option Kind
-integer b rest = if list_all is_digit rest && nat_le (length rest) 17 then Some (Integer (pos (number_from 0 (b ∷ rest)))) else None
-
-abbrev pub punctuation : ℕ → Option Kind
-punctuation b = if b == 40 then Some (Symbol OpenParenthesis) else (if b == 41 then Some (Symbol CloseParenthesis) else (if b == 44 then Some (Symbol Comma) else (if b == 59 then Some (Symbol Semicolon) else None)))
-
--- a punctuation mark is one byte
-abbrev pub alone : ℕ → List ℕ → Option Kind
-alone b [] = punctuation b
-alone b (c ∷ rest) = None
-
--- what the bytes spell, all of them taken as one token
-abbrev pub spelled : List ℕ → Option Kind
+-- what the bytes are, all of them taken as one: a token, or one that breaks a rule
+unfoldable pub spelled : List ℕ → Option (Result Kind Rule)
 spelled [] = None
 spelled (b ∷ rest) =
-    if is_name (b ∷ rest) then Some (word (b ∷ rest))
-    else (if is_quote b then option_map Text (closed rest) else (if is_digit b then integer b rest else alone b rest))
+    if begins_identifier b then name b rest
+    else (if is_digit b then number (b ∷ rest) else (if b == 46 then dotted rest else mark b rest))
 
-abbrev pub longer : Option Kind → ℕ → Option (Kind × ℕ) → Option (Kind × ℕ)
-longer (Some kind) count shorter = Some (kind, count)
+abbrev pub longer : Option (Result Kind Rule) → ℕ → Option (Result Kind Rule × ℕ) → Option (Result Kind Rule × ℕ)
+longer (Some sense) count shorter = Some (sense, count)
 longer None count shorter = shorter
 
--- the longest front of at most so many bytes that is a token: what it is, and how many bytes it has
-abbrev pub longest : ℕ → List ℕ → Option (Kind × ℕ)
-longest zero bytes = None
-longest (suc n) bytes = longer (spelled (take (suc n) bytes)) (suc n) (longest n bytes)
+-- the longest front of at most so many bytes that is something: what it is, and how many bytes it has
+abbrev pub longest : (List ℕ → Option (Result Kind Rule)) → ℕ → List ℕ → Option (Result Kind Rule × ℕ)
+longest sense zero bytes = None
+longest sense (suc n) bytes = longer (sense (take (suc n) bytes)) (suc n) (longest sense n bytes)
+
+-- where no front is, the first byte begins no token
+abbrev pub judged : Option (Result Kind Rule × ℕ) → Result (Kind × ℕ) Rule
+judged None = Err L1
+judged (Some (Ok kind, count)) = Ok (kind, count)
+judged (Some (Err rule, count)) = Err rule
+
+-- the token at the front of the bytes, the longest that fits, with the number of its bytes
+unfoldable pub first_of : List ℕ → Result (Kind × ℕ) Rule
+first_of bytes = judged (longest spelled (length bytes) bytes)
 
 -- All tokens
 
-abbrev pub line_after : ℕ → ℕ → ℕ
-line_after line b = if is_newline b then line + 1 else line
+-- the tokens from some place on, or the first fault
+pub data Scan : Type 0 where
+  Found : List Piece → Scan
+  Broken : Rule → (line file : ℕ) → Scan
 
--- The tokens of the bytes, the first of which stands on this line. So many first bytes belong to a token that was taken,
--- and none of these ends a line. There are no tokens where a byte neither separates tokens nor begins one.
-abbrev pub tokens_from : ℕ → ℕ → List ℕ → Option (List Token)
-tokens_from taken line [] = Some []
-tokens_from (suc taken) line (b ∷ rest) = tokens_from taken line rest
-tokens_from zero line (b ∷ rest) =
-    if is_space b then tokens_from zero (line_after line b) rest
-    else option_and_then (λ first. option_map (λ tokens. record { kind = first.0; line = line } ∷ tokens) (tokens_from (first.1 - 1) line rest)) (longest (length (b ∷ rest)) (b ∷ rest))
+abbrev pub before : Piece → Scan → Scan
+before piece (Found pieces) = Found (piece ∷ pieces)
+before piece (Broken rule line file) = Broken rule line file
 
--- Semicolons
+-- a token that begins on a line
+abbrev pub piece_on : SourceLine → Bool → Kind → Piece
+piece_on line is_first kind = record { token = record { kind = kind; line = line.number; file = line.file }; is_first = is_first }
 
--- a token that can end an expression
-abbrev pub is_ender : Kind → Bool
-is_ender (Name name) = true
-is_ender (Integer n) = true
-is_ender (Text text) = true
-is_ender (Symbol CloseParenthesis) = true
-is_ender (Symbol _) = false
+-- a token, and what the bytes behind it give
+abbrev pub token_then : SourceLine → Bool → Result (Kind × ℕ) Rule → (ℕ → Scan) → Scan
+token_then line is_first (Ok first) later = before (piece_on line is_first first.0) (later first.1)
+token_then line is_first (Err rule) later = Broken rule line.number line.file
 
--- a token that can begin an expression, or the end of a procedure
-abbrev pub is_beginner : Kind → Bool
-is_beginner (Name name) = true
-is_beginner (Integer n) = true
-is_beginner (Text text) = true
-is_beginner (Symbol OpenParenthesis) = true
-is_beginner (Symbol End) = true
-is_beginner (Symbol _) = false
+-- a literal that begins with a quote on a line
+abbrev pub opened : SourceLine → Bool → ℕ → Literal
+opened line is_first quote = record { quote = quote; bytes = []; line = line.number; file = line.file; is_first = is_first }
 
--- a line ends between two neighbours, the first is an ender and the second a beginner
-abbrev pub is_statement_end : Token → Token → Bool
-is_statement_end a b = nat_lt a.line b.line && is_ender a.kind && is_beginner b.kind
+abbrev pub unclosed : Literal → Scan
+unclosed literal = Broken L2 literal.line literal.file
 
--- a semicolon stands exactly there
-abbrev pub between : Token → Token → List Token
-between a b = if is_statement_end a b then record { kind = Symbol Semicolon; line = a.line } ∷ [] else []
+abbrev pub literal_piece : Literal → Piece
+literal_piece literal = record { token = record { kind = literal_kind literal.quote literal.bytes; line = literal.line; file = literal.file }; is_first = literal.is_first }
 
-abbrev pub with_semicolons : List Token → List Token
-with_semicolons [] = []
-with_semicolons (a ∷ []) = a ∷ []
-with_semicolons (a ∷ b ∷ rest) = a ∷ between a b ++ with_semicolons (b ∷ rest)
+-- a literal at its closing quote, and what the bytes behind it give
+abbrev pub closed_then : Literal → Scan → Scan
+closed_then literal later = if nat_le (length literal.bytes) 65535 then before (literal_piece literal) later else Broken L7 literal.line literal.file
 
--- the tokens of a text, with the semicolons that its lines' ends stand for
-abbrev pub tokens : List ℕ → Option (List Token)
-tokens text = option_map with_semicolons (tokens_from 0 1 text)
+-- an escape by the bytes behind its backslash, and what the bytes behind it give
+abbrev pub escape_found : SourceLine → Option (ℕ × ℕ) → (ℕ → ℕ → Scan) → Scan
+escape_found line None later = Broken L3 line.number line.file
+escape_found line (Some found) later = later found.0 found.1
 
-abbrev pub kinds : List Token → List Kind
-kinds tokens = map (λ token. token.kind) tokens
+abbrev pub escape_then : SourceLine → Literal → List ℕ → (ℕ → ℕ → Scan) → Scan
+escape_then line literal [] later = unclosed literal
+escape_then line literal (b ∷ rest) later = escape_found line (escape_of (b ∷ rest)) later
+
+-- what comes next: a token, which is the first on its line or not, or more of a literal
+pub data State : Type 0 where
+  Between : Bool → State
+  Inside : Literal → State
+
+-- What the rest of a line gives, before what later lines give. So many of its first bytes belong to what was read. A
+-- literal goes on over the line's end where its last byte is a `_` of its own.
+unfoldable pub bytes_from : (Option Literal → Scan) → SourceLine → State → ℕ → List ℕ → Scan
+bytes_from later line (Between is_first) taken [] = later None
+bytes_from later line (Inside literal) taken [] = unclosed literal
+bytes_from later line state (suc taken) (b ∷ rest) = bytes_from later line state taken rest
+bytes_from later line (Between is_first) zero (b ∷ rest) =
+    if is_space b then bytes_from later line (Between is_first) zero rest
+    else (if begins_comment b then later None
+    else (if is_quote b then bytes_from later line (Inside (opened line is_first b)) zero rest
+    else token_then line is_first (first_of (b ∷ rest)) (λ count. bytes_from later line (Between false) (count - 1) rest)))
+bytes_from later line (Inside literal) zero (b ∷ rest) =
+    if b == literal.quote then closed_then literal (bytes_from later line (Between false) zero rest)
+    else (if b == 92 then escape_then line literal rest (λ byte count. bytes_from later line (Inside (with_byte literal byte)) count rest)
+    else (if b == 95 && is_nothing rest then later (Some literal)
+    else bytes_from later line (Inside (with_byte literal b)) zero rest))
+
+abbrev pub after_blanks : List ℕ → List ℕ
+after_blanks bytes = drop (prefix_len is_blank bytes) bytes
+
+-- what a line gives, before what later lines give: a literal goes on from the line before, or none does
+abbrev pub line_from : (Option Literal → Scan) → SourceLine → Option Literal → Scan
+line_from later line None = bytes_from later line (Between true) zero line.bytes
+line_from later line (Some literal) = bytes_from later line (Inside literal) zero (after_blanks line.bytes)
+
+unfoldable pub lines_from : List SourceLine → Option Literal → Scan
+lines_from [] None = Found []
+lines_from [] (Some literal) = unclosed literal
+lines_from (line ∷ lines) begun = line_from (λ literal. lines_from lines literal) line begun
+
+-- the tokens with their semicolons, or the first fault: its rule, file and line
+pub data Outcome : Type 0 where
+  Scanned : List Token → Outcome
+  Fault : Rule → (file line : ℕ) → Outcome
+
+abbrev pub finished : Scan → Outcome
+finished (Found pieces) = Scanned (with_semicolons pieces)
+finished (Broken rule line file) = Fault rule file line
+
+unfoldable pub tokens_of : List SourceLine → Outcome
+tokens_of lines = finished (lines_from lines None)

@@ -1,14 +1,23 @@
-//! The tokens of a program text and their tree, what the tree means, and the rules that can refuse a text.
+//! What the stages of a translation hand on: lines, tokens and trees of a program text, and the rules that can refuse one.
 #![tactic(auto)]
 
+mod byte_set;
 mod bytes;
-mod laws;
+mod grammar_laws;
+mod lines;
 mod rule;
 mod token;
+mod token_laws;
 mod tree;
 
+pub use byte_set::ByteSet;
 pub use bytes::Bytes;
-pub use laws::one_tree;
+pub use grammar_laws::{one_tree, tree_by_pieces};
+pub use lines::{Lines, SourceLine};
 pub use rule::Rule;
-pub use token::{Kind, Symbol, Token};
-pub use tree::{Call, Expr, Exprs, Literal, Literals, Procedure};
+pub use token::{Kind, Operator, Punctuation, Token, Word};
+pub use token_laws::{scan_rules, semicolons_inserted, tokens_bounded, tokens_spelled_again};
+pub use tree::{
+    Clause, Decl, Expr, File, Infix, Initial, Item, Literal, LocalKind, Locals, LoopKind, Name,
+    Place, Procedure, SectionKind,
+};

@@ -1,9 +1,41 @@
 // The rules that can refuse a program text.
 ghost use Rattle.std.specs.Prelude.{◌≡◌};
 
-/// A rule that refuses a program text.
+/// A rule that refuses a program text. Its name is the code that a refusal prints.
 #[derive(Clone, Copy, Debug, PartialEq, Eq)]
 pub enum Rule {
+    /// A directive has no name, or one that is none.
+    P1,
+    /// A directive's operand is missing, wrong or surplus.
+    P2,
+    /// An `$else` or `$endif` has no conditional that its file began.
+    P3,
+    /// A file ends with a conditional open.
+    P4,
+    /// A name is defined again with other text.
+    P5,
+    /// An included file is not there.
+    P6,
+    /// Files include one another too deep.
+    P7,
+    /// The text has an `$error` directive.
+    P8,
+    /// A file, or what a named file gives, is too long.
+    P9,
+    /// A byte begins no token.
+    L1,
+    /// A literal is not closed.
+    L2,
+    /// An escape in a literal is wrong.
+    L3,
+    /// An integer is too large.
+    L4,
+    /// An integer has a wrong radix, or a digit that its radix lacks.
+    L5,
+    /// A number is not whole.
+    L6,
+    /// A literal or a name is too long.
+    L7,
     /// The text has a form that is not in this profile.
     S4,
 }
@@ -16,6 +48,22 @@ impl Rule {
         ensures { result.now ≡ rule_text self.now }
     {
         match self {
+            Rule::P1 => b"P1 unknown directive",
+            Rule::P2 => b"P2 bad directive operand",
+            Rule::P3 => b"P3 unmatched $else or $endif",
+            Rule::P4 => b"P4 unclosed conditional",
+            Rule::P5 => b"P5 name defined with other text",
+            Rule::P6 => b"P6 included file not there",
+            Rule::P7 => b"P7 includes deeper than 32",
+            Rule::P8 => b"P8 $error",
+            Rule::P9 => b"P9 over 16777216 bytes",
+            Rule::L1 => b"L1 bad byte",
+            Rule::L2 => b"L2 unclosed literal",
+            Rule::L3 => b"L3 bad escape",
+            Rule::L4 => b"L4 integer too large",
+            Rule::L5 => b"L5 bad radix or digit",
+            Rule::L6 => b"L6 real literal",
+            Rule::L7 => b"L7 literal or name over 65535 bytes",
             Rule::S4 => b"S4 form not in this profile",
         }
     }

@@ -2,11 +2,11 @@
 use Rattle.std.specs.Prelude.{ℕ, List, [], ◌∷◌, ◌++◌}
 use Rattle.std.specs.Fmt.{signed_decimal}
 use Rattle.std.specs.List.{flat_map}
-use Rattle.icn_tree.specs.declared.tree.Literal.{Literal}
-use Rattle.icn_tree.specs.declared.tree.Literal.TheVariants.{Integer, Text}
-use Rattle.icn_tree.specs.declared.tree.Expr.{Expr}
-use Rattle.icn_tree.specs.declared.tree.Expr.TheVariants.{Empty, Call}
-use Rattle.icn_tree.specs.declared.tree.Procedure.{Procedure}
+use Rattle.icn_form.specs.declared.tree.Literal.{Literal}
+use Rattle.icn_form.specs.declared.tree.Literal.TheVariants.{Integer, Text}
+use Rattle.icn_form.specs.declared.tree.Expr.{Expr}
+use Rattle.icn_form.specs.declared.tree.Expr.TheVariants.{Empty, Call}
+use Rattle.icn_form.specs.declared.tree.Procedure.{Procedure}
 
 -- the text of a literal: an integer in decimal
 abbrev pub text_of : Literal → List ℕ

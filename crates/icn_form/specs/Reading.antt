@@ -1,15 +1,16 @@
 -- What a reader of tokens finds from the left. The grammar says which tree is meant; this is how one is found.
 use Rattle.std.specs.Prelude.{ℕ, zero, suc, Bool, true, false, List, [], ◌∷◌, Option, Some, None, if◌then◌else◌}
 use Rattle.icn_tree.specs.declared.token.Kind.{Kind}
-use Rattle.icn_tree.specs.declared.token.Kind.TheVariants.{Name, Integer as IntegerToken, Text as TextToken, Symbol as SymbolKind}
-use Rattle.icn_tree.specs.declared.token.Symbol.{Symbol}
-use Rattle.icn_tree.specs.declared.token.Symbol.TheVariants.{Procedure, End, OpenParenthesis, CloseParenthesis, Comma, Semicolon}
-use Rattle.icn_tree.specs.declared.tree.Literal.{Literal}
-use Rattle.icn_tree.specs.declared.tree.Literal.TheVariants.{Integer, Text}
-use Rattle.icn_tree.specs.declared.tree.Call.{Call}
-use Rattle.icn_tree.specs.declared.tree.Expr.{Expr}
-use Rattle.icn_tree.specs.declared.tree.Expr.TheVariants.{Empty, Call as CallExpr}
-use Rattle.icn_tree.specs.declared.tree.Procedure.{Procedure as Tree}
+use Rattle.icn_tree.specs.declared.token.Kind.TheVariants.{Identifier as Name, Integer as IntegerToken, Text as TextToken}
+use Rattle.icn_form.specs.declared.symbol.Symbol.{Symbol}
+use Rattle.icn_form.specs.declared.symbol.Symbol.TheVariants.{Procedure, End, OpenParenthesis, CloseParenthesis, Comma, Semicolon}
+use Rattle.icn_form.specs.Symbols.{symbol_of}
+use Rattle.icn_form.specs.declared.tree.Literal.{Literal}
+use Rattle.icn_form.specs.declared.tree.Literal.TheVariants.{Integer, Text}
+use Rattle.icn_form.specs.declared.tree.Call.{Call}
+use Rattle.icn_form.specs.declared.tree.Expr.{Expr}
+use Rattle.icn_form.specs.declared.tree.Expr.TheVariants.{Empty, Call as CallExpr}
+use Rattle.icn_form.specs.declared.tree.Procedure.{Procedure as Tree}
 
 infixl 10 ◌>>=◌
 abbrev pub ◌>>=◌ : {A B : Type 0} → Option A → (A → Option B) → Option B
@@ -25,11 +26,13 @@ same_symbol Comma Comma = true
 same_symbol Semicolon Semicolon = true
 same_symbol _ _ = false
 
+-- the symbol that a token is, if it is one, is this one
+abbrev pub is_wanted : Symbol → Option Symbol → Bool
+is_wanted wanted None = false
+is_wanted wanted (Some found) = same_symbol found wanted
+
 abbrev pub is_symbol : Symbol → Kind → Bool
-is_symbol wanted (SymbolKind found) = same_symbol found wanted
-is_symbol wanted (Name name) = false
-is_symbol wanted (IntegerToken n) = false
-is_symbol wanted (TextToken bytes) = false
+is_symbol wanted kind = is_wanted wanted (symbol_of kind)
 
 -- each gives what stands at the front of the tokens, and the tokens after it
 abbrev pub symbol_read : Symbol → List Kind → Option (List Kind)

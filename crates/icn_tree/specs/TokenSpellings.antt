@@ -1,0 +1,27 @@
+-- Texts that spell tokens again.
+use Rattle.std.specs.Prelude.{◌==◌, ◌≡◌, ◌≤◌, ℕ, Bool, ◌||◌, List, [], ◌∷◌, ◌++◌, length, Some, Ok, if◌then◌else◌}
+use Rattle.icn_tree.specs.declared.token.Kind.{Kind}
+use Rattle.icn_tree.specs.declared.token.Kind.TheVariants.{Text, Cset}
+use Rattle.icn_tree.specs.ByteSets.{members_of}
+use Rattle.icn_tree.specs.Tokens.{spelled}
+
+-- `"`, `'`, `\` or `_`
+abbrev pub is_special : ℕ → Bool
+is_special b = b == 34 || b == 39 || b == 92 || b == 95
+
+-- bytes inside a literal, with a backslash before each special one
+abbrev pub quoted : List ℕ → List ℕ
+quoted [] = []
+quoted (b ∷ rest) = (if is_special b then 92 ∷ b ∷ [] else b ∷ []) ++ quoted rest
+
+-- a text of one token
+pub data Spells : Kind → List ℕ → Type 0 where
+  bare : (kind : Kind) (text : List ℕ) → spelled text ≡ Some (Ok kind) → Spells kind text
+  string : (bytes : List ℕ) → length bytes ≤ 65535 → Spells (Text bytes) (34 ∷ (quoted bytes ++ 34 ∷ []))
+  cset : (bytes : List ℕ) → length bytes ≤ 65535 → Spells (Cset (members_of bytes)) (39 ∷ (quoted bytes ++ 39 ∷ []))
+
+-- texts of tokens with one blank behind each but the last
+pub data SpellsAll : List Kind → List ℕ → Type 0 where
+  nothing : SpellsAll [] []
+  last : (kind : Kind) (text : List ℕ) → Spells kind text → SpellsAll (kind ∷ []) text
+  more : (kind next : Kind) (kinds : List Kind) (text rest : List ℕ) → Spells kind text → SpellsAll (next ∷ kinds) rest → SpellsAll (kind ∷ next ∷ kinds) (text ++ 32 ∷ rest)
