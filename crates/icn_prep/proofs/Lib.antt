@@ -1,0 +1,11 @@
+pub mod Trimming
+pub mod Cutting
+pub mod Giving
+pub mod Numbers
+pub mod Replacing
+pub mod Sizing
+pub mod Stacking
+pub mod Stores
+pub mod Faults
+pub mod Mapping
+pub mod Owning

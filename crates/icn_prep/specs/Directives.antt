@@ -1,0 +1,67 @@
+-- Lines that are directives, and their names.
+use Rattle.std.specs.Prelude.{ℕ, Bool, true, false, List, [], ◌∷◌, Option, None, Some, if◌then◌else◌, ◌==◌, ◌&&◌, ◌||◌, not, drop, codes}
+use Rattle.std.specs.Str.{bytes_eq}
+use Rattle.icn_prep.specs.declared.keyword.Keyword.{Keyword}
+use Rattle.icn_prep.specs.declared.keyword.Keyword.TheVariants.{Define, Undef, Include, Ifdef, Ifndef, Else, Endif, Line, Error}
+use Rattle.icn_prep.specs.declared.literal.LiteralState.{LiteralState}
+use Rattle.icn_prep.specs.declared.literal.LiteralState.TheVariants.{Outside, Inside, Joining, Escape, Control, Comment}
+use Rattle.icn_prep.specs.LiteralStates.{after}
+use Rattle.icn_prep.specs.Words.{first_word, behind_word, trimmed}
+
+-- `(`, `)`, `<` or `>`: with a `$` before it, it spells a brace or a bracket
+abbrev pub is_pair_end : ℕ → Bool
+is_pair_end b = (b == 40) || (b == 41) || (b == 60) || (b == 62)
+
+abbrev pub begins_pair_end : List ℕ → Bool
+begins_pair_end [] = false
+begins_pair_end (b ∷ rest) = is_pair_end b
+
+abbrev pub begins_directive : List ℕ → Bool
+begins_directive [] = false
+begins_directive (b ∷ rest) = (b == 36) && not (begins_pair_end rest)
+
+-- the line begins outside of literals, with a `$` that spells no brace or bracket
+abbrev pub is_directive : LiteralState → List ℕ → Bool
+is_directive Outside line = begins_directive line
+is_directive (Inside quote) line = false
+is_directive (Joining quote) line = false
+is_directive (Escape quote) line = false
+is_directive (Control quote) line = false
+is_directive Comment line = false
+
+abbrev pub is_comment : LiteralState → Bool
+is_comment Comment = true
+is_comment Outside = false
+is_comment (Inside quote) = false
+is_comment (Joining quote) = false
+is_comment (Escape quote) = false
+is_comment (Control quote) = false
+
+-- the bytes up to a comment
+abbrev pub uncommented : LiteralState → List ℕ → List ℕ
+uncommented state [] = []
+uncommented state (b ∷ rest) =
+    if is_comment (after state b) then [] else b ∷ uncommented (after state b) rest
+
+-- what stands behind the `$` of a directive, without a comment and the blanks round it
+abbrev pub directive_text : List ℕ → List ℕ
+directive_text line = trimmed (uncommented Outside (drop 1 line))
+
+abbrev pub directive_name : List ℕ → List ℕ
+directive_name line = first_word (directive_text line)
+
+abbrev pub operand : List ℕ → List ℕ
+operand line = trimmed (behind_word (directive_text line))
+
+abbrev pub keyword_of : List ℕ → Option Keyword
+keyword_of name =
+    if bytes_eq name (codes "define") then Some Define
+    else (if bytes_eq name (codes "undef") then Some Undef
+    else (if bytes_eq name (codes "include") then Some Include
+    else (if bytes_eq name (codes "ifdef") then Some Ifdef
+    else (if bytes_eq name (codes "ifndef") then Some Ifndef
+    else (if bytes_eq name (codes "else") then Some Else
+    else (if bytes_eq name (codes "endif") then Some Endif
+    else (if bytes_eq name (codes "line") then Some Line
+    else (if bytes_eq name (codes "error") then Some Error
+    else None))))))))

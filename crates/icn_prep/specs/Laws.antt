@@ -1,0 +1,22 @@
+-- What the definition of the given lines means, in other words.
+use Rattle.std.specs.Prelude.{◌≡◌, ◌≤◌, ℕ, true, List, [], ◌∷◌, length, Some, Result, Ok, Err}
+use Rattle.icn_host.specs.FileMaps.{FileMap}
+use Rattle.icn_prep.specs.declared.fault.PrepFault.{PrepFault}
+use Rattle.icn_prep.specs.Answers.{IsTextFault}
+use Rattle.icn_prep.specs.FileLines.{lines_of}
+use Rattle.icn_prep.specs.PlainFiles.{has_no_directive, numbered_lines}
+use Rattle.icn_prep.specs.SourceLines.{Source, source_lines}
+
+-- files and a name have one outcome, and no other
+abbrev pub OneOutcome : Type 0
+OneOutcome = (files : FileMap) (name : List ℕ) → (outcome : Result Source PrepFault) × (source_lines files name ≡ outcome)
+    × ((other : Result Source PrepFault) → source_lines files name ≡ other → other ≡ outcome)
+
+-- a file without directives, in which no name can be defined, gives its own lines, numbered from 1
+abbrev pub OwnLines : Type 0
+OwnLines = (files : FileMap) (name bytes : List ℕ) → files name ≡ Some bytes → length bytes ≤ 16777216 → has_no_directive (lines_of bytes) ≡ true
+    → source_lines files name ≡ Ok (record { names = name ∷ []; lines = numbered_lines 0 1 (lines_of bytes) })
+
+-- where there are no lines, the file is missing or a rule is broken
+abbrev pub TextFaults : Type 0
+TextFaults = (files : FileMap) (name : List ℕ) (fault : PrepFault) → source_lines files name ≡ Err fault → IsTextFault fault

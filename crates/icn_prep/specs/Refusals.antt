@@ -1,0 +1,30 @@
+-- What a step of the code may answer where a step of the definition is refused.
+use Rattle.std.specs.Prelude.{◌≡◌, ◌≢◌, ◌⊎◌, List, Option, None, Some, Result, Ok, Err, ℕ, drop}
+use Rattle.icn_tree.specs.declared.rule.Rule.TheVariants.{P6}
+use Rattle.icn_prep.specs.declared.fault.PrepFault.{PrepFault}
+use Rattle.icn_prep.specs.declared.fault.PrepFault.TheVariants.{Missing, Broken, FileFault, NoMemory}
+use Rattle.icn_prep.specs.FileLines.{lines_of}
+use Rattle.icn_prep.specs.Outcomes.{◌>>=◌}
+use Rattle.icn_prep.specs.Places.{Place, next_line}
+use Rattle.icn_prep.specs.SourceLines.{State, Outcome, Step, Including, lines_read}
+
+-- the fault that the definition gives, or want of memory
+abbrev pub Refuses : {A : Type 0} → Result A PrepFault → PrepFault → Type 0
+Refuses outcome fault = (fault ≡ NoMemory) ⊎ (outcome ≡ Err fault)
+
+-- no fault that a look into the store has for its cause
+abbrev pub IsOfText : PrepFault → Type 0
+IsOfText (Broken rule file line) = rule ≢ P6
+IsOfText NoMemory = Unit {0}
+IsOfText Missing = ⊥
+IsOfText FileFault = ⊥
+
+-- a line was read up to here, where it includes the file of a name, or else whole
+abbrev pub stepped : Including → Option (List ℕ) → State → Place → Step
+stepped includes None s place = Ok (s, place)
+stepped includes (Some name) s place = includes name s place >>= λ s'. Ok (s', next_line place)
+
+-- lines were read up to one that includes the file of a name, behind which so many bytes were passed, or else to the end
+abbrev pub resumed : Including → Option (List ℕ × ℕ) → State → Place → List ℕ → Outcome
+resumed includes None s place content = Ok s
+resumed includes (Some stop) s place content = includes stop.0 s place >>= λ s'. lines_read includes s' (next_line place) (lines_of (drop stop.1 content))

@@ -1,0 +1,7 @@
+-- What reading has come to, as the definitions see it.
+use Rattle.icn_prep.specs.declared.reading.Reading.{Reading}
+use Rattle.icn_prep.specs.SourceLines.{State}
+use Rattle.icn_prep.specs.TextViews.{texts_of}
+
+abbrev pub state_of : Reading → State
+state_of r = record { names = r.names.items; lines = r.lines.items; texts = texts_of r.texts; literal = r.literal }

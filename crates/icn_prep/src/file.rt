@@ -1,0 +1,71 @@
+// Reading the lines of a file.
+ghost use Rattle.std.specs.Prelude.{◌≡◌, ◌≤◌, ◌<◌, ◌+◌, ◌-◌, Ok, length, drop, vec_len, slice_get, string_bytes, IfOk, IfSome, OnOk, IfErr, MatchResult};
+ghost use Rattle.std.specs.Option.{option_map};
+ghost use Rattle.icn_prep.specs.FileLines.{lines_of};
+ghost use Rattle.icn_prep.specs.PlaceViews.{place_of};
+ghost use Rattle.icn_prep.specs.Refusals.{Refuses, IsOfText, resumed};
+ghost use Rattle.icn_prep.specs.SourceLines.{Including, ended, lines_read};
+ghost use Rattle.icn_prep.specs.StateViews.{state_of};
+
+use crate::cut::first_line;
+use crate::fault::PrepFault;
+use crate::give::{broken, name_at};
+use crate::line::read_line;
+use crate::place::Place;
+use crate::reading::Reading;
+use icn_tree::Rule;
+
+/// Reads the lines of a file that come behind the first `from` bytes. `Some` is the name of a file whose lines come next, and
+/// how many bytes stand before what comes behind those.
+pub fn read_lines(
+    reading: &mut Reading,
+    place: &mut Place,
+    content: &[u8],
+    from: usize,
+) -> Result<Option<(String, usize)>, PrepFault>
+    requires within { from ≤ length content.now }
+    requires named { place.old.file < vec_len reading.old.names }
+    requires short { length content.now ≤ 16777216 }
+    requires numbered { place.old.line + (length content.now - from) ≤ 1016777216 }
+    ensures exact { (includes : Including) → let outcome = lines_read includes (state_of reading.old) (place_of place.old) (lines_of (drop from content.now)) in
+        MatchResult result
+        (λ stop. outcome ≡ resumed includes (option_map (λ s. (string_bytes s.0, s.1)) stop) (state_of reading.new) (place_of place.new) content.now)
+        (Refuses outcome) }
+    ensures fault { IfErr result IsOfText }
+    ensures named { IfOk result (λ stop. IfSome stop (λ _. place.new.file < vec_len reading.new.names)) }
+    ensures behind { IfOk result (λ stop. IfSome stop (λ s. s.1 ≤ length content.now)) }
+    ensures numbered { IfOk result (λ stop. IfSome stop (λ s. place.new.line + 1 + (length content.now - s.1) ≤ 1016777216)) }
+    ensures first { OnOk result (slice_get reading.new.names.items 0 ≡ slice_get reading.old.names.items 0) }
+    ensures kept { OnOk result (vec_len reading.old.names ≤ vec_len reading.new.names) }
+    ensures longer { OnOk result (reading.old.size ≤ reading.new.size) }
+{
+    let mut at = from;
+    while at < content.len() {
+        let (line, used) = first_line(&content[at..]);
+        at += used;
+        let name = read_line(reading, place, line)?;
+        if let Some(name) = name {
+            let name = String::from_str(reading.alloc, name)?;
+            return Ok(Some((name, at)));
+        }
+    }
+    end_file(reading, place)?;
+    Ok(None)
+}
+
+// A file closes what it began.
+fn end_file(reading: &Reading, place: &mut Place) -> Result<(), PrepFault>
+    ensures exact { let outcome = ended (state_of reading.now) (place_of place.old).conditionals in
+        MatchResult result (λ _. outcome ≡ Ok (state_of reading.now)) (Refuses outcome) }
+    ensures fault { IfErr result IsOfText }
+{
+    match place.conditionals.pop() {
+        Some(innermost) => Err(broken(
+            reading.alloc,
+            Rule::P4,
+            name_at(reading, innermost.file),
+            innermost.line,
+        )),
+        None => Ok(()),
+    }
+}

@@ -1,0 +1,66 @@
+// How the bytes of a line stand to literals and comments.
+ghost use Rattle.std.specs.Prelude.{◌≡◌};
+ghost use Rattle.icn_prep.specs.LiteralStates.{within, after, carried};
+
+/// How a byte stands to literals and comments. A literal goes by its quote.
+#[derive(Clone, Copy, Debug, PartialEq, Eq)]
+pub enum LiteralState {
+    /// Outside literals and comments.
+    Outside,
+    /// In a literal.
+    Inside(u8),
+    /// In a literal behind an underscore that no escape holds.
+    Joining(u8),
+    /// Behind a backslash in a literal.
+    Escape(u8),
+    /// Behind `\^` in a literal.
+    Control(u8),
+    /// In a comment, which goes to the line's end.
+    Comment,
+}
+
+impl LiteralState {
+    /// How the byte behind this one stands.
+    pub fn after(self, byte: u8) -> Self
+        ensures { result ≡ after self byte }
+    {
+        match self {
+            LiteralState::Outside => match byte {
+                b'#' => LiteralState::Comment,
+                b'"' | b'\'' => LiteralState::Inside(byte),
+                _ => LiteralState::Outside,
+            },
+            LiteralState::Inside(quote) | LiteralState::Joining(quote) => within(quote, byte),
+            LiteralState::Escape(quote) if byte == b'^' => LiteralState::Control(quote),
+            LiteralState::Escape(quote) | LiteralState::Control(quote) => {
+                LiteralState::Inside(quote)
+            }
+            LiteralState::Comment => LiteralState::Comment,
+        }
+    }
+
+    /// How the next line begins, behind a line that ends so.
+    pub fn carried(self) -> Self
+        ensures { result ≡ carried self }
+    {
+        match self {
+            LiteralState::Joining(quote) => LiteralState::Inside(quote),
+            _ => LiteralState::Outside,
+        }
+    }
+}
+
+// How the byte behind this one stands in a literal.
+fn within(quote: u8, byte: u8) -> LiteralState
+    ensures { result ≡ within quote byte }
+{
+    if byte == quote {
+        LiteralState::Outside
+    } else if byte == b'\\' {
+        LiteralState::Escape(quote)
+    } else if byte == b'_' {
+        LiteralState::Joining(quote)
+    } else {
+        LiteralState::Inside(quote)
+    }
+}

@@ -1,0 +1,18 @@
+// A file that is read.
+ghost use Rattle.std.specs.Prelude.{◌≤◌, ◌+◌, ◌-◌, vec_len};
+
+use crate::place::Place;
+
+/// A file that is read.
+#[derive(Drop)]
+pub struct OpenFile {
+    /// Its bytes.
+    pub content: Vec<u8>,
+    /// How many of them were read.
+    pub at: usize,
+    /// Where reading is.
+    pub place: Place,
+    ghost short: { vec_len content ≤ 16777216 },
+    ghost within: { at ≤ vec_len content },
+    ghost numbered: { place.line + (vec_len content - at) ≤ 1016777216 },
+}

@@ -1,0 +1,149 @@
+// The lines that a named file gives.
+ghost use Rattle.std.specs.Prelude.{◌≡◌, ◌⊎◌, ◌≤◌, ◌<◌, ◌-◌, ◌+◌, ◌++◌, ◌∷◌, [], Ok, Err, Some, length, vec_len, slice_get, IfSome, IfOk, IfErr, OnOk, IsErrOf, MatchResult};
+ghost use Rattle.icn_host.specs.Counts.{HasCause};
+ghost use Rattle.icn_prep.specs.declared.fault.PrepFault.TheVariants.{Broken, FileFault, NoMemory};
+ghost use Rattle.icn_prep.specs.Answers.{IsOutside, IsAbsence, IsAnswer, outcome_of};
+ghost use Rattle.icn_prep.specs.PlaceViews.{place_of};
+ghost use Rattle.icn_prep.specs.Places.{start_of};
+ghost use Rattle.icn_prep.specs.SourceLines.{included, named_file, source_lines};
+ghost use Rattle.icn_prep.specs.StateViews.{state_of};
+
+use crate::fault::PrepFault;
+use crate::file::read_lines;
+use crate::give::{LONGEST, add_name, broken, leave_empty, refusal, start};
+use crate::open_file::OpenFile;
+use crate::place::Place;
+use crate::reading::Reading;
+use icn_host::{Files, Look};
+use icn_tree::{Lines, Rule};
+use std::alloc::Global;
+
+/// How deep files may include one another.
+const DEEPEST: usize = 32;
+
+/// The lines that the named file gives, with the directives in it obeyed and the defined words replaced. `names` begins with the
+/// named file, and has the others in the order in which they are met.
+///
+/// `Missing` comes where the named file is not there, `Broken` where a rule is broken, the first in reading order, `FileFault`
+/// where the store failed, and `NoMemory` where there was no memory.
+pub fn preprocess<F: Files>(alloc: Global, name: &str, files: &mut F) -> Result<Lines, PrepFault>
+    // Where the store tells its files: exactly what the definition gives, or a fault of the store, or want of memory.
+    ensures exact { IfSome (F.held files.old) (λ held. IsOutside result ⊎ (outcome_of result ≡ source_lines held name.now)) }
+    ensures begins { IfOk result (λ lines. slice_get lines.names.items 0 ≡ Some name.now) }
+
+    // The causes of what the store answers, also where it tells nothing.
+    ensures file_fault { HasCause (F.faults files.old) (F.faults files.new) (IsErrOf result FileFault) }
+    ensures absence { HasCause (F.absences files.old) (F.absences files.new) (IsAbsence result) }
+    ensures same { F.held files.new ≡ F.held files.old }
+{
+    let content = named_content(alloc, name, files)?;
+    let mut reading = start(alloc);
+    let first = begin_file(&mut reading, name, content)?;
+    let mut stack = Vec::new(alloc);
+    stack.push(first)?;
+    while let Some(file) = stack.pop() {
+        let OpenFile {
+            content,
+            at,
+            mut place,
+        } = file;
+        let stop = read_lines(&mut reading, &mut place, &content, at)?;
+        if let Some((name, at)) = stop {
+            let included = included_content(&reading, &place, stack.len(), &name, files)?;
+            leave_empty(&mut reading, &place)?;
+            place.line += 1;
+            let next = begin_file(&mut reading, &name, included)?;
+            stack.push(OpenFile { content, at, place })?;
+            stack.push(next)?;
+        }
+    }
+    Ok(Lines {
+        names: reading.names,
+        lines: reading.lines,
+    })
+}
+
+// A file from its first line on.
+fn begin_file(reading: &mut Reading, name: &str, content: Vec<u8>) -> Result<OpenFile, PrepFault>
+    requires short { vec_len content ≤ 16777216 }
+    ensures place { IfOk result (λ file. place_of file.place ≡ start_of (length reading.old.names.items)) }
+    ensures content { IfOk result (λ file. file.content.items ≡ content.items) }
+    ensures at { IfOk result (λ file. file.at ≡ 0) }
+    ensures named { IfOk result (λ file. file.place.file < vec_len reading.new.names) }
+    ensures state { OnOk result (state_of reading.new ≡ record (state_of reading.old) { names = reading.old.names.items ++ name.now ∷ [] }) }
+    ensures fault { IfErr result (λ fault. fault ≡ NoMemory) }
+    ensures size { OnOk result (reading.new.size ≡ reading.old.size) }
+    ensures first { OnOk result (0 < vec_len reading.old.names → slice_get reading.new.names.items 0 ≡ slice_get reading.old.names.items 0) }
+    ensures kept { OnOk result (vec_len reading.new.names ≡ vec_len reading.old.names + 1) }
+{
+    let alloc = reading.alloc;
+    let file = add_name(reading, name.as_bytes())?;
+    let place = Place {
+        file,
+        line: 1,
+        taken: true,
+        conditionals: Vec::new(alloc),
+    };
+    Ok(OpenFile {
+        content,
+        at: 0,
+        place,
+    })
+}
+
+// The content of the named file.
+fn named_content<F: Files>(alloc: Global, name: &str, files: &mut F) -> Result<Vec<u8>, PrepFault>
+    ensures exact { IfSome (F.held files.old) (λ held. MatchResult result
+        (λ content. held name.now ≡ Some content.items)
+        (IsAnswer (named_file held name.now (held name.now)))) }
+    ensures short { IfOk result (λ content. vec_len content ≤ 16777216) }
+    ensures file_fault { HasCause (F.faults files.old) (F.faults files.new) (IsErrOf result FileFault) }
+    ensures absence { HasCause (F.absences files.old) (F.absences files.new) (IsAbsence result) }
+    ensures same { F.held files.new ≡ F.held files.old }
+{
+    let mut content = Vec::new(alloc);
+    match files.read(name, LONGEST as u64, &mut content) {
+        Ok(()) => not_longer(alloc, name, content),
+        Err(Look::NotThere) => Err(PrepFault::Missing),
+        Err(Look::Failed) => Err(PrepFault::FileFault),
+        Err(Look::NoMemory) => Err(PrepFault::NoMemory),
+    }
+}
+
+// The content of a file that the line at the place includes. So many files stand round the file of that line.
+fn included_content<F: Files>(
+    reading: &Reading,
+    place: &Place,
+    depth: usize,
+    name: &str,
+    files: &mut F,
+) -> Result<Vec<u8>, PrepFault>
+    ensures exact { IfSome (F.held files.old) (λ held. MatchResult result
+        (λ content. held name.now ≡ Some content.items)
+        (IsAnswer (included held (32 - depth) name.now (state_of reading.now) (place_of place.now)))) }
+    ensures deep { OnOk result (depth < 32) }
+    ensures short { IfOk result (λ content. vec_len content ≤ 16777216) }
+    ensures file_fault { HasCause (F.faults files.old) (F.faults files.new) (IsErrOf result FileFault) }
+    ensures absence { HasCause (F.absences files.old) (F.absences files.new) (IsAbsence result) }
+    ensures same { F.held files.new ≡ F.held files.old }
+{
+    let mut content = Vec::new(reading.alloc);
+    match files.read(name, LONGEST as u64, &mut content) {
+        Ok(()) if depth >= DEEPEST => Err(refusal(reading, place, Rule::P7)),
+        Ok(()) => not_longer(reading.alloc, name, content),
+        Err(Look::NotThere) => Err(refusal(reading, place, Rule::P6)),
+        Err(Look::Failed) => Err(PrepFault::FileFault),
+        Err(Look::NoMemory) => Err(PrepFault::NoMemory),
+    }
+}
+
+// The content of a file, unless it is too long.
+fn not_longer(alloc: Global, name: &str, content: Vec<u8>) -> Result<Vec<u8>, PrepFault>
+    ensures ok { IfOk result (λ whole. (whole.items ≡ content.items) × (length content.items ≤ 16777216)) }
+    ensures err { IfErr result (λ fault. (fault ≡ NoMemory) ⊎ ((16777216 < length content.items) × (fault ≡ Broken Rule.P9 name.now 0))) }
+{
+    if content.len() > LONGEST {
+        return Err(broken(alloc, Rule::P9, name.as_bytes(), 0));
+    }
+    Ok(content)
+}
