@@ -18,12 +18,19 @@ mod tests {
     const USAGE: &[u8] =
         b"usage: icont [-c] [-o name] [-n turns] [-g number] file ... [-x argument ...]\n";
 
-    const REFUSED: &[u8] = b"f.icn:0: S4 form not in this profile\n";
+    const S4: &[u8] = b"f.icn:0: S4 form not in this profile\n";
+
+    // The files beside the one that is named.
+    const BESIDE: [(&str, &[u8]); 3] = [
+        ("g.icn", HI),
+        ("bad.icn", b"\n$foo\n"),
+        ("bytes.icn", b"\n\n`\n"),
+    ];
 
     const TWO: &[u8] = b"procedure main()\nwrite(\"a\")\nwrite(2)\nend\n";
 
     // Programs, with what they write.
-    const PROGRAMS: [(&[u8], &[u8]); 22] = [
+    const PROGRAMS: [(&[u8], &[u8]); 38] = [
         (HI, b"hi\n"),
         // written semicolons, and those of ends of lines
         (b"procedure main();write(\"hi\");end", b"hi\n"),
@@ -78,56 +85,167 @@ mod tests {
             b"procedure main()\nwrite(\"procedure end ;\")\nend",
             b"procedure end ;\n",
         ),
+        // integers of more digits, and with a radix
+        (
+            b"procedure main()\nwrite(1234567890123456789)\nend\n",
+            b"1234567890123456789\n",
+        ),
+        (
+            b"procedure main()\nwrite(0000000000000000001)\nend\n",
+            b"1\n",
+        ),
+        (b"procedure main()\nwrite(16rFF)\nend\n", b"255\n"),
+        (
+            b"procedure main()\nwrite(9223372036854775807)\nend\n",
+            b"9223372036854775807\n",
+        ),
+        // escapes, bytes above 127, and literals continued over lines
+        (b"procedure main()\nwrite(\"h\\i\")\nend\n", b"hi\n"),
+        (
+            b"procedure main()\nwrite(\"\\101\\x42\\^c\\\"\")\nend\n",
+            b"AB\x03\"\n",
+        ),
+        (
+            b"procedure main()\nwrite(\"\x80\xff\")\nend\n",
+            b"\x80\xff\n",
+        ),
+        (
+            b"procedure main()\nwrite(\"ab_\n  \tcd\")\nend\n",
+            b"abcd\n",
+        ),
+        // comments
+        (
+            b"# a program\nprocedure main() # comment\nwrite(\"#\") # \"\nend\n#",
+            b"#\n",
+        ),
+        // directives
+        (
+            b"$ifdef X\nwrite(\n$else\n$define GO write\n$endif\nprocedure main()\nGO(\"a\\x21\")\nend\n",
+            b"a!\n",
+        ),
+        (
+            b"$define write out\n$define out write\nprocedure main()\nwrite(\"x\")\nend\n",
+            b"x\n",
+        ),
+        (b"$define N 3\nprocedure main()\nwrite(N)\nend\n", b"3\n"),
+        (
+            b"$define N 3\n$define N 3 # again\nprocedure main()\nwrite(\"N\", N)\nend\n",
+            b"N3\n",
+        ),
+        (
+            b"$define MAIN procedure main();write(\"hi\");end\nMAIN",
+            b"hi\n",
+        ),
+        (b"$include \"g.icn\"\n", b"hi\n"),
+        (b"$include g.icn", b"hi\n"),
     ];
 
-    // Texts that are no program.
-    const OTHER_TEXTS: [&[u8]; 41] = [
-        b"",
-        b"\n",
-        b"write",
-        b"procedure main()\nwrite(x)\nend\n",
-        b"procedure main()\nwrite()\nend\n",
-        b"procedure main()\nwrite(\"a\"\"b\")\nend\n",
-        b"procedure main()\nwrite(\"a\" 1)\nend\n",
-        b"procedure main()\nwrite(1 2)\nend\n",
-        b"procedure main()\nwrite(,1)\nend\n",
-        b"procedure main()\nwrite(1,)\nend\n",
-        b"procedure main()\nwrite(1,,2)\nend\n",
-        b"procedure main()\nwrite(1;2)\nend\n",
-        b"procedure main()\nwrite(-1)\nend\n",
-        b"procedure main()\nwrite(1x)\nend\n",
-        b"procedure main()\nwrite(write(1))\nend\n",
-        b"procedure main()\nwrite(1),write(2)\nend\n",
-        b"procedure main()\n1\nend\n",
-        b"procedure main()\n\"a\"\nend\n",
+    // Texts that are refused, with the line of the refusal.
+    const REFUSALS: [(&[u8], &[u8]); 59] = [
+        (b"", S4),
+        (b"\n", S4),
+        (b"write", S4),
+        (b"procedure main()\nwrite(x)\nend\n", S4),
+        (b"procedure main()\nwrite()\nend\n", S4),
+        (b"procedure main()\nwrite(\"a\"\"b\")\nend\n", S4),
+        (b"procedure main()\nwrite(\"a\" 1)\nend\n", S4),
+        (b"procedure main()\nwrite(1 2)\nend\n", S4),
+        (b"procedure main()\nwrite(,1)\nend\n", S4),
+        (b"procedure main()\nwrite(1,)\nend\n", S4),
+        (b"procedure main()\nwrite(1,,2)\nend\n", S4),
+        (b"procedure main()\nwrite(1;2)\nend\n", S4),
+        (b"procedure main()\nwrite(-1)\nend\n", S4),
+        (b"procedure main()\nwrite(1x)\nend\n", S4),
+        (b"procedure main()\nwrite(write(1))\nend\n", S4),
+        (b"procedure main()\nwrite(1),write(2)\nend\n", S4),
+        (b"procedure main()\n1\nend\n", S4),
+        (b"procedure main()\n\"a\"\nend\n", S4),
+        (b"procedure main()\nwrite('a')\nend\n", S4),
         // a newline between two literals is a semicolon
-        b"procedure main()\nwrite(1\n2)\nend\n",
-        // 19 digits
-        b"procedure main()\nwrite(1234567890123456789)\nend\n",
-        b"procedure main()\nwrite(0000000000000000001)\nend\n",
-        b"procedure main()\nwrite(1)\nwrites(1)\nend\n",
-        b"procedure main()\nwrites(\"hi\")\nend\n",
-        b"procedure main()\nWrite(\"hi\")\nend\n",
-        b"procedure Main()\nwrite(\"hi\")\nend\n",
-        b"procedure p()\nwrite(\"hi\")\nend\n",
-        b"procedure main(x)\nwrite(\"hi\")\nend\n",
-        b"procedures main()\nwrite(\"hi\")\nend\n",
-        b"Procedure main()\nwrite(\"hi\")\nend\n",
-        b"proceduremain()\nwrite(\"hi\")\nend\n",
+        (b"procedure main()\nwrite(1\n2)\nend\n", S4),
+        (b"procedure main()\nwrite(1)\nwrites(1)\nend\n", S4),
+        (b"procedure main()\nwrites(\"hi\")\nend\n", S4),
+        (b"procedure main()\nWrite(\"hi\")\nend\n", S4),
+        (b"procedure Main()\nwrite(\"hi\")\nend\n", S4),
+        (b"procedure p()\nwrite(\"hi\")\nend\n", S4),
+        (b"procedure main(x)\nwrite(\"hi\")\nend\n", S4),
+        (b"procedures main()\nwrite(\"hi\")\nend\n", S4),
+        (b"Procedure main()\nwrite(\"hi\")\nend\n", S4),
+        (b"proceduremain()\nwrite(\"hi\")\nend\n", S4),
         // a semicolon too few
-        b"procedure main()write(\"hi\")\nend\n",
-        b"procedure main()\nwrite(\"hi\")end\n",
-        b"procedure main\n()\nwrite(\"hi\")\nend\n",
-        b"procedure main()\nwrite\n(\"hi\")\nend\n",
+        (b"procedure main()write(\"hi\")\nend\n", S4),
+        (b"procedure main()\nwrite(\"hi\")end\n", S4),
+        (b"procedure main\n()\nwrite(\"hi\")\nend\n", S4),
+        (b"procedure main()\nwrite\n(\"hi\")\nend\n", S4),
         // before the procedure, and behind it
-        b";procedure main()\nwrite(\"hi\")\nend\n",
-        b"procedure main()\nwrite(\"hi\")\nend;",
-        b"procedure main()\nwrite(\"hi\")\nendx\n",
-        b"procedure main()\nwrite(\"hi\")\n",
-        // bytes that begin no token, and literals
-        b"procedure main() # comment\nwrite(\"hi\")\nend\n",
-        b"procedure main()\nwrite(\"h\\i\")\nend\n",
-        b"procedure main()\nwrite(\"hi)\nend\n",
+        (b";procedure main()\nwrite(\"hi\")\nend\n", S4),
+        (b"procedure main()\nwrite(\"hi\")\nend;", S4),
+        (b"procedure main()\nwrite(\"hi\")\nendx\n", S4),
+        (b"procedure main()\nwrite(\"hi\")\n", S4),
+        // the replaced word is `out`
+        (
+            b"$define write out\nprocedure main()\nwrite(\"x\")\nend\n",
+            S4,
+        ),
+        (
+            b"procedure main()\nwrite(\"hi)\nend\n",
+            b"f.icn:2: L2 unclosed literal\n",
+        ),
+        (
+            b"procedure main()\nwrite(\"x",
+            b"f.icn:2: L2 unclosed literal\n",
+        ),
+        (
+            b"procedure main()\nwrite(37r1)\nend\n",
+            b"f.icn:2: L5 bad radix or digit\n",
+        ),
+        (
+            b"procedure main()\nwrite(1.5)\nend\n",
+            b"f.icn:2: L6 real literal\n",
+        ),
+        (
+            b"procedure main()\nwrite(9223372036854775808)\nend\n",
+            b"f.icn:2: L4 integer too large\n",
+        ),
+        (
+            b"procedure main()\nwrite(\"a_\nb\\xg\")\nend\n",
+            b"f.icn:3: L3 bad escape\n",
+        ),
+        (b"procedure main()\n`\nend\n", b"f.icn:2: L1 bad byte\n"),
+        (b"$foo\n", b"f.icn:1: P1 unknown directive\n"),
+        (
+            b"\n$define F(x) x\n",
+            b"f.icn:2: P2 bad directive operand\n",
+        ),
+        (b"$else\n", b"f.icn:1: P3 unmatched $else or $endif\n"),
+        (b"$ifdef X\n", b"f.icn:1: P4 unclosed conditional\n"),
+        (
+            b"$define N 3\n$define N 4\nprocedure main()\nwrite(N)\nend\n",
+            b"f.icn:2: P5 name defined with other text\n",
+        ),
+        (
+            b"$include \"no.icn\"\n",
+            b"f.icn:1: P6 included file not there\n",
+        ),
+        (
+            b"\n\n$include \"f.icn\"\n",
+            b"f.icn:3: P7 includes deeper than 32\n",
+        ),
+        (b"$error stop\n", b"f.icn:1: P8 $error\n"),
+        // stages go over the whole file one after the other
+        (b"`\n$error\n", b"f.icn:2: P8 $error\n"),
+        // an included file, and what `$line` says
+        (
+            b"$include \"bad.icn\"\n`\n",
+            b"bad.icn:2: P1 unknown directive\n",
+        ),
+        (b"$include \"bytes.icn\"\n", b"bytes.icn:3: L1 bad byte\n"),
+        (b"$line 70 \"made.icn\"\n`\n", b"made.icn:70: L1 bad byte\n"),
+        (
+            b"$line 70 \"made.icn\"\n\n$error\n",
+            b"made.icn:71: P8 $error\n",
+        ),
+        (b"$include \"g.icn\"\n`\n", b"f.icn:2: L1 bad byte\n"),
     ];
 
     // What a call of a program did.
@@ -183,6 +301,9 @@ mod tests {
         }
         let mut held = BTreeMap::new(alloc);
         held.insert(String::from_str(alloc, "f.icn")?, source.to_vec(alloc)?)?;
+        for (name, bytes) in BESIDE {
+            held.insert(String::from_str(alloc, name)?, bytes.to_vec(alloc)?)?;
+        }
         let mut files = MemFiles::new(alloc, held, failing.files.to_vec(alloc)?);
         let mut input = MemSource::new(b"input\n".to_vec(alloc)?, Vec::new(alloc));
         let mut out = MemSink::new(Vec::new(alloc), failing.output.to_vec(alloc)?);
@@ -197,7 +318,7 @@ mod tests {
             output: out.content().to_vec(alloc)?,
             errors: err.content().to_vec(alloc)?,
             untouched: same
-                && files.content().len() == 1
+                && files.content().len() == 4
                 && input.content() == b"input\n".as_slice(),
         })
     }
@@ -231,12 +352,12 @@ mod tests {
     #[test]
     fn other_texts_are_refused(rt: HostRuntime) -> Result<(), Fail> {
         let alloc = rt.alloc();
-        for source in OTHER_TEXTS {
+        for (source, errors) in REFUSALS {
             let row = icont(alloc, &["icont", "f.icn", "-x"], source, NONE)?;
             let source = String::from_utf8_lossy(alloc, source)?;
             assert_eq!(rt; name_of(&row.answer), "Refused", "at {source}");
             assert_eq!(rt; row.answer.code(), 2, "at {source}");
-            assert_eq!(rt; row.errors.as_slice(), REFUSED, "at {source}");
+            assert_eq!(rt; row.errors.as_slice(), errors, "at {source}");
             assert!(rt; row.output.is_empty(), "at {source}");
             assert!(rt; row.untouched, "at {source}");
         }
@@ -247,30 +368,33 @@ mod tests {
     #[test]
     fn each_byte_has_its_place(rt: HostRuntime) -> Result<(), Fail> {
         let alloc = rt.alloc();
-        let places: [(&[u8], &[u8], &[u8]); 3] = [
+        let places: [(&[u8], &[u8], &[u8], bool); 3] = [
             (
                 b"procedure main()\nwrite(\"",
                 b"\")\nend\n",
-                b" !#$%&'()*+,-./0123456789:;<=>?@ABCDEFGHIJKLMNOPQRSTUVWXYZ[]^_`abcdefghijklmnopqrstuvwxyz{|}~",
+                b"\n\"\\",
+                false,
             ),
             (
                 b"procedure main(",
                 b")\nwrite(\"hi\")\nend\n",
                 b"\t\n\x0b\x0c\r ",
+                true,
             ),
             (
                 b"procedure main()\nwrite",
                 b"(\"hi\")\nend\n",
                 b"\t\x0b\x0c\r ",
+                true,
             ),
         ];
-        for (before, after, taken) in places {
+        for (before, after, named, taken) in places {
             for byte in 0..=255u8 {
                 let mut source = before.to_vec(alloc)?;
                 source.push(byte)?;
                 source.extend_from_slice(after)?;
                 let row = icont(alloc, &["icont", "f.icn", "-x"], &source, NONE)?;
-                let name = if taken.contains(&byte) {
+                let name = if named.contains(&byte) == taken {
                     "Ran(Done)"
                 } else {
                     "Refused"
@@ -284,17 +408,22 @@ mod tests {
     #[test]
     fn a_text_has_at_most_16_mib(rt: HostRuntime) -> Result<(), Fail> {
         let alloc = rt.alloc();
-        for (more, name, output) in [
-            (16777216 - HI.len(), "Ran(Done)", b"hi\n".as_slice()),
-            (16777217 - HI.len(), "Refused", b"".as_slice()),
+        for (length, name, output, errors) in [
+            (16777216, "Ran(Done)", b"hi\n".as_slice(), b"".as_slice()),
+            (
+                16777217,
+                "Refused",
+                b"",
+                b"f.icn:0: P9 over 16777216 bytes\n",
+            ),
         ] {
             let mut source = HI.to_vec(alloc)?;
-            for _ in 0..more {
-                source.push(b'\n')?;
-            }
+            source.push(b'#')?;
+            source.resize(length, b'x')?;
             let row = icont(alloc, &["icont", "f.icn", "-x"], &source, NONE)?;
-            assert_eq!(rt; name_of(&row.answer), name, "with {more} more");
-            assert_eq!(rt; row.output.as_slice(), output, "with {more} more");
+            assert_eq!(rt; name_of(&row.answer), name, "at {length}");
+            assert_eq!(rt; row.output.as_slice(), output, "at {length}");
+            assert_eq!(rt; row.errors.as_slice(), errors, "at {length}");
         }
         Ok(())
     }
@@ -389,7 +518,19 @@ mod tests {
             output: &[1],
             ..NONE
         };
-        let rows: [(&str, &[u8], Failing, &str, &[u8], &[u8]); 11] = [
+        let include = Failing {
+            files: &[1],
+            ..NONE
+        };
+        let rows: [(&str, &[u8], Failing, &str, &[u8], &[u8]); 12] = [
+            (
+                "f.icn",
+                b"$include g.icn",
+                include,
+                "FileFault",
+                b"",
+                b"file fault\n",
+            ),
             ("f.icn", TWO, second, "WriteFault", b"a\n", b""),
             ("f.icn", HI, files, "FileFault", b"", b"file fault\n"),
             ("no.icn", HI, files, "FileFault", b"", b"file fault\n"),
@@ -400,7 +541,7 @@ mod tests {
             ("no.icn", HI, errors, "WriteFault", b"", b""),
             ("f", HI, errors, "WriteFault", b"", b""),
             ("f.icn", HI, later, "Ran(Done)", b"hi\n", b""),
-            ("f.icn", b"end", later, "Refused", b"", REFUSED),
+            ("f.icn", b"end", later, "Refused", b"", S4),
         ];
         for (name, source, failing, answer, output, errors) in rows {
             let row = icont(alloc, &["icont", name, "-x"], source, failing)?;

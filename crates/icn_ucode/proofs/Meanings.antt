@@ -8,16 +8,17 @@ use Rattle.std.proofs.lemmas.Bool.Decides.{nat_tests}
 use Rattle.std.proofs.lemmas.List.{length-map}
 use Rattle.std.proofs.lemmas.Slice.Eq.{bytes_eq-Decides}
 use Rattle.icn_tree.specs.declared.token.Kind.{Kind}
-use Rattle.icn_tree.specs.declared.tree.Literal.{Literal}
-use Rattle.icn_tree.specs.declared.tree.Literal.TheVariants.{Integer, Text}
-use Rattle.icn_tree.specs.declared.tree.Call.{Call}
-use Rattle.icn_tree.specs.declared.tree.Expr.{Expr}
-use Rattle.icn_tree.specs.declared.tree.Expr.TheVariants.{Empty, Call as CallExpr}
-use Rattle.icn_tree.specs.declared.tree.Procedure.{Procedure}
-use Rattle.icn_tree.specs.Grammar.{SpellsArguments, last, more, SpellsExpr, empty, call, SpellsBody, nothing, next, Spells, procedure}
-use Rattle.icn_tree.specs.Meaning.{text_of, written_by, meaning}
-use Rattle.icn_tree.specs.Programs.{CallsWrite, IsProgram}
-use Rattle.icn_tree.specs.Tokens.{kinds}
+use Rattle.icn_form.specs.declared.tree.Literal.{Literal}
+use Rattle.icn_form.specs.declared.tree.Literal.TheVariants.{Integer, Text}
+use Rattle.icn_form.specs.declared.tree.Call.{Call}
+use Rattle.icn_form.specs.declared.tree.Expr.{Expr}
+use Rattle.icn_form.specs.declared.tree.Expr.TheVariants.{Empty, Call as CallExpr}
+use Rattle.icn_form.specs.declared.tree.Procedure.{Procedure}
+use Rattle.icn_form.specs.Grammar.{SpellsArguments, last, more, SpellsExpr, empty, call, SpellsBody, nothing, next, Spells, procedure}
+use Rattle.icn_tree.specs.declared.token.Token.{Token}
+use Rattle.icn_form.specs.Meaning.{text_of, written_by, meaning}
+use Rattle.icn_form.specs.Programs.{CallsWrite, IsProgram}
+use Rattle.icn_form.specs.Symbols.{kinds}
 use Rattle.icn_ucode.specs.declared.instr.Instr.{Instr}
 use Rattle.icn_ucode.specs.declared.instr.Instr.TheVariants.{Invoke, Unmark}
 use Rattle.icn_ucode.specs.CodeRun.{Operand, Variable, Integer as IntegerOperand, Text as TextOperand, OpenMark, State, goes_on, texts, line_written, called, invoked, written, writes_from, writes}
@@ -110,5 +111,5 @@ body_runs _ _ (next expr exprs tokens rest s others) all place = expr_runs place
 procedure_runs : (tree : Procedure) (tokens : List Kind) → Spells tree tokens → AllByRecursion CallsWrite tree.body → writes (code_of tree) ≡ Some (meaning tree)
 procedure_runs _ _ (procedure name body tokens s) all = body_runs body tokens s all 0
 
-pub translation_means : (text : List ℕ) (tree : Procedure) → IsProgram text tree → writes (code_of tree) ≡ Some (meaning tree)
-translation_means text tree is = procedure_runs tree (kinds is.found) is.spelled is.calls_write
+pub translation_means : (tokens : List Token) (tree : Procedure) → IsProgram tokens tree → writes (code_of tree) ≡ Some (meaning tree)
+translation_means tokens tree is = procedure_runs tree (kinds tokens) is.spelled is.calls_write

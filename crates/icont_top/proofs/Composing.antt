@@ -1,34 +1,38 @@
 -- The answer's line behind the rest of the job.
-use Rattle.std.proofs.Common.{◌≡◌, ◌⊎◌, inl, inr, List, ℕ, Option, None, Some, IfSome, MatchOption, refl, sym, ap, ◌∙◌}
+use Rattle.std.proofs.Common.{◌≡◌, ◌⊎◌, inl, inr, List, ℕ, Option, None, Some, IfSome, MatchOption, Ok, Err, refl, sym, ap, ◌∙◌}
 use Rattle.std.proofs.lemmas.Option.{none-some, same_Some}
+use Rattle.icn_host.specs.Counts.{HasCause}
 use Rattle.icn_host.specs.FileMaps.{FileMap}
 use Rattle.icn_host.specs.Sinks.{Gains, GainsPart}
 use Rattle.icn_host.proofs.SinkSteps.{gains_nothing, part_whole, part_nothing}
-use Rattle.icn_tree.specs.declared.tree.Procedure.{Procedure}
-use Rattle.icn_tree.specs.Meaning.{meaning}
-use Rattle.icn_tree.specs.Programs.{IsProgram}
+use Rattle.icn_tree.specs.declared.token.Token.{Token}
+use Rattle.icn_form.specs.declared.tree.Procedure.{Procedure}
+use Rattle.icn_form.specs.Meaning.{meaning}
+use Rattle.icn_form.specs.Programs.{IsProgram}
 use Rattle.icont_top.specs.declared.answer.Answer.{Answer}
 use Rattle.icont_top.specs.declared.answer.Answer.TheVariants.{Command, FileFault, WriteFault, NoMemory}
 use Rattle.icont_top.specs.Answers.{IsFault, IsCommand, IsRefusal, line_of}
-use Rattle.icont_top.specs.Jobs.{Job, success, IsSourceJob, refused, ran, IsFileJob, absent, of_source, IsJob, wrong_words, of_file}
+use Rattle.icont_top.specs.Job.{Job, refusal, success, IsTokensJob, refused, ran, IsFileJob, no_tokens, of_tokens, IsJob, wrong_words, of_file}
 use Rattle.icont_top.specs.Outcomes.{Puts, all, told, Completes, Leaves, Runs, Does, did, failed, Reports, put, own, write_fault, want}
+use Rattle.icont_top.specs.Sources.{source_read, IsAbsence}
 use Rattle.icont_top.specs.Words.{file_asked}
-use Rattle.icont_top.proofs.Working.{one_program}
+use Rattle.icn_form.proofs.Trees.{one_program}
+use Rattle.icont_top.proofs.Working.{same_Ok, same_Err, ok-err}
 
 -- One job
 
-one_source_job : (name source : List ℕ) (files : FileMap) (left : List ℕ) (a b : Job) → IsSourceJob name source files left a → IsSourceJob name source files left b → a ≡ b
-one_source_job name source files left _ _ (refused f) (refused g) = refl
-one_source_job name source files left _ _ (refused f) (ran tree is) = absurd (f tree is)
-one_source_job name source files left _ _ (ran tree is) (refused f) = absurd (f tree is)
-one_source_job name source files left _ _ (ran s x) (ran t y) = ap (λ tree. success files left (meaning tree)) (one_program source s t x y)
+one_tokens_job : (name : List ℕ) (tokens : List Token) (files : FileMap) (left : List ℕ) (a b : Job) → IsTokensJob name tokens files left a → IsTokensJob name tokens files left b → a ≡ b
+one_tokens_job name tokens files left _ _ (refused f) (refused g) = refl
+one_tokens_job name tokens files left _ _ (refused f) (ran tree is) = absurd (f tree is)
+one_tokens_job name tokens files left _ _ (ran tree is) (refused f) = absurd (f tree is)
+one_tokens_job name tokens files left _ _ (ran s x) (ran t y) = ap (λ tree. success files left (meaning tree)) (one_program tokens s t x y)
 
 one_file_job : (name : List ℕ) (files : FileMap) (left : List ℕ) (a b : Job) → IsFileJob name files left a → IsFileJob name files left b → a ≡ b
-one_file_job name files left _ _ (absent e) (absent f) = refl
-one_file_job name files left _ b (absent e) (of_source s _ f is) = absurd (none-some s (sym e ∙ f))
-one_file_job name files left a _ (of_source s _ f is) (absent e) = absurd (none-some s (sym e ∙ f))
-one_file_job name files left a b (of_source s _ e x) (of_source t _ f y) =
-    let same : s ≡ t = same_Some s t (sym e ∙ f) in one_source_job name t files left a b (rw same at x) y
+one_file_job name files left _ _ (no_tokens a e) (no_tokens b f) = ap (refusal files left) (same_Err a b (sym e ∙ f))
+one_file_job name files left _ b (no_tokens a e) (of_tokens t _ f is) = absurd (ok-err t a (sym f ∙ e))
+one_file_job name files left a _ (of_tokens t _ f is) (no_tokens b e) = absurd (ok-err t b (sym f ∙ e))
+one_file_job name files left a b (of_tokens s _ e x) (of_tokens t _ f y) =
+    let same : s ≡ t = same_Ok s t (sym e ∙ f) in one_tokens_job name t files left a b (rw same at x) y
 
 pub one_job : (words : List (List ℕ)) (files : FileMap) (left : List ℕ) (a b : Job) → IsJob words files left a → IsJob words files left b → a ≡ b
 one_job words files left _ _ (wrong_words e) (wrong_words f) = refl
@@ -38,13 +42,13 @@ one_job words files left a b (of_file n _ e x) (of_file m _ f y) =
     let same : n ≡ m = same_Some n m (sym e ∙ f) in one_file_job m files left a b (rw same at x) y
 
 -- a job leaves the files and the input as they were
-untouched_by_source : {name source : List ℕ} {files : FileMap} {left : List ℕ} (job : Job) → IsSourceJob name source files left job → (job.files ≡ files) × (job.left ≡ left)
-untouched_by_source _ (refused none) = (refl, refl)
-untouched_by_source _ (ran tree is) = (refl, refl)
+untouched_by_tokens : {name : List ℕ} {tokens : List Token} {files : FileMap} {left : List ℕ} (job : Job) → IsTokensJob name tokens files left job → (job.files ≡ files) × (job.left ≡ left)
+untouched_by_tokens _ (refused none) = (refl, refl)
+untouched_by_tokens _ (ran tree is) = (refl, refl)
 
 untouched_by_file : {name : List ℕ} {files : FileMap} {left : List ℕ} (job : Job) → IsFileJob name files left job → (job.files ≡ files) × (job.left ≡ left)
-untouched_by_file _ (absent e) = (refl, refl)
-untouched_by_file _ (of_source source job e is) = untouched_by_source job is
+untouched_by_file _ (no_tokens answer e) = (refl, refl)
+untouched_by_file _ (of_tokens tokens job e is) = untouched_by_tokens job is
 
 untouched : {words : List (List ℕ)} {files : FileMap} {left : List ℕ} (job : Job) → IsJob words files left job → (job.files ≡ files) × (job.left ≡ left)
 untouched _ (wrong_words e) = (refl, refl)
@@ -67,6 +71,12 @@ not_command FileFault f is = is
 not_command WriteFault f is = is
 not_command NoMemory f is = is
 not_command _ f is = f
+
+not_absence : (answer : Answer) → IsFault answer → IsAbsence answer → ⊥
+not_absence FileFault f is = is
+not_absence WriteFault f is = is
+not_absence NoMemory f is = is
+not_absence _ f is = f
 
 not_refusal : (answer : Answer) → IsFault answer → IsRefusal answer → ⊥
 not_refusal FileFault f is = is
@@ -151,14 +161,14 @@ leaves {words} files left f l f' l' does line job is fault =
     let rest = remains_of job is line fault does (one_job words files left) in
     record { files = f'; left = l'; output = rest.output; between = rest.between; errors = rest.errors; line = rest.line }
 
-pub runs : {words : List (List ℕ)} {rose : Type 0} {answer given : Answer} {out out' err err' : Option (List ℕ)} (files : FileMap) (left name source : List ℕ) (program : Procedure)
-    → file_asked words ≡ Some name → files name ≡ Some source → IsProgram source program → Does (IsJob words files left) answer out out' → Reports rose answer err err' given
+pub runs : {words : List (List ℕ)} {rose : Type 0} {answer given : Answer} {out out' err err' : Option (List ℕ)} (files : FileMap) (left name : List ℕ) (tokens : List Token) (program : Procedure)
+    → file_asked words ≡ Some name → source_read files name ≡ Ok tokens → IsProgram tokens program → Does (IsJob words files left) answer out out' → Reports rose answer err err' given
     → IsFault given ⊎ Runs given (meaning program) out out' err err'
-runs {words} {given = given} {out} {out'} {err} {err'} files left name source program asked held is does line = of_finished (finished does line) where
+runs {words} {given = given} {out} {out'} {err} {err'} files left name tokens program asked held is does line = of_finished (finished does line) where
   of_finished : IsFault given ⊎ Finished (IsJob words files left) given out out' err err' → IsFault given ⊎ Runs given (meaning program) out out' err err'
   of_finished (inl fault) = inl fault
   of_finished (inr done) =
-      let wanted : IsJob words files left (success files left (meaning program)) = of_file name _ asked (of_source source _ held (ran program is)) in
+      let wanted : IsJob words files left (success files left (meaning program)) = of_file name _ asked (of_tokens tokens _ held (ran program is)) in
       let same : done.job ≡ success files left (meaning program) = one_job words files left done.job (success files left (meaning program)) done.is wanted in
       inr (record { ended = done.answered ∙ ap (λ (job : Job). job.answer) same; output = rw same at done.output; errors = rw same at done.errors })
 
@@ -185,3 +195,10 @@ line_put (put h) = inr h
 line_put (own f h) = inl f
 line_put (write_fault n h) = inl tt
 line_put (want n between h p) = inl tt
+
+absence_by : {given answer : Answer} (before after : ℕ) → IsFault given ⊎ (given ≡ answer) → HasCause before after (IsAbsence answer) → HasCause before after (IsAbsence given)
+absence_by {given} before after (inl f) h = record { later = h.later; rose = λ is. absurd (not_absence given f is) }
+absence_by before after (inr e) h = record { later = h.later; rose = λ is. h.rose (rw e at is) }
+
+pub absence_of : {rose : Type 0} {given answer : Answer} {err err' : Option (List ℕ)} (before after : ℕ) → Reports rose answer err err' given → HasCause before after (IsAbsence answer) → HasCause before after (IsAbsence given)
+absence_of before after line h = absence_by before after (reported line) h

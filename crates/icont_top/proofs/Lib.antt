@@ -1,10 +1,8 @@
 pub mod Composing
 pub mod Deciding
-pub mod Numbers
 pub mod Parsing
 pub mod Programs
 pub mod Reporting
 pub mod Running
-pub mod Scanning
-pub mod Separating
 pub mod Working
+pub mod Sourcing

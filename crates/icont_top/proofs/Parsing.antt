@@ -3,12 +3,12 @@ use Rattle.std.proofs.Common.{◌≡◌, ℕ, ◌+◌, ◌-◌, ◌<◌, ◌≤�
 use Rattle.std.specs.Option.{option_map}
 use Rattle.std.proofs.lemmas.List.{length_push, append-nil}
 use Rattle.icn_tree.specs.declared.token.Kind.{Kind}
-use Rattle.icn_tree.specs.declared.token.Symbol.TheVariants.{End, Comma}
+use Rattle.icn_form.specs.declared.symbol.Symbol.TheVariants.{End, Comma}
 use Rattle.icn_tree.specs.declared.token.Token.{Token}
-use Rattle.icn_tree.specs.declared.tree.Literal.{Literal}
-use Rattle.icn_tree.specs.declared.tree.Expr.{Expr}
-use Rattle.icn_tree.specs.Reading.{◌>>=◌, symbol_read, literal_read, more_read, arguments_read, expr_read, nothing_after, body_by, body_read}
-use Rattle.icn_tree.specs.Tokens.{kinds}
+use Rattle.icn_form.specs.declared.tree.Literal.{Literal}
+use Rattle.icn_form.specs.declared.tree.Expr.{Expr}
+use Rattle.icn_form.specs.Reading.{◌>>=◌, symbol_read, literal_read, more_read, arguments_read, expr_read, nothing_after, body_by, body_read}
+use Rattle.icn_form.specs.Symbols.{kinds}
 
 suc_of : (n : ℕ) → 0 < n → n ≡ suc (n - 1)
 suc_of n h = omega (arith, add-one (n - 1))

@@ -7,14 +7,14 @@ use Rattle.std.proofs.lemmas.List.{length-map}
 use Rattle.std.proofs.lemmas.Option.{none-some, same_Some}
 use Rattle.std.proofs.lemmas.Slice.Eq.{bytes_eq-Decides}
 use Rattle.icn_tree.specs.declared.token.Token.{Token}
-use Rattle.icn_tree.specs.declared.tree.Expr.{Expr}
-use Rattle.icn_tree.specs.declared.tree.Expr.TheVariants.{Empty, Call}
-use Rattle.icn_tree.specs.declared.tree.Procedure.{Procedure as Tree}
-use Rattle.icn_tree.specs.Programs.{IsProgram, CallsWrite}
-use Rattle.icn_tree.specs.Reading.{procedure_read}
-use Rattle.icn_tree.specs.Tokens.{kinds, tokens}
-use Rattle.icn_tree.proofs.Readings.{procedure_at}
-use Rattle.icn_tree.proofs.Trees.{procedure_again}
+use Rattle.icn_form.specs.declared.tree.Expr.{Expr}
+use Rattle.icn_form.specs.declared.tree.Expr.TheVariants.{Empty, Call}
+use Rattle.icn_form.specs.declared.tree.Procedure.{Procedure as Tree}
+use Rattle.icn_form.specs.Programs.{IsProgram, CallsWrite}
+use Rattle.icn_form.specs.Reading.{procedure_read}
+use Rattle.icn_form.specs.Symbols.{kinds}
+use Rattle.icn_form.proofs.Readings.{procedure_at}
+use Rattle.icn_form.proofs.Trees.{procedure_again}
 use Rattle.icont_top.specs.Reading.{calls_write, is_built}
 
 both_true : (a b : Bool) → (a && b) ≡ true → (a ≡ true) × (b ≡ true)
@@ -43,35 +43,29 @@ abbrev pub tree_read : List Token → Option Tree
 tree_read found = procedure_read (length found) (kinds found)
 
 -- the tree that was read is the program, where it is built
-pub program_at : (text : List ℕ) (found : List Token) (tree : Tree) → length text ≤ 16777216 → tokens text ≡ Some found → tree_read found ≡ Some tree
-    → is_built tree ≡ true → IsProgram text tree
-program_at text found tree within scanned e built =
+pub program_at : (tokens : List Token) (tree : Tree) → tree_read tokens ≡ Some tree → is_built tree ≡ true → IsProgram tokens tree
+program_at tokens tree e built =
     let two = both_true (bytes_eq tree.name (codes "main")) (list_all calls_write tree.body) built in
     record {
-      within = within;
-      found = found;
-      scanned = scanned;
-      spelled = procedure_at (length found) tree (kinds found) e;
+      spelled = procedure_at (length tokens) tree (kinds tokens) e;
       is_main = (bytes_eq-Decides tree.name (codes "main")).0 two.0;
       calls_write = all_call_at tree.body two.1;
     }
 
-enough : (found : List Token) → length (kinds found) ≤ length found
-enough found = let same : length (kinds found) ≡ length found = length-map found (λ token. token.kind) in omega arith
+enough : (tokens : List Token) → length (kinds tokens) ≤ length tokens
+enough tokens = let same : length (kinds tokens) ≡ length tokens = length-map tokens (λ token. token.kind) in omega arith
 
--- what a program's tokens and tree are
-pub read_of : (text : List ℕ) (tree : Tree) (found : List Token) → tokens text ≡ Some found → IsProgram text tree → tree_read found ≡ Some tree
-read_of text tree found e is =
-    let same : found ≡ is.found = same_Some found is.found (sym e ∙ is.scanned) in
-    rw same (procedure_again tree (kinds is.found) is.spelled (length is.found) (enough is.found))
+-- what a program's tree is read as
+pub read_of : (tokens : List Token) (tree : Tree) → IsProgram tokens tree → tree_read tokens ≡ Some tree
+read_of tokens tree is = procedure_again tree (kinds tokens) is.spelled (length tokens) (enough tokens)
 
-pub is_built_of : (text : List ℕ) (tree : Tree) → IsProgram text tree → is_built tree ≡ true
-is_built_of text tree is = rw ((bytes_eq-Decides tree.name (codes "main")).1 is.is_main) (all_call_of tree.body is.calls_write)
+pub is_built_of : (tokens : List Token) (tree : Tree) → IsProgram tokens tree → is_built tree ≡ true
+is_built_of tokens tree is = rw ((bytes_eq-Decides tree.name (codes "main")).1 is.is_main) (all_call_of tree.body is.calls_write)
 
-pub no_program : (text : List ℕ) (tree : Tree) (found : List Token) → tokens text ≡ Some found → tree_read found ≡ None → IsProgram text tree → ⊥
-no_program text tree found e none is = none-some tree (sym none ∙ read_of text tree found e is)
+pub no_program : (tokens : List Token) (tree : Tree) → tree_read tokens ≡ None → IsProgram tokens tree → ⊥
+no_program tokens tree none is = none-some tree (sym none ∙ read_of tokens tree is)
 
-pub not_built : (text : List ℕ) (tree other : Tree) (found : List Token) → tokens text ≡ Some found → tree_read found ≡ Some tree → is_built tree ≡ false → IsProgram text other → ⊥
-not_built text tree other found e read built is =
-    let same : tree ≡ other = same_Some tree other (sym read ∙ read_of text other found e is) in
-    false≢true (sym built ∙ (rw same (is_built_of text other is)))
+pub not_built : (tokens : List Token) (tree other : Tree) → tree_read tokens ≡ Some tree → is_built tree ≡ false → IsProgram tokens other → ⊥
+not_built tokens tree other read built is =
+    let same : tree ≡ other = same_Some tree other (sym read ∙ read_of tokens other is) in
+    false≢true (sym built ∙ (rw same (is_built_of tokens other is)))

@@ -1,21 +1,21 @@
 -- The jobs of words, files and sources, one within the other.
-use Rattle.std.proofs.Common.{◌≡◌, ◌⊎◌, inl, inr, ℕ, ◌≤◌, List, length, take, Option, None, Some, IfSome, refl, sym, ◌∙◌, arith}
-use Rattle.std.proofs.lemmas.List.{take_all, length-take}
+use Rattle.std.proofs.Common.{◌≡◌, ◌⊎◌, inl, inr, ℕ, List, Option, None, Some, IfSome, Result, Ok, Err, refl, sym, ap, ◌∙◌}
 use Rattle.std.proofs.lemmas.Option.{none-some, same_Some}
 use Rattle.icn_host.specs.FileMaps.{FileMap}
 use Rattle.icn_host.specs.Sinks.{Gains, GainsPart}
 use Rattle.icn_host.proofs.SinkSteps.{gains_nothing, part_nothing}
-use Rattle.icn_tree.specs.declared.tree.Procedure.{Procedure}
-use Rattle.icn_tree.specs.Meaning.{meaning}
-use Rattle.icn_tree.specs.Programs.{IsProgram}
-use Rattle.icn_tree.specs.Tokens.{kinds}
-use Rattle.icn_tree.proofs.Trees.{one_tree}
+use Rattle.icn_tree.specs.declared.token.Token.{Token}
+use Rattle.icn_form.specs.declared.tree.Procedure.{Procedure}
+use Rattle.icn_form.specs.Meaning.{meaning}
+use Rattle.icn_form.specs.Programs.{IsProgram}
+use Rattle.icn_form.proofs.Trees.{one_program}
 use Rattle.icont_top.specs.declared.answer.Answer.{Answer}
 use Rattle.icont_top.specs.declared.answer.Answer.TheVariants.{Ran, NoMemory}
 use Rattle.icont_top.specs.declared.answer.Ending.TheVariants.{Done}
 use Rattle.icont_top.specs.Answers.{IsFault}
-use Rattle.icont_top.specs.Jobs.{Job, refusal, success, IsSourceJob, refused, ran, IsFileJob, absent, of_source, IsJob, wrong_words, of_file}
+use Rattle.icont_top.specs.Job.{Job, refusal, success, IsTokensJob, refused, ran, IsFileJob, no_tokens, of_tokens, IsJob, wrong_words, of_file}
 use Rattle.icont_top.specs.Outcomes.{Does, did, failed}
+use Rattle.icont_top.specs.Sources.{source_read}
 use Rattle.icont_top.specs.Words.{file_asked}
 
 pub if_some : {T : Type 0} (o : Option T) (P : T → Type 0) → ((x : T) → o ≡ Some x → P x) → IfSome o P
@@ -40,57 +40,43 @@ pub refuses : {P : Job → Type 0} (files : FileMap) (left : List ℕ) (answer g
 refuses files left answer given out is (inl e) = did (refusal files left answer) is e refl (gains_nothing out)
 refuses files left answer given out is (inr e) = rw e (nothing_done NoMemory out tt)
 
--- Sources
+-- Tokens
 
-pub one_program : (source : List ℕ) (a b : Procedure) → IsProgram source a → IsProgram source b → a ≡ b
-one_program source a b x y =
-    let same : x.found ≡ y.found = same_Some x.found y.found (sym x.scanned ∙ y.scanned) in
-    one_tree a b (kinds y.found) (rw same at x.spelled) y.spelled
+part_of_tokens : {name : List ℕ} {tokens : List Token} {files : FileMap} {left : List ℕ} {out out' : Option (List ℕ)} (tree : Procedure) → IsProgram tokens tree → GainsPart out out' (meaning tree)
+    → (job : Job) → IsTokensJob name tokens files left job → GainsPart out out' job.output
+part_of_tokens tree is part _ (refused none) = absurd (none tree is)
+part_of_tokens {name} {tokens} tree is part _ (ran other also) = rw (one_program tokens other tree also is) part
 
-part_of_source : {name source : List ℕ} {files : FileMap} {left : List ℕ} {out out' : Option (List ℕ)} (tree : Procedure) → IsProgram source tree → GainsPart out out' (meaning tree)
-    → (job : Job) → IsSourceJob name source files left job → GainsPart out out' job.output
-part_of_source tree is part _ (refused none) = absurd (none tree is)
-part_of_source {name} {source} tree is part _ (ran other also) = rw (one_program source other tree also is) part
+pub tokens_broke : {name : List ℕ} {tokens : List Token} {out out' : Option (List ℕ)} (answer : Answer) (tree : Procedure) → IsFault answer → IsProgram tokens tree → GainsPart out out' (meaning tree)
+    → (files : FileMap) (left : List ℕ) → Does (IsTokensJob name tokens files left) answer out out'
+tokens_broke answer tree f is part files left = failed f (part_of_tokens tree is part)
 
-pub source_broke : {name source : List ℕ} {out out' : Option (List ℕ)} (answer : Answer) (tree : Procedure) → IsFault answer → IsProgram source tree → GainsPart out out' (meaning tree)
-    → (files : FileMap) (left : List ℕ) → Does (IsSourceJob name source files left) answer out out'
-source_broke answer tree f is part files left = failed f (part_of_source tree is part)
-
-pub source_ran : {name source : List ℕ} {out out' : Option (List ℕ)} (tree : Procedure) → IsProgram source tree → Gains out out' (meaning tree)
-    → (files : FileMap) (left : List ℕ) → Does (IsSourceJob name source files left) (Ran Done) out out'
-source_ran tree is g files left = did (success files left (meaning tree)) (ran tree is) refl refl g
+pub tokens_ran : {name : List ℕ} {tokens : List Token} {out out' : Option (List ℕ)} (tree : Procedure) → IsProgram tokens tree → Gains out out' (meaning tree)
+    → (files : FileMap) (left : List ℕ) → Does (IsTokensJob name tokens files left) (Ran Done) out out'
+tokens_ran tree is g files left = did (success files left (meaning tree)) (ran tree is) refl refl g
 
 -- Files
 
-whole : (source : List ℕ) → length source ≤ 16777216 → take 16777217 source ≡ source
-whole source h = take_all 16777217 source (omega arith)
+pub same_Ok : {A E : Type 0} (a b : A) → ◌≡◌ {A = Result A E} (Ok a) (Ok b) → a ≡ b
+same_Ok a b e = ap (λ r. elim r [ Ok x ↦ x | Err f ↦ a ]) e
 
-within : (source : List ℕ) → length (take 16777217 source) ≤ 16777216 → length source ≤ 16777216
-within source h = omega (arith, length-take 16777217 source)
+pub same_Err : {A E : Type 0} (a b : E) → ◌≡◌ {A = Result A E} (Err a) (Err b) → a ≡ b
+same_Err a b e = ap (λ r. elim r [ Ok x ↦ a | Err f ↦ f ]) e
 
-longer : (source : List ℕ) (tree : Procedure) → IsProgram (take 16777217 source) tree → IsProgram source tree
-longer source tree is = let same : take 16777217 source ≡ source = whole source (within source is.within) in rw same at is
+pub ok-err : {A E : Type 0} (a : A) (f : E) → ◌≡◌ {A = Result A E} (Ok a) (Err f) → ⊥
+ok-err a f e = cc
 
-shorter : (source : List ℕ) (tree : Procedure) → IsProgram source tree → IsProgram (take 16777217 source) tree
-shorter source tree is = rw (whole source is.within) is
+tokens_of_file : {name : List ℕ} {files : FileMap} {left : List ℕ} (tokens : List Token) → source_read files name ≡ Ok tokens → (job : Job) → IsFileJob name files left job → IsTokensJob name tokens files left job
+tokens_of_file tokens e _ (no_tokens answer f) = absurd (ok-err tokens answer (sym e ∙ f))
+tokens_of_file tokens e _ (of_tokens other job f is) = let same : other ≡ tokens = same_Ok other tokens (sym f ∙ e) in rw same at is
 
--- no more needs to be read of a source than the longest program has, and one byte
-to_whole : {name source : List ℕ} {files : FileMap} {left : List ℕ} (job : Job) → IsSourceJob name (take 16777217 source) files left job → IsSourceJob name source files left job
-to_whole {name} {source} _ (refused none) = refused (λ tree is. none tree (shorter source tree is))
-to_whole {name} {source} _ (ran tree is) = ran tree (longer source tree is)
+pub file_does : {name : List ℕ} {files : FileMap} {left : List ℕ} {answer : Answer} {out out' : Option (List ℕ)} (tokens : List Token) → source_read files name ≡ Ok tokens
+    → Does (IsTokensJob name tokens files left) answer out out' → Does (IsFileJob name files left) answer out out'
+file_does tokens e d = does_as (λ job j. of_tokens tokens job e j) (tokens_of_file tokens e) d
 
-of_whole : {name source : List ℕ} {files : FileMap} {left : List ℕ} (job : Job) → IsSourceJob name source files left job → IsSourceJob name (take 16777217 source) files left job
-of_whole {name} {source} _ (refused none) = refused (λ tree is. none tree (longer source tree is))
-of_whole {name} {source} _ (ran tree is) = ran tree (shorter source tree is)
-
-source_of_file : {name : List ℕ} {files : FileMap} {left : List ℕ} (source : List ℕ) → files name ≡ Some source → (job : Job) → IsFileJob name files left job → IsSourceJob name source files left job
-source_of_file source e _ (absent none) = absurd (none-some source (sym none ∙ e))
-source_of_file source e _ (of_source other job f is) = let same : other ≡ source = same_Some other source (sym f ∙ e) in rw same at is
-
-pub file_does : {name : List ℕ} {files : FileMap} {left : List ℕ} {answer : Answer} {out out' : Option (List ℕ)} (source read : List ℕ) → files name ≡ Some source → read ≡ take 16777217 source
-    → Does (IsSourceJob name read files left) answer out out' → Does (IsFileJob name files left) answer out out'
-file_does source read e is d =
-    does_as (λ job j. of_source source job e (to_whole job (rw is at j))) (λ job j. rw is (of_whole job (source_of_file source e job j))) d
+pub file_refused : {name : List ℕ} (files : FileMap) (left : List ℕ) (answer : Answer) (out : Option (List ℕ)) → IsFault answer ⊎ (source_read files name ≡ Err answer) → Does (IsFileJob name files left) answer out out
+file_refused files left answer out (inl f) = nothing_done answer out f
+file_refused files left answer out (inr e) = did (refusal files left answer) (no_tokens answer e) refl refl (gains_nothing out)
 
 -- Words
 

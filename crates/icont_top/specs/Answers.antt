@@ -46,10 +46,3 @@ IsCommand _ = ⊥
 abbrev pub IsMissing : Answer → Type 0
 IsMissing (Missing name) = Unit {0}
 IsMissing _ = ⊥
-
--- an answer about a source that was read
-abbrev pub IsOfSource : Answer → Type 0
-IsOfSource (Missing name) = ⊥
-IsOfSource (Command kind) = ⊥
-IsOfSource FileFault = ⊥
-IsOfSource _ = Unit {0}

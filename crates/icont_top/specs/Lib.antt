@@ -1,8 +1,9 @@
 pub mod Answers
-pub mod Jobs
+pub mod Job
 pub mod Machines
 pub mod Outcomes
 pub mod Reading
+pub mod Sources
 pub mod Words
 pub use Rattle.icn_host.specs.Counts
 pub use Rattle.icn_host.specs.FileMaps

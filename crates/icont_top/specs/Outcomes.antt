@@ -1,12 +1,14 @@
 -- What a call leaves of the job that it was asked for.
-use Rattle.std.specs.Prelude.{◌≡◌, ℕ, List, [], Option, Some}
+use Rattle.std.specs.Prelude.{◌≡◌, ℕ, List, [], Option, Some, Ok}
 use Rattle.icn_host.specs.FileMaps.{FileMap}
 use Rattle.icn_host.specs.Sinks.{Gains, GainsPart}
+use Rattle.icn_tree.specs.declared.token.Token.{Token}
 use Rattle.icont_top.specs.declared.answer.Answer.{Answer}
 use Rattle.icont_top.specs.declared.answer.Answer.TheVariants.{Ran, WriteFault, NoMemory}
 use Rattle.icont_top.specs.declared.answer.Ending.TheVariants.{Done}
 use Rattle.icont_top.specs.Answers.{IsFault, line_of}
-use Rattle.icont_top.specs.Jobs.{Job}
+use Rattle.icont_top.specs.Job.{Job}
+use Rattle.icont_top.specs.Sources.{source_read}
 
 -- how a line was put: all of it; or a part, since the sink failed; or a part, since the put wanted memory
 pub data Puts (failed : Type 0) (before after : Option (List ℕ)) (line : List ℕ) : Type 0 where
@@ -24,9 +26,9 @@ pub record Told : Type 0 where
 abbrev pub told : Option FileMap → Option (List ℕ) → Option (List ℕ) → Option (List ℕ) → Told
 told files left output errors = record { files = files; left = left; output = output; errors = errors }
 
--- the store tells that the file of this name holds these bytes
-abbrev pub Holds : Option FileMap → List ℕ → List ℕ → Type 0
-Holds held name bytes = (files : FileMap) × (held ≡ Some files) × (files name ≡ Some bytes)
+-- the store tells its files, and the file of this name has these tokens
+abbrev pub Gives : Option FileMap → List ℕ → List Token → Type 0
+Gives held name tokens = (files : FileMap) × (held ≡ Some files) × (source_read files name ≡ Ok tokens)
 
 -- a program ran to its end, and wrote these bytes and no line
 pub record Runs (answer : Answer) (written : List ℕ) (out out' err err' : Option (List ℕ)) : Type 0 where

@@ -7,7 +7,7 @@ mod machine;
 mod parser;
 mod program;
 mod report;
-mod scanner;
+mod source;
 mod top;
 mod translator;
 mod words;

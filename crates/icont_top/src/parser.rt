@@ -1,11 +1,12 @@
 // The tree of a list of tokens.
 ghost use Rattle.std.specs.Prelude.{◌≡◌, ◌≤◌, ◌<◌, ◌+◌, ℕ, length, IfOk, IfSome};
 ghost use Rattle.std.specs.Option.{option_map};
-ghost use Rattle.icn_tree.specs.declared.tree.Expr.TheVariants.{Call as CallExpr};
-ghost use Rattle.icn_tree.specs.Reading.{is_symbol, symbol_read, name_read, literal_of, literal_read, arguments_read, call_read, expr_read, body_read, head_read, procedure_read};
-ghost use Rattle.icn_tree.specs.Tokens.{kinds};
+ghost use Rattle.icn_form.specs.declared.tree.Expr.TheVariants.{Call as CallExpr};
+ghost use Rattle.icn_form.specs.Reading.{is_symbol, symbol_read, name_read, literal_of, literal_read, arguments_read, call_read, expr_read, body_read, head_read, procedure_read};
+ghost use Rattle.icn_form.specs.Symbols.{kinds, symbol_of, word_symbol, mark_symbol};
 
-use icn_tree::{Bytes, Call, Expr, Exprs, Kind, Literal, Literals, Procedure, Symbol, Token};
+use icn_form::{Call, Expr, Exprs, Literal, Literals, Procedure, Symbol};
+use icn_tree::{Bytes, Kind, Punctuation, Token, Word};
 use std::alloc::{AllocError, Global};
 
 /// The tree of the tokens, if they spell one.
@@ -134,7 +135,7 @@ fn literal_of(alloc: Global, kind: &Kind) -> Result<Option<Literal>, AllocError>
     match kind {
         Kind::Integer(n) => Ok(Some(Literal::Integer(*n))),
         Kind::Text(text) => Ok(Some(Literal::Text(Bytes::from_slice(alloc, text.as_slice())?))),
-        Kind::Name(_) | Kind::Symbol(_) => Ok(None),
+        _ => Ok(None),
     }
 }
 
@@ -154,9 +155,42 @@ fn after(tokens: &[Token], wanted: Symbol) -> Option<&[Token]>
 fn is_symbol(kind: &Kind, wanted: Symbol) -> bool
     ensures { result ≡ is_symbol wanted kind.now }
 {
+    match symbol_of(kind) {
+        Some(found) => found == wanted,
+        None => false,
+    }
+}
+
+// The word or mark of the form that a token is, if it is one.
+fn symbol_of(kind: &Kind) -> Option<Symbol>
+    ensures { result ≡ symbol_of kind.now }
+{
     match kind {
-        Kind::Symbol(found) => *found == wanted,
-        Kind::Name(_) | Kind::Integer(_) | Kind::Text(_) => false,
+        Kind::Word(word) => word_symbol(*word),
+        Kind::Punctuation(mark) => mark_symbol(*mark),
+        _ => None,
+    }
+}
+
+fn word_symbol(word: Word) -> Option<Symbol>
+    ensures { result ≡ word_symbol word }
+{
+    match word {
+        Word::Procedure => Some(Symbol::Procedure),
+        Word::End => Some(Symbol::End),
+        _ => None,
+    }
+}
+
+fn mark_symbol(mark: Punctuation) -> Option<Symbol>
+    ensures { result ≡ mark_symbol mark }
+{
+    match mark {
+        Punctuation::OpenParenthesis => Some(Symbol::OpenParenthesis),
+        Punctuation::CloseParenthesis => Some(Symbol::CloseParenthesis),
+        Punctuation::Comma => Some(Symbol::Comma),
+        Punctuation::Semicolon => Some(Symbol::Semicolon),
+        _ => None,
     }
 }
 
@@ -167,7 +201,7 @@ fn name(tokens: &[Token]) -> Option<(&[u8], &[Token])>
 {
     let (first, rest) = tokens.split_first()?;
     match &first.kind {
-        Kind::Name(name) => Some((name.as_slice(), rest)),
-        Kind::Integer(_) | Kind::Text(_) | Kind::Symbol(_) => None,
+        Kind::Identifier(name) => Some((name.as_slice(), rest)),
+        _ => None,
     }
 }

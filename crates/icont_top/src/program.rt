@@ -1,27 +1,21 @@
 // The program that a text is.
 ghost use Rattle.std.specs.Prelude.{◌≡◌, ◌≤◌, length, IfOk, IfSome, IfNone};
 ghost use Rattle.std.specs.List.{list_all};
-ghost use Rattle.icn_tree.specs.declared.tree.Procedure.{Procedure as Tree};
-ghost use Rattle.icn_tree.specs.Programs.{IsProgram};
+ghost use Rattle.icn_form.specs.declared.tree.Procedure.{Procedure as Tree};
+ghost use Rattle.icn_form.specs.Programs.{IsProgram};
 ghost use Rattle.icont_top.specs.Reading.{calls_write, is_built};
 
 use crate::parser::parse;
-use crate::scanner::{LONGEST, tokens};
-use icn_tree::{Expr, Procedure};
+use icn_form::{Expr, Procedure};
+use icn_tree::Token;
 use std::alloc::{AllocError, Global};
 
-/// The program that the text is. `None` exactly where it is none.
-pub fn program(alloc: Global, text: &[u8]) -> Result<Option<Procedure>, AllocError>
-    ensures found { IfOk result (λ found. IfSome found (IsProgram text.now)) }
-    ensures none { IfOk result (λ found. IfNone found ((tree : Tree) → IsProgram text.now tree → ⊥)) }
+/// The program that the tokens spell. `None` exactly where they spell none.
+pub fn program(alloc: Global, tokens: &[Token]) -> Result<Option<Procedure>, AllocError>
+    ensures found { IfOk result (λ found. IfSome found (IsProgram tokens.now)) }
+    ensures none { IfOk result (λ found. IfNone found ((tree : Tree) → IsProgram tokens.now tree → ⊥)) }
 {
-    if text.len() as u64 > LONGEST {
-        return Ok(None);
-    }
-    let Some(tokens) = tokens(alloc, text)? else {
-        return Ok(None);
-    };
-    let Some(tree) = parse(alloc, &tokens)? else {
+    let Some(tree) = parse(alloc, tokens)? else {
         return Ok(None);
     };
     if is_built(&tree) {

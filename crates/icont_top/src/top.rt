@@ -2,12 +2,14 @@
 ghost use Rattle.std.specs.Prelude.{◌≡◌, ◌⊎◌, ◌≤◌, ℕ, List, [], Some, map, string_bytes, IfSome, MatchOption};
 ghost use Rattle.icn_host.specs.Counts.{HasCause, Rose};
 ghost use Rattle.icn_host.specs.Sinks.{Gains};
-ghost use Rattle.icn_tree.specs.declared.tree.Procedure.{Procedure};
-ghost use Rattle.icn_tree.specs.Meaning.{meaning};
-ghost use Rattle.icn_tree.specs.Programs.{IsProgram};
-ghost use Rattle.icont_top.specs.Answers.{IsFault, IsRefusal, IsCommand, IsMissing, line_of};
-ghost use Rattle.icont_top.specs.Jobs.{Job, IsJob};
-ghost use Rattle.icont_top.specs.Outcomes.{told, Holds, Completes, Leaves, Runs};
+ghost use Rattle.icn_tree.specs.declared.token.Token.{Token};
+ghost use Rattle.icn_form.specs.declared.tree.Procedure.{Procedure};
+ghost use Rattle.icn_form.specs.Meaning.{meaning};
+ghost use Rattle.icn_form.specs.Programs.{IsProgram};
+ghost use Rattle.icont_top.specs.Answers.{IsFault, IsRefusal, IsCommand, line_of};
+ghost use Rattle.icont_top.specs.Job.{Job, IsJob};
+ghost use Rattle.icont_top.specs.Outcomes.{told, Gives, Completes, Leaves, Runs};
+ghost use Rattle.icont_top.specs.Sources.{IsAbsence};
 ghost use Rattle.icont_top.specs.Words.{file_asked};
 
 use crate::answer::Answer;
@@ -44,9 +46,9 @@ pub fn icont_main<F: Files, I: Source, O: Sink, E: Sink>(
         (told (F.held files.old) (I.left input.old) (O.held out.old) (E.held err.old))
         (told (F.held files.new) (I.left input.new) (O.held out.new) (E.held err.new)))) }
 
-    // A file that is a program runs with the bytes of its meaning.
-    ensures headline { (name source : List ℕ) (program : Procedure) → file_asked (map string_bytes words.now) ≡ Some name
-        → Holds (F.held files.old) name source → IsProgram source program
+    // A file whose tokens are a program runs with the bytes of its meaning.
+    ensures headline { (name : List ℕ) (tokens : List Token) (program : Procedure) → file_asked (map string_bytes words.now) ≡ Some name
+        → Gives (F.held files.old) name tokens → IsProgram tokens program
         → IsFault result ⊎ Runs result (meaning program) (O.held out.old) (O.held out.new) (E.held err.old) (E.held err.new) }
 
     // The words are faulty exactly where they ask for no file.
@@ -59,9 +61,10 @@ pub fn icont_main<F: Files, I: Source, O: Sink, E: Sink>(
     // Every other answer's line was put, whatever the files and the input tell.
     ensures line { IsFault result ⊎ Gains (E.held err.old) (E.held err.new) (line_of result) }
 
-    // A fault is answered only where the count of its object rose, and no count falls.
+    // A fault is answered only where the count of its object rose, and an absence (also of an included file) only where that
+    // count did. No count falls.
     ensures file_fault { HasCause (F.faults files.old) (F.faults files.new) (result ≡ Answer.FileFault) }
-    ensures missing { HasCause (F.absences files.old) (F.absences files.new) (IsMissing result) }
+    ensures absence { HasCause (F.absences files.old) (F.absences files.new) (IsAbsence result) }
     ensures write_fault { result ≡ Answer.WriteFault
         → Rose (O.faults out.old) (O.faults out.new) ⊎ Rose (E.faults err.old) (E.faults err.new) }
     ensures output_faults { O.faults out.old ≤ O.faults out.new }

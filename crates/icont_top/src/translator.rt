@@ -1,9 +1,10 @@
 // The code that a tree is translated to.
 ghost use Rattle.std.specs.Prelude.{◌≡◌, ◌++◌, ◌∷◌, List, length, map, IfOk, OnOk};
-ghost use Rattle.icn_tree.specs.declared.tree.Expr.{Expr};
+ghost use Rattle.icn_form.specs.declared.tree.Expr.{Expr};
 ghost use Rattle.icn_ucode.specs.Translated.{constant, call_code, code_from, code_of};
 
-use icn_tree::{Bytes, Call, Expr, Literal, Procedure};
+use icn_form::{Call, Expr, Literal, Procedure};
+use icn_tree::Bytes;
 use icn_ucode::Instr;
 use std::alloc::{AllocError, Global};
 

@@ -3,24 +3,24 @@ ghost use Rattle.std.specs.Prelude.{◌≡◌, ◌⊎◌, ◌≤◌, ℕ, List, 
 ghost use Rattle.icn_host.specs.Counts.{HasCause};
 ghost use Rattle.icn_host.specs.FileMaps.{FileMap};
 ghost use Rattle.icn_host.specs.Sinks.{Gains, GainsPart};
-ghost use Rattle.icn_tree.specs.declared.rule.Rule.TheVariants.{S4};
-ghost use Rattle.icont_top.specs.declared.answer.Answer.TheVariants.{Refused, Missing};
-ghost use Rattle.icn_tree.specs.Meaning.{meaning};
+ghost use Rattle.icn_form.specs.Meaning.{meaning};
 ghost use Rattle.icn_ucode.specs.CodeRun.{writes};
 ghost use Rattle.icn_ucode.specs.Translated.{code_of};
-ghost use Rattle.icont_top.specs.Answers.{IsRefusal, IsCommand, IsMissing, IsOfSource};
-ghost use Rattle.icont_top.specs.Jobs.{IsSourceJob, IsFileJob, IsJob};
+ghost use Rattle.icont_top.specs.Answers.{IsRefusal, IsCommand};
+ghost use Rattle.icont_top.specs.Job.{IsTokensJob, IsFileJob, IsJob};
 ghost use Rattle.icont_top.specs.Outcomes.{Does};
+ghost use Rattle.icont_top.specs.Sources.{IsAbsence, IsOfTokens};
 ghost use Rattle.icont_top.specs.Words.{file_asked};
 
 use crate::answer::{Answer, Ending};
 use crate::machine::run;
 use crate::program::program;
-use crate::scanner::LONGEST;
+use crate::source::{refused, source_tokens};
 use crate::translator::translate;
 use crate::words::file_asked;
-use icn_host::{Fault, Files, Look, Sink};
-use icn_tree::{Bytes, Procedure, Rule};
+use icn_form::Procedure;
+use icn_host::{Fault, Files, Sink};
+use icn_tree::{Rule, Token};
 use std::alloc::{AllocError, Global};
 
 /// Does what the words and the files ask for.
@@ -37,7 +37,7 @@ pub fn work<F: Files, O: Sink>(
     ensures command { MatchOption (file_asked (map string_bytes words.now)) (result ≡ Answer.Command 1) (λ name. IsCommand result → ⊥) }
     ensures file_fault { HasCause (F.faults files.old) (F.faults files.new) (result ≡ Answer.FileFault) }
     ensures write_fault { HasCause (O.faults out.old) (O.faults out.new) (result ≡ Answer.WriteFault) }
-    ensures missing { HasCause (F.absences files.old) (F.absences files.new) (IsMissing result) }
+    ensures absence { HasCause (F.absences files.old) (F.absences files.new) (IsAbsence result) }
 {
     match file_asked(words) {
         Some(name) => work_on_file(alloc, name, files, out),
@@ -54,55 +54,28 @@ fn work_on_file<F: Files, O: Sink>(alloc: Global, name: &str, files: &mut F, out
     ensures command { IsCommand result → ⊥ }
     ensures file_fault { HasCause (F.faults files.old) (F.faults files.new) (result ≡ Answer.FileFault) }
     ensures write_fault { HasCause (O.faults out.old) (O.faults out.new) (result ≡ Answer.WriteFault) }
-    ensures missing { HasCause (F.absences files.old) (F.absences files.new) (IsMissing result) }
+    ensures absence { HasCause (F.absences files.old) (F.absences files.new) (IsAbsence result) }
 {
-    let mut source = Vec::new(alloc);
-    match files.read(name, LONGEST, &mut source) {
-        Ok(()) => work_on_source(alloc, name, &source, out),
-        Err(Look::NotThere) => missing(alloc, name),
-        Err(Look::Failed) => Answer::FileFault,
-        Err(Look::NoMemory) => Answer::NoMemory,
+    match source_tokens(alloc, name, files) {
+        Ok(tokens) => work_on_tokens(alloc, name, &tokens, out),
+        Err(answer) => answer,
     }
 }
 
-// Does what the source asks for.
-fn work_on_source<O: Sink>(alloc: Global, name: &str, source: &[u8], out: &mut O) -> Answer
-    ensures done { (held : FileMap) (left : List ℕ) → Does (IsSourceJob name.now source.now held left) result (O.held out.old) (O.held out.new) }
+// Does what the tokens of the file ask for.
+fn work_on_tokens<O: Sink>(alloc: Global, name: &str, tokens: &[Token], out: &mut O) -> Answer
+    ensures done { (held : FileMap) (left : List ℕ) → Does (IsTokensJob name.now tokens.now held left) result (O.held out.old) (O.held out.new) }
     ensures refused { IsRefusal result → O.held out.new ≡ O.held out.old }
     ensures cause { HasCause (O.faults out.old) (O.faults out.new) (result ≡ Answer.WriteFault) }
-    ensures others { IsOfSource result }
+    ensures others { IsOfTokens result }
 {
-    match program(alloc, source) {
+    match program(alloc, tokens) {
         Ok(Some(tree)) => match run_program(alloc, &tree, out) {
             Ok(()) => Answer::Ran(Ending::Done),
             Err(Fault::Failed) => Answer::WriteFault,
             Err(Fault::NoMemory) => Answer::NoMemory,
         },
-        Ok(None) => refuse(alloc, name),
-        Err(_) => Answer::NoMemory,
-    }
-}
-
-// The answer that the file of this name is not there.
-fn missing(alloc: Global, name: &str) -> Answer
-    ensures { (result ≡ Missing name.now) ⊎ (result ≡ Answer.NoMemory) }
-{
-    match Bytes::from_slice(alloc, name.as_bytes()) {
-        Ok(name) => Answer::Missing(name),
-        Err(_) => Answer::NoMemory,
-    }
-}
-
-// The answer that the file of this name is refused.
-fn refuse(alloc: Global, name: &str) -> Answer
-    ensures { (result ≡ Refused name.now 0 S4) ⊎ (result ≡ Answer.NoMemory) }
-{
-    match Bytes::from_slice(alloc, name.as_bytes()) {
-        Ok(file) => Answer::Refused {
-            file,
-            line: 0,
-            rule: Rule::S4,
-        },
+        Ok(None) => refused(alloc, name.as_bytes(), 0, Rule::S4),
         Err(_) => Answer::NoMemory,
     }
 }

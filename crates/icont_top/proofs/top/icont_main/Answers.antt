@@ -1,7 +1,7 @@
 use Rattle.std.proofs.Common.{[], map, string_bytes, refl}
 use Rattle.icont_top.specs.Words.{file_asked}
 use Rattle.icont_top.proofs.Working.{if_some}
-use Rattle.icont_top.proofs.Composing.{at_some, completes, leaves, runs, command_of, refused_of, line_put}
+use Rattle.icont_top.proofs.Composing.{at_some, completes, leaves, runs, command_of, refused_of, line_put, absence_of}
 use Rattle.icont_top.proofs.top.icont_main.Goals as goal
 
 pub returns-clause-completeness : goal.returns-clause-completeness
@@ -19,8 +19,8 @@ returns-clause-leaves g c =
     leaves held bytes files left c.work-answer.ensures.files refl (at_some _ files held e c.work-answer.ensures.done bytes) c.report.ensures.line))
 
 pub returns-clause-headline : goal.returns-clause-headline
-returns-clause-headline g c = λ name source program asked holds is.
-    runs holds.0 [] name source program asked holds.2 is (at_some _ (g.F.Files.held c.args.files.now) holds.0 holds.1 c.work-answer.ensures.done []) c.report.ensures.line
+returns-clause-headline g c = λ name tokens program asked gives is.
+    runs gives.0 [] name tokens program asked gives.2 is (at_some _ (g.F.Files.held c.args.files.now) gives.0 gives.1 c.work-answer.ensures.done []) c.report.ensures.line
 
 pub returns-clause-command : goal.returns-clause-command
 returns-clause-command g c = command_of (file_asked (map string_bytes c.args.words.now)) c.report.ensures.line c.work-answer.ensures.command
@@ -30,3 +30,6 @@ returns-clause-refused g c = refused_of c.report.ensures.line c.work-answer.ensu
 
 pub returns-clause-line : goal.returns-clause-line
 returns-clause-line g c = line_put c.report.ensures.line
+
+pub returns-clause-absence : goal.returns-clause-absence
+returns-clause-absence g c = absence_of _ _ c.report.ensures.line c.work-answer.ensures.absence

@@ -1,6 +1,6 @@
 use Rattle.std.proofs.Common.{refl, sym, inl}
 use Rattle.icont_top.specs.declared.answer.Answer.TheVariants.{Command}
-use Rattle.icont_top.specs.Jobs.{wrong_words}
+use Rattle.icont_top.specs.Job.{wrong_words}
 use Rattle.icont_top.proofs.Working.{if_some, if_some_weaker, words_do, refuses}
 use Rattle.icont_top.proofs.work.work.Goals as goal
 

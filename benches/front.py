@@ -1,0 +1,88 @@
+#!/usr/bin/env python3
+"""Times the built icont on large sources: from the bytes of a file to its refusal or its run.
+
+It builds by make, writes its sources into a folder of its own, and prints for each the rate and the peak of
+memory. It needs Python 3 and nothing else, and stands outside the gate.
+"""
+import os
+import subprocess
+import sys
+import tempfile
+import time
+
+TOP = os.path.dirname(os.path.dirname(os.path.abspath(__file__)))
+ICONT = os.path.join(TOP, "bin", "icont")
+MIB = 1 << 20
+
+
+def filled(head, line, tail, size):
+    """A source of about so many bytes, with one line again and again."""
+    count = (size - len(head) - len(tail)) // len(line)
+    return head + line * count + tail
+
+
+def ordinary(size):
+    return filled(b"procedure main()\n", b'  write("hello, world", 42, 16rFF)  # says it\n', b"end\n", size)
+
+
+def tokens(size):
+    return filled(b"procedure main()\n", b"x := y + 10 * f(a, b, c) || s[i:j] & not z\n", b"end\n", size)
+
+
+def comments(size):
+    return filled(b"", b"# " + b"a long comment " * 200 + b"\n", b"procedure main()\nend\n", size)
+
+
+def one_line(size):
+    return filled(b"procedure main();write(1", b",2", b");end", size)
+
+
+def defines(size):
+    head = b"".join(b"$define N%d %d\n" % (i, i) for i in range(10000))
+    return filled(head + b"procedure main()\n", b"  write(N17, N9999, N123, N4567, other)\n", b"end\n", size)
+
+
+def empty_lines(size):
+    return filled(b"", b"\n", b"", size)
+
+
+def junk(size):
+    return b"\xa5" * size
+
+
+SOURCES = [ordinary, tokens, comments, one_line, defines, empty_lines, junk]
+
+
+def timed(folder, make, size):
+    """The seconds and the peak of memory, in bytes, of icont on a source."""
+    path = os.path.join(folder, "f.icn")
+    source = make(size)
+    with open(path, "wb") as file:
+        file.write(source)
+    begun = time.monotonic()
+    pid = os.fork()
+    if pid == 0:
+        null = os.open(os.devnull, os.O_WRONLY)
+        os.dup2(null, 1)
+        os.dup2(null, 2)
+        os.chdir(folder)
+        os.execv(ICONT, ["icont", "f.icn", "-x"])
+    _, status, usage = os.wait4(pid, 0)
+    seconds = time.monotonic() - begun
+    return len(source), seconds, usage.ru_maxrss * 1024, os.waitstatus_to_exitcode(status)
+
+
+def main():
+    subprocess.run(["make", "-s", "-C", TOP, "bin/icont"], check=True)
+    sizes = [int(word) for word in sys.argv[1:]] or [1, 2, 4, 8, 16]
+    print(f"{'source':12} {'MiB':>4} {'seconds':>8} {'MB/s':>7} {'memory':>7} status")
+    with tempfile.TemporaryDirectory() as folder:
+        for make in SOURCES:
+            for size in sizes:
+                length, seconds, peak, status = timed(folder, make, size * MIB)
+                rate = length / 1e6 / seconds
+                print(f"{make.__name__:12} {size:4} {seconds:8.2f} {rate:7.1f} {peak / length:6.1f}x {status}")
+
+
+if __name__ == "__main__":
+    main()

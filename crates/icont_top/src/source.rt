@@ -1,0 +1,89 @@
+// The tokens of a named file.
+ghost use Rattle.std.specs.Prelude.{◌≡◌, ◌⊎◌, IfSome, IfErr, IsErrOf};
+ghost use Rattle.icn_host.specs.Counts.{HasCause};
+ghost use Rattle.icn_tree.specs.Tokens.{tokens_of};
+ghost use Rattle.icont_top.specs.declared.answer.Answer.TheVariants.{Refused, Missing};
+ghost use Rattle.icont_top.specs.Sources.{name_at, tokens_read, fault_answer, source_read, IsRead, IsErrOfAbsence, IsOfRead};
+
+use crate::answer::Answer;
+use icn_host::Files;
+use icn_lex::{LexFault, tokens};
+use icn_prep::{PrepFault, preprocess};
+use icn_tree::{Bytes, Lines, Rule, Token};
+use std::alloc::{AllocError, Global};
+
+/// The tokens of the file of this name, or the answer where it has none.
+pub fn source_tokens<F: Files>(
+    alloc: Global,
+    name: &str,
+    files: &mut F,
+) -> Result<Vec<Token>, Answer>
+    ensures read { IfSome (F.held files.old) (λ held. IsRead (source_read held name.now) result) }
+    ensures others { IfErr result IsOfRead }
+    ensures files { F.held files.new ≡ F.held files.old }
+    ensures file_fault { HasCause (F.faults files.old) (F.faults files.new) (IsErrOf result Answer.FileFault) }
+    ensures absence { HasCause (F.absences files.old) (F.absences files.new) (IsErrOfAbsence result) }
+{
+    match preprocess(alloc, name, files) {
+        Ok(lines) => line_tokens(alloc, &lines),
+        Err(fault) => Err(fault_answer(alloc, name, fault)),
+    }
+}
+
+// The tokens of the lines, or the answer where they break a rule.
+fn line_tokens(alloc: Global, lines: &Lines) -> Result<Vec<Token>, Answer>
+    ensures read { IsRead (tokens_read lines.now.names.items (tokens_of lines.now.lines.items)) result }
+    ensures others { IfErr result IsOfRead }
+    ensures absence { IsErrOfAbsence result → ⊥ }
+    ensures file_fault { IsErrOf result Answer.FileFault → ⊥ }
+{
+    match tokens(alloc, lines) {
+        Ok(tokens) => Ok(tokens),
+        Err(LexFault::Broken { rule, file, line }) => {
+            Err(refused(alloc, name_at(&lines.names, file), line, rule))
+        }
+        Err(LexFault::NoMemory) => Err(Answer::NoMemory),
+    }
+}
+
+// The answer where the file of this name gives no lines.
+fn fault_answer(alloc: Global, name: &str, fault: PrepFault) -> Answer
+    ensures { (result ≡ fault_answer name.now fault) ⊎ (result ≡ Answer.NoMemory) }
+{
+    match fault {
+        PrepFault::Missing => missing(alloc, name),
+        PrepFault::Broken { rule, file, line } => Answer::Refused { file, line, rule },
+        PrepFault::FileFault => Answer::FileFault,
+        PrepFault::NoMemory => Answer::NoMemory,
+    }
+}
+
+// The name of a file by its place among the names.
+fn name_at(names: &[Bytes], file: u32) -> &[u8]
+    ensures { result.now ≡ name_at names.now file }
+{
+    match names.get(file as usize) {
+        Some(name) => name.as_slice(),
+        None => &[],
+    }
+}
+
+// The answer that the file of this name is not there.
+fn missing(alloc: Global, name: &str) -> Answer
+    ensures { (result ≡ Missing name.now) ⊎ (result ≡ Answer.NoMemory) }
+{
+    match Bytes::from_slice(alloc, name.as_bytes()) {
+        Ok(name) => Answer::Missing(name),
+        Err(_) => Answer::NoMemory,
+    }
+}
+
+/// The answer that a rule refuses the file of this name at this line.
+pub fn refused(alloc: Global, name: &[u8], line: u32, rule: Rule) -> Answer
+    ensures { (result ≡ Refused name.now line rule) ⊎ (result ≡ Answer.NoMemory) }
+{
+    match Bytes::from_slice(alloc, name) {
+        Ok(file) => Answer::Refused { file, line, rule },
+        Err(_) => Answer::NoMemory,
+    }
+}
