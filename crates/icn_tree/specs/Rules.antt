@@ -1,7 +1,7 @@
 -- What each rule says.
 use Rattle.std.specs.Prelude.{ℕ, List, codes}
 use Rattle.icn_tree.specs.declared.rule.Rule.{Rule}
-use Rattle.icn_tree.specs.declared.rule.Rule.TheVariants.{P1, P2, P3, P4, P5, P6, P7, P8, P9, L1, L2, L3, L4, L5, L6, L7, S4}
+use Rattle.icn_tree.specs.declared.rule.Rule.TheVariants.{P1, P2, P3, P4, P5, P6, P7, P8, P9, L1, L2, L3, L4, L5, L6, L7, S1, S2, S3, S4, C1, C2, C3, C4, C5, C6, C7, C8, U1, U2, U3, U4, U5, U6, U7, U8}
 
 abbrev pub rule_text : Rule → List ℕ
 rule_text P1 = codes "P1 unknown directive"
@@ -20,4 +20,23 @@ rule_text L4 = codes "L4 integer too large"
 rule_text L5 = codes "L5 bad radix or digit"
 rule_text L6 = codes "L6 real literal"
 rule_text L7 = codes "L7 literal or name over 65535 bytes"
+rule_text S1 = codes "S1 not a program"
+rule_text S2 = codes "S2 tree higher than 2000"
+rule_text S3 = codes "S3 unknown keyword"
 rule_text S4 = codes "S4 form not in this profile"
+rule_text C1 = codes "C1 name declared twice in a procedure"
+rule_text C2 = codes "C2 break outside a loop"
+rule_text C3 = codes "C3 next outside a loop"
+rule_text C4 = codes "C4 not allowed in create"
+rule_text C5 = codes "C5 two default clauses"
+rule_text C6 = codes "C6 field declared twice"
+rule_text C7 = codes "C7 too many names or fields"
+rule_text C8 = codes "C8 procedure or record declared twice"
+rule_text U1 = codes "U1"
+rule_text U2 = codes "U2"
+rule_text U3 = codes "U3"
+rule_text U4 = codes "U4"
+rule_text U5 = codes "U5"
+rule_text U6 = codes "U6"
+rule_text U7 = codes "U7"
+rule_text U8 = codes "U8"

@@ -27,6 +27,14 @@ impl ByteSet {
         Ok(ByteSet { members })
     }
 
+    /// A copy of this set. An error is want of memory.
+    pub fn copy(&self, alloc: Global) -> Result<Self, AllocError>
+        ensures { IfOk result (λ set. set ≡ self.now) }
+    {
+        let members = Vec::from_slice(alloc, &self.members)?;
+        Ok(ByteSet { members })
+    }
+
     /// The members in ascending order.
     pub fn as_slice(&self) -> &[u8]
         ensures { result.now ≡ self.now }

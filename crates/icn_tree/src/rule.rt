@@ -1,7 +1,7 @@
-// The rules that can refuse a program text.
+// The rules that can refuse a program text or a unit of code.
 ghost use Rattle.std.specs.Prelude.{◌≡◌};
 
-/// A rule that refuses a program text. Its name is the code that a refusal prints.
+/// A rule that refuses a program text or a unit of code. Its name is the code that a refusal prints.
 #[derive(Clone, Copy, Debug, PartialEq, Eq)]
 pub enum Rule {
     /// A directive has no name, or one that is none.
@@ -36,8 +36,46 @@ pub enum Rule {
     L6,
     /// A literal or a name is too long.
     L7,
+    /// The tokens are no program.
+    S1,
+    /// A procedure's tree is too high.
+    S2,
+    /// A keyword is unknown.
+    S3,
     /// The text has a form that is not in this profile.
     S4,
+    /// A name is declared twice in a procedure.
+    C1,
+    /// A `break` stands outside a loop.
+    C2,
+    /// A `next` stands outside a loop, or in the control expression of `every`.
+    C3,
+    /// A `return`, `fail` or `suspend` stands in a `create`, or a `break` or `next` with no loop in between.
+    C4,
+    /// A `case` has a second `default` clause.
+    C5,
+    /// A field of a record is declared twice.
+    C6,
+    /// A procedure has too many names, or a record too many fields.
+    C7,
+    /// A procedure or record is declared twice.
+    C8,
+    /// A line of ucode is none of the grammar.
+    U1,
+    /// An instruction of ucode is unknown.
+    U2,
+    /// An operand of ucode is wrong.
+    U3,
+    /// A label of ucode is not defined.
+    U4,
+    /// A label of ucode is defined twice.
+    U5,
+    /// An `end` of ucode is missing.
+    U6,
+    /// The two files of a unit name different procedures.
+    U7,
+    /// A file of ucode is too long.
+    U8,
 }
 
 impl Rule {
@@ -64,7 +102,26 @@ impl Rule {
             Rule::L5 => b"L5 bad radix or digit",
             Rule::L6 => b"L6 real literal",
             Rule::L7 => b"L7 literal or name over 65535 bytes",
+            Rule::S1 => b"S1 not a program",
+            Rule::S2 => b"S2 tree higher than 2000",
+            Rule::S3 => b"S3 unknown keyword",
             Rule::S4 => b"S4 form not in this profile",
+            Rule::C1 => b"C1 name declared twice in a procedure",
+            Rule::C2 => b"C2 break outside a loop",
+            Rule::C3 => b"C3 next outside a loop",
+            Rule::C4 => b"C4 not allowed in create",
+            Rule::C5 => b"C5 two default clauses",
+            Rule::C6 => b"C6 field declared twice",
+            Rule::C7 => b"C7 too many names or fields",
+            Rule::C8 => b"C8 procedure or record declared twice",
+            Rule::U1 => b"U1",
+            Rule::U2 => b"U2",
+            Rule::U3 => b"U3",
+            Rule::U4 => b"U4",
+            Rule::U5 => b"U5",
+            Rule::U6 => b"U6",
+            Rule::U7 => b"U7",
+            Rule::U8 => b"U8",
         }
     }
 }
