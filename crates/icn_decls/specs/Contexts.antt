@@ -1,0 +1,61 @@
+-- What stands round a place of a procedure.
+use Rattle.std.specs.Prelude.{Bool, true, false, List, [], ◌∷◌, if◌then◌else◌}
+use Rattle.icn_tree.specs.declared.rule.Rule.TheVariants.{C2, C3, C4}
+use Rattle.icn_tree.specs.declared.rule.Rule.{Rule}
+use Rattle.icn_tree.specs.declared.tree.Place.{Place}
+
+-- A rule that is broken at a place.
+pub record Fault : Type 0 where
+  pub rule : Rule
+  pub place : Place
+
+-- Whether a place stands in a `create`, and the loops round it up to that `create` or the procedure, the innermost first:
+-- each by whether `next` may stand there.
+pub record Context : Type 0 where
+  pub in_create : Bool
+  pub loops : List Bool
+
+-- in a procedure, outside its loops
+abbrev pub outermost : Context
+outermost = record { in_create = false; loops = [] }
+
+-- what a co-expression evaluates
+abbrev pub created : Context
+created = record { in_create = true; loops = [] }
+
+-- in one more loop, where `next` may stand or not
+abbrev pub looped : Bool → Context → Context
+looped next context = record { in_create = context.in_create; loops = next ∷ context.loops }
+
+abbrev pub others : List Bool → List Bool
+others [] = []
+others (loop ∷ loops) = loops
+
+-- outside the innermost loop
+abbrev pub left : Context → Context
+left context = record { in_create = context.in_create; loops = others context.loops }
+
+abbrev pub fault : Rule → Place → List Fault
+fault rule place = record { rule = rule; place = place } ∷ []
+
+-- `return`, `fail` and `suspend`
+abbrev pub result_faults : Context → Place → List Fault
+result_faults context place = if context.in_create then fault C4 place else []
+
+-- a word of loops with no loop to belong to
+abbrev pub loopless : Bool → Rule → Place → List Fault
+loopless in_create rule place = if in_create then fault C4 place else fault rule place
+
+abbrev pub break_by : Bool → List Bool → Place → List Fault
+break_by in_create [] place = loopless in_create C2 place
+break_by in_create (loop ∷ loops) place = []
+
+abbrev pub break_faults : Context → Place → List Fault
+break_faults context place = break_by context.in_create context.loops place
+
+abbrev pub next_by : Bool → List Bool → Place → List Fault
+next_by in_create [] place = loopless in_create C3 place
+next_by in_create (next ∷ loops) place = if next then [] else fault C3 place
+
+abbrev pub next_faults : Context → Place → List Fault
+next_faults context place = next_by context.in_create context.loops place
