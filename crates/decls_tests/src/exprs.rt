@@ -14,8 +14,7 @@ use std::test::Fail;
 const KEPT: [&[u8]; 26] = [
     b".", b".r", b"x", b".s", b"..S", b".bp", b"np", b".bw", b"nw", b"..bu", b"n.u", b".nv",
     b".b.v", b"nw.v", b".bbpp", b".bpc", b"npc", b".bpk", b"..+", b"..d", b".bnd.+p", b".c.r+",
-    b".rx+", b"..d..d+", b"...dd",
-    b"nb.vp",
+    b".rx+", b"..d..d+", b"...dd", b"nb.vp",
 ];
 
 // Expressions that break one: the rule and the line.
