@@ -1,1 +1,11 @@
+pub mod Decimals
+pub mod DeclLines
+pub mod FieldWords
 pub mod Meanings
+pub mod ProcLines
+pub mod SpelledDecls
+pub mod SpelledLines
+pub mod SpelledUnits
+pub mod Spelling
+pub mod TextLines
+pub mod Writing

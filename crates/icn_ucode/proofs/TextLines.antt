@@ -1,0 +1,80 @@
+-- A text line by line.
+use Rattle.std.proofs.Common.{◌==◌, ◌≡◌, ℕ, ◌+◌, ◌<◌, suc, Bool, true, false, cond, List, [], ◌∷◌, ◌++◌, length, take, drop, Option, None, Some, Result, Ok, Err, refl, sym, ◌∙◌, ap, arith, append_assoc, append-nil, length-drop}
+use Rattle.std.specs.List.{prefix_len}
+use Rattle.std.proofs.lemmas.Bool.{cond-false, eqb-true}
+use Rattle.icn_tree.specs.declared.rule.Rule.{Rule}
+use Rattle.icn_tree.specs.declared.rule.Rule.TheVariants.{U1}
+use Rattle.icn_tree.specs.Numbers.{is_nothing}
+use Rattle.icn_ucode.specs.UnitOperands.{behind}
+use Rattle.icn_ucode.specs.UnitReading.{then_step, each_line}
+use Rattle.icn_ucode.specs.UnitViews.{is_in_line}
+
+abbrev pub line_len : List ℕ → ℕ
+line_len text = prefix_len is_in_line text
+
+line_len_at : (b : ℕ) (text : List ℕ) → (b == 10) ≡ true → line_len (b ∷ text) ≡ 0
+line_len_at b text e = ap (λ test. cond (cond test false true) (1 + line_len text) 0) e
+
+line_len_in : (b : ℕ) (text : List ℕ) → (b == 10) ≡ false → line_len (b ∷ text) ≡ suc (line_len text)
+line_len_in b text e = let more : 1 + line_len text ≡ suc (line_len text) = omega arith in ap (λ test. cond (cond test false true) (1 + line_len text) 0) e ∙ more
+
+some_same : (a b : List ℕ) → ◌≡◌ {A = Option (List ℕ)} (Some a) (Some b) → a ≡ b
+some_same a b e = cc
+
+-- a line that ends
+line_from : {S : Type 0} (step : S → List ℕ → Result S Rule) (state : S) (line text rest : List ℕ) → behind (drop (line_len text) text) ≡ Some rest
+    → each_line step state line text ≡ then_step (step state (line ++ take (line_len text) text)) (λ next. each_line step next [] rest)
+line_from step state line [] rest e = absurd (cc)
+line_from step state line (b ∷ text) rest e = by_end (b == 10) refl (line_from step state (line ++ b ∷ []) text rest) where
+  by_end : (test : Bool) → (b == 10) ≡ test
+      → (behind (drop (line_len text) text) ≡ Some rest → each_line step state (line ++ b ∷ []) text ≡ then_step (step state ((line ++ b ∷ []) ++ take (line_len text) text)) (λ next. each_line step next [] rest))
+      → cond test (then_step (step state line) (λ next. each_line step next [] text)) (each_line step state (line ++ b ∷ []) text) ≡ then_step (step state (line ++ take (line_len (b ∷ text)) (b ∷ text))) (λ next. each_line step next [] rest)
+  by_end true t more =
+      let none = line_len_at b text t in
+      let same : text ≡ rest = some_same text rest (sym (ap (λ n. behind (drop n (b ∷ text))) none) ∙ e) in
+      ap (λ r. then_step (step state line) (λ next. each_line step next [] r)) same
+      ∙ ap (λ l. then_step (step state l) (λ next. each_line step next [] rest)) (sym (append-nil line) ∙ ap (λ n. line ++ take n (b ∷ text)) (sym none))
+  by_end false t more =
+      let one = line_len_in b text t in
+      more (sym (ap (λ n. behind (drop n (b ∷ text))) one) ∙ e)
+      ∙ ap (λ l. then_step (step state l) (λ next. each_line step next [] rest)) (append_assoc line (b ∷ []) (take (line_len text) text) ∙ ap (λ n. line ++ take n (b ∷ text)) (sym one))
+
+-- one that does not
+unended_from : {S : Type 0} (step : S → List ℕ → Result S Rule) (state : S) (line text : List ℕ) → behind (drop (line_len text) text) ≡ None → is_nothing (line ++ text) ≡ false → each_line step state line text ≡ Err U1
+unended_from step state line [] e h = cond-false (is_nothing line) _ _ (ap is_nothing (sym (append-nil line)) ∙ h)
+unended_from step state line (b ∷ text) e h = by_end (b == 10) refl (unended_from step state (line ++ b ∷ []) text) where
+  by_end : (test : Bool) → (b == 10) ≡ test → (behind (drop (line_len text) text) ≡ None → is_nothing ((line ++ b ∷ []) ++ text) ≡ false → each_line step state (line ++ b ∷ []) text ≡ Err U1)
+      → cond test (then_step (step state line) (λ next. each_line step next [] text)) (each_line step state (line ++ b ∷ []) text) ≡ Err U1
+  by_end true t more = absurd (some_none (sym (ap (λ n. behind (drop n (b ∷ text))) (line_len_at b text t)) ∙ e)) where
+    some_none : ◌≡◌ {A = Option (List ℕ)} (Some text) None → ⊥
+    some_none e = cc
+  by_end false t more = more (sym (ap (λ n. behind (drop n (b ∷ text))) (line_len_in b text t)) ∙ e) (ap is_nothing (append_assoc line (b ∷ []) text) ∙ h)
+
+pub line_at : {S : Type 0} (step : S → List ℕ → Result S Rule) (state : S) (text line rest : List ℕ) → line ≡ take (line_len text) text → Some rest ≡ behind (drop (line_len text) text)
+    → each_line step state [] text ≡ then_step (step state line) (λ next. each_line step next [] rest)
+line_at step state text line rest is e = line_from step state [] text rest (sym e) ∙ ap (λ l. then_step (step state l) (λ next. each_line step next [] rest)) (sym is)
+
+some_bytes : (text : List ℕ) → 0 < length text → is_nothing text ≡ false
+some_bytes [] h = absurd (omega arith)
+some_bytes (b ∷ text) h = refl
+
+pub unended_at : {S : Type 0} (step : S → List ℕ → Result S Rule) (state : S) (text : List ℕ) → None ≡ behind (drop (line_len text) text) → 0 < length text → each_line step state [] text ≡ Err U1
+unended_at step state text e h = unended_from step state [] text (sym e) (some_bytes text h)
+
+pub ended : {S : Type 0} (step : S → List ℕ → Result S Rule) (state : S) (text : List ℕ) → length text ≡ 0 → each_line step state [] text ≡ Ok state
+ended step state [] h = refl
+ended step state (b ∷ text) h = absurd (omega arith)
+
+behind_shorter : (text rest : List ℕ) → Some rest ≡ behind text → length rest < length text
+behind_shorter [] rest e = absurd (cc)
+behind_shorter (b ∷ text) rest e = let same : rest ≡ text = some_same rest text e in omega (arith, ap length same)
+
+pub shorter : (text rest : List ℕ) (n : ℕ) → Some rest ≡ behind (drop n text) → length rest < length text
+shorter text rest n e = omega (arith, behind_shorter (drop n text) rest e, length-drop n text)
+
+pub some_left : (test : Bool) (text : List ℕ) → test ≡ (length text == 0) → test ≡ false → 0 < length text
+some_left test [] e h = absurd (cc)
+some_left test (b ∷ text) e h = omega arith
+
+pub none_left : (test : Bool) (text : List ℕ) → test ≡ (length text == 0) → test ≡ true → length text ≡ 0
+none_left test text e h = eqb-true (length text) 0 (sym e ∙ h)

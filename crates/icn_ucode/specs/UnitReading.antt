@@ -1,0 +1,362 @@
+-- What the two texts of a unit are, line by line: its procedures and its declarations, or the rule of the first fault.
+use Rattle.std.specs.Prelude.{◌==◌, ℕ, ◌-◌, pos, Bool, true, false, ◌&&◌, ◌||◌, not, map, nat_le, nat_lt, List, [], ◌∷◌, ◌++◌, length, slice_get, codes, count_by, Option, Some, None, Result, Ok, Err, if◌then◌else◌}
+use Rattle.std.specs.List.{list_all, list_any, flat_map}
+use Rattle.std.specs.Option.{option_map, option_and_then, option_map_or}
+use Rattle.std.specs.Str.{bytes_eq}
+use Rattle.icn_tree.specs.declared.rule.Rule.{Rule}
+use Rattle.icn_tree.specs.declared.rule.Rule.TheVariants.{U1, U2, U3, U4, U5, U6, U7}
+use Rattle.icn_tree.specs.ByteSets.{members_of}
+use Rattle.icn_tree.specs.Numbers.{is_nothing}
+use Rattle.icn_ucode.specs.declared.instr_word.InstrWord.{InstrWord}
+use Rattle.icn_ucode.specs.declared.instr_word.InstrWord.TheVariants.{Int as WordInt, Str as WordStr, Cset as WordCset, Var as WordVar, Keywd as WordKeywd, Op as WordOp, Field as WordField, Llist as WordLlist, Invoke as WordInvoke}
+use Rattle.icn_ucode.specs.declared.unit.UnitInstr.{UnitInstr}
+use Rattle.icn_ucode.specs.declared.unit.UnitInstr.TheVariants.{Int, Str, Cset, Var, Keywd, Op, Field, Llist, Invoke, Mark, Chfail, Goto, Loop, Init, Create, Lab}
+use Rattle.icn_ucode.specs.declared.unit.NameKind.{NameKind}
+use Rattle.icn_ucode.specs.declared.unit.NameKind.TheVariants.{Parameter, Local, Static, Undeclared}
+use Rattle.icn_ucode.specs.declared.unit.UnitName.{UnitName}
+use Rattle.icn_ucode.specs.InstrWords.{instr_word_of, alone_of, labelled_of}
+use Rattle.icn_ucode.specs.UnitOperands.{cut, number_of, label_of, is_name, bytes_of, ascends, keyword_of, op_of}
+
+-- Steps
+
+abbrev pub then_step : {S T : Type 0} → Result S Rule → (S → Result T Rule) → Result T Rule
+then_step (Ok state) more = more state
+then_step (Err rule) more = Err rule
+
+-- a text line by line, with the bytes of the line that is begun: what does not end in a newline is no line
+abbrev pub each_line : {S : Type 0} → (S → List ℕ → Result S Rule) → S → List ℕ → List ℕ → Result S Rule
+each_line step state line [] = if is_nothing line then Ok state else Err U1
+each_line step state line (b ∷ rest) = if b == 10 then then_step (step state line) (λ next. each_line step next [] rest) else each_line step state (line ++ b ∷ []) rest
+
+-- a step where there is a value, or a bad operand
+abbrev pub or_bad : {A B : Type 0} → Option A → (A → Result B Rule) → Result B Rule
+or_bad None more = Err U3
+or_bad (Some value) more = more value
+
+-- Instructions
+
+-- the instruction of a word before an operand, in a procedure of so many names
+abbrev pub operand_instr : InstrWord → List ℕ → ℕ → Option UnitInstr
+operand_instr WordInt text names = option_map (λ n. Int (pos n)) (number_of 9223372036854775807 text)
+operand_instr WordStr text names = option_map (λ bytes. Str bytes) (bytes_of text)
+operand_instr WordCset text names = option_and_then (λ bytes. if ascends bytes then Some (Cset (members_of bytes)) else None) (bytes_of text)
+operand_instr WordVar text names = option_and_then (λ n. if nat_lt n names then Some (Var n) else None) (number_of 4294967295 text)
+operand_instr WordKeywd text names = option_map (λ keyword. Keywd keyword) (keyword_of text)
+operand_instr WordOp text names = option_and_then (λ n. option_map (λ op. Op op) (op_of n)) (number_of 4294967295 text)
+operand_instr WordField text names = if is_name text then Some (Field text) else None
+operand_instr WordLlist text names = option_map (λ n. Llist n) (number_of 4294967295 text)
+operand_instr WordInvoke text names = option_map (λ n. Invoke n) (number_of 4294967295 text)
+operand_instr word text names = option_and_then (λ label. labelled_of word label) (label_of text)
+
+abbrev pub instr_of : InstrWord → Option (List ℕ) → ℕ → Option UnitInstr
+instr_of word None names = alone_of word
+instr_of word (Some text) names = operand_instr word text names
+
+-- whether an instruction is the place of a label
+abbrev pub places : ℕ → UnitInstr → Bool
+places label (Lab other) = other == label
+places label _ = false
+
+abbrev pub is_placed : List UnitInstr → ℕ → Bool
+is_placed instrs label = list_any (λ instr. places label instr) instrs
+
+-- the label that an instruction goes to
+abbrev pub label_in : UnitInstr → Option ℕ
+label_in (Mark label) = Some label
+label_in (Chfail label) = Some label
+label_in (Goto label) = Some label
+label_in (Loop label) = Some label
+label_in (Init label) = Some label
+label_in (Create label) = Some label
+label_in _ = None
+
+abbrev pub label_placed : List UnitInstr → UnitInstr → Bool
+label_placed instrs instr = option_map_or (λ label. is_placed instrs label) (label_in instr) true
+
+abbrev pub labels_placed : List UnitInstr → Bool
+labels_placed instrs = list_all (λ instr. label_placed instrs instr) instrs
+
+-- the place of a label that has one
+abbrev pub place_of : UnitInstr → Option ℕ
+place_of (Lab label) = Some label
+place_of _ = None
+
+abbrev pub is_repeated : List UnitInstr → UnitInstr → Bool
+is_repeated instrs instr = option_map_or (λ label. is_placed instrs label) (place_of instr) false
+
+-- Procedures
+
+pub record Proc : Type 0 where
+  pub name : List ℕ
+  pub collects : Bool
+  pub names : List UnitName
+  pub instrs : List UnitInstr
+
+pub record Head : Type 0 where
+  pub name : List ℕ
+  pub params : ℕ
+  pub collects : Bool
+
+abbrev pub flag_of : List ℕ → Option Bool
+flag_of text = if bytes_eq text (codes "0") then Some false else (if bytes_eq text (codes "1") then Some true else None)
+
+-- a last parameter collects only where there is one
+abbrev pub head_by : List ℕ → ℕ → Bool → Option Head
+head_by name params collects = if is_name name && (not collects || nat_lt 0 params) then Some (record { name = name; params = params; collects = collects }) else None
+
+abbrev pub collects_read : List ℕ → List ℕ → Option (List ℕ) → Option Head
+collects_read name params None = None
+collects_read name params (Some collects) = option_and_then (λ p. option_and_then (λ c. head_by name p c) (flag_of collects)) (number_of 4294967295 params)
+
+abbrev pub params_read : List ℕ → Option (List ℕ) → Option Head
+params_read name None = None
+params_read name (Some text) = let words = cut text in collects_read name words.0 words.1
+
+-- `NAME P C`
+abbrev pub head_read : Option (List ℕ) → Option Head
+head_read None = None
+head_read (Some text) = let words = cut text in params_read words.0 words.1
+
+abbrev pub kind_of : List ℕ → Option NameKind
+kind_of (b ∷ []) = if b == 112 then Some Parameter else (if b == 108 then Some Local else (if b == 115 then Some Static else (if b == 117 then Some Undeclared else None)))
+kind_of _ = None
+
+-- parameters come first, then locals and statics, then undeclared names
+abbrev pub rank : NameKind → ℕ
+rank Parameter = 0
+rank Local = 1
+rank Static = 1
+rank Undeclared = 2
+
+abbrev pub last_rank : List UnitName → ℕ
+last_rank names = option_map_or (λ name. rank name.kind) (slice_get names (length names - 1)) 0
+
+abbrev pub has_name : List (List ℕ) → List ℕ → Bool
+has_name names name = list_any (λ other. bytes_eq name other) names
+
+abbrev pub has_entry : List UnitName → List ℕ → Bool
+has_entry names name = list_any (λ entry. bytes_eq name entry.name) names
+
+abbrev pub entry_by : List UnitName → NameKind → List ℕ → Option UnitName
+entry_by names kind name = if is_name name && nat_le (last_rank names) (rank kind) && not (has_entry names name) then Some (record { kind = kind; name = name }) else None
+
+abbrev pub entry_named : List UnitName → List ℕ → Option (List ℕ) → Option UnitName
+entry_named names kind None = None
+entry_named names kind (Some name) = option_and_then (λ k. entry_by names k name) (kind_of kind)
+
+-- `K NAME`
+abbrev pub entry_read : List UnitName → Option (List ℕ) → Option UnitName
+entry_read names None = None
+entry_read names (Some text) = let words = cut text in entry_named names words.0 words.1
+
+abbrev pub is_parameter : NameKind → Bool
+is_parameter Parameter = true
+is_parameter _ = false
+
+abbrev pub params_in : List UnitName → ℕ
+params_in names = count_by (λ name. is_parameter name.kind) names
+
+-- what the lines so far come to, and what the next may be: the heading, a procedure, a name or an instruction of one
+pub data Stage : Type 0 where
+  Heading : Stage
+  Outside : Stage
+  Naming : ℕ → Proc → Stage
+  Coding : Proc → Stage
+
+pub record ProcsRead : Type 0 where
+  pub procs : List Proc
+  pub stage : Stage
+
+abbrev pub has_proc : List Proc → List ℕ → Bool
+has_proc procs name = list_any (λ proc. bytes_eq name proc.name) procs
+
+abbrev pub begun : Head → Proc
+begun head = record { name = head.name; collects = head.collects; names = []; instrs = [] }
+
+abbrev pub outside_line : List Proc → List ℕ → Option (List ℕ) → Result ProcsRead Rule
+outside_line procs word operand =
+    if bytes_eq word (codes "proc") then or_bad (head_read operand) (λ head. if has_proc procs head.name then Err U3 else Ok (record { procs = procs; stage = Naming head.params (begun head) }))
+    else Err U1
+
+abbrev pub code_line : List Proc → ℕ → Proc → Option (List ℕ) → Result ProcsRead Rule
+code_line procs params proc None = if params_in proc.names == params then Ok (record { procs = procs; stage = Coding proc }) else Err U3
+code_line procs params proc (Some text) = Err U3
+
+abbrev pub with_entry : Proc → UnitName → Proc
+with_entry proc entry = record proc { names = proc.names ++ entry ∷ [] }
+
+abbrev pub naming_line : List Proc → ℕ → Proc → List ℕ → Option (List ℕ) → Result ProcsRead Rule
+naming_line procs params proc word operand =
+    if bytes_eq word (codes "name") then or_bad (entry_read proc.names operand) (λ entry. Ok (record { procs = procs; stage = Naming params (with_entry proc entry) }))
+    else (if bytes_eq word (codes "code") then code_line procs params proc operand else Err U1)
+
+abbrev pub end_line : List Proc → Proc → Option (List ℕ) → Result ProcsRead Rule
+end_line procs proc None = if labels_placed proc.instrs then Ok (record { procs = procs ++ proc ∷ []; stage = Outside }) else Err U4
+end_line procs proc (Some text) = Err U3
+
+abbrev pub with_instr : Proc → UnitInstr → Proc
+with_instr proc instr = record proc { instrs = proc.instrs ++ instr ∷ [] }
+
+abbrev pub instr_line : List Proc → Proc → Option InstrWord → Option (List ℕ) → Result ProcsRead Rule
+instr_line procs proc None operand = Err U2
+instr_line procs proc (Some word) operand =
+    or_bad (instr_of word operand (length proc.names)) (λ instr. if is_repeated proc.instrs instr then Err U5 else Ok (record { procs = procs; stage = Coding (with_instr proc instr) }))
+
+abbrev pub coding_line : List Proc → Proc → List ℕ → Option (List ℕ) → Result ProcsRead Rule
+coding_line procs proc word operand = if bytes_eq word (codes "end") then end_line procs proc operand else instr_line procs proc (instr_word_of word) operand
+
+abbrev pub stage_line : List Proc → Stage → List ℕ → Result ProcsRead Rule
+stage_line procs Heading line = if bytes_eq line (codes "U9.1") then Ok (record { procs = procs; stage = Outside }) else Err U1
+stage_line procs Outside line = let words = cut line in outside_line procs words.0 words.1
+stage_line procs (Naming params proc) line = let words = cut line in naming_line procs params proc words.0 words.1
+stage_line procs (Coding proc) line = let words = cut line in coding_line procs proc words.0 words.1
+
+unfoldable pub procs_line : ProcsRead → List ℕ → Result ProcsRead Rule
+procs_line read line = stage_line read.procs read.stage line
+
+-- what stands at the end of the text
+abbrev pub stage_end : List Proc → Stage → Result (List Proc) Rule
+stage_end procs Heading = Err U1
+stage_end procs Outside = Ok procs
+stage_end procs (Naming params proc) = Err U6
+stage_end procs (Coding proc) = Err U6
+
+abbrev pub procs_end : ProcsRead → Result (List Proc) Rule
+procs_end read = stage_end read.procs read.stage
+
+unfoldable pub procs_of : List ℕ → Result (List Proc) Rule
+procs_of text = then_step (each_line procs_line (record { procs = []; stage = Heading }) [] text) procs_end
+
+-- Declarations
+
+pub data Decl : Type 0 where
+  Global : List ℕ → Decl
+  Procedure : List ℕ → Decl
+  Link : List ℕ → Decl
+  Record : List ℕ → List (List ℕ) → Decl
+
+-- the name of a procedure or a record
+abbrev pub owned_name : Decl → List (List ℕ)
+owned_name (Global name) = []
+owned_name (Procedure name) = name ∷ []
+owned_name (Link bytes) = []
+owned_name (Record name fields) = name ∷ []
+
+abbrev pub is_owned : List Decl → List ℕ → Bool
+is_owned decls name = list_any (λ decl. has_name (owned_name decl) name) decls
+
+-- names with blanks between them, which differ
+abbrev pub with_field : List (List ℕ) → List ℕ → Option (List (List ℕ))
+with_field fields name = if is_name name && not (has_name fields name) then Some (fields ++ name ∷ []) else None
+
+abbrev pub fields_from : List (List ℕ) → List ℕ → List ℕ → Option (List (List ℕ))
+fields_from fields word [] = with_field fields word
+fields_from fields word (b ∷ rest) = if b == 32 then option_and_then (λ more. fields_from more [] rest) (with_field fields word) else fields_from fields (word ++ b ∷ []) rest
+
+abbrev pub fields_read : Option (List ℕ) → Option (List (List ℕ))
+fields_read None = Some []
+fields_read (Some text) = fields_from [] [] text
+
+abbrev pub name_read : Option (List ℕ) → Option (List ℕ)
+name_read None = None
+name_read (Some text) = if is_name text then Some text else None
+
+abbrev pub bytes_read : Option (List ℕ) → Option (List ℕ)
+bytes_read None = None
+bytes_read (Some text) = bytes_of text
+
+abbrev pub record_by : List Decl → List ℕ → Option (List ℕ) → Option Decl
+record_by decls name rest = if is_name name && not (is_owned decls name) then option_map (λ fields. Record name fields) (fields_read rest) else None
+
+-- `NAME` and its fields
+abbrev pub record_read : List Decl → Option (List ℕ) → Option Decl
+record_read decls None = None
+record_read decls (Some text) = let words = cut text in record_by decls words.0 words.1
+
+abbrev pub procedure_read : List Decl → Option (List ℕ) → Option Decl
+procedure_read decls operand = option_and_then (λ name. if is_owned decls name then None else Some (Procedure name)) (name_read operand)
+
+pub data DeclStage : Type 0 where
+  DeclHeading : DeclStage
+  Declaring : DeclStage
+  Ended : DeclStage
+
+pub record DeclsRead : Type 0 where
+  pub decls : List Decl
+  pub stage : DeclStage
+
+abbrev pub with_decl : List Decl → Decl → Result DeclsRead Rule
+with_decl decls decl = Ok (record { decls = decls ++ decl ∷ []; stage = Declaring })
+
+abbrev pub ended_line : List Decl → Option (List ℕ) → Result DeclsRead Rule
+ended_line decls None = Ok (record { decls = decls; stage = Ended })
+ended_line decls (Some text) = Err U3
+
+abbrev pub declaring_line : List Decl → List ℕ → Option (List ℕ) → Result DeclsRead Rule
+declaring_line decls word operand =
+    if bytes_eq word (codes "global") then or_bad (name_read operand) (λ name. with_decl decls (Global name))
+    else (if bytes_eq word (codes "proc") then or_bad (procedure_read decls operand) (with_decl decls)
+    else (if bytes_eq word (codes "link") then or_bad (bytes_read operand) (λ bytes. with_decl decls (Link bytes))
+    else (if bytes_eq word (codes "record") then or_bad (record_read decls operand) (with_decl decls)
+    else (if bytes_eq word (codes "end") then ended_line decls operand else Err U1))))
+
+abbrev pub decl_stage_line : List Decl → DeclStage → List ℕ → Result DeclsRead Rule
+decl_stage_line decls DeclHeading line = if bytes_eq line (codes "U9.2") then Ok (record { decls = decls; stage = Declaring }) else Err U1
+decl_stage_line decls Declaring line = let words = cut line in declaring_line decls words.0 words.1
+decl_stage_line decls Ended line = Err U1
+
+unfoldable pub decls_line : DeclsRead → List ℕ → Result DeclsRead Rule
+decls_line read line = decl_stage_line read.decls read.stage line
+
+abbrev pub decl_stage_end : List Decl → DeclStage → Result (List Decl) Rule
+decl_stage_end decls DeclHeading = Err U1
+decl_stage_end decls Declaring = Err U6
+decl_stage_end decls Ended = Ok decls
+
+abbrev pub decls_end : DeclsRead → Result (List Decl) Rule
+decls_end read = decl_stage_end read.decls read.stage
+
+unfoldable pub decls_of : List ℕ → Result (List Decl) Rule
+decls_of text = then_step (each_line decls_line (record { decls = []; stage = DeclHeading }) [] text) decls_end
+
+-- Units
+
+pub record UnitRead : Type 0 where
+  pub name : List ℕ
+  pub procs : List Proc
+  pub decls : List Decl
+
+abbrev pub declared_name : Decl → List (List ℕ)
+declared_name (Procedure name) = name ∷ []
+declared_name (Global name) = []
+declared_name (Link bytes) = []
+declared_name (Record name fields) = []
+
+abbrev pub same_texts : List (List ℕ) → List (List ℕ) → Bool
+same_texts [] [] = true
+same_texts [] (y ∷ ys) = false
+same_texts (x ∷ xs) [] = false
+same_texts (x ∷ xs) (y ∷ ys) = bytes_eq x y && same_texts xs ys
+
+-- the procedures in their order, by name, are those that the declarations name
+abbrev pub same_names : List Proc → List Decl → Bool
+same_names procs decls = same_texts (map (λ proc. proc.name) procs) (flat_map declared_name decls)
+
+-- a unit, or the rule that its texts break first and whether that is in the second
+pub data UnitOutcome : Type 0 where
+  Whole : UnitRead → UnitOutcome
+  Faulty : Rule → Bool → UnitOutcome
+
+abbrev pub matched : List ℕ → List Proc → List Decl → UnitOutcome
+matched name procs decls = if same_names procs decls then Whole (record { name = name; procs = procs; decls = decls }) else Faulty U7 true
+
+abbrev pub with_decls : List ℕ → List Proc → Result (List Decl) Rule → UnitOutcome
+with_decls name procs (Err rule) = Faulty rule true
+with_decls name procs (Ok decls) = matched name procs decls
+
+abbrev pub with_procs : List ℕ → Result (List Proc) Rule → Result (List Decl) Rule → UnitOutcome
+with_procs name (Err rule) decls = Faulty rule false
+with_procs name (Ok procs) decls = with_decls name procs decls
+
+abbrev pub unit_read : List ℕ → List ℕ → List ℕ → UnitOutcome
+unit_read name u1 u2 = with_procs name (procs_of u1) (decls_of u2)
