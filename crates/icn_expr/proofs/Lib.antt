@@ -1,0 +1,11 @@
+pub mod Leading
+pub mod Led
+pub mod Complete
+pub mod Standing
+pub mod Sound
+pub mod Showing
+pub mod Ending
+pub mod Capping
+pub mod Exact
+pub mod ViewFacts
+pub mod Advancing

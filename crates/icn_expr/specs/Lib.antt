@@ -1,0 +1,6 @@
+pub mod Automaton
+pub mod Automata
+pub mod Heights
+pub mod Capped
+pub mod Reading
+pub mod Views

@@ -1,0 +1,98 @@
+-- What the parser's values are to the definitions.
+use Rattle.std.specs.Prelude.{ℕ, List, [], ◌∷◌, Option, Some, None}
+use Rattle.icn_tree.specs.declared.token.Token.{Token}
+use Rattle.icn_tree.specs.TreeOf.{tree_of, all_of, all_clauses_of}
+use Rattle.icn_tree.specs.Trees.{Tree, Trees, Clauses}
+use Rattle.icn_tree.specs.Grammar.{before}
+use Rattle.icn_expr.specs.declared.value.Value.{Value}
+use Rattle.icn_expr.specs.declared.value.Elements.{Elements as ElementsValue}
+use Rattle.icn_expr.specs.declared.value.Branches.{Branches}
+use Rattle.icn_expr.specs.declared.frame.Bracket.{Bracket as BracketValue}
+use Rattle.icn_expr.specs.declared.frame.Bracket.TheVariants as B
+use Rattle.icn_expr.specs.declared.frame.Holding.{Holding as HoldingValue}
+use Rattle.icn_expr.specs.declared.frame.Holding.TheVariants as H
+use Rattle.icn_expr.specs.declared.frame.Frame.{Frame as FrameValue}
+use Rattle.icn_expr.specs.declared.stack.Stack.{Stack}
+use Rattle.icn_expr.specs.declared.state.State.{State as StateValue}
+use Rattle.icn_expr.specs.declared.state.State.TheVariants as S
+use Rattle.icn_expr.specs.declared.reader.Progress.{Progress}
+use Rattle.icn_expr.specs.declared.reader.Progress.TheVariants as P
+use Rattle.icn_expr.specs.Reading.{end_of}
+use Rattle.icn_expr.specs.Capped.{Capped, capped_at, capped}
+use Rattle.icn_expr.specs.Automata.{Bracket, Round, Square, Curly, Arguments, CoArguments, Subscripts, Holding, Elements, SectionEnd, PrefixOperand, NotOperand, RightOperand, ToOperand, ByOperand, Condition, Consequence, Alternative, CaseSubject, ClauseGuard, GuardedValue, DefaultValue, Control, LoopBody, RepeatBody, CreateBody, BreakValue, ReturnValue, SuspendValue, SuspendBody, Frame, State, Starting, Climbing, Closing, Finished, Broken}
+
+abbrev pub capped_of : Value → Capped Tree
+capped_of value = capped_at (tree_of value.expr) value.height
+
+abbrev pub elements_of : ElementsValue → Capped Trees
+elements_of elements = capped_at (all_of elements.exprs.items) elements.height
+
+abbrev pub branches_of : Branches → Capped Clauses
+branches_of branches = capped_at (all_clauses_of branches.clauses.items) branches.height
+
+abbrev pub bracket_of : BracketValue → Bracket (Capped Tree)
+bracket_of B.Round = Round
+bracket_of B.Square = Square
+bracket_of B.Curly = Curly
+bracket_of (B.Arguments callee) = Arguments (capped_of callee)
+bracket_of (B.CoArguments callee) = CoArguments (capped_of callee)
+bracket_of (B.Subscripts subject) = Subscripts (capped_of subject)
+
+abbrev pub holding_of : HoldingValue → Holding (Capped Tree) (Capped Trees) (Capped Clauses)
+holding_of (H.Elements bracket done) = Elements (bracket_of bracket) (elements_of done)
+holding_of (H.SectionEnd kind subject from) = SectionEnd kind (capped_of subject) (capped_of from)
+holding_of (H.PrefixOperand operator) = PrefixOperand operator
+holding_of H.NotOperand = NotOperand
+holding_of (H.RightOperand operator left) = RightOperand operator (capped_of left)
+holding_of (H.ToOperand from) = ToOperand (capped_of from)
+holding_of (H.ByOperand from to) = ByOperand (capped_of from) (capped_of to)
+holding_of H.Condition = Condition
+holding_of (H.Consequence condition) = Consequence (capped_of condition)
+holding_of (H.Alternative condition first) = Alternative (capped_of condition) (capped_of first)
+holding_of H.CaseSubject = CaseSubject
+holding_of (H.ClauseGuard subject done at) = ClauseGuard (capped_of subject) (branches_of done) at
+holding_of (H.GuardedValue subject done at guard) = GuardedValue (capped_of subject) (branches_of done) at (capped_of guard)
+holding_of (H.DefaultValue subject done at) = DefaultValue (capped_of subject) (branches_of done) at
+holding_of (H.Control kind) = Control kind
+holding_of (H.LoopBody kind control) = LoopBody kind (capped_of control)
+holding_of H.RepeatBody = RepeatBody
+holding_of H.CreateBody = CreateBody
+holding_of H.BreakValue = BreakValue
+holding_of H.ReturnValue = ReturnValue
+holding_of H.SuspendValue = SuspendValue
+holding_of (H.SuspendBody value) = SuspendBody (capped_of value)
+
+abbrev pub OpenFrame : Type 0
+OpenFrame = Frame (Capped Tree) (Capped Trees) (Capped Clauses)
+
+abbrev pub frame_of : FrameValue → OpenFrame
+frame_of frame = record { level = frame.level; place = frame.place; holds = holding_of frame.holds }
+
+-- the last frame is the newest, which stands first
+abbrev pub frames_onto : List FrameValue → List OpenFrame → List OpenFrame
+frames_onto [] below = below
+frames_onto (frame ∷ frames) below = frames_onto frames (frame_of frame ∷ below)
+
+abbrev pub stack_of : Stack → List OpenFrame
+stack_of stack = frames_onto stack.frames.items []
+
+abbrev pub CappedState : Type 0
+CappedState = State (Capped Tree) (Capped Trees) (Capped Clauses)
+
+abbrev pub state_of : StateValue → List OpenFrame → List Token → CappedState
+state_of (S.Starting level) frames tokens = Starting level frames tokens
+state_of (S.StartingWith place operator) frames tokens = Starting 12 frames (before place (Some operator) tokens)
+state_of (S.Climbing level place value) frames tokens = Climbing level place (capped_of value) frames tokens
+state_of (S.Closing value present) frames tokens = Closing (capped_of value) present frames tokens
+state_of (S.Finished value) frames tokens = Finished (capped_of value) tokens
+state_of S.Broken frames tokens = Broken
+
+-- what a reading comes to
+abbrev pub progress_end : Progress → List OpenFrame → Option (Capped Tree × List Token)
+progress_end (P.Found value tokens) frames = Some (capped_of value, tokens.now)
+progress_end P.Nothing frames = None
+progress_end (P.Going state tokens) frames = end_of capped (state_of state frames tokens.now)
+
+abbrev pub IsGoing : Progress → (StateValue → List Token → Type 0) → Type 0
+IsGoing (P.Going state tokens) holds = holds state tokens.now
+IsGoing _ holds = Unit {0}

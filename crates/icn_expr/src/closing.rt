@@ -1,0 +1,513 @@
+// The steps at which a part is complete.
+ghost use Rattle.std.specs.Prelude.{◌≡◌, List, ◌∷◌, Some, None, true, IfOk};
+ghost use Rattle.icn_tree.specs.declared.token.Token.{Token};
+ghost use Rattle.icn_tree.specs.Phrases.{next};
+ghost use Rattle.icn_tree.specs.Grammar.{BySemicolon};
+ghost use Rattle.icn_expr.specs.Automata.{behind as behind_first, Elements as ElementsHolding, SectionEnd, ToOperand, Consequence, Condition as ConditionHolding, CaseSubject, ClauseGuard, GuardedValue, DefaultValue, Control, SuspendValue, element_by, section_by, section_subject, separator_of, is_closer, bracketed, is_separator, section_kind, clause_by, clause_step, clause_end, part_or, by_or, close_by, close_step, frame as frame_at};
+ghost use Rattle.icn_expr.specs.Capped.{capped};
+ghost use Rattle.icn_expr.specs.Views.{OpenFrame, capped_of, elements_of, branches_of, bracket_of, holding_of, stack_of, state_of};
+
+use crate::frame::{Bracket, Frame, Holding};
+use crate::machine::{climbing, open};
+use crate::next::{
+    behind, by_next, close_brace_next, close_bracket_next, close_parenthesis_next, colon_next,
+    comma_next, default_next, do_next, else_next, of_next, open_brace_next, place_of, section_next,
+    semicolon_next, then_next,
+};
+use crate::stack::Stack;
+use crate::state::State;
+use crate::value::{Branches, Elements, Value, discard, discard_branches, discard_elements};
+use icn_tree::{LoopKind, Place, SectionKind, Token};
+use std::alloc::{AllocError, Global};
+
+// The condition of an `if`.
+fn condition<'a>(
+    stack: &mut Stack,
+    level: u32,
+    place: Place,
+    value: Value,
+    tokens: &'a [Token],
+) -> Result<(State, &'a [Token]), AllocError>
+    ensures { IfOk result (λ r. state_of r.0 (stack_of stack.new) r.1.now ≡ close_by capped ConditionHolding level place (capped_of value) true (stack_of stack.old) tokens.now) }
+{
+    if !then_next(tokens) {
+        discard(value);
+        return Ok((State::Broken, tokens));
+    }
+    Ok((
+        open(stack, level, place, Holding::Consequence(value), 1)?,
+        behind(tokens),
+    ))
+}
+
+// What stands behind `then`.
+fn consequence<'a>(
+    stack: &mut Stack,
+    alloc: Global,
+    level: u32,
+    place: Place,
+    before: Value,
+    value: Value,
+    tokens: &'a [Token],
+) -> Result<(State, &'a [Token]), AllocError>
+    ensures { IfOk result (λ r. state_of r.0 (stack_of stack.new) r.1.now ≡ close_by capped (Consequence (capped_of before)) level place (capped_of value) true (stack_of stack.old) tokens.now) }
+{
+    if else_next(tokens) {
+        return Ok((
+            open(stack, level, place, Holding::Alternative(before, value), 1)?,
+            behind(tokens),
+        ));
+    }
+    Ok((
+        climbing(level, place, Value::if_then(alloc, place, before, value)?),
+        tokens,
+    ))
+}
+
+// What a `to` goes up to.
+fn to_operand<'a>(
+    stack: &mut Stack,
+    alloc: Global,
+    level: u32,
+    place: Place,
+    from: Value,
+    value: Value,
+    tokens: &'a [Token],
+) -> Result<(State, &'a [Token]), AllocError>
+    ensures { IfOk result (λ r. state_of r.0 (stack_of stack.new) r.1.now ≡ close_by capped (ToOperand (capped_of from)) level place (capped_of value) true (stack_of stack.old) tokens.now) }
+{
+    if by_next(tokens) {
+        return Ok((
+            open(stack, level, place, Holding::ByOperand(from, value), 5)?,
+            behind(tokens),
+        ));
+    }
+    Ok((
+        climbing(level, place, Value::to(alloc, place, from, value)?),
+        tokens,
+    ))
+}
+
+// The control expression of a loop.
+fn control<'a>(
+    stack: &mut Stack,
+    alloc: Global,
+    level: u32,
+    place: Place,
+    kind: LoopKind,
+    value: Value,
+    tokens: &'a [Token],
+) -> Result<(State, &'a [Token]), AllocError>
+    ensures { IfOk result (λ r. state_of r.0 (stack_of stack.new) r.1.now ≡ close_by capped (Control kind) level place (capped_of value) true (stack_of stack.old) tokens.now) }
+{
+    if do_next(tokens) {
+        return Ok((
+            open(stack, level, place, Holding::LoopBody(kind, value), 1)?,
+            behind(tokens),
+        ));
+    }
+    Ok((
+        climbing(level, place, Value::control(alloc, place, kind, value)?),
+        tokens,
+    ))
+}
+
+// What a `suspend` gives.
+fn suspended<'a>(
+    stack: &mut Stack,
+    alloc: Global,
+    level: u32,
+    place: Place,
+    value: Value,
+    tokens: &'a [Token],
+) -> Result<(State, &'a [Token]), AllocError>
+    ensures { IfOk result (λ r. state_of r.0 (stack_of stack.new) r.1.now ≡ close_by capped SuspendValue level place (capped_of value) true (stack_of stack.old) tokens.now) }
+{
+    if do_next(tokens) {
+        return Ok((
+            open(stack, level, place, Holding::SuspendBody(value), 1)?,
+            behind(tokens),
+        ));
+    }
+    Ok((
+        climbing(level, place, Value::suspend(alloc, place, value)?),
+        tokens,
+    ))
+}
+
+// The second position of a section.
+fn section_end<'a>(
+    alloc: Global,
+    level: u32,
+    place: Place,
+    kind: SectionKind,
+    subject: Value,
+    from: Value,
+    value: Value,
+    tokens: &'a [Token],
+) -> Result<(State, &'a [Token]), AllocError>
+    ensures { IfOk result (λ r. (frames : List OpenFrame) → state_of r.0 frames r.1.now ≡ close_by capped (SectionEnd kind (capped_of subject) (capped_of from)) level place (capped_of value) true frames tokens.now) }
+{
+    if !close_bracket_next(tokens) {
+        discard(subject);
+        discard(from);
+        discard(value);
+        return Ok((State::Broken, tokens));
+    }
+    Ok((
+        climbing(
+            level,
+            place,
+            Value::section(alloc, place, kind, subject, from, value)?,
+        ),
+        behind(tokens),
+    ))
+}
+
+// A clause of a `case` begins.
+fn clause<'a>(
+    stack: &mut Stack,
+    level: u32,
+    place: Place,
+    subject: Value,
+    clauses: Branches,
+    tokens: &'a [Token],
+) -> Result<(State, &'a [Token]), AllocError>
+    ensures { IfOk result (λ r. state_of r.0 (stack_of stack.new) r.1.now ≡ clause_step capped level place (capped_of subject) (branches_of clauses) (stack_of stack.old) tokens.now) }
+{
+    let at = place_of(tokens);
+    if !default_next(tokens) {
+        return Ok((
+            open(
+                stack,
+                level,
+                place,
+                Holding::ClauseGuard(subject, clauses, at),
+                1,
+            )?,
+            tokens,
+        ));
+    }
+    let rest = behind(tokens);
+    if !colon_next(rest) {
+        discard(subject);
+        discard_branches(clauses);
+        return Ok((State::Broken, tokens));
+    }
+    Ok((
+        open(
+            stack,
+            level,
+            place,
+            Holding::DefaultValue(subject, clauses, at),
+            1,
+        )?,
+        behind(rest),
+    ))
+}
+
+// The subject of a `case`.
+fn case_subject<'a>(
+    stack: &mut Stack,
+    alloc: Global,
+    level: u32,
+    place: Place,
+    value: Value,
+    tokens: &'a [Token],
+) -> Result<(State, &'a [Token]), AllocError>
+    ensures { IfOk result (λ r. state_of r.0 (stack_of stack.new) r.1.now ≡ close_by capped CaseSubject level place (capped_of value) true (stack_of stack.old) tokens.now) }
+{
+    if !of_next(tokens) || !open_brace_next(behind(tokens)) {
+        discard(value);
+        return Ok((State::Broken, tokens));
+    }
+    clause(
+        stack,
+        level,
+        place,
+        value,
+        Branches::new(alloc),
+        behind(behind(tokens)),
+    )
+}
+
+// What stands before the colon of a clause.
+fn clause_guard<'a>(
+    stack: &mut Stack,
+    level: u32,
+    place: Place,
+    subject: Value,
+    clauses: Branches,
+    at: Place,
+    value: Value,
+    tokens: &'a [Token],
+) -> Result<(State, &'a [Token]), AllocError>
+    ensures { IfOk result (λ r. state_of r.0 (stack_of stack.new) r.1.now ≡ close_by capped (ClauseGuard (capped_of subject) (branches_of clauses) at) level place (capped_of value) true (stack_of stack.old) tokens.now) }
+{
+    if !colon_next(tokens) {
+        discard(subject);
+        discard_branches(clauses);
+        discard(value);
+        return Ok((State::Broken, tokens));
+    }
+    Ok((
+        open(
+            stack,
+            level,
+            place,
+            Holding::GuardedValue(subject, clauses, at, value),
+            1,
+        )?,
+        behind(tokens),
+    ))
+}
+
+// A clause is complete.
+fn clause_ends<'a>(
+    stack: &mut Stack,
+    alloc: Global,
+    level: u32,
+    place: Place,
+    subject: Value,
+    clauses: Branches,
+    tokens: &'a [Token],
+) -> Result<(State, &'a [Token]), AllocError>
+    ensures { IfOk result (λ r. state_of r.0 (stack_of stack.new) r.1.now ≡ clause_end capped (is_separator BySemicolon (next tokens.now)) level place (capped_of subject) (branches_of clauses) (stack_of stack.old) tokens.now) }
+{
+    if semicolon_next(tokens) {
+        return clause(stack, level, place, subject, clauses, behind(tokens));
+    }
+    if !close_brace_next(tokens) {
+        discard(subject);
+        discard_branches(clauses);
+        return Ok((State::Broken, tokens));
+    }
+    Ok((
+        climbing(level, place, Value::case(alloc, place, subject, clauses)?),
+        behind(tokens),
+    ))
+}
+
+// The value of a guarded clause.
+fn guarded_value<'a>(
+    stack: &mut Stack,
+    alloc: Global,
+    level: u32,
+    place: Place,
+    subject: Value,
+    clauses: Branches,
+    at: Place,
+    guard: Value,
+    value: Value,
+    tokens: &'a [Token],
+) -> Result<(State, &'a [Token]), AllocError>
+    ensures { IfOk result (λ r. state_of r.0 (stack_of stack.new) r.1.now ≡ close_by capped (GuardedValue (capped_of subject) (branches_of clauses) at (capped_of guard)) level place (capped_of value) true (stack_of stack.old) tokens.now) }
+{
+    let clauses = clauses.with_guarded(alloc, at, guard, value)?;
+    clause_ends(stack, alloc, level, place, subject, clauses, tokens)
+}
+
+// The value of a default clause.
+fn default_value<'a>(
+    stack: &mut Stack,
+    alloc: Global,
+    level: u32,
+    place: Place,
+    subject: Value,
+    clauses: Branches,
+    at: Place,
+    value: Value,
+    tokens: &'a [Token],
+) -> Result<(State, &'a [Token]), AllocError>
+    ensures { IfOk result (λ r. state_of r.0 (stack_of stack.new) r.1.now ≡ close_by capped (DefaultValue (capped_of subject) (branches_of clauses) at) level place (capped_of value) true (stack_of stack.old) tokens.now) }
+{
+    let clauses = clauses.with_default(alloc, at, value)?;
+    clause_ends(stack, alloc, level, place, subject, clauses, tokens)
+}
+
+// An element of a list.
+fn element<'a>(
+    stack: &mut Stack,
+    alloc: Global,
+    level: u32,
+    place: Place,
+    bracket: Bracket,
+    elements: Elements,
+    value: Value,
+    present: bool,
+    tokens: &'a [Token],
+) -> Result<(State, &'a [Token]), AllocError>
+    ensures { IfOk result (λ r. state_of r.0 (stack_of stack.new) r.1.now ≡ close_by capped (ElementsHolding (bracket_of bracket) (elements_of elements)) level place (capped_of value) present (stack_of stack.old) tokens.now) }
+{
+    if separated(&bracket, tokens) {
+        let elements = elements.with(alloc, value)?;
+        return Ok((
+            open(stack, level, place, Holding::Elements(bracket, elements), 0)?,
+            behind(tokens),
+        ));
+    }
+    if closed(&bracket, tokens) {
+        let elements = elements.with(alloc, value)?;
+        return Ok((
+            climbing(level, place, in_brackets(alloc, bracket, place, elements)?),
+            behind(tokens),
+        ));
+    }
+    section(
+        stack, level, place, bracket, elements, value, present, tokens,
+    )
+}
+
+// Whether a further element follows.
+fn separated(bracket: &Bracket, tokens: &[Token]) -> bool
+    ensures { result ≡ is_separator (separator_of (bracket_of bracket.now)) (next tokens.now) }
+{
+    match bracket {
+        Bracket::Curly => semicolon_next(tokens),
+        _ => comma_next(tokens),
+    }
+}
+
+// Whether the list is closed.
+fn closed(bracket: &Bracket, tokens: &[Token]) -> bool
+    ensures { result ≡ is_closer (bracket_of bracket.now) (next tokens.now) }
+{
+    match bracket {
+        Bracket::Round | Bracket::Arguments(_) => close_parenthesis_next(tokens),
+        Bracket::Square | Bracket::Subscripts(_) => close_bracket_next(tokens),
+        Bracket::Curly | Bracket::CoArguments(_) => close_brace_next(tokens),
+    }
+}
+
+// The form that a list is read for.
+fn in_brackets(
+    alloc: Global,
+    bracket: Bracket,
+    place: Place,
+    elements: Elements,
+) -> Result<Value, AllocError>
+    ensures { IfOk result (λ value. capped_of value ≡ bracketed capped (bracket_of bracket) place (elements_of elements)) }
+{
+    match bracket {
+        Bracket::Round => Ok(Value::parentheses(place, elements)),
+        Bracket::Square => Ok(Value::list(place, elements)),
+        Bracket::Curly => Ok(Value::compound(place, elements)),
+        Bracket::Arguments(callee) => Value::call(alloc, place, callee, elements),
+        Bracket::CoArguments(callee) => Value::co_call(alloc, place, callee, elements),
+        Bracket::Subscripts(subject) => Value::subscript(alloc, place, subject, elements),
+    }
+}
+
+// The first position of a section, if this is one.
+fn section<'a>(
+    stack: &mut Stack,
+    level: u32,
+    place: Place,
+    bracket: Bracket,
+    elements: Elements,
+    value: Value,
+    present: bool,
+    tokens: &'a [Token],
+) -> Result<(State, &'a [Token]), AllocError>
+    ensures { IfOk result (λ r. state_of r.0 (stack_of stack.new) r.1.now ≡ section_by capped (section_subject capped (bracket_of bracket) (capped.has_none (elements_of elements)) present) (section_kind (next tokens.now)) level place (capped_of value) (stack_of stack.old) (behind_first tokens.now)) }
+{
+    let first = elements.is_empty();
+    discard_elements(elements);
+    let kind = section_next(tokens);
+    match (bracket, first && present, kind) {
+        (Bracket::Subscripts(subject), true, Some(kind)) => Ok((
+            open(
+                stack,
+                level,
+                place,
+                Holding::SectionEnd(kind, subject, value),
+                1,
+            )?,
+            behind(tokens),
+        )),
+        (bracket, _, _) => {
+            discard_bracket(bracket);
+            discard(value);
+            Ok((State::Broken, tokens))
+        }
+    }
+}
+
+fn discard_bracket(bracket: Bracket) {
+    drop(bracket);
+}
+
+// A part of an open form is complete.
+fn close_frame<'a>(
+    stack: &mut Stack,
+    alloc: Global,
+    frame: Frame,
+    value: Value,
+    present: bool,
+    tokens: &'a [Token],
+) -> Result<(State, &'a [Token]), AllocError>
+    ensures { IfOk result (λ r. state_of r.0 (stack_of stack.new) r.1.now ≡ close_by capped (holding_of frame.holds) frame.level frame.place (capped_of value) present (stack_of stack.old) tokens.now) }
+{
+    let Frame {
+        level,
+        place,
+        holds,
+    } = frame;
+    let whole = match holds {
+        Holding::Elements(bracket, elements) => return element(
+            stack, alloc, level, place, bracket, elements, value, present, tokens,
+        ),
+        Holding::SectionEnd(kind, subject, from) => return section_end(
+            alloc, level, place, kind, subject, from, value, tokens,
+        ),
+        Holding::ToOperand(from) => return to_operand(
+            stack, alloc, level, place, from, value, tokens,
+        ),
+        Holding::Condition => return condition(stack, level, place, value, tokens),
+        Holding::Consequence(before) => return consequence(
+            stack, alloc, level, place, before, value, tokens,
+        ),
+        Holding::CaseSubject => return case_subject(stack, alloc, level, place, value, tokens),
+        Holding::ClauseGuard(subject, clauses, at) => return clause_guard(
+            stack, level, place, subject, clauses, at, value, tokens,
+        ),
+        Holding::GuardedValue(subject, clauses, at, guard) => return guarded_value(
+            stack, alloc, level, place, subject, clauses, at, guard, value, tokens,
+        ),
+        Holding::DefaultValue(subject, clauses, at) => return default_value(
+            stack, alloc, level, place, subject, clauses, at, value, tokens,
+        ),
+        Holding::Control(kind) => return control(stack, alloc, level, place, kind, value, tokens),
+        Holding::SuspendValue => return suspended(stack, alloc, level, place, value, tokens),
+        Holding::PrefixOperand(operator) => Value::prefix(alloc, place, operator, value)?,
+        Holding::NotOperand => Value::not(alloc, place, value)?,
+        Holding::RightOperand(operator, left) => Value::binary(
+            alloc, place, operator, left, value,
+        )?,
+        Holding::ByOperand(from, to) => Value::to_by(alloc, place, from, to, value)?,
+        Holding::Alternative(before, first) => Value::if_else(alloc, place, before, first, value)?,
+        Holding::LoopBody(kind, control) => Value::control_do(alloc, place, kind, control, value)?,
+        Holding::RepeatBody => Value::repeat(alloc, place, value)?,
+        Holding::CreateBody => Value::create(alloc, place, value)?,
+        Holding::BreakValue => Value::break_with(alloc, place, value)?,
+        Holding::ReturnValue => Value::return_with(alloc, place, value)?,
+        Holding::SuspendBody(suspended) => Value::suspend_do(alloc, place, suspended, value)?,
+    };
+    Ok((climbing(level, place, whole), tokens))
+}
+
+/// A part is complete.
+pub fn close<'a>(
+    stack: &mut Stack,
+    alloc: Global,
+    value: Value,
+    present: bool,
+    tokens: &'a [Token],
+) -> Result<(State, &'a [Token]), AllocError>
+    ensures { IfOk result (λ r. state_of r.0 (stack_of stack.new) r.1.now ≡ close_step capped (capped_of value) present (stack_of stack.old) tokens.now) }
+{
+    match stack.pop() {
+        Some(frame) => close_frame(stack, alloc, frame, value, present, tokens),
+        None => Ok((State::Finished { value }, tokens)),
+    }
+}

@@ -1,0 +1,450 @@
+// The steps by which an expression is read.
+ghost use Rattle.std.specs.Prelude.{◌≡◌, List, ◌∷◌, Some, None, true, IfOk};
+ghost use Rattle.icn_tree.specs.declared.token.Token.{Token};
+ghost use Rattle.icn_tree.specs.Levels.{prefix_of};
+ghost use Rattle.icn_tree.specs.Grammar.{before};
+ghost use Rattle.icn_tree.specs.declared.token.Operator.TheVariants.{Dot};
+ghost use Rattle.icn_expr.specs.Automata.{Starting, Climbing, Closing, Elements as ElementsHolding, PrefixOperand, frame as frame_at, is_dot, word_step, mark_step, suffix_step, empty_step, operator_step, operand_step, start_step, climb_step, extend_step, plain_step, infix_step};
+ghost use Rattle.icn_expr.specs.Capped.{capped};
+ghost use Rattle.icn_expr.specs.Views.{OpenFrame, capped_of, bracket_of, holding_of, stack_of, state_of};
+
+use crate::frame::{Bracket, Frame, Holding};
+use crate::levels::{
+    begins, climbing_level, goes_on, infix_level_of, operator_begins, right_level, split,
+};
+use crate::stack::Stack;
+use crate::state::State;
+use crate::value::{Elements, Value, discard};
+use icn_tree::{
+    Bytes, Infix, Kind, Literal, LoopKind, Name, Operator, Place, Punctuation, Token, Word,
+};
+use std::alloc::{AllocError, Global};
+
+// A form is open, and a part of it begins.
+pub fn open(
+    stack: &mut Stack,
+    level: u32,
+    place: Place,
+    holds: Holding,
+    awaits: u32,
+) -> Result<State, AllocError>
+    ensures { IfOk result (λ state. (tokens : List Token) → state_of state (stack_of stack.new) tokens ≡ Starting awaits (frame_at level place (holding_of holds) ∷ stack_of stack.old) tokens) }
+{
+    stack.push(Frame {
+        level,
+        place,
+        holds,
+    })?;
+    Ok(State::Starting { level: awaits })
+}
+
+// A word that begins a form.
+fn word_operand(
+    stack: &mut Stack,
+    level: u32,
+    place: Place,
+    word: Word,
+) -> Result<State, AllocError>
+    ensures { IfOk result (λ state. (tokens : List Token) → state_of state (stack_of stack.new) tokens ≡ word_step capped level place word (stack_of stack.old) tokens) }
+{
+    match word {
+        Word::Not => open(stack, level, place, Holding::NotOperand, 12),
+        Word::If => open(stack, level, place, Holding::Condition, 1),
+        Word::Case => open(stack, level, place, Holding::CaseSubject, 1),
+        Word::While => open(stack, level, place, Holding::Control(LoopKind::While), 1),
+        Word::Until => open(stack, level, place, Holding::Control(LoopKind::Until), 1),
+        Word::Every => open(stack, level, place, Holding::Control(LoopKind::Every), 1),
+        Word::Repeat => open(stack, level, place, Holding::RepeatBody, 1),
+        Word::Create => open(stack, level, place, Holding::CreateBody, 1),
+        Word::Break => open(stack, level, place, Holding::BreakValue, 0),
+        Word::Return => open(stack, level, place, Holding::ReturnValue, 0),
+        Word::Suspend => open(stack, level, place, Holding::SuspendValue, 0),
+        Word::Next => Ok(climbing(level, place, Value::next(place))),
+        Word::Fail => Ok(climbing(level, place, Value::fail(place))),
+        _ => Ok(State::Broken),
+    }
+}
+
+pub fn climbing(level: u32, place: Place, value: Value) -> State
+    ensures { (frames : List OpenFrame) (tokens : List Token) → state_of result frames tokens ≡ Climbing level place (capped_of value) frames tokens }
+{
+    State::Climbing {
+        level,
+        place,
+        value,
+    }
+}
+
+// A mark that opens a list.
+fn mark_operand(
+    stack: &mut Stack,
+    alloc: Global,
+    level: u32,
+    place: Place,
+    mark: Punctuation,
+) -> Result<State, AllocError>
+    ensures { IfOk result (λ state. (tokens : List Token) → state_of state (stack_of stack.new) tokens ≡ mark_step capped level place mark (stack_of stack.old) tokens) }
+{
+    match mark {
+        Punctuation::OpenParenthesis => open_list(stack, alloc, level, place, Bracket::Round),
+        Punctuation::OpenBracket => open_list(stack, alloc, level, place, Bracket::Square),
+        Punctuation::OpenBrace => open_list(stack, alloc, level, place, Bracket::Curly),
+        _ => Ok(State::Broken),
+    }
+}
+
+// A list is open, and its first element begins.
+fn open_list(
+    stack: &mut Stack,
+    alloc: Global,
+    level: u32,
+    place: Place,
+    bracket: Bracket,
+) -> Result<State, AllocError>
+    ensures { IfOk result (λ state. (tokens : List Token) → state_of state (stack_of stack.new) tokens ≡ Starting 0 (frame_at level place (ElementsHolding (bracket_of bracket) capped.no_elements) ∷ stack_of stack.old) tokens) }
+{
+    open(
+        stack,
+        level,
+        place,
+        Holding::Elements(bracket, Elements::new(alloc)),
+        0,
+    )
+}
+
+// A mark that goes on with a tree.
+fn suffix(
+    stack: &mut Stack,
+    alloc: Global,
+    level: u32,
+    place: Place,
+    value: Value,
+    mark: Punctuation,
+) -> Result<State, AllocError>
+    ensures { IfOk result (λ state. (tokens : List Token) → state_of state (stack_of stack.new) tokens ≡ suffix_step capped level place (capped_of value) mark (stack_of stack.old) tokens) }
+{
+    match mark {
+        Punctuation::OpenParenthesis => open_list(
+            stack,
+            alloc,
+            level,
+            place,
+            Bracket::Arguments(value),
+        ),
+        Punctuation::OpenBracket => open_list(
+            stack,
+            alloc,
+            level,
+            place,
+            Bracket::Subscripts(value),
+        ),
+        Punctuation::OpenBrace => open_list(
+            stack,
+            alloc,
+            level,
+            place,
+            Bracket::CoArguments(value),
+        ),
+        _ => {
+            discard(value);
+            Ok(State::Broken)
+        }
+    }
+}
+
+// Nothing stands where an expression may be empty.
+fn nothing(level: u32) -> State
+    ensures { (frames : List OpenFrame) (tokens : List Token) → state_of result frames tokens ≡ empty_step capped level frames tokens }
+{
+    if level == 0 {
+        State::Closing {
+            value: Value::empty(),
+            present: false,
+        }
+    } else {
+        State::Broken
+    }
+}
+
+// An operator before its operand, or a keyword.
+fn operator_operand<'a>(
+    stack: &mut Stack,
+    alloc: Global,
+    level: u32,
+    place: Place,
+    operator: Operator,
+    tokens: &'a [Token],
+) -> Result<(State, &'a [Token]), AllocError>
+    ensures { IfOk result (λ r. state_of r.0 (stack_of stack.new) r.1.now ≡ operator_step capped level place (prefix_of operator) (stack_of stack.old) tokens.now) }
+{
+    match split(operator) {
+        Some((first, others)) => Ok((prefixed(stack, level, place, first, others)?, tokens)),
+        None => keyword(alloc, level, place, tokens),
+    }
+}
+
+// What stands behind an operator before its operand.
+fn prefixed(
+    stack: &mut Stack,
+    level: u32,
+    place: Place,
+    first: Operator,
+    others: Option<Operator>,
+) -> Result<State, AllocError>
+    ensures { IfOk result (λ state. (tokens : List Token) → state_of state (stack_of stack.new) tokens ≡ Starting 12 (frame_at level place (PrefixOperand first) ∷ stack_of stack.old) (before place others tokens)) }
+{
+    stack.push(Frame {
+        level,
+        place,
+        holds: Holding::PrefixOperand(first),
+    })?;
+    match others {
+        Some(operator) => Ok(State::StartingWith { place, operator }),
+        None => Ok(State::Starting { level: 12 }),
+    }
+}
+
+// The name behind `&`.
+fn keyword<'a>(
+    alloc: Global,
+    level: u32,
+    place: Place,
+    tokens: &'a [Token],
+) -> Result<(State, &'a [Token]), AllocError>
+    ensures { IfOk result (λ r. (frames : List OpenFrame) → state_of r.0 frames r.1.now ≡ operator_step capped level place None frames tokens.now) }
+{
+    let Some((token, rest)) = tokens.split_first() else {
+        return Ok((State::Broken, tokens));
+    };
+    let text = match &token.kind {
+        Kind::Identifier(text) => Bytes::from_slice(alloc, text.as_slice())?,
+        Kind::Word(Word::Fail) => Bytes::from_slice(alloc, b"fail")?,
+        _ => return Ok((State::Broken, tokens)),
+    };
+    let name = Name {
+        text,
+        place: Place {
+            line: token.line,
+            file: token.file,
+        },
+    };
+    Ok((climbing(level, place, Value::keyword(place, name)), rest))
+}
+
+// A token that begins an expression.
+fn operand<'a>(
+    stack: &mut Stack,
+    alloc: Global,
+    level: u32,
+    place: Place,
+    kind: &Kind,
+    tokens: &'a [Token],
+) -> Result<(State, &'a [Token]), AllocError>
+    ensures { IfOk result (λ r. state_of r.0 (stack_of stack.new) r.1.now ≡ operand_step capped level place kind.now (stack_of stack.old) tokens.now) }
+{
+    match kind {
+        Kind::Word(word) => Ok((word_operand(stack, level, place, *word)?, tokens)),
+        Kind::Operator(operator) => operator_operand(stack, alloc, level, place, *operator, tokens),
+        Kind::Punctuation(mark) => Ok((mark_operand(stack, alloc, level, place, *mark)?, tokens)),
+        Kind::Augmented(_) => Ok((State::Broken, tokens)),
+        Kind::Identifier(text) => {
+            let text = Bytes::from_slice(alloc, text.as_slice())?;
+            Ok((
+                climbing(level, place, Value::identifier(Name { text, place })),
+                tokens,
+            ))
+        }
+        Kind::Integer(n) => Ok((
+            climbing(level, place, Value::constant(place, Literal::Integer(*n))),
+            tokens,
+        )),
+        Kind::Text(text) => {
+            let text = Bytes::from_slice(alloc, text.as_slice())?;
+            Ok((
+                climbing(level, place, Value::constant(place, Literal::Text(text))),
+                tokens,
+            ))
+        }
+        Kind::Cset(set) => {
+            let set = set.copy(alloc)?;
+            Ok((
+                climbing(level, place, Value::constant(place, Literal::Cset(set))),
+                tokens,
+            ))
+        }
+    }
+}
+
+// An expression begins.
+pub fn start<'a>(
+    stack: &mut Stack,
+    alloc: Global,
+    level: u32,
+    tokens: &'a [Token],
+) -> Result<(State, &'a [Token]), AllocError>
+    ensures { IfOk result (λ r. state_of r.0 (stack_of stack.new) r.1.now ≡ start_step capped level (stack_of stack.old) tokens.now) }
+{
+    let Some((token, rest)) = tokens.split_first() else {
+        return Ok((nothing(level), tokens));
+    };
+    if !begins(&token.kind) {
+        return Ok((nothing(level), tokens));
+    }
+    let place = Place {
+        line: token.line,
+        file: token.file,
+    };
+    operand(
+        stack,
+        alloc,
+        climbing_level(level),
+        place,
+        &token.kind,
+        rest,
+    )
+}
+
+// An operand begins with what is left of its operator's token.
+pub fn start_with<'a>(
+    stack: &mut Stack,
+    alloc: Global,
+    place: Place,
+    operator: Operator,
+    tokens: &'a [Token],
+) -> Result<(State, &'a [Token]), AllocError>
+    ensures { IfOk result (λ r. state_of r.0 (stack_of stack.new) r.1.now ≡ start_step capped 12 (stack_of stack.old) (before place (Some operator) tokens.now)) }
+{
+    if !operator_begins(operator) {
+        return Ok((State::Broken, tokens));
+    }
+    operator_operand(stack, alloc, 12, place, operator, tokens)
+}
+
+fn closing(value: Value) -> State
+    ensures { (frames : List OpenFrame) (tokens : List Token) → state_of result frames tokens ≡ Closing (capped_of value) true frames tokens }
+{
+    State::Closing {
+        value,
+        present: true,
+    }
+}
+
+// A tree, with which the next token may go on.
+pub fn climb<'a>(
+    stack: &mut Stack,
+    alloc: Global,
+    level: u32,
+    place: Place,
+    value: Value,
+    tokens: &'a [Token],
+) -> Result<(State, &'a [Token]), AllocError>
+    ensures { IfOk result (λ r. state_of r.0 (stack_of stack.new) r.1.now ≡ climb_step capped level place (capped_of value) (stack_of stack.old) tokens.now) }
+{
+    let Some((token, rest)) = tokens.split_first() else {
+        return Ok((closing(value), tokens));
+    };
+    if level > goes_on(&token.kind) {
+        return Ok((closing(value), tokens));
+    }
+    extend(stack, alloc, level, place, value, &token.kind, rest)
+}
+
+// What a token makes with the tree before it.
+fn extend<'a>(
+    stack: &mut Stack,
+    alloc: Global,
+    level: u32,
+    place: Place,
+    value: Value,
+    kind: &Kind,
+    tokens: &'a [Token],
+) -> Result<(State, &'a [Token]), AllocError>
+    ensures { IfOk result (λ r. state_of r.0 (stack_of stack.new) r.1.now ≡ extend_step capped level place (capped_of value) kind.now (stack_of stack.old) tokens.now) }
+{
+    match kind {
+        Kind::Operator(operator) => plain(stack, alloc, level, place, value, *operator, tokens),
+        Kind::Augmented(operator) => Ok((
+            infix(stack, level, place, value, Infix::Augmented(*operator))?,
+            tokens,
+        )),
+        Kind::Word(_) => Ok((
+            open(stack, level, place, Holding::ToOperand(value), 5)?,
+            tokens,
+        )),
+        Kind::Punctuation(mark) => Ok((suffix(stack, alloc, level, place, value, *mark)?, tokens)),
+        _ => {
+            discard(value);
+            Ok((State::Broken, tokens))
+        }
+    }
+}
+
+// An operator behind a tree.
+fn plain<'a>(
+    stack: &mut Stack,
+    alloc: Global,
+    level: u32,
+    place: Place,
+    value: Value,
+    operator: Operator,
+    tokens: &'a [Token],
+) -> Result<(State, &'a [Token]), AllocError>
+    ensures { IfOk result (λ r. state_of r.0 (stack_of stack.new) r.1.now ≡ plain_step capped (is_dot operator) level place (capped_of value) operator (stack_of stack.old) tokens.now) }
+{
+    match operator {
+        Operator::Dot => field(alloc, level, place, value, tokens),
+        _ => Ok((
+            infix(stack, level, place, value, Infix::Plain(operator))?,
+            tokens,
+        )),
+    }
+}
+
+fn infix(
+    stack: &mut Stack,
+    level: u32,
+    place: Place,
+    value: Value,
+    operator: Infix,
+) -> Result<State, AllocError>
+    ensures { IfOk result (λ state. (tokens : List Token) → state_of state (stack_of stack.new) tokens ≡ infix_step capped level place (capped_of value) operator (stack_of stack.old) tokens) }
+{
+    open(
+        stack,
+        level,
+        place,
+        Holding::RightOperand(operator, value),
+        right_level(infix_level_of(operator)),
+    )
+}
+
+// The name behind a dot.
+fn field<'a>(
+    alloc: Global,
+    level: u32,
+    place: Place,
+    value: Value,
+    tokens: &'a [Token],
+) -> Result<(State, &'a [Token]), AllocError>
+    ensures { IfOk result (λ r. (frames : List OpenFrame) → state_of r.0 frames r.1.now ≡ plain_step capped true level place (capped_of value) Dot frames tokens.now) }
+{
+    let Some((token, rest)) = tokens.split_first() else {
+        discard(value);
+        return Ok((State::Broken, tokens));
+    };
+    let Kind::Identifier(text) = &token.kind else {
+        discard(value);
+        return Ok((State::Broken, tokens));
+    };
+    let name = Name {
+        text: Bytes::from_slice(alloc, text.as_slice())?,
+        place: Place {
+            line: token.line,
+            file: token.file,
+        },
+    };
+    Ok((
+        climbing(level, place, Value::field(alloc, place, value, name)?),
+        rest,
+    ))
+}

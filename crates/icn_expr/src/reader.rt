@@ -1,0 +1,85 @@
+// How an expression is read.
+ghost use Rattle.std.specs.Prelude.{◌≡◌, ◌<◌, IfOk};
+ghost use Rattle.std.specs.Option.{option_map};
+ghost use Rattle.icn_expr.specs.Capped.{capped};
+ghost use Rattle.icn_expr.specs.Reading.{left, end_of, expression_read};
+ghost use Rattle.icn_expr.specs.Views.{capped_of, stack_of, state_of, progress_end, IsGoing};
+
+use crate::closing::close;
+use crate::machine::{climb, start, start_with};
+use crate::stack::Stack;
+use crate::state::State;
+use crate::value::Value;
+use icn_tree::Token;
+use std::alloc::{AllocError, Global};
+
+/// How far the reading of an expression has come.
+#[derive(Drop)]
+pub enum Progress<'a> {
+    /// An expression was read.
+    Found(Value, &'a [Token]),
+    /// None stands here.
+    Nothing,
+    /// It goes on.
+    Going(State, &'a [Token]),
+}
+
+// One step, or the end.
+fn advance<'a>(
+    stack: &mut Stack,
+    alloc: Global,
+    state: State,
+    tokens: &'a [Token],
+) -> Result<Progress<'a>, AllocError>
+    ensures same { IfOk result (λ p. progress_end p (stack_of stack.new) ≡ end_of capped (state_of state (stack_of stack.old) tokens.now)) }
+    ensures less { IfOk result (λ p. IsGoing p (λ next rest. left (state_of next (stack_of stack.new) rest) < left (state_of state (stack_of stack.old) tokens.now))) }
+{
+    match state {
+        State::Finished { value } => Ok(Progress::Found(value, tokens)),
+        State::Broken => Ok(Progress::Nothing),
+        State::Starting { level } => {
+            let (next, rest) = start(stack, alloc, level, tokens)?;
+            Ok(Progress::Going(next, rest))
+        }
+        State::StartingWith { place, operator } => {
+            let (next, rest) = start_with(stack, alloc, place, operator, tokens)?;
+            Ok(Progress::Going(next, rest))
+        }
+        State::Climbing {
+            level,
+            place,
+            value,
+        } => {
+            let (next, rest) = climb(stack, alloc, level, place, value, tokens)?;
+            Ok(Progress::Going(next, rest))
+        }
+        State::Closing { value, present } => {
+            let (next, rest) = close(stack, alloc, value, present, tokens)?;
+            Ok(Progress::Going(next, rest))
+        }
+    }
+}
+
+/// The longest expression of this level in front of the tokens, and the tokens behind it; none where none stands there.
+/// An error is want of memory.
+pub fn expression<'a>(
+    alloc: Global,
+    level: u32,
+    tokens: &'a [Token],
+) -> Result<Option<(Value, &'a [Token])>, AllocError>
+    ensures { IfOk result (λ found. option_map (λ f. (capped_of f.0, f.1.now)) found ≡ expression_read capped level tokens.now) }
+{
+    let mut stack = Stack::new(alloc);
+    let mut state = State::Starting { level };
+    let mut rest = tokens;
+    'reading: loop {
+        match advance(&mut stack, alloc, state, rest)? {
+            Progress::Found(value, rest) => return Ok(Some((value, rest))),
+            Progress::Nothing => return Ok(None),
+            Progress::Going(next, others) => {
+                state = next;
+                rest = others;
+            }
+        }
+    }
+}

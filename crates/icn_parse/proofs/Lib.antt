@@ -1,0 +1,9 @@
+pub mod NamesExact
+pub mod HeadsExact
+pub mod BodiesExact
+pub mod DeclarationsExact
+pub mod Looping
+pub mod BodyLoop
+pub mod FileLoop
+pub mod Unknown
+pub mod Answering

@@ -1,0 +1,11 @@
+use Rattle.std.proofs.Common.{◌≡◌, length}
+use Rattle.icn_parse.specs.FileReading.{name_of as name_at_token, further, some_read}
+use Rattle.icn_parse.proofs.Looping.{behind_all}
+use Rattle.icn_parse.proofs.names.read_names.Given as goal
+
+-- what was read, and what stands behind it, is all of it
+abbrev pub invariant-loop-alloc : goal.invariant-loop-alloc
+invariant-loop-alloc l = some_read name_at_token l.tokens ≡ behind_all l.names.items (further name_at_token l.rest)
+
+abbrev pub decreases-loop-alloc : goal.decreases-loop-alloc
+decreases-loop-alloc l = length l.rest

@@ -1,0 +1,48 @@
+-- What is kept of the declarations that are read.
+use Rattle.std.specs.Prelude.{List, [], ◌∷◌, ◌++◌, Option, Some, None}
+use Rattle.std.specs.Option.{option_map}
+use Rattle.icn_tree.specs.declared.tree.Place.{Place}
+use Rattle.icn_tree.specs.Trees.{Tree, Trees, Initial, NoInitial, Initially, Declaration, Global, Link, Invocable, Record, ProcedureOf}
+use Rattle.icn_expr.specs.Capped.{Capped, kept}
+use Rattle.icn_parse.specs.FileReading.{ProcedureOver, DeclarationOver, GlobalOver, LinkOver, InvocableOver, RecordOver, ProcedureIs}
+
+abbrev pub CappedProcedure : Type 0
+CappedProcedure = ProcedureOver (Capped Tree) (Capped Trees)
+
+abbrev pub CappedDeclaration : Type 0
+CappedDeclaration = DeclarationOver (Capped Tree) (Capped Trees)
+
+-- a declaration without a tree that is too high, or the name of the procedure that has one
+pub data Finish : Type 0 where
+  IsKept : Declaration → Finish
+  IsTooHigh : Place → Finish
+
+abbrev pub finish_initial : Option (Place × Capped Tree) → Option Initial
+finish_initial None = Some NoInitial
+finish_initial (Some initial) = option_map (Initially initial.0) (kept initial.1)
+
+abbrev pub finish_procedure : CappedProcedure → Option Initial → Option Trees → Finish
+finish_procedure p (Some initial) (Some body) = IsKept (ProcedureOf (record { place = p.place; name = p.name; parameters = p.parameters; is_variadic = p.is_variadic; locals = p.locals; initial = initial; body = body }))
+finish_procedure p _ _ = IsTooHigh p.name.place
+
+abbrev pub finish : CappedDeclaration → Finish
+finish (GlobalOver place names) = IsKept (Global place names)
+finish (LinkOver place items) = IsKept (Link place items)
+finish (InvocableOver place items) = IsKept (Invocable place items)
+finish (RecordOver place name fields) = IsKept (Record place name fields)
+finish (ProcedureIs p) = finish_procedure p (finish_initial p.initial) (kept p.body)
+
+-- where the first tree that is too high stands
+abbrev pub high_with : Option Place → Finish → Option Place
+high_with (Some place) finish = Some place
+high_with None (IsTooHigh place) = Some place
+high_with None (IsKept declaration) = None
+
+abbrev pub done_with : List Declaration → Finish → List Declaration
+done_with done (IsKept declaration) = done ++ declaration ∷ []
+done_with done (IsTooHigh place) = done
+
+-- what is kept in the end, behind what was kept so far
+abbrev pub gathered : Option Place → List Declaration → List CappedDeclaration → Option Place × List Declaration
+gathered high done [] = (high, done)
+gathered high done (declaration ∷ others) = gathered (high_with high (finish declaration)) (done_with done (finish declaration)) others

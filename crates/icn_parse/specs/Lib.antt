@@ -1,0 +1,5 @@
+pub mod Outcomes
+pub mod FileReading
+pub mod PartReading
+pub mod Gathering
+pub mod Views

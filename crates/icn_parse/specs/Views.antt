@@ -1,0 +1,88 @@
+-- What the parser reads, as the definitions see it.
+use Rattle.std.specs.Prelude.{◌≡◌, ◌⊎◌, List, map, Option, Some, None, Result, Ok, Err}
+use Rattle.std.specs.Option.{option_map}
+use Rattle.icn_tree.specs.declared.tree.Place.{Place}
+use Rattle.icn_tree.specs.declared.token.Token.{Token}
+use Rattle.icn_tree.specs.declared.tree.File.{File}
+use Rattle.icn_tree.specs.declared.rule.Rule.{Rule}
+use Rattle.icn_tree.specs.declared.rule.Rule.TheVariants.{S1, S2, S3, S4}
+use Rattle.icn_tree.specs.TreeOf.{declaration_of, declarations_of, locals_of}
+use Rattle.icn_tree.specs.Trees.{Tree, Declaration}
+use Rattle.icn_tree.specs.Declarations.{IsTreeOf}
+use Rattle.icn_expr.specs.Capped.{Capped}
+use Rattle.icn_expr.specs.Views.{capped_of, elements_of}
+use Rattle.icn_parse.specs.declared.stop.Stop.{Stop}
+use Rattle.icn_parse.specs.declared.stop.Stop.TheVariants.{NotHere, NoMemory}
+use Rattle.icn_parse.specs.declared.procedure.First.{First}
+use Rattle.icn_parse.specs.declared.procedure.Outline.{Outline}
+use Rattle.icn_parse.specs.declared.declaration.Finished.{Finished}
+use Rattle.icn_parse.specs.declared.declaration.Finished.TheVariants as F
+use Rattle.icn_parse.specs.declared.check.Unfit.{Unfit}
+use Rattle.icn_parse.specs.declared.check.Unfit.TheVariants as U
+use Rattle.icn_parse.specs.declared.fault.ParseFault.{ParseFault}
+use Rattle.icn_parse.specs.declared.fault.ParseFault.TheVariants.{Broken, NoMemory as NoMemoryFault}
+use Rattle.icn_parse.specs.FileReading.{ProcedureIs}
+use Rattle.icn_parse.specs.Gathering.{CappedDeclaration, Finish, IsKept, IsTooHigh, finish}
+use Rattle.icn_parse.specs.Outcomes.{Fault, UnknownKeyword, NotInProfile, Outcome, NoProgram, TooHigh, Faulty, IsTree, first_too_high}
+
+-- nothing is read, or memory ran out
+abbrev pub Stopped : {A : Type 0} → Option A → Stop → Type 0
+Stopped read stop = (stop ≡ NoMemory) ⊎ (read ≡ None)
+
+abbrev pub first_value : First → Place × Capped Tree
+first_value first = (first.place, capped_of first.value)
+
+abbrev pub outline_of : Outline → CappedDeclaration
+outline_of o = ProcedureIs (record { place = o.place; name = o.head.name; parameters = o.head.parameters.items; is_variadic = o.head.is_variadic; locals = map locals_of o.locals.items; initial = option_map first_value o.initial; body = elements_of o.body })
+
+abbrev pub finish_of : Finished → Finish
+finish_of (F.Kept decl) = IsKept (declaration_of decl)
+finish_of (F.TooHigh place) = IsTooHigh place
+
+-- what a declaration that is read comes to
+abbrev pub finished_read : Option (CappedDeclaration × List Token) → Option (Finish × List Token)
+finished_read read = option_map (λ found. (finish found.0, found.1)) read
+
+-- the place that a check answers
+abbrev pub place_found : Result (Unit {0}) Place → Option Place
+place_found (Ok done) = None
+place_found (Err place) = Some place
+
+abbrev pub fault_at : Unfit → Fault
+fault_at (U.UnknownKeyword place) = UnknownKeyword place
+fault_at (U.NotInProfile place) = NotInProfile place
+
+-- what a check of declarations answers
+abbrev pub fault_found : Result (Unit {0}) Unfit → Option Fault
+fault_found (Ok done) = None
+fault_found (Err unfit) = Some (fault_at unfit)
+
+abbrev pub fault_of_stop : Stop → ParseFault
+fault_of_stop NotHere = Broken S1 0 0
+fault_of_stop NoMemory = NoMemoryFault
+
+abbrev pub fault_of_unfit : Unfit → ParseFault
+fault_of_unfit (U.UnknownKeyword place) = Broken S3 place.file place.line
+fault_of_unfit (U.NotInProfile place) = Broken S4 place.file place.line
+
+-- the rule that an outcome breaks, and where: S1 has line 0 of the named file
+abbrev pub broken_by : Outcome → Option (Rule × Place)
+broken_by NoProgram = Some (S1, record { line = 0; file = 0 })
+broken_by (TooHigh place) = Some (S2, place)
+broken_by (Faulty (UnknownKeyword place)) = Some (S3, place)
+broken_by (Faulty (NotInProfile place)) = Some (S4, place)
+broken_by (IsTree file) = None
+
+-- the fault is of an outcome, or memory ran out
+abbrev pub Breaks : (Outcome → Type 0) → ParseFault → Type 0
+Breaks IsIt (Broken rule file line) = (outcome : Outcome) × IsIt outcome × (broken_by outcome ≡ Some (rule, record { line = line; file = file }))
+Breaks IsIt NoMemoryFault = Unit {0}
+
+-- The answer is the outcome's, or memory ran out.
+abbrev pub Answers : (Outcome → Type 0) → Result File ParseFault → Type 0
+Answers IsIt (Ok file) = IsIt (IsTree (declarations_of file))
+Answers IsIt (Err fault) = Breaks IsIt fault
+
+-- these are the declarations of the tokens, of which none is too high
+abbrev pub IsLowTree : List Token → List Declaration → Type 0
+IsLowTree tokens file = IsTreeOf file tokens × (first_too_high file ≡ None)

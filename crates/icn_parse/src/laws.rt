@@ -1,0 +1,19 @@
+// Laws of the definition.
+ghost use Rattle.std.specs.Prelude.{◌≡◌, List, None};
+ghost use Rattle.icn_tree.specs.declared.token.Token.{Token};
+ghost use Rattle.icn_tree.specs.Declarations.{IsTreeOf};
+ghost use Rattle.icn_tree.specs.Trees.{Declaration};
+ghost use Rattle.icn_parse.specs.Outcomes.{Outcome, IsTree, IsOutcome, first_fault, first_too_high};
+
+/// Tokens have exactly one outcome.
+pub fn one_outcome()
+    ensures most { (tokens : List Token) (a b : Outcome) → IsOutcome tokens a → IsOutcome tokens b → a ≡ b }
+    ensures least { (tokens : List Token) → (outcome : Outcome) × IsOutcome tokens outcome }
+{}
+
+/// The tokens of a tree parse to that tree, unless it is too high, has an unknown keyword or a form that is not in this
+/// profile.
+pub fn trees_are_read()
+    ensures { (file : List Declaration) (tokens : List Token) → IsTreeOf file tokens → first_too_high file ≡ None → first_fault file ≡ None
+        → (outcome : Outcome) → IsOutcome tokens outcome → outcome ≡ IsTree file }
+{}

@@ -1,0 +1,18 @@
+//! The tree of the tokens of a program text, or the first rule that they break.
+#![tactic(auto)]
+
+mod check;
+mod declaration;
+mod fault;
+mod file;
+mod keywords;
+mod laws;
+mod names;
+mod parser;
+mod procedure;
+mod sign;
+mod stop;
+
+pub use fault::ParseFault;
+pub use laws::{one_outcome, trees_are_read};
+pub use parser::parse;

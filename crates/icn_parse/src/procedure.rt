@@ -1,0 +1,176 @@
+// How a procedure is read.
+ghost use Rattle.std.specs.Prelude.{◌≡◌, ◌<◌, Some, suc, length, map, MatchResult};
+ghost use Rattle.std.specs.Option.{option_map};
+ghost use Rattle.icn_tree.specs.TreeOf.{locals_of};
+ghost use Rattle.icn_expr.specs.Capped.{capped};
+ghost use Rattle.icn_expr.specs.Reading.{expression_read};
+ghost use Rattle.icn_expr.specs.Views.{capped_of, elements_of};
+ghost use Rattle.icn_parse.specs.FileReading.{parameters_read, head_read, locals_read, initial_read, body_read, procedure_read};
+ghost use Rattle.icn_parse.specs.PartReading.{locals_one};
+ghost use Rattle.icn_parse.specs.Views.{Stopped, first_value, outline_of};
+
+use crate::names::{read_maybe_names, read_name, read_names};
+use crate::sign::{
+    close_bracket_next, close_parenthesis_next, end_next, initial_next, local_kind,
+    open_bracket_next, open_parenthesis_next, semicolon_next, sign,
+};
+use crate::stop::Stop;
+use icn_expr::{Elements, Value, behind, expression, place_of};
+use icn_tree::{LocalKind, Locals, Name, Place, Token};
+use std::alloc::Global;
+
+/// What stands between the word of a procedure and its locals.
+#[derive(Drop)]
+pub struct Head {
+    pub name: Name,
+    pub parameters: Vec<Name>,
+    pub is_variadic: bool,
+}
+
+/// The expression of an `initial`, with its height.
+#[derive(Drop)]
+pub struct First {
+    pub place: Place,
+    pub value: Value,
+}
+
+/// A procedure as it was read, its trees with their heights.
+#[derive(Drop)]
+pub struct Outline {
+    pub place: Place,
+    pub head: Head,
+    pub locals: Vec<Locals>,
+    pub initial: Option<First>,
+    pub body: Elements,
+}
+
+// An expression of this level.
+fn read_value<'a>(
+    alloc: Global,
+    level: u32,
+    tokens: &'a [Token],
+) -> Result<(Value, &'a [Token]), Stop>
+    ensures { MatchResult result (λ found. expression_read capped level tokens.now ≡ Some (capped_of found.0, found.1.now)) (Stopped (expression_read capped level tokens.now)) }
+{
+    match expression(alloc, level, tokens)? {
+        Some(found) => Ok(found),
+        None => Err(Stop::NotHere),
+    }
+}
+
+// The parameters, and whether the last gets a list of the arguments that are left.
+fn read_parameters<'a>(
+    alloc: Global,
+    tokens: &'a [Token],
+) -> Result<(Vec<Name>, bool, &'a [Token]), Stop>
+    ensures { MatchResult result (λ found. parameters_read tokens.now ≡ Some (found.0.items, found.1, found.2.now)) (Stopped (parameters_read tokens.now)) }
+{
+    let (names, rest) = read_maybe_names(alloc, tokens)?;
+    if !open_bracket_next(rest) {
+        return Ok((names, false, rest));
+    }
+    let opened = behind(rest);
+    let rest = sign(close_bracket_next(opened), opened)?;
+    Ok((names, true, rest))
+}
+
+// The head of a procedure, behind its word.
+fn read_head<'a>(alloc: Global, tokens: &'a [Token]) -> Result<(Head, &'a [Token]), Stop>
+    ensures { MatchResult result (λ found. head_read tokens.now ≡ Some (found.0.name, (found.0.parameters.items, found.0.is_variadic), found.1.now)) (Stopped (head_read tokens.now)) }
+{
+    let (name, rest) = read_name(alloc, tokens)?;
+    let rest = sign(open_parenthesis_next(rest), rest)?;
+    let (parameters, is_variadic, rest) = read_parameters(alloc, rest)?;
+    let rest = sign(close_parenthesis_next(rest), rest)?;
+    let rest = sign(semicolon_next(rest), rest)?;
+    let head = Head {
+        name,
+        parameters,
+        is_variadic,
+    };
+    Ok((head, rest))
+}
+
+// The names behind one word of names.
+fn read_locals<'a>(
+    alloc: Global,
+    kind: LocalKind,
+    tokens: &'a [Token],
+) -> Result<(Locals, &'a [Token]), Stop>
+    ensures { MatchResult result (λ found. locals_one kind tokens.now ≡ Some (locals_of found.0, found.1.now)) (Stopped (locals_one kind tokens.now)) }
+{
+    let place = place_of(tokens);
+    let (names, rest) = read_names(alloc, behind(tokens))?;
+    let rest = sign(semicolon_next(rest), rest)?;
+    Ok((Locals { place, kind, names }, rest))
+}
+
+// All locals and statics.
+fn read_all_locals<'a>(
+    alloc: Global,
+    tokens: &'a [Token],
+) -> Result<(Vec<Locals>, &'a [Token]), Stop>
+    ensures { MatchResult result (λ found. locals_read (suc (length tokens.now)) tokens.now ≡ Some (map locals_of found.0.items, found.1.now)) (Stopped (locals_read (suc (length tokens.now)) tokens.now)) }
+{
+    let mut all = Vec::new(alloc);
+    let mut rest = tokens;
+    while let Some(kind) = local_kind(rest) {
+        let (locals, others) = read_locals(alloc, kind, rest)?;
+        all.push(locals)?;
+        rest = others;
+    }
+    Ok((all, rest))
+}
+
+// What a procedure does in its first call alone.
+fn read_initial<'a>(
+    alloc: Global,
+    tokens: &'a [Token],
+) -> Result<(Option<First>, &'a [Token]), Stop>
+    ensures { MatchResult result (λ found. initial_read capped tokens.now ≡ Some (option_map first_value found.0, found.1.now)) (Stopped (initial_read capped tokens.now)) }
+{
+    if !initial_next(tokens) {
+        return Ok((None, tokens));
+    }
+    let place = place_of(tokens);
+    let (value, rest) = read_value(alloc, 1, behind(tokens))?;
+    let rest = sign(semicolon_next(rest), rest)?;
+    Ok((Some(First { place, value }), rest))
+}
+
+// The expressions up to the end of a procedure.
+fn read_body<'a>(alloc: Global, tokens: &'a [Token]) -> Result<(Elements, &'a [Token]), Stop>
+    ensures { MatchResult result (λ found. body_read capped (suc (length tokens.now)) capped.no_elements tokens.now ≡ Some (elements_of found.0, found.1.now)) (Stopped (body_read capped (suc (length tokens.now)) capped.no_elements tokens.now)) }
+{
+    let mut done = Elements::new(alloc);
+    let mut rest = tokens;
+    while !end_next(rest) {
+        let (value, others) = read_value(alloc, 0, rest)?;
+        rest = sign(semicolon_next(others), others)?;
+        done = done.with(alloc, value)?;
+    }
+    Ok((done, rest))
+}
+
+/// A procedure, behind its word.
+pub fn read_procedure<'a>(
+    alloc: Global,
+    place: Place,
+    tokens: &'a [Token],
+) -> Result<(Outline, &'a [Token]), Stop>
+    ensures { MatchResult result (λ found. procedure_read capped place tokens.now ≡ Some (outline_of found.0, found.1.now)) (Stopped (procedure_read capped place tokens.now)) }
+{
+    let (head, rest) = read_head(alloc, tokens)?;
+    let (locals, rest) = read_all_locals(alloc, rest)?;
+    let (initial, rest) = read_initial(alloc, rest)?;
+    let (body, rest) = read_body(alloc, rest)?;
+    let rest = sign(end_next(rest), rest)?;
+    let outline = Outline {
+        place,
+        head,
+        locals,
+        initial,
+        body,
+    };
+    Ok((outline, rest))
+}
