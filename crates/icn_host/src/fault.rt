@@ -11,7 +11,7 @@ pub enum Fault {
     /// The object failed, and its count of faults rose or stands at its last value.
     Failed,
 
-    /// There was no memory. No count rises for it.
+    /// There was no memory. A sink's count of wants rose or stands at its last value; no other count rises for it.
     NoMemory,
 }
 

@@ -15,12 +15,14 @@ use std::alloc::Global;
 
 /// A sink over memory that fails at the calls whose numbers a list names.
 ///
-/// A call that fails appends nothing, answers `Failed` and raises the count of faults.
+/// A call that fails appends nothing, answers `Failed` and raises the count of faults. One that wants memory appends
+/// nothing, answers `NoMemory` and raises the count of wants.
 #[derive(Drop)]
 pub struct MemSink {
     held: Vec<u8>,
     failing: FailingCalls,
     faults: u64,
+    wants: u64,
 }
 
 impl MemSink {
@@ -30,12 +32,14 @@ impl MemSink {
     pub fn new(start: Vec<u8>, failing: Vec<u64>) -> Self
         ensures held { ⟦<MemSink as Sink>⟧.held result ≡ Some start.items }
         ensures faults { ⟦<MemSink as Sink>⟧.faults result ≡ 0 }
+        ensures wants { ⟦<MemSink as Sink>⟧.wants result ≡ 0 }
         ensures plan { sink_plan result ≡ first_plan failing.items }
     {
         MemSink {
             held: start,
             failing: FailingCalls::new(failing),
             faults: 0,
+            wants: 0,
         }
     }
 
@@ -54,10 +58,13 @@ impl Sink for MemSink {
 
     ghost faults = { λ s. s.faults };
 
+    ghost wants = { λ s. s.wants };
+
     fn put(&mut self, piece: &[u8]) -> Result<(), Fault>
         ensures ok { OnOk result (Gains (⟦<MemSink as Sink>⟧.held self.old) (⟦<MemSink as Sink>⟧.held self.new) piece.now) }
         ensures err { OnErr result (⟦<MemSink as Sink>⟧.held self.new ≡ ⟦<MemSink as Sink>⟧.held self.old) }
         ensures cause { HasCause (⟦<MemSink as Sink>⟧.faults self.old) (⟦<MemSink as Sink>⟧.faults self.new) (IsErrOf result Fault.Failed) }
+        ensures want { HasCause (⟦<MemSink as Sink>⟧.wants self.old) (⟦<MemSink as Sink>⟧.wants self.new) (IsErrOf result Fault.NoMemory) }
         ensures fails { IsErrOf result Fault.Failed ↔ FailsNext (sink_plan self.old) }
         ensures plan { sink_plan self.new ≡ later_plan (sink_plan self.old) }
     {
@@ -65,7 +72,10 @@ impl Sink for MemSink {
             self.faults = self.faults.saturating_add(1);
             return Err(Fault::Failed);
         }
-        self.held.extend_from_slice(piece)?;
+        if self.held.extend_from_slice(piece).is_err() {
+            self.wants = self.wants.saturating_add(1);
+            return Err(Fault::NoMemory);
+        }
         Ok(())
     }
 }

@@ -11,11 +11,13 @@ use std::io::Write;
 /// A writer as a sink, for a standard output.
 ///
 /// Its count of faults rises at each error of the writer but want of memory. A write that takes nothing of a piece
-/// that is not empty is such an error, and so is an interruption after 1000 others in a row.
+/// that is not empty is such an error, and so is an interruption after 1000 others in a row. Its count of wants rises
+/// where the writer wants memory.
 #[derive(Drop)]
 pub struct StdSink<W> {
     writer: W,
     faults: u64,
+    wants: u64,
 }
 
 impl<W: Write> StdSink<W> {
@@ -25,8 +27,13 @@ impl<W: Write> StdSink<W> {
     pub fn new(writer: W) -> Self
         ensures writer { writer_of result ≡ writer }
         ensures faults { ⟦<StdSink<W> as Sink>⟧.faults result ≡ 0 }
+        ensures wants { ⟦<StdSink<W> as Sink>⟧.wants result ≡ 0 }
     {
-        StdSink { writer, faults: 0 }
+        StdSink {
+            writer,
+            faults: 0,
+            wants: 0,
+        }
     }
 }
 
@@ -37,15 +44,21 @@ impl<W: Write> Sink for StdSink<W> {
 
     ghost faults = { λ s. s.faults };
 
+    ghost wants = { λ s. s.wants };
+
     // The sink tells nothing, but where the writer tells what it holds, it holds the piece.
     fn put(&mut self, piece: &[u8]) -> Result<(), Fault>
         ensures ok { OnOk result (Gains (W.contents (writer_of self.old)) (W.contents (writer_of self.new)) piece.now) }
         ensures err { OnErr result (GainsPart (W.contents (writer_of self.old)) (W.contents (writer_of self.new)) piece.now) }
         ensures cause { HasCause (⟦<StdSink<W> as Sink>⟧.faults self.old) (⟦<StdSink<W> as Sink>⟧.faults self.new) (IsErrOf result Fault.Failed) }
+        ensures want { HasCause (⟦<StdSink<W> as Sink>⟧.wants self.old) (⟦<StdSink<W> as Sink>⟧.wants self.new) (IsErrOf result Fault.NoMemory) }
     {
         let result = write_whole(&mut self.writer, piece);
         if result == Err(Fault::Failed) {
             self.faults = self.faults.saturating_add(1);
+        }
+        if result == Err(Fault::NoMemory) {
+            self.wants = self.wants.saturating_add(1);
         }
         result
     }

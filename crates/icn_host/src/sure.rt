@@ -8,18 +8,23 @@ use crate::store::{Store, look, set};
 use crate::traits::{Files, Sink, Source};
 use std::alloc::Global;
 
-/// A sink over memory that never fails: it gives up only for want of memory.
+/// A sink over memory that never fails: it gives up only for want of memory, and then its count of wants rises.
 #[derive(Drop)]
 pub struct SureSink {
     held: Vec<u8>,
+    wants: u64,
 }
 
 impl SureSink {
     /// A sink that holds these bytes.
     pub fn new(start: Vec<u8>) -> Self
-        ensures { ⟦<SureSink as Sink>⟧.held result ≡ Some start.items }
+        ensures held { ⟦<SureSink as Sink>⟧.held result ≡ Some start.items }
+        ensures wants { ⟦<SureSink as Sink>⟧.wants result ≡ 0 }
     {
-        SureSink { held: start }
+        SureSink {
+            held: start,
+            wants: 0,
+        }
     }
 
     /// The bytes that it holds.
@@ -35,8 +40,13 @@ impl Sink for SureSink {
 
     ghost faults = { λ _. 0 };
 
+    ghost wants = { λ s. s.wants };
+
     fn put(&mut self, piece: &[u8]) -> Result<(), Fault> {
-        self.held.extend_from_slice(piece)?;
+        if self.held.extend_from_slice(piece).is_err() {
+            self.wants = self.wants.saturating_add(1);
+            return Err(Fault::NoMemory);
+        }
         Ok(())
     }
 }

@@ -47,11 +47,15 @@ pub trait Sink {
     /// How often it has failed, up to the greatest `u64`.
     ghost faults: { Self → ℕ };
 
+    /// How often it has wanted memory, up to the greatest `u64`.
+    ghost wants: { Self → ℕ };
+
     /// Appends the piece. After an `Err` a part of it from its start was appended.
     fn put(&mut self, piece: &[u8]) -> Result<(), Fault>
         ensures ok { OnOk result (Gains (held self.old) (held self.new) piece.now) }
         ensures err { OnErr result (GainsPart (held self.old) (held self.new) piece.now) }
-        ensures cause { HasCause (faults self.old) (faults self.new) (IsErrOf result Fault.Failed) };
+        ensures cause { HasCause (faults self.old) (faults self.new) (IsErrOf result Fault.Failed) }
+        ensures want { HasCause (wants self.old) (wants self.new) (IsErrOf result Fault.NoMemory) };
 }
 
 /// Files by their names.

@@ -275,8 +275,9 @@ mod tests {
     // A sink whose first put takes nothing, since it wants memory.
     #[derive(Drop)]
     struct WantingSink {
-        wants: bool,
+        full: bool,
         held: SureSink,
+        wants: u64,
     }
 
     impl Sink for WantingSink {
@@ -284,12 +285,19 @@ mod tests {
 
         ghost faults = { λ _. 0 };
 
+        ghost wants = { λ s. s.wants };
+
         fn put(&mut self, piece: &[u8]) -> Result<(), Fault> {
-            if self.wants {
-                self.wants = false;
-                return Err(Fault::NoMemory);
+            let result = if self.full {
+                self.full = false;
+                Err(Fault::NoMemory)
+            } else {
+                self.held.put(piece)
+            };
+            if result == Err(Fault::NoMemory) {
+                self.wants = self.wants.saturating_add(1);
             }
-            self.held.put(piece)
+            result
         }
     }
 
@@ -563,12 +571,14 @@ mod tests {
             let mut files = SureFiles::new(alloc, held);
             let mut input = SureSource::new(Vec::new(alloc));
             let mut out = WantingSink {
-                wants: output,
+                full: output,
                 held: SureSink::new(Vec::new(alloc)),
+                wants: 0,
             };
             let mut err = WantingSink {
-                wants: errors,
+                full: errors,
                 held: SureSink::new(Vec::new(alloc)),
+                wants: 0,
             };
             let words = vec![in alloc;
                 String::from_str(alloc, "icont")?,
@@ -579,6 +589,10 @@ mod tests {
             assert_eq!(rt; name_of(&answer), "NoMemory");
             assert!(rt; out.held.content().is_empty());
             assert_eq!(rt; err.held.content(), b"no memory\n".as_slice());
+            assert_eq!(rt;
+                (out.wants, err.wants),
+                (u64::from(output), u64::from(errors))
+            );
         }
         Ok(())
     }

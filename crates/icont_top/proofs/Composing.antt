@@ -1,10 +1,10 @@
 -- The answer's line behind the rest of the job.
-use Rattle.std.proofs.Common.{◌≡◌, ◌⊎◌, inl, inr, List, ℕ, Option, None, Some, IfSome, MatchOption, Ok, Err, refl, sym, ap, ◌∙◌}
+use Rattle.std.proofs.Common.{◌≡◌, ◌⊎◌, inl, inr, List, ℕ, Option, None, Some, IfSome, MatchOption, Ok, refl, sym, ap, ◌∙◌}
 use Rattle.std.proofs.lemmas.Option.{none-some, same_Some}
 use Rattle.icn_host.specs.Counts.{HasCause}
 use Rattle.icn_host.specs.FileMaps.{FileMap}
 use Rattle.icn_host.specs.Sinks.{Gains, GainsPart}
-use Rattle.icn_host.proofs.SinkSteps.{gains_nothing, part_whole, part_nothing}
+use Rattle.icn_host.proofs.SinkSteps.{gains_nothing, part_whole}
 use Rattle.icn_tree.specs.declared.token.Token.{Token}
 use Rattle.icn_form.specs.declared.tree.Procedure.{Procedure}
 use Rattle.icn_form.specs.Meaning.{meaning}
@@ -13,7 +13,7 @@ use Rattle.icont_top.specs.declared.answer.Answer.{Answer}
 use Rattle.icont_top.specs.declared.answer.Answer.TheVariants.{Command, FileFault, WriteFault, NoMemory}
 use Rattle.icont_top.specs.Answers.{IsFault, IsCommand, IsRefusal, line_of}
 use Rattle.icont_top.specs.Job.{Job, refusal, success, IsTokensJob, refused, ran, IsFileJob, no_tokens, of_tokens, IsJob, wrong_words, of_file}
-use Rattle.icont_top.specs.Outcomes.{Puts, all, told, Completes, Leaves, Runs, Does, did, failed, Reports, put, own, write_fault, want}
+use Rattle.icont_top.specs.Outcomes.{Sunk, Puts, all, Leads, told, Completes, Leaves, Runs, Does, did, failed, Reports, put, own, write_fault, want}
 use Rattle.icont_top.specs.Sources.{source_read, IsAbsence}
 use Rattle.icont_top.specs.Words.{file_asked}
 use Rattle.icn_form.proofs.Trees.{one_program}
@@ -60,7 +60,7 @@ pub at_some : {T : Type 0} (P : T → Type 0) (o : Option T) (x : T) → o ≡ S
 at_some P o x e h = rw e at h
 
 -- the answer that is given is a fault, or the answer whose line was put
-reported : {rose : Type 0} {answer given : Answer} {err err' : Option (List ℕ)} → Reports rose answer err err' given → IsFault given ⊎ (given ≡ answer)
+reported : {answer given : Answer} {err err' : Sunk} → Reports answer err err' given → IsFault given ⊎ (given ≡ answer)
 reported (put h) = inr refl
 reported (own f h) = inl f
 reported (write_fault n h) = inl tt
@@ -95,11 +95,11 @@ record Finished (P : Job → Type 0) (given : Answer) (out out' err err' : Optio
 line_as : {err err' : Option (List ℕ)} (answer : Answer) (job : Job) → answer ≡ job.answer → job.errors ≡ line_of job.answer → Gains err err' (line_of answer) → Gains err err' job.errors
 line_as answer job e l h = rw (l, ← e) h
 
-part_as : {err err' : Option (List ℕ)} (answer : Answer) (job : Job) → answer ≡ job.answer → job.errors ≡ line_of job.answer → GainsPart err err' (line_of answer) → GainsPart err err' job.errors
+part_as : {err err' : Sunk} (answer : Answer) (job : Job) → answer ≡ job.answer → job.errors ≡ line_of job.answer → Leads err err' (line_of answer) → Leads err err' job.errors
 part_as answer job e l h = rw (l, ← e) h
 
-finished : {P : Job → Type 0} {rose : Type 0} {answer given : Answer} {out out' err err' : Option (List ℕ)} → Does P answer out out' → Reports rose answer err err' given
-    → IsFault given ⊎ Finished P given out out' err err'
+finished : {P : Job → Type 0} {answer given : Answer} {out out' : Option (List ℕ)} {err err' : Sunk} → Does P answer out out' → Reports answer err err' given
+    → IsFault given ⊎ Finished P given out out' err.held err'.held
 finished {answer = answer} (did job is e l g) (put h) = inr (record { job = job; is = is; answered = e; output = g; errors = line_as answer job e l h })
 finished (did job is e l g) (own f h) = inl f
 finished (did job is e l g) (write_fault n h) = inl tt
@@ -110,21 +110,21 @@ finished (failed f h) (write_fault n g) = inl tt
 finished (failed f h) (want n between g p) = inl tt
 
 -- what a fault left of the job
-record Remains (job : Job) (given : Answer) (rose : Type 0) (out out' err err' : Option (List ℕ)) : Type 0 where
+record Remains (job : Job) (given : Answer) (out out' : Option (List ℕ)) (err err' : Sunk) : Type 0 where
   pub output : GainsPart out out' job.output
-  pub between : Option (List ℕ)
-  pub errors : GainsPart err between job.errors
-  pub line : Puts rose between err' (line_of given)
+  pub between : Sunk
+  pub errors : Leads err between job.errors
+  pub line : Puts between err' (line_of given)
 
-own_line : {given : Answer} {rose : Type 0} {out out' err err' : Option (List ℕ)} (job : Job) → GainsPart out out' job.output → Puts rose err err' (line_of given) → Remains job given rose out out' err err'
-own_line {err = err} job part line = record { output = part; between = err; errors = part_nothing err job.errors; line = line }
+own_line : {given : Answer} {out out' : Option (List ℕ)} {err err' : Sunk} (job : Job) → GainsPart out out' job.output → Puts err err' (line_of given) → Remains job given out out' err err'
+own_line {err = err} job part line = record { output = part; between = err; errors = inl refl; line = line }
 
-remains_of : {P : Job → Type 0} {rose : Type 0} {answer given : Answer} {out out' err err' : Option (List ℕ)} (job : Job) → P job → Reports rose answer err err' given → IsFault given
-    → Does P answer out out' → ((a b : Job) → P a → P b → a ≡ b) → Remains job given rose out out' err err'
+remains_of : {P : Job → Type 0} {answer given : Answer} {out out' : Option (List ℕ)} {err err' : Sunk} (job : Job) → P job → Reports answer err err' given → IsFault given
+    → Does P answer out out' → ((a b : Job) → P a → P b → a ≡ b) → Remains job given out out' err err'
 remains_of job is (put h) f (did other also e l g) one = own_line job (rw (one job other is also) (part_whole g)) (all h)
 remains_of job is (own n p) f (did other also e l g) one = own_line job (rw (one job other is also) (part_whole g)) p
 remains_of {answer = answer} {err' = err'} job is (write_fault n h) f (did other also e l g) one =
-    rw (one job other is also) (record { output = part_whole g; between = err'; errors = part_as answer other e l h; line = all (gains_nothing err') })
+    rw (one job other is also) (record { output = part_whole g; between = err'; errors = part_as answer other e l h; line = all (gains_nothing err'.held) })
 remains_of {answer = answer} job is (want n between h p) f (did other also e l g) one =
     rw (one job other is also) (record { output = part_whole g; between = between; errors = part_as answer other e l h; line = p })
 remains_of job is (put h) f (failed n part) one = own_line job (part job is) (all h)
@@ -134,11 +134,11 @@ remains_of job is (want n between h p) f (failed m part) one = absurd (n m)
 
 -- The clauses of the top call
 
-pub completes : {words : List (List ℕ)} {rose : Type 0} {answer given : Answer} {files' : Option FileMap} {left' out out' err err' : Option (List ℕ)} (files : FileMap) (left : List ℕ) (f : Option FileMap) (l : Option (List ℕ))
-    → files' ≡ f → left' ≡ l → f ≡ Some files → l ≡ Some left → Does (IsJob words files left) answer out out' → Reports rose answer err err' given
+pub completes : {words : List (List ℕ)} {answer given : Answer} {files' : Option FileMap} {left' out out' : Option (List ℕ)} {err err' : Sunk} (files : FileMap) (left : List ℕ) (f : Option FileMap) (l : Option (List ℕ))
+    → files' ≡ f → left' ≡ l → f ≡ Some files → l ≡ Some left → Does (IsJob words files left) answer out out' → Reports answer err err' given
     → IsFault given ⊎ ((job : Job) × IsJob words files left job × Completes job given (told f l out err) (told files' left' out' err'))
 completes {words} {given = given} {files'} {left'} {out} {out'} {err} {err'} files left f l f' l' e d does line = of_finished (finished does line) where
-  of_finished : IsFault given ⊎ Finished (IsJob words files left) given out out' err err' → IsFault given ⊎ ((job : Job) × IsJob words files left job × Completes job given (told f l out err) (told files' left' out' err'))
+  of_finished : IsFault given ⊎ Finished (IsJob words files left) given out out' err.held err'.held → IsFault given ⊎ ((job : Job) × IsJob words files left job × Completes job given (told f l out err) (told files' left' out' err'))
   of_finished (inl fault) = inl fault
   of_finished (inr done) =
       let same = untouched done.job done.is in
@@ -154,18 +154,18 @@ completes {words} {given = given} {files'} {left'} {out} {out'} {err} {err'} fil
         },
       )
 
-pub leaves : {words : List (List ℕ)} {rose : Type 0} {answer given : Answer} {files' : Option FileMap} {left' out out' err err' : Option (List ℕ)} (files : FileMap) (left : List ℕ) (f : Option FileMap) (l : Option (List ℕ))
-    → files' ≡ f → left' ≡ l → Does (IsJob words files left) answer out out' → Reports rose answer err err' given
-    → (job : Job) → IsJob words files left job → IsFault given → Leaves job given rose (told f l out err) (told files' left' out' err')
+pub leaves : {words : List (List ℕ)} {answer given : Answer} {files' : Option FileMap} {left' out out' : Option (List ℕ)} {err err' : Sunk} (files : FileMap) (left : List ℕ) (f : Option FileMap) (l : Option (List ℕ))
+    → files' ≡ f → left' ≡ l → Does (IsJob words files left) answer out out' → Reports answer err err' given
+    → (job : Job) → IsJob words files left job → IsFault given → Leaves job given (told f l out err) (told files' left' out' err')
 leaves {words} files left f l f' l' does line job is fault =
     let rest = remains_of job is line fault does (one_job words files left) in
     record { files = f'; left = l'; output = rest.output; between = rest.between; errors = rest.errors; line = rest.line }
 
-pub runs : {words : List (List ℕ)} {rose : Type 0} {answer given : Answer} {out out' err err' : Option (List ℕ)} (files : FileMap) (left name : List ℕ) (tokens : List Token) (program : Procedure)
-    → file_asked words ≡ Some name → source_read files name ≡ Ok tokens → IsProgram tokens program → Does (IsJob words files left) answer out out' → Reports rose answer err err' given
-    → IsFault given ⊎ Runs given (meaning program) out out' err err'
+pub runs : {words : List (List ℕ)} {answer given : Answer} {out out' : Option (List ℕ)} {err err' : Sunk} (files : FileMap) (left name : List ℕ) (tokens : List Token) (program : Procedure)
+    → file_asked words ≡ Some name → source_read files name ≡ Ok tokens → IsProgram tokens program → Does (IsJob words files left) answer out out' → Reports answer err err' given
+    → IsFault given ⊎ Runs given (meaning program) out out' err.held err'.held
 runs {words} {given = given} {out} {out'} {err} {err'} files left name tokens program asked held is does line = of_finished (finished does line) where
-  of_finished : IsFault given ⊎ Finished (IsJob words files left) given out out' err err' → IsFault given ⊎ Runs given (meaning program) out out' err err'
+  of_finished : IsFault given ⊎ Finished (IsJob words files left) given out out' err.held err'.held → IsFault given ⊎ Runs given (meaning program) out out' err.held err'.held
   of_finished (inl fault) = inl fault
   of_finished (inr done) =
       let wanted : IsJob words files left (success files left (meaning program)) = of_file name _ asked (of_tokens tokens _ held (ran program is)) in
@@ -179,7 +179,7 @@ command_by None (inr e) h = inr (e ∙ h)
 command_by {given} (Some name) (inl f) h = not_command given f
 command_by (Some name) (inr e) h = λ is. h (rw e at is)
 
-pub command_of : {rose : Type 0} {given answer : Answer} {err err' : Option (List ℕ)} (asked : Option (List ℕ)) → Reports rose answer err err' given
+pub command_of : {given answer : Answer} {err err' : Sunk} (asked : Option (List ℕ)) → Reports answer err err' given
     → MatchOption asked (answer ≡ Command 1) (λ name. IsCommand answer → ⊥) → MatchOption asked (IsFault given ⊎ (given ≡ Command 1)) (λ name. IsCommand given → ⊥)
 command_of asked line h = command_by asked (reported line) h
 
@@ -187,10 +187,10 @@ refused_by : {given answer : Answer} {P : Type 0} → IsFault given ⊎ (given �
 refused_by {given} (inl f) h is = absurd (not_refusal given f is)
 refused_by (inr e) h is = h (rw e at is)
 
-pub refused_of : {rose P : Type 0} {given answer : Answer} {err err' : Option (List ℕ)} → Reports rose answer err err' given → (IsRefusal answer → P) → IsRefusal given → P
+pub refused_of : {P : Type 0} {given answer : Answer} {err err' : Sunk} → Reports answer err err' given → (IsRefusal answer → P) → IsRefusal given → P
 refused_of line h is = refused_by (reported line) h is
 
-pub line_put : {rose : Type 0} {answer given : Answer} {before after : Option (List ℕ)} → Reports rose answer before after given → IsFault given ⊎ Gains before after (line_of given)
+pub line_put : {answer given : Answer} {before after : Sunk} → Reports answer before after given → IsFault given ⊎ Gains before.held after.held (line_of given)
 line_put (put h) = inr h
 line_put (own f h) = inl f
 line_put (write_fault n h) = inl tt
@@ -200,5 +200,5 @@ absence_by : {given answer : Answer} (before after : ℕ) → IsFault given ⊎ 
 absence_by {given} before after (inl f) h = record { later = h.later; rose = λ is. absurd (not_absence given f is) }
 absence_by before after (inr e) h = record { later = h.later; rose = λ is. h.rose (rw e at is) }
 
-pub absence_of : {rose : Type 0} {given answer : Answer} {err err' : Option (List ℕ)} (before after : ℕ) → Reports rose answer err err' given → HasCause before after (IsAbsence answer) → HasCause before after (IsAbsence given)
+pub absence_of : {given answer : Answer} {err err' : Sunk} (before after : ℕ) → Reports answer err err' given → HasCause before after (IsAbsence answer) → HasCause before after (IsAbsence given)
 absence_of before after line h = absence_by before after (reported line) h

@@ -1,5 +1,6 @@
 -- What a call leaves of the job that it was asked for.
-use Rattle.std.specs.Prelude.{◌≡◌, ℕ, List, [], Option, Some, Ok}
+use Rattle.std.specs.Prelude.{◌≡◌, ◌⊎◌, ◌≤◌, ℕ, List, [], Option, Some, Ok}
+use Rattle.icn_host.specs.Counts.{Rose}
 use Rattle.icn_host.specs.FileMaps.{FileMap}
 use Rattle.icn_host.specs.Sinks.{Gains, GainsPart}
 use Rattle.icn_tree.specs.declared.token.Token.{Token}
@@ -10,20 +11,37 @@ use Rattle.icont_top.specs.Answers.{IsFault, line_of}
 use Rattle.icont_top.specs.Job.{Job}
 use Rattle.icont_top.specs.Sources.{source_read}
 
--- how a line was put: all of it; or a part, since the sink failed; or a part, since the put wanted memory
-pub data Puts (failed : Type 0) (before after : Option (List ℕ)) (line : List ℕ) : Type 0 where
-  all : Gains before after line → Puts failed before after line
-  broken : failed → GainsPart before after line → Puts failed before after line
-  no_memory : GainsPart before after line → Puts failed before after line
+-- a sink: what it tells that it holds, and how often it has failed and wanted memory
+pub record Sunk : Type 0 where
+  pub held : Option (List ℕ)
+  pub faults : ℕ
+  pub wants : ℕ
+
+abbrev pub sunk : Option (List ℕ) → ℕ → ℕ → Sunk
+sunk held faults wants = record { held = held; faults = faults; wants = wants }
+
+-- a part of a line was put, since the sink failed, or since it wanted memory
+pub data Stops (before after : Sunk) (line : List ℕ) : Type 0 where
+  broken : Rose before.faults after.faults → before.wants ≤ after.wants → GainsPart before.held after.held line → Stops before after line
+  wanted : Rose before.wants after.wants → before.faults ≤ after.faults → GainsPart before.held after.held line → Stops before after line
+
+-- how a line was put: all of it, or a part
+pub data Puts (before after : Sunk) (line : List ℕ) : Type 0 where
+  all : Gains before.held after.held line → Puts before after line
+  part : Stops before after line → Puts before after line
+
+-- a line was not begun, or a part of it was put
+abbrev pub Leads : Sunk → Sunk → List ℕ → Type 0
+Leads before after line = (after ≡ before) ⊎ Stops before after line
 
 -- what the objects tell: the files, the input left, the output and the error output so far
 pub record Told : Type 0 where
   pub files : Option FileMap
   pub left : Option (List ℕ)
   pub output : Option (List ℕ)
-  pub errors : Option (List ℕ)
+  pub errors : Sunk
 
-abbrev pub told : Option FileMap → Option (List ℕ) → Option (List ℕ) → Option (List ℕ) → Told
+abbrev pub told : Option FileMap → Option (List ℕ) → Option (List ℕ) → Sunk → Told
 told files left output errors = record { files = files; left = left; output = output; errors = errors }
 
 -- the store tells its files, and the file of this name has these tokens
@@ -42,17 +60,17 @@ pub record Completes (job : Job) (answer : Answer) (before after : Told) : Type 
   pub files : after.files ≡ Some job.files
   pub left : after.left ≡ Some job.left
   pub output : Gains before.output after.output job.output
-  pub errors : Gains before.errors after.errors job.errors
+  pub errors : Gains before.errors.held after.errors.held job.errors
 
 -- What a fault leaves of the job: the files and the input as they were, a part of its output, and a part of its error output
--- with the fault's own line behind it.
-pub record Leaves (job : Job) (answer : Answer) (failed : Type 0) (before after : Told) : Type 0 where
+-- with the fault's own line behind it, as far as the error output took each.
+pub record Leaves (job : Job) (answer : Answer) (before after : Told) : Type 0 where
   pub files : after.files ≡ before.files
   pub left : after.left ≡ before.left
   pub output : GainsPart before.output after.output job.output
-  pub between : Option (List ℕ)
-  pub errors : GainsPart before.errors between job.errors
-  pub line : Puts failed between after.errors (line_of answer)
+  pub between : Sunk
+  pub errors : Leads before.errors between job.errors
+  pub line : Puts between after.errors (line_of answer)
 
 -- A call whose jobs are those of the predicate, but for the line of its answer: it did its job, or it answers a fault and left
 -- a part of the job's output.
@@ -61,9 +79,13 @@ pub data Does (IsJobOf : Job → Type 0) (answer : Answer) (out out' : Option (L
   failed : IsFault answer → ((job : Job) → IsJobOf job → GainsPart out out' job.output) → Does IsJobOf answer out out'
 
 -- how the line of an answer was put, and which answer is given then
-pub data Reports (failed : Type 0) (answer : Answer) (before after : Option (List ℕ)) : Answer → Type 0 where
-  put : Gains before after (line_of answer) → Reports failed answer before after answer
-  own : IsFault answer → Puts failed before after (line_of answer) → Reports failed answer before after answer
-  write_fault : (IsFault answer → ⊥) → GainsPart before after (line_of answer) → Reports failed answer before after WriteFault
-  want : (IsFault answer → ⊥) → (between : Option (List ℕ)) → GainsPart before between (line_of answer) → Puts failed between after (line_of NoMemory)
-      → Reports failed answer before after NoMemory
+pub data Reports (answer : Answer) (before after : Sunk) : Answer → Type 0 where
+  put : Gains before.held after.held (line_of answer) → Reports answer before after answer
+  own : IsFault answer → Puts before after (line_of answer) → Reports answer before after answer
+  write_fault : (IsFault answer → ⊥) → Leads before after (line_of answer) → Reports answer before after WriteFault
+  want : (IsFault answer → ⊥) → (between : Sunk) → Leads before between (line_of answer) → Puts between after (line_of NoMemory)
+      → Reports answer before after NoMemory
+
+-- the line of some answer was put, and this answer is given then
+abbrev pub IsReported : Sunk → Sunk → Answer → Type 0
+IsReported before after given = (answer : Answer) × Reports answer before after given

@@ -1,10 +1,10 @@
 // The line of an answer on the error output.
 ghost use Rattle.std.specs.Prelude.{◌≡◌, ◌≢◌, ◌≤◌, IfOk, OnOk, OnErr, IsErrOf};
-ghost use Rattle.icn_host.specs.Counts.{HasCause, Rose};
-ghost use Rattle.icn_host.specs.Sinks.{Gains, GainsPart};
+ghost use Rattle.icn_host.specs.Counts.{HasCause};
+ghost use Rattle.icn_host.specs.Sinks.{Gains};
 ghost use Rattle.icont_top.specs.Answers.{line_of};
 ghost use Rattle.icont_top.specs.declared.answer.Answer.TheVariants.{Refused, Missing};
-ghost use Rattle.icont_top.specs.Outcomes.{Puts, Reports};
+ghost use Rattle.icont_top.specs.Outcomes.{sunk, Puts, Leads, Reports};
 
 use crate::answer::Answer;
 use icn_host::{Fault, Sink};
@@ -21,9 +21,11 @@ const NO_MEMORY: &[u8] = b"no memory\n";
 
 /// Puts the line of the answer, and gives the answer that stands then: a line that can't be put makes it a fault.
 pub fn report<E: Sink>(alloc: Global, answer: Answer, err: &mut E) -> Answer
-    ensures line { Reports (Rose (E.faults err.old) (E.faults err.new)) answer (E.held err.old) (E.held err.new) result }
+    ensures line { Reports answer (sunk (E.held err.old) (E.faults err.old) (E.wants err.old))
+        (sunk (E.held err.new) (E.faults err.new) (E.wants err.new)) result }
     ensures cause { HasCause (E.faults err.old) (E.faults err.new)
         ((result ≡ Answer.WriteFault) × (answer ≢ Answer.WriteFault)) }
+    ensures wants { E.wants err.old ≤ E.wants err.new }
 {
     match answer {
         Answer::WriteFault => Answer::WriteFault,
@@ -49,21 +51,24 @@ pub fn report<E: Sink>(alloc: Global, answer: Answer, err: &mut E) -> Answer
 // Puts the line of the answer.
 fn put_line<E: Sink>(alloc: Global, answer: &Answer, err: &mut E) -> Result<(), Fault>
     ensures ok { OnOk result (Gains (E.held err.old) (E.held err.new) (line_of answer.now)) }
-    ensures err { OnErr result (GainsPart (E.held err.old) (E.held err.new) (line_of answer.now)) }
+    ensures err { OnErr result (Leads (sunk (E.held err.old) (E.faults err.old) (E.wants err.old))
+        (sunk (E.held err.new) (E.faults err.new) (E.wants err.new)) (line_of answer.now)) }
     ensures cause { HasCause (E.faults err.old) (E.faults err.new) (IsErrOf result Fault.Failed) }
+    ensures wants { E.wants err.old ≤ E.wants err.new }
 {
     let line = line_of(alloc, answer)?;
     if line.is_empty() {
         return Ok(());
     }
-    err.put(&line)?;
-    Ok(())
+    err.put(&line)
 }
 
 // Puts a line as far as it can be put.
 fn try_put<E: Sink>(line: &[u8], err: &mut E)
-    ensures puts { Puts (Rose (E.faults err.old) (E.faults err.new)) (E.held err.old) (E.held err.new) line.now }
-    ensures later { E.faults err.old ≤ E.faults err.new }
+    ensures puts { Puts (sunk (E.held err.old) (E.faults err.old) (E.wants err.old))
+        (sunk (E.held err.new) (E.faults err.new) (E.wants err.new)) line.now }
+    ensures faults { E.faults err.old ≤ E.faults err.new }
+    ensures wants { E.wants err.old ≤ E.wants err.new }
 {
     let _ = err.put(line);
 }

@@ -8,7 +8,7 @@ ghost use Rattle.icn_form.specs.Meaning.{meaning};
 ghost use Rattle.icn_form.specs.Programs.{IsProgram};
 ghost use Rattle.icont_top.specs.Answers.{IsFault, IsRefusal, IsCommand, line_of};
 ghost use Rattle.icont_top.specs.Job.{Job, IsJob};
-ghost use Rattle.icont_top.specs.Outcomes.{told, Gives, Completes, Leaves, Runs};
+ghost use Rattle.icont_top.specs.Outcomes.{told, sunk, Gives, Completes, Leaves, Runs, IsReported};
 ghost use Rattle.icont_top.specs.Sources.{IsAbsence};
 ghost use Rattle.icont_top.specs.Words.{file_asked};
 
@@ -31,8 +31,8 @@ pub fn icont_main<F: Files, I: Source, O: Sink, E: Sink>(
     // Where the files and the input tell their content, the job was done, or a fault is answered.
     ensures completeness { IfSome (F.held files.old) (λ held. IfSome (I.left input.old) (λ left. IsFault result
         ⊎ ((job : Job) × IsJob (map string_bytes words.now) held left job × Completes job result
-        (told (F.held files.old) (I.left input.old) (O.held out.old) (E.held err.old))
-        (told (F.held files.new) (I.left input.new) (O.held out.new) (E.held err.new))))) }
+        (told (F.held files.old) (I.left input.old) (O.held out.old) (sunk (E.held err.old) (E.faults err.old) (E.wants err.old)))
+        (told (F.held files.new) (I.left input.new) (O.held out.new) (sunk (E.held err.new) (E.faults err.new) (E.wants err.new)))))) }
 
     // Where no count of faults rose, no fault is answered but want of memory.
     ensures faultless { ¬ Rose (F.faults files.old) (F.faults files.new) → ¬ Rose (I.faults input.old) (I.faults input.new)
@@ -42,9 +42,8 @@ pub fn icont_main<F: Files, I: Source, O: Sink, E: Sink>(
     // After a fault a part of the job was done.
     ensures leaves { IfSome (F.held files.old) (λ held. IfSome (I.left input.old) (λ left. (job : Job)
         → IsJob (map string_bytes words.now) held left job → IsFault result → Leaves job result
-        (Rose (E.faults err.old) (E.faults err.new))
-        (told (F.held files.old) (I.left input.old) (O.held out.old) (E.held err.old))
-        (told (F.held files.new) (I.left input.new) (O.held out.new) (E.held err.new)))) }
+        (told (F.held files.old) (I.left input.old) (O.held out.old) (sunk (E.held err.old) (E.faults err.old) (E.wants err.old)))
+        (told (F.held files.new) (I.left input.new) (O.held out.new) (sunk (E.held err.new) (E.faults err.new) (E.wants err.new))))) }
 
     // A file whose tokens are a program runs with the bytes of its meaning.
     ensures headline { (name : List ℕ) (tokens : List Token) (program : Procedure) → file_asked (map string_bytes words.now) ≡ Some name
@@ -61,6 +60,11 @@ pub fn icont_main<F: Files, I: Source, O: Sink, E: Sink>(
     // Every other answer's line was put, whatever the files and the input tell.
     ensures line { IsFault result ⊎ Gains (E.held err.old) (E.held err.new) (line_of result) }
 
+    // A fault's own line was put too, behind what was put of another answer's line: less than the whole of it is there only
+    // where the error output failed or wanted memory in that put.
+    ensures fault_line { IsReported (sunk (E.held err.old) (E.faults err.old) (E.wants err.old))
+        (sunk (E.held err.new) (E.faults err.new) (E.wants err.new)) result }
+
     // A fault is answered only where the count of its object rose, and an absence (also of an included file) only where that
     // count did. No count falls.
     ensures file_fault { HasCause (F.faults files.old) (F.faults files.new) (result ≡ Answer.FileFault) }
@@ -69,6 +73,7 @@ pub fn icont_main<F: Files, I: Source, O: Sink, E: Sink>(
         → Rose (O.faults out.old) (O.faults out.new) ⊎ Rose (E.faults err.old) (E.faults err.new) }
     ensures output_faults { O.faults out.old ≤ O.faults out.new }
     ensures error_faults { E.faults err.old ≤ E.faults err.new }
+    ensures error_wants { E.wants err.old ≤ E.wants err.new }
 
     // No program writes a file or reads input yet.
     ensures files { F.held files.new ≡ F.held files.old }

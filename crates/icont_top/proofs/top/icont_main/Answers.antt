@@ -33,3 +33,6 @@ returns-clause-line g c = line_put c.report.ensures.line
 
 pub returns-clause-absence : goal.returns-clause-absence
 returns-clause-absence g c = absence_of _ _ c.report.ensures.line c.work-answer.ensures.absence
+
+pub returns-clause-fault_line : goal.returns-clause-fault_line
+returns-clause-fault_line g c = (_, c.report.ensures.line)
