@@ -46,11 +46,31 @@ def empty_lines(size):
     return filled(b"", b"\n", b"", size)
 
 
+FORMS = b"""procedure p%d(a, b, c[])
+local d, e
+static f
+initial f := table(0)
+  while d := read(a) do every e := 1 to *d by 2 do {
+    if d == "x" then next else break
+    case e of { 1 | 2: f[d] +:= 1; default: put(b, d[e:e + 1], \\x ~=== y) }
+  }
+  repeat { until not (e > 3) do suspend [a, b ! c] do fail; break write(d.g, &pos, 'abc') }
+  return create p%d{a, b}(^@c, -d ^ 2 ^ 3 || "s" ||| f[1, 2]) ? tab(0) & a <-> b
+end
+"""
+
+
+def forms(size):
+    """Every form of expressions, in procedures of eleven lines; the first of them is the first form that is not built."""
+    count = size // (len(FORMS) + 6)
+    return b"".join(FORMS % (i, i) for i in range(count))
+
+
 def junk(size):
     return b"\xa5" * size
 
 
-SOURCES = [ordinary, tokens, comments, one_line, defines, empty_lines, junk]
+SOURCES = [ordinary, tokens, comments, one_line, defines, empty_lines, forms, junk]
 
 
 def timed(folder, make, size):

@@ -3,3 +3,4 @@ pub mod Faults
 pub mod Names
 pub mod Repeats
 pub mod Views
+pub mod Spelled

@@ -2,6 +2,7 @@
 ghost use Rattle.std.specs.Prelude.{◌≡◌, [], IfOk};
 ghost use Rattle.icn_tree.specs.TreeOf.{declarations_of};
 ghost use Rattle.icn_decls.specs.Faults.{context_faults};
+ghost use Rattle.icn_decls.specs.Spelled.{IsSpelled};
 ghost use Rattle.icn_decls.specs.Views.{Checks, done};
 
 use crate::decl::check_declarations;
@@ -9,24 +10,37 @@ use crate::fault::ContextFault;
 use icn_tree::File;
 use std::alloc::Global;
 
-/// A program text that breaks no context rule.
+/// A program text that breaks no rule of its tokens and no context rule.
 #[derive(Drop)]
 pub struct Checked {
-    /// The program text.
-    pub file: File,
-    ghost context: { context_faults (declarations_of file) ≡ [] },
+    text: File,
+    ghost spelled: { ∥ IsSpelled (declarations_of text) ∥₁ },
+    ghost context: { context_faults (declarations_of text) ≡ [] },
 }
 
-/// Takes a program text that breaks no context rule, as it is; any other is dropped.
+impl Checked {
+    /// The program text.
+    pub fn file(&self) -> &File
+        ensures file { result.now ≡ self.now.text }
+        ensures spelled { ∥ IsSpelled (declarations_of result.now) ∥₁ }
+        ensures context { context_faults (declarations_of result.now) ≡ [] }
+    {
+        &self.text
+    }
+}
+
+/// Takes a program text that breaks no context rule, as it is; any other is dropped. It is the tree of tokens as the scanner
+/// gives them, and no rule of its tokens refuses it: `parse` gives such texts.
 ///
 /// # Errors
 ///
 /// `Broken` with the first context rule that the text breaks, in the order of places, and at one place in that of the
 /// rules' numbers. `NoMemory` where memory ran out.
 pub fn check(alloc: Global, file: File) -> Result<Checked, ContextFault>
+    requires spelled { IsSpelled (declarations_of file) }
     ensures first { Checks (context_faults (declarations_of file)) (done result) }
-    ensures same { IfOk result (λ checked. checked.file ≡ file) }
+    ensures same { IfOk result (λ checked. checked.text ≡ file) }
 {
     check_declarations(alloc, &file.decls)?;
-    Ok(Checked { file })
+    Ok(Checked { text: file })
 }

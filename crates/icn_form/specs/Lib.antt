@@ -1,5 +1,2 @@
-pub mod Grammar
+pub mod Calls
 pub mod Meaning
-pub mod Programs
-pub mod Reading
-pub mod Symbols

@@ -1,56 +1,58 @@
-// The tree of a program text.
+// The tree of a program of the form.
 ghost use Rattle.std.specs.Prelude.{◌≡◌};
 
 use icn_tree::Bytes;
 use std::marker::Model;
 
-/// A literal.
+/// An argument of a call.
 #[derive(Debug, Drop)]
-pub enum Literal {
+pub enum Argument {
+    /// Nothing stands there: the null value.
+    Nothing,
     /// An integer, from 0 on.
     Integer(i64),
-    /// A string, by the bytes between its quotes.
+    /// A string, by its bytes.
     Text(Bytes),
 }
 
-/// Literals in their order.
+/// Arguments in their order.
 #[derive(Debug, Drop)]
-pub struct Literals {
-    items: Vec<Literal>,
+pub struct Arguments {
+    items: Vec<Argument>,
 }
 
-impl Model for Literals {
+impl Model for Arguments {
     ghost use Rattle.std.specs.Prelude.{List};
-    ghost use Rattle.icn_form.specs.declared.tree.Literal.{Literal};
+    ghost use Rattle.icn_form.specs.declared.tree.Argument.{Argument};
 
-    ghost Value = { List Literal };
+    ghost Value = { List Argument };
 
     ghost view = { λ l. l.items.items };
 }
 
-impl Literals {
-    /// The list of these literals.
-    pub fn new(items: Vec<Literal>) -> Self
+impl Arguments {
+    /// The list of these arguments.
+    pub fn new(items: Vec<Argument>) -> Self
         ensures { result ≡ items.items }
     {
-        Literals { items }
+        Arguments { items }
     }
 
-    /// The literals.
-    pub fn as_slice(&self) -> &[Literal]
+    /// The arguments.
+    pub fn as_slice(&self) -> &[Argument]
         ensures { result.now ≡ self.now }
     {
         &self.items
     }
 }
 
-/// A call of what a name stands for, with literals.
+/// A call of what a name stands for, with literals or nothing as arguments.
 #[derive(Debug, Drop)]
 pub struct Call {
     /// The name that is called.
     pub name: Bytes,
     /// Its arguments.
-    pub arguments: Literals,
+    pub arguments: Arguments,
 }
 
 /// An expression of a procedure's body.

@@ -11,6 +11,7 @@ mod tests {
     use icont_top::{Answer, Ending, icont_main};
     use std::alloc::Global;
     use std::collections::BTreeMap;
+    use std::process::Abort;
     use std::test::Fail;
 
     const HI: &[u8] = b"procedure main()\nwrite(\"hi\")\nend\n";
@@ -18,19 +19,33 @@ mod tests {
     const USAGE: &[u8] =
         b"usage: icont [-c] [-o name] [-n turns] [-g number] file ... [-x argument ...]\n";
 
-    const S4: &[u8] = b"f.icn:0: S4 form not in this profile\n";
+    const NO_PROGRAM: &[u8] = b"f.icn:0: S1 not a program\n";
+
+    // A form that is not built: line 0, and lines of the named file.
+    const UNBUILT_0: &[u8] = b"f.icn:0: S4 form not in this profile\n";
+
+    const UNBUILT_1: &[u8] = b"f.icn:1: S4 form not in this profile\n";
+
+    const UNBUILT_2: &[u8] = b"f.icn:2: S4 form not in this profile\n";
+
+    const UNBUILT_3: &[u8] = b"f.icn:3: S4 form not in this profile\n";
+
+    const UNBUILT_4: &[u8] = b"f.icn:4: S4 form not in this profile\n";
 
     // The files beside the one that is named.
-    const BESIDE: [(&str, &[u8]); 3] = [
+    const BESIDE: [(&str, &[u8]); 6] = [
         ("g.icn", HI),
         ("bad.icn", b"\n$foo\n"),
         ("bytes.icn", b"\n\n`\n"),
+        ("breaks.icn", b"procedure p()\n\nbreak\nend\n"),
+        ("clock.icn", b"procedure p()\nwrite(\n&clock)\nend\n"),
+        ("globals.icn", b"\n\n\n\nglobal a\n"),
     ];
 
     const TWO: &[u8] = b"procedure main()\nwrite(\"a\")\nwrite(2)\nend\n";
 
     // Programs, with what they write.
-    const PROGRAMS: [(&[u8], &[u8]); 38] = [
+    const PROGRAMS: [(&[u8], &[u8]); 44] = [
         (HI, b"hi\n"),
         // written semicolons, and those of ends of lines
         (b"procedure main();write(\"hi\");end", b"hi\n"),
@@ -74,6 +89,16 @@ mod tests {
         (
             b"procedure main()\nwrite(\"\",1,\"\",\"b\")\nend\n",
             b"1b\n",
+        ),
+        // arguments where nothing stands
+        (b"procedure main()\nwrite()\nend\n", b"\n"),
+        (b"procedure main()\nwrite(,)\nend\n", b"\n"),
+        (b"procedure main()\nwrite(,1)\nend\n", b"1\n"),
+        (b"procedure main()\nwrite(1,)\nend\n", b"1\n"),
+        (b"procedure main()\nwrite(1,,2)\nend\n", b"12\n"),
+        (
+            b"procedure main()\nwrite();write(,\"a\");;write(2,)\nend\n",
+            b"\na\n2\n",
         ),
         // literals
         (b"procedure main()\nwrite(\"\")\nend\n", b"\n"),
@@ -140,53 +165,8 @@ mod tests {
         (b"$include g.icn", b"hi\n"),
     ];
 
-    // Texts that are refused, with the line of the refusal.
-    const REFUSALS: [(&[u8], &[u8]); 59] = [
-        (b"", S4),
-        (b"\n", S4),
-        (b"write", S4),
-        (b"procedure main()\nwrite(x)\nend\n", S4),
-        (b"procedure main()\nwrite()\nend\n", S4),
-        (b"procedure main()\nwrite(\"a\"\"b\")\nend\n", S4),
-        (b"procedure main()\nwrite(\"a\" 1)\nend\n", S4),
-        (b"procedure main()\nwrite(1 2)\nend\n", S4),
-        (b"procedure main()\nwrite(,1)\nend\n", S4),
-        (b"procedure main()\nwrite(1,)\nend\n", S4),
-        (b"procedure main()\nwrite(1,,2)\nend\n", S4),
-        (b"procedure main()\nwrite(1;2)\nend\n", S4),
-        (b"procedure main()\nwrite(-1)\nend\n", S4),
-        (b"procedure main()\nwrite(1x)\nend\n", S4),
-        (b"procedure main()\nwrite(write(1))\nend\n", S4),
-        (b"procedure main()\nwrite(1),write(2)\nend\n", S4),
-        (b"procedure main()\n1\nend\n", S4),
-        (b"procedure main()\n\"a\"\nend\n", S4),
-        (b"procedure main()\nwrite('a')\nend\n", S4),
-        // a newline between two literals is a semicolon
-        (b"procedure main()\nwrite(1\n2)\nend\n", S4),
-        (b"procedure main()\nwrite(1)\nwrites(1)\nend\n", S4),
-        (b"procedure main()\nwrites(\"hi\")\nend\n", S4),
-        (b"procedure main()\nWrite(\"hi\")\nend\n", S4),
-        (b"procedure Main()\nwrite(\"hi\")\nend\n", S4),
-        (b"procedure p()\nwrite(\"hi\")\nend\n", S4),
-        (b"procedure main(x)\nwrite(\"hi\")\nend\n", S4),
-        (b"procedures main()\nwrite(\"hi\")\nend\n", S4),
-        (b"Procedure main()\nwrite(\"hi\")\nend\n", S4),
-        (b"proceduremain()\nwrite(\"hi\")\nend\n", S4),
-        // a semicolon too few
-        (b"procedure main()write(\"hi\")\nend\n", S4),
-        (b"procedure main()\nwrite(\"hi\")end\n", S4),
-        (b"procedure main\n()\nwrite(\"hi\")\nend\n", S4),
-        (b"procedure main()\nwrite\n(\"hi\")\nend\n", S4),
-        // before the procedure, and behind it
-        (b";procedure main()\nwrite(\"hi\")\nend\n", S4),
-        (b"procedure main()\nwrite(\"hi\")\nend;", S4),
-        (b"procedure main()\nwrite(\"hi\")\nendx\n", S4),
-        (b"procedure main()\nwrite(\"hi\")\n", S4),
-        // the replaced word is `out`
-        (
-            b"$define write out\nprocedure main()\nwrite(\"x\")\nend\n",
-            S4,
-        ),
+    // Texts whose lines or tokens break a rule, with the line of the refusal.
+    const REFUSALS: [(&[u8], &[u8]); 21] = [
         (
             b"procedure main()\nwrite(\"hi)\nend\n",
             b"f.icn:2: L2 unclosed literal\n",
@@ -246,6 +226,251 @@ mod tests {
             b"made.icn:71: P8 $error\n",
         ),
         (b"$include \"g.icn\"\n`\n", b"f.icn:2: L1 bad byte\n"),
+    ];
+
+    // Texts that are no program.
+    const NO_PROGRAMS: [&[u8]; 20] = [
+        b"write",
+        b"procedure main()\nwrite(\"a\"\"b\")\nend\n",
+        b"procedure main()\nwrite(\"a\" 1)\nend\n",
+        b"procedure main()\nwrite(1 2)\nend\n",
+        b"procedure main()\nwrite(1;2)\nend\n",
+        b"procedure main()\nwrite(1x)\nend\n",
+        b"procedure main()\nwrite(1),write(2)\nend\n",
+        // a newline between two literals is a semicolon
+        b"procedure main()\nwrite(1\n2)\nend\n",
+        b"procedures main()\nwrite(\"hi\")\nend\n",
+        b"Procedure main()\nwrite(\"hi\")\nend\n",
+        b"proceduremain()\nwrite(\"hi\")\nend\n",
+        // a semicolon too few, or one too many
+        b"procedure main()write(\"hi\")\nend\n",
+        b"procedure main()\nwrite(\"hi\")end\n",
+        b"procedure main\n()\nwrite(\"hi\")\nend\n",
+        b";procedure main()\nwrite(\"hi\")\nend\n",
+        b"procedure main()\nwrite(\"hi\")\nend;",
+        // no end
+        b"procedure main()\nwrite(\"hi\")\nendx\n",
+        b"procedure main()\nwrite(\"hi\")\n",
+        // in the middle of a longer file
+        b"record r(a)\nprocedure p()\nwrite(1\nx := 2)\nend\nprocedure main()\nend\n",
+        // before all other rules
+        b"invocable all\nprocedure main()\nbreak\n&clock\nend\nend\n",
+    ];
+
+    // Texts with a form that is not built, with the line of the refusal.
+    const UNBUILT: [(&[u8], &[u8]); 44] = [
+        // no declaration
+        (b"", UNBUILT_0),
+        (b"\n", UNBUILT_0),
+        (b"# nothing\n$define x y\n", UNBUILT_0),
+        // the head of the procedure, and another one
+        (b"procedure Main()\nwrite(\"hi\")\nend\n", UNBUILT_1),
+        (b"procedure p()\nwrite(\"hi\")\nend\n", UNBUILT_1),
+        (b"\nprocedure\np()\nmain()\nend\n", UNBUILT_2),
+        (b"procedure main(x)\nwrite(\"hi\")\nend\n", UNBUILT_1),
+        (b"procedure main(\nx,\ny)\nlocal z\nend\n", UNBUILT_2),
+        (b"procedure main(\n\nx[])\nend\n", UNBUILT_3),
+        // what stands before the body
+        (b"procedure main()\nlocal x\nend\n", UNBUILT_2),
+        (
+            b"procedure main()\n\nstatic x,\ny\nlocal z\nend\n",
+            UNBUILT_3,
+        ),
+        (
+            b"procedure main()\n\n\ninitial\nwrite(1)\nx\nend\n",
+            UNBUILT_4,
+        ),
+        // further declarations, and first ones
+        (b"procedure main()\nwrite(1)\nend\nglobal g\n", UNBUILT_4),
+        (b"procedure main()\nend\nlink\nx\nrecord r()\n", UNBUILT_3),
+        (
+            b"procedure main()\nwrite(1)\nend procedure\np()\nend\n",
+            UNBUILT_3,
+        ),
+        (b"global g\nprocedure main()\nwrite(x)\nend\n", UNBUILT_1),
+        (b"\nrecord r(a)\nprocedure main()\nend\n", UNBUILT_2),
+        // arguments, and what is called
+        (b"procedure main()\nwrite(x)\nend\n", UNBUILT_2),
+        (b"procedure main()\nwrite(-1)\nend\n", UNBUILT_2),
+        (b"procedure main()\nwrite(write(1))\nend\n", UNBUILT_2),
+        (b"procedure main()\nwrite('a')\nend\n", UNBUILT_2),
+        (
+            b"procedure main()\nwrite(1,\n\"b\",\nx,\ny)\nend\n",
+            UNBUILT_4,
+        ),
+        (b"procedure main()\nwrite(,\n,'c')\nx\nend\n", UNBUILT_3),
+        (b"procedure main()\nwrite(1)\nwrites(1)\nend\n", UNBUILT_3),
+        (b"procedure main()\nwrites(\"hi\")\nend\n", UNBUILT_2),
+        (b"procedure main()\nWrite(\"hi\")\nend\n", UNBUILT_2),
+        (b"procedure main()\n(write)(\nx)\nend\n", UNBUILT_2),
+        (b"procedure main()\nwrite{1}\nend\n", UNBUILT_2),
+        (b"procedure main()\nwrite\n(\"hi\")\nend\n", UNBUILT_2),
+        // the replaced word is `out`
+        (
+            b"$define write out\nprocedure main()\nwrite(\"x\")\nend\n",
+            UNBUILT_3,
+        ),
+        // other expressions of the body
+        (b"procedure main()\n1\nend\n", UNBUILT_2),
+        (b"procedure main()\n\"a\"\nend\n", UNBUILT_2),
+        (b"procedure main()\nx := 1\nend\n", UNBUILT_2),
+        (b"procedure main()\nwrite(1) +\nx\nend\n", UNBUILT_2),
+        (b"procedure main()\nwrite(1);;\n&null\nend\n", UNBUILT_3),
+        (
+            b"procedure main()\n;\n\nif x then\nwrite(1)\nend\n",
+            UNBUILT_4,
+        ),
+        // the first by place, in the body or behind it
+        (b"procedure main()\nx\nend\nrecord r(a)\n", UNBUILT_2),
+        (
+            b"procedure main()\nwrite(1)\nwrite(x);y\nend\nglobal g\n",
+            UNBUILT_3,
+        ),
+        // a `write` that the file declares
+        (
+            b"procedure main()\nwrite(1)\nend\nglobal a, write\n",
+            UNBUILT_2,
+        ),
+        (
+            b"procedure main()\n;\nwrite(1)\nend\nprocedure write()\nend\n",
+            UNBUILT_3,
+        ),
+        (
+            b"procedure main()\nwrite(1)\nend\nrecord write()\n",
+            UNBUILT_2,
+        ),
+        (b"procedure main()\nend\n\nglobal write\n", UNBUILT_4),
+        // a form of no profile, in the middle of a longer file and before context rules
+        (
+            b"procedure main()\nend\n\ninvocable all\nglobal g\n",
+            UNBUILT_4,
+        ),
+        (b"procedure main()\nbreak\nend\ninvocable\nall\n", UNBUILT_4),
+    ];
+
+    // Texts whose tree breaks another rule, with the line of the refusal.
+    const BROKEN: [(&[u8], &[u8]); 28] = [
+        // unknown keywords, at the name behind `&`
+        (
+            b"procedure main()\n&clock\nend\n",
+            b"f.icn:2: S3 unknown keyword\n",
+        ),
+        (
+            b"procedure p()\nend\nprocedure main()\nwrite(1)\nx := &\nclock\n&date\nend\n",
+            b"f.icn:6: S3 unknown keyword\n",
+        ),
+        // by place beside forms of no profile, and before context rules
+        (
+            b"procedure main()\n&clock\nend\ninvocable all\n",
+            b"f.icn:2: S3 unknown keyword\n",
+        ),
+        (
+            b"procedure main()\nbreak\n&clock\nend\n",
+            b"f.icn:3: S3 unknown keyword\n",
+        ),
+        // names declared twice in a procedure
+        (
+            b"procedure main(a,\na)\nend\n",
+            b"f.icn:2: C1 name declared twice in a procedure\n",
+        ),
+        (
+            b"procedure main()\nend\nprocedure p(a,\nb)\nlocal c,\na\nlocal b\nend\n",
+            b"f.icn:6: C1 name declared twice in a procedure\n",
+        ),
+        // words of loops
+        (
+            b"procedure main()\nbreak\nend\n",
+            b"f.icn:2: C2 break outside a loop\n",
+        ),
+        (
+            b"procedure main()\nwrite(1)\nrepeat break\nwrite(2) | (\nbreak)\nend\n",
+            b"f.icn:5: C2 break outside a loop\n",
+        ),
+        (
+            b"procedure main()\nnext\nend\n",
+            b"f.icn:2: C3 next outside a loop\n",
+        ),
+        (
+            b"procedure main()\nwhile next do next\nevery\nnext do next\nend\nglobal g\n",
+            b"f.icn:4: C3 next outside a loop\n",
+        ),
+        // what may not stand in a `create`
+        (
+            b"procedure main()\ncreate return 1\nend\n",
+            b"f.icn:2: C4 not allowed in create\n",
+        ),
+        (
+            b"procedure main()\nrepeat {\ncreate repeat break\nx := create\nbreak\n}\nend\n",
+            b"f.icn:5: C4 not allowed in create\n",
+        ),
+        (
+            b"procedure main()\nx := 1\np{suspend 1,\nfail}\nend\n",
+            b"f.icn:3: C4 not allowed in create\n",
+        ),
+        // clauses
+        (
+            b"procedure main()\ncase x of {\ndefault: 1\n2: 3\ndefault: 4\n}\nend\n",
+            b"f.icn:5: C5 two default clauses\n",
+        ),
+        // fields, and names of declarations
+        (
+            b"record r(a, b, a)\n",
+            b"f.icn:1: C6 field declared twice\n",
+        ),
+        (
+            b"procedure main()\nend\nrecord r(a,\nb,\na,\nb)\n",
+            b"f.icn:5: C6 field declared twice\n",
+        ),
+        (
+            b"procedure p()\nend\n\nrecord\np(a)\nprocedure main()\nend\n",
+            b"f.icn:5: C8 procedure or record declared twice\n",
+        ),
+        (
+            b"record r()\nglobal r\nglobal r\nprocedure r()\nend\n",
+            b"f.icn:4: C8 procedure or record declared twice\n",
+        ),
+        // before a form that is not built, and in the order of places
+        (
+            b"global g\nprocedure main(x)\nwrite(x)\nbreak\nend\n",
+            b"f.icn:4: C2 break outside a loop\n",
+        ),
+        (
+            b"procedure main()\nnext\nbreak\nend\nrecord r(a, a)\n",
+            b"f.icn:2: C3 next outside a loop\n",
+        ),
+        // in an included file, behind one, and as `$line` says
+        (
+            b"$include \"breaks.icn\"\nprocedure main()\nend\n",
+            b"breaks.icn:3: C2 break outside a loop\n",
+        ),
+        (
+            b"procedure main()\nnext\nend\n$include breaks.icn\n",
+            b"f.icn:2: C3 next outside a loop\n",
+        ),
+        (
+            b"$include clock.icn\nprocedure main()\nend\n",
+            b"clock.icn:3: S3 unknown keyword\n",
+        ),
+        (
+            b"$include g.icn\n$include g.icn\n",
+            b"g.icn:1: C8 procedure or record declared twice\n",
+        ),
+        (
+            b"$include g.icn\n\n$include globals.icn\n",
+            b"globals.icn:5: S4 form not in this profile\n",
+        ),
+        (
+            b"$include g.icn\n\nglobal a\n",
+            b"f.icn:3: S4 form not in this profile\n",
+        ),
+        (
+            b"$line 70 \"made.icn\"\nprocedure main()\nbreak\nend\n",
+            b"made.icn:71: C2 break outside a loop\n",
+        ),
+        (
+            b"procedure main()\n$line 70 \"made.icn\"\nwrite(1)\n\nx\nend\n",
+            b"made.icn:72: S4 form not in this profile\n",
+        ),
     ];
 
     // What a call of a program did.
@@ -326,7 +551,7 @@ mod tests {
             output: out.content().to_vec(alloc)?,
             errors: err.content().to_vec(alloc)?,
             untouched: same
-                && files.content().len() == 4
+                && files.content().len() == 7
                 && input.content() == b"input\n".as_slice(),
         })
     }
@@ -357,17 +582,93 @@ mod tests {
         Ok(())
     }
 
+    // Runs `icont` on this source, and holds it to this refusal.
+    fn refused(rt: &impl Abort, alloc: Global, source: &[u8], errors: &[u8]) -> Result<(), Fail> {
+        let row = icont(alloc, &["icont", "f.icn", "-x"], source, NONE)?;
+        let source = String::from_utf8_lossy(alloc, source)?;
+        assert_eq!(rt; name_of(&row.answer), "Refused", "at {source}");
+        assert_eq!(rt; row.answer.code(), 2, "at {source}");
+        assert_eq!(rt; row.errors.as_slice(), errors, "at {source}");
+        assert!(rt; row.output.is_empty(), "at {source}");
+        assert!(rt; row.untouched, "at {source}");
+        Ok(())
+    }
+
     #[test]
-    fn other_texts_are_refused(rt: HostRuntime) -> Result<(), Fail> {
+    fn broken_lines_and_tokens_are_refused(rt: HostRuntime) -> Result<(), Fail> {
         let alloc = rt.alloc();
         for (source, errors) in REFUSALS {
-            let row = icont(alloc, &["icont", "f.icn", "-x"], source, NONE)?;
-            let source = String::from_utf8_lossy(alloc, source)?;
-            assert_eq!(rt; name_of(&row.answer), "Refused", "at {source}");
-            assert_eq!(rt; row.answer.code(), 2, "at {source}");
-            assert_eq!(rt; row.errors.as_slice(), errors, "at {source}");
-            assert!(rt; row.output.is_empty(), "at {source}");
-            assert!(rt; row.untouched, "at {source}");
+            refused(&rt, alloc, source, errors)?;
+        }
+        Ok(())
+    }
+
+    #[test]
+    fn what_is_no_program_is_refused(rt: HostRuntime) -> Result<(), Fail> {
+        let alloc = rt.alloc();
+        for source in NO_PROGRAMS {
+            refused(&rt, alloc, source, NO_PROGRAM)?;
+        }
+        Ok(())
+    }
+
+    #[test]
+    fn unbuilt_forms_are_refused(rt: HostRuntime) -> Result<(), Fail> {
+        let alloc = rt.alloc();
+        for (source, errors) in UNBUILT {
+            refused(&rt, alloc, source, errors)?;
+        }
+        Ok(())
+    }
+
+    #[test]
+    fn broken_trees_are_refused(rt: HostRuntime) -> Result<(), Fail> {
+        let alloc = rt.alloc();
+        for (source, errors) in BROKEN {
+            refused(&rt, alloc, source, errors)?;
+        }
+        Ok(())
+    }
+
+    // A tree of height 2000 and one of 2001, in the middle of a longer file.
+    #[test]
+    fn trees_have_at_most_height_2000(rt: HostRuntime) -> Result<(), Fail> {
+        let alloc = rt.alloc();
+        let rows: [(&[u8], usize, &[u8]); 2] = [
+            (b"global g\nprocedure\np()\n", 1999, UNBUILT_1),
+            (
+                b"global g\nprocedure\np()\n&clock\n",
+                2000,
+                b"f.icn:3: S2 tree higher than 2000\n",
+            ),
+        ];
+        for (head, depth, errors) in rows {
+            let mut source = head.to_vec(alloc)?;
+            source.resize(head.len() + depth, b'(')?;
+            source.push(b'1')?;
+            source.resize(head.len() + 1 + depth + depth, b')')?;
+            source.extend_from_slice(b"\nend\nprocedure main()\nend\n")?;
+            refused(&rt, alloc, &source, errors)?;
+        }
+        Ok(())
+    }
+
+    // 65535 fields and one more, in the middle of a longer file.
+    #[test]
+    fn records_have_at_most_65535_fields(rt: HostRuntime) -> Result<(), Fail> {
+        let alloc = rt.alloc();
+        for (count, errors) in [
+            (65535, UNBUILT_1),
+            (65536, b"f.icn:4: C7 too many names or fields\n".as_slice()),
+        ] {
+            let mut source = b"procedure p()\nend\nrecord\nr(".to_vec(alloc)?;
+            for number in 1..count {
+                source.push(b'a')?;
+                source.extend_from_slice(decimal(number).as_bytes())?;
+                source.extend_from_slice(b",\n")?;
+            }
+            source.extend_from_slice(b"a)\nprocedure main()\nend\n")?;
+            refused(&rt, alloc, &source, errors)?;
         }
         Ok(())
     }
@@ -549,7 +850,7 @@ mod tests {
             ("no.icn", HI, errors, "WriteFault", b"", b""),
             ("f", HI, errors, "WriteFault", b"", b""),
             ("f.icn", HI, later, "Ran(Done)", b"hi\n", b""),
-            ("f.icn", b"end", later, "Refused", b"", S4),
+            ("f.icn", b"end", later, "Refused", b"", NO_PROGRAM),
         ];
         for (name, source, failing, answer, output, errors) in rows {
             let row = icont(alloc, &["icont", name, "-x"], source, failing)?;

@@ -1,14 +1,15 @@
 -- The run of a procedure's code.
-use Rattle.std.specs.Prelude.{ℕ, ℤ, ◌-◌, ◌&&◌, Bool, false, List, [], ◌∷◌, ◌++◌, length, take, drop, nat_lt, codes, slice_get, Option, None, Some, if◌then◌else◌}
+use Rattle.std.specs.Prelude.{ℕ, ℤ, ◌-◌, Bool, false, List, [], ◌∷◌, ◌++◌, length, take, drop, nat_lt, codes, slice_get, slice_index_or, Option, None, Some, if◌then◌else◌}
 use Rattle.std.specs.Fmt.{signed_decimal}
 use Rattle.std.specs.Option.{option_map}
 use Rattle.std.specs.Str.{bytes_eq}
 use Rattle.icn_ucode.specs.declared.instr.Instr.{Instr}
-use Rattle.icn_ucode.specs.declared.instr.Instr.TheVariants.{Mark, Global, Int, Str, Invoke, Unmark, Pfail}
+use Rattle.icn_ucode.specs.declared.instr.Instr.TheVariants.{Mark, Global, Pnull, Int, Str, Invoke, Unmark, Pfail}
 
--- a cell of the stack: a global variable by its name, an integer or a text
+-- a cell of the stack: a global variable by its name, the null value, an integer or a text
 pub data Operand : Type 0 where
   Variable : List ℕ → Operand
+  Null : Operand
   Integer : ℤ → Operand
   Text : List ℕ → Operand
 
@@ -32,9 +33,10 @@ pub data Step : Type 0 where
 abbrev pub pushed : Operand → State → Step
 pushed operand state = goes_on (record { marks = state.marks; operands = state.operands ++ operand ∷ [] }) []
 
--- the texts one after the other, an integer in decimal, where each argument is an integer or a text
+-- the texts one after the other, none for null and an integer in decimal, where no argument is a variable
 abbrev pub texts : List Operand → Option (List ℕ)
 texts [] = Some []
+texts (Null ∷ rest) = texts rest
 texts (Integer n ∷ rest) = option_map (λ more. signed_decimal n ++ more) (texts rest)
 texts (Text text ∷ rest) = option_map (λ more. text ++ more) (texts rest)
 texts (Variable name ∷ rest) = None
@@ -42,6 +44,7 @@ texts (Variable name ∷ rest) = None
 -- the function `write`
 abbrev pub is_write : Operand → Bool
 is_write (Variable name) = bytes_eq name (codes "write")
+is_write Null = false
 is_write (Integer n) = false
 is_write (Text text) = false
 
@@ -50,16 +53,20 @@ abbrev pub line_written : List Operand → Option (List ℕ)
 line_written [] = None
 line_written (function ∷ arguments) = if is_write function then option_map (λ text. text ++ 10 ∷ []) (texts arguments) else None
 
--- the state after a call that wrote this line, and gave its last argument as its result: the last operand takes the place
--- of the function and its arguments
+-- what a call gives: its last argument, or null where it has none
+abbrev pub result_of : List Operand → Operand
+result_of [] = Null
+result_of (function ∷ arguments) = slice_index_or arguments (length arguments - 1) Null
+
+-- the state after a call that wrote this line: its result takes the place of the function and its arguments
 abbrev pub called : ℕ → State → Option (List ℕ) → Step
-called below state (Some line) = goes_on (record { marks = state.marks; operands = take below state.operands ++ drop (length state.operands - 1) state.operands }) line
+called below state (Some line) = goes_on (record { marks = state.marks; operands = take below state.operands ++ result_of (drop below state.operands) ∷ [] }) line
 called below state None = stuck
 
--- a call of the function that stands below so many arguments, of which there is at least one
+-- a call of the function that stands below so many arguments
 abbrev pub invoked : ℕ → State → Step
 invoked count state = let below = length state.operands - 1 - count in
-    if nat_lt 0 count && nat_lt count (length state.operands) then called below state (line_written (drop below state.operands)) else stuck
+    if nat_lt count (length state.operands) then called below state (line_written (drop below state.operands)) else stuck
 
 -- the newest mark is dropped with the operands above it
 abbrev pub unmarked : Option OpenMark → State → Step
@@ -69,6 +76,7 @@ unmarked None state = stuck
 abbrev pub step : Instr → State → Step
 step (Mark label) state = goes_on (record { marks = state.marks ++ record { label = label; height = length state.operands } ∷ []; operands = state.operands }) []
 step (Global name) state = pushed (Variable name) state
+step Pnull state = pushed Null state
 step (Int n) state = pushed (Integer n) state
 step (Str text) state = pushed (Text text) state
 step (Invoke count) state = invoked count state

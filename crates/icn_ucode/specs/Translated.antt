@@ -1,15 +1,17 @@
 -- The code that a tree is translated to.
 use Rattle.std.specs.Prelude.{ℕ, ◌+◌, List, [], ◌∷◌, ◌++◌, length, map}
-use Rattle.icn_form.specs.declared.tree.Literal.{Literal}
-use Rattle.icn_form.specs.declared.tree.Literal.TheVariants.{Integer, Text}
+use Rattle.icn_form.specs.declared.tree.Argument.{Argument}
+use Rattle.icn_form.specs.declared.tree.Argument.TheVariants.{Nothing, Integer, Text}
 use Rattle.icn_form.specs.declared.tree.Call.{Call}
 use Rattle.icn_form.specs.declared.tree.Expr.{Expr}
 use Rattle.icn_form.specs.declared.tree.Expr.TheVariants.{Empty, Call as CallExpr}
 use Rattle.icn_form.specs.declared.tree.Procedure.{Procedure}
 use Rattle.icn_ucode.specs.declared.instr.Instr.{Instr}
-use Rattle.icn_ucode.specs.declared.instr.Instr.TheVariants.{Mark, Global, Int, Str, Invoke, Unmark, Pfail}
+use Rattle.icn_ucode.specs.declared.instr.Instr.TheVariants.{Mark, Global, Pnull, Int, Str, Invoke, Unmark, Pfail}
 
-abbrev pub constant : Literal → Instr
+-- an argument where nothing stands is null
+abbrev pub constant : Argument → Instr
+constant Nothing = Pnull
 constant (Integer n) = Int n
 constant (Text bytes) = Str bytes
 

@@ -8,6 +8,8 @@ pub enum Instr {
     Mark(u64),
     /// Puts the global variable of this name on the stack.
     Global(Bytes),
+    /// Puts the null value on the stack.
+    Pnull,
     /// Puts an integer on the stack.
     Int(i64),
     /// Puts a text on the stack.

@@ -5,34 +5,27 @@ use Rattle.icn_host.specs.Counts.{HasCause}
 use Rattle.icn_host.specs.FileMaps.{FileMap}
 use Rattle.icn_host.specs.Sinks.{Gains, GainsPart}
 use Rattle.icn_host.proofs.SinkSteps.{gains_nothing, part_whole}
-use Rattle.icn_tree.specs.declared.token.Token.{Token}
 use Rattle.icn_form.specs.declared.tree.Procedure.{Procedure}
 use Rattle.icn_form.specs.Meaning.{meaning}
-use Rattle.icn_form.specs.Programs.{IsProgram}
 use Rattle.icont_top.specs.declared.answer.Answer.{Answer}
 use Rattle.icont_top.specs.declared.answer.Answer.TheVariants.{Command, FileFault, WriteFault, NoMemory}
 use Rattle.icont_top.specs.Answers.{IsFault, IsCommand, IsRefusal, line_of}
-use Rattle.icont_top.specs.Job.{Job, refusal, success, IsTokensJob, refused, ran, IsFileJob, no_tokens, of_tokens, IsJob, wrong_words, of_file}
+use Rattle.icont_top.specs.Job.{Job, refusal, success, IsTokensJob, not_parsed, out_of_context, not_built, ran, IsFileJob, no_tokens, of_tokens, IsJob, wrong_words, of_file}
 use Rattle.icont_top.specs.Outcomes.{Sunk, Puts, all, Leads, told, Completes, Leaves, Runs, Does, did, failed, Reports, put, own, write_fault, want}
-use Rattle.icont_top.specs.Sources.{source_read, IsAbsence}
+use Rattle.icont_top.specs.Programs.{IsProgram}
+use Rattle.icont_top.specs.Sources.{Scan, source_read, IsAbsence}
 use Rattle.icont_top.specs.Words.{file_asked}
-use Rattle.icn_form.proofs.Trees.{one_program}
-use Rattle.icont_top.proofs.Working.{same_Ok, same_Err, ok-err}
+use Rattle.icont_top.proofs.Deciding.{one_tokens_job}
+use Rattle.icont_top.proofs.Matching.{same_Ok, same_Err, ok-err}
 
 -- One job
-
-one_tokens_job : (name : List ℕ) (tokens : List Token) (files : FileMap) (left : List ℕ) (a b : Job) → IsTokensJob name tokens files left a → IsTokensJob name tokens files left b → a ≡ b
-one_tokens_job name tokens files left _ _ (refused f) (refused g) = refl
-one_tokens_job name tokens files left _ _ (refused f) (ran tree is) = absurd (f tree is)
-one_tokens_job name tokens files left _ _ (ran tree is) (refused f) = absurd (f tree is)
-one_tokens_job name tokens files left _ _ (ran s x) (ran t y) = ap (λ tree. success files left (meaning tree)) (one_program tokens s t x y)
 
 one_file_job : (name : List ℕ) (files : FileMap) (left : List ℕ) (a b : Job) → IsFileJob name files left a → IsFileJob name files left b → a ≡ b
 one_file_job name files left _ _ (no_tokens a e) (no_tokens b f) = ap (refusal files left) (same_Err a b (sym e ∙ f))
 one_file_job name files left _ b (no_tokens a e) (of_tokens t _ f is) = absurd (ok-err t a (sym f ∙ e))
 one_file_job name files left a _ (of_tokens t _ f is) (no_tokens b e) = absurd (ok-err t b (sym f ∙ e))
 one_file_job name files left a b (of_tokens s _ e x) (of_tokens t _ f y) =
-    let same : s ≡ t = same_Ok s t (sym e ∙ f) in one_tokens_job name t files left a b (rw same at x) y
+    let same : s ≡ t = same_Ok s t (sym e ∙ f) in one_tokens_job a b (rw same at x) y
 
 pub one_job : (words : List (List ℕ)) (files : FileMap) (left : List ℕ) (a b : Job) → IsJob words files left a → IsJob words files left b → a ≡ b
 one_job words files left _ _ (wrong_words e) (wrong_words f) = refl
@@ -42,9 +35,11 @@ one_job words files left a b (of_file n _ e x) (of_file m _ f y) =
     let same : n ≡ m = same_Some n m (sym e ∙ f) in one_file_job m files left a b (rw same at x) y
 
 -- a job leaves the files and the input as they were
-untouched_by_tokens : {name : List ℕ} {tokens : List Token} {files : FileMap} {left : List ℕ} (job : Job) → IsTokensJob name tokens files left job → (job.files ≡ files) × (job.left ≡ left)
-untouched_by_tokens _ (refused none) = (refl, refl)
-untouched_by_tokens _ (ran tree is) = (refl, refl)
+untouched_by_tokens : {scan : Scan} {files : FileMap} {left : List ℕ} (job : Job) → IsTokensJob scan files left job → (job.files ≡ files) × (job.left ≡ left)
+untouched_by_tokens _ (not_parsed outcome rule place is e) = (refl, refl)
+untouched_by_tokens _ (out_of_context file fault is e) = (refl, refl)
+untouched_by_tokens _ (not_built file place is e b) = (refl, refl)
+untouched_by_tokens _ (ran program is) = (refl, refl)
 
 untouched_by_file : {name : List ℕ} {files : FileMap} {left : List ℕ} (job : Job) → IsFileJob name files left job → (job.files ≡ files) × (job.left ≡ left)
 untouched_by_file _ (no_tokens answer e) = (refl, refl)
@@ -161,14 +156,14 @@ leaves {words} files left f l f' l' does line job is fault =
     let rest = remains_of job is line fault does (one_job words files left) in
     record { files = f'; left = l'; output = rest.output; between = rest.between; errors = rest.errors; line = rest.line }
 
-pub runs : {words : List (List ℕ)} {answer given : Answer} {out out' : Option (List ℕ)} {err err' : Sunk} (files : FileMap) (left name : List ℕ) (tokens : List Token) (program : Procedure)
-    → file_asked words ≡ Some name → source_read files name ≡ Ok tokens → IsProgram tokens program → Does (IsJob words files left) answer out out' → Reports answer err err' given
+pub runs : {words : List (List ℕ)} {answer given : Answer} {out out' : Option (List ℕ)} {err err' : Sunk} (files : FileMap) (left name : List ℕ) (scan : Scan) (program : Procedure)
+    → file_asked words ≡ Some name → source_read files name ≡ Ok scan → IsProgram scan.tokens program → Does (IsJob words files left) answer out out' → Reports answer err err' given
     → IsFault given ⊎ Runs given (meaning program) out out' err.held err'.held
-runs {words} {given = given} {out} {out'} {err} {err'} files left name tokens program asked held is does line = of_finished (finished does line) where
+runs {words} {given = given} {out} {out'} {err} {err'} files left name scan program asked held is does line = of_finished (finished does line) where
   of_finished : IsFault given ⊎ Finished (IsJob words files left) given out out' err.held err'.held → IsFault given ⊎ Runs given (meaning program) out out' err.held err'.held
   of_finished (inl fault) = inl fault
   of_finished (inr done) =
-      let wanted : IsJob words files left (success files left (meaning program)) = of_file name _ asked (of_tokens tokens _ held (ran program is)) in
+      let wanted : IsJob words files left (success files left (meaning program)) = of_file name _ asked (of_tokens scan _ held (ran program is)) in
       let same : done.job ≡ success files left (meaning program) = one_job words files left done.job (success files left (meaning program)) done.is wanted in
       inr (record { ended = done.answered ∙ ap (λ (job : Job). job.answer) same; output = rw same at done.output; errors = rw same at done.errors })
 

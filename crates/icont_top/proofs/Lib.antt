@@ -1,8 +1,11 @@
+pub mod Building
+pub mod Calling
 pub mod Composing
+pub mod ContextRules
 pub mod Deciding
-pub mod Parsing
-pub mod Programs
+pub mod Matching
 pub mod Reporting
 pub mod Running
-pub mod Working
 pub mod Sourcing
+pub mod Staging
+pub mod Working

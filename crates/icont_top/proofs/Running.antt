@@ -1,46 +1,34 @@
 -- The machine does what the run of a code does.
-use Rattle.std.proofs.Common.{◌≡◌, ℕ, ◌+◌, ◌-◌, ◌<◌, true, List, [], ◌∷◌, ◌++◌, length, map, take, drop, get_or, slice_get, nat_lt, ◌&&◌, Option, None, Some, IfSome, refl, sym, ap, ◌∙◌, arith, append_assoc}
+use Rattle.std.proofs.Common.{◌≡◌, ℕ, ◌+◌, ◌-◌, ◌<◌, true, Bool, if◌then◌else◌, List, [], ◌∷◌, ◌++◌, length, map, take, drop, get_or, slice_get, nat_lt, Option, None, Some, IfSome, refl, sym, ap, ◌∙◌, arith, append_assoc}
 use Rattle.std.specs.Option.{option_map}
-use Rattle.std.proofs.lemmas.Bool.{cond-true}
 use Rattle.std.proofs.lemmas.Bool.Decides.{nat_tests}
-use Rattle.std.proofs.lemmas.List.{length-map, take-map, map-append, take_at, drop_more, drop_all, drop-map, length_push}
+use Rattle.std.proofs.lemmas.List.{length-map, take-map, map-append, take_at, drop_more, drop-map, length_push}
 use Rattle.icn_host.specs.Sinks.{Gains, GainsPart}
 use Rattle.icn_host.proofs.SinkSteps.{gains_then, then_part, part_more, part_whole}
 use Rattle.icn_ucode.specs.declared.instr.Instr.{Instr}
-use Rattle.icn_ucode.specs.CodeRun.{Operand, OpenMark, State, Step, goes_on, line_written, unmarked, step, written, writes_from, writes}
+use Rattle.icn_ucode.specs.CodeRun.{Operand, OpenMark, State, Step, goes_on, line_written, result_of, unmarked, step, written, writes_from, writes}
 use Rattle.icont_top.specs.declared.machine.Operand.{Operand as Kept}
 use Rattle.icont_top.specs.declared.machine.OpenMark.{OpenMark as KeptMark}
 use Rattle.icont_top.specs.Machines.{operand_of, operands_of, mark_of, call_of}
 
 -- Calls
 
-last_alone : (xs : List Kept) (x : Kept) → 0 < length xs → x ≡ get_or xs (length xs - 1) x → drop (length xs - 1) xs ≡ x ∷ []
-last_alone xs x h e =
-    drop_more xs (length xs - 1) x (omega arith) ∙ (ap (λ rest. get_or xs (length xs - 1) x ∷ rest) (drop_all (length xs - 1 + 1) xs (omega arith)) ∙ ap (λ y. y ∷ []) (sym e))
+-- a line that is written, with the operands after it
+called_as : (found : Option (List ℕ)) (test : Bool) (operands left : List Operand) (l : List ℕ) → test ≡ true → found ≡ Some l → operands ≡ left
+    → (if test then option_map {U = List ℕ × List Operand} (λ l. (l, operands)) found else None) ≡ Some (l, left)
+called_as found test operands left l e f g = rw (e, f, g) refl
 
-call_gives_all : (kept : List Kept) (count : ℕ) (last : Kept) (line : List ℕ) → 0 < count → count < length kept → last ≡ get_or kept (length kept - 1) last
-    → line_written (operands_of (drop (length kept - 1 - count) kept)) ≡ Some line
-    → Some (line, operands_of (take (length kept - 1 - count) kept ++ last ∷ [])) ≡ call_of count (operands_of kept)
-call_gives_all kept count last line some within is e =
-    let n = length kept in
-    let same : length (operands_of kept) ≡ n = length-map kept operand_of in
-    let test : (nat_lt 0 count && nat_lt count (length (operands_of kept))) ≡ true = rw same (grind (arith, nat_tests)) in
-    let found : line_written (drop (length (operands_of kept) - 1 - count) (operands_of kept)) ≡ Some line = rw (same, drop-map) e in
-    let front : take (n - 1 - count) (operands_of kept) ≡ operands_of (take (n - 1 - count) kept) = take-map operand_of (n - 1 - count) kept in
-    let back : drop (n - 1) (operands_of kept) ≡ operands_of (last ∷ []) = drop-map operand_of (n - 1) kept ∙ ap operands_of (last_alone kept last (omega arith) is) in
-    let left : take (length (operands_of kept) - 1 - count) (operands_of kept) ++ drop (length (operands_of kept) - 1) (operands_of kept) ≡ operands_of (take (n - 1 - count) kept ++ last ∷ []) =
-    rw same (rw (front, back) (sym (map-append operand_of (take (n - 1 - count) kept) (last ∷ [])))) in
-    sym (cond-true (nat_lt 0 count && nat_lt count (length (operands_of kept))) _ _ test
-    ∙ (ap (option_map (λ l. (l, take (length (operands_of kept) - 1 - count) (operands_of kept) ++ drop (length (operands_of kept) - 1) (operands_of kept)))) found
-    ∙ ap (λ o. Some (line, o)) left))
-
--- the same, where the number of operands is known by another name
-pub call_gives : (kept : List Kept) (n count : ℕ) (last : Kept) (line : List ℕ) → n ≡ length kept → 0 < count → count < n → last ≡ get_or kept (n - 1) last
-    → line_written (operands_of (drop (n - 1 - count) kept)) ≡ Some line → Some (line, operands_of (take (n - 1 - count) kept ++ last ∷ [])) ≡ call_of count (operands_of kept)
-call_gives kept n count last line e some within is found =
-    let is' : last ≡ get_or kept (length kept - 1) last = rw (← e) is in
-    let found' : line_written (operands_of (drop (length kept - 1 - count) kept)) ≡ Some line = rw (← e) found in
-    rw e (call_gives_all kept count last line some (omega arith) is' found')
+pub call_gives : (kept : List Kept) (n count : ℕ) (result : Kept) (line : List ℕ) → n ≡ length kept → count < n → operand_of result ≡ result_of (operands_of (drop (n - 1 - count) kept))
+    → line_written (operands_of (drop (n - 1 - count) kept)) ≡ Some line → Some (line, operands_of (take (n - 1 - count) kept ++ result ∷ [])) ≡ call_of count (operands_of kept)
+call_gives kept n count result line e within is found =
+    let size : length (operands_of kept) ≡ n = length-map kept operand_of ∙ sym e in
+    let test : nat_lt count (length (operands_of kept)) ≡ true = rw size (grind (arith, nat_tests)) in
+    let called : drop (length (operands_of kept) - 1 - count) (operands_of kept) ≡ operands_of (drop (n - 1 - count) kept) = rw size (drop-map operand_of (n - 1 - count) kept) in
+    let front : take (length (operands_of kept) - 1 - count) (operands_of kept) ≡ operands_of (take (n - 1 - count) kept) = rw size (take-map operand_of (n - 1 - count) kept) in
+    let left : take (length (operands_of kept) - 1 - count) (operands_of kept) ++ result_of (drop (length (operands_of kept) - 1 - count) (operands_of kept)) ∷ [] ≡ operands_of (take (n - 1 - count) kept ++ result ∷ []) =
+    rw (called, front) (ap (λ r. operands_of (take (n - 1 - count) kept) ++ r ∷ []) (sym is) ∙ sym (map-append operand_of (take (n - 1 - count) kept) (result ∷ []))) in
+    let written : line_written (drop (length (operands_of kept) - 1 - count) (operands_of kept)) ≡ Some line = rw called found in
+    sym (called_as _ _ _ _ line test written left)
 
 -- Marks
 

@@ -1,22 +1,22 @@
 -- The jobs of words, files and sources, one within the other.
-use Rattle.std.proofs.Common.{◌≡◌, ◌⊎◌, inl, inr, ℕ, List, Option, None, Some, IfSome, Result, Ok, Err, refl, sym, ap, ◌∙◌}
+use Rattle.std.proofs.Common.{◌≡◌, ◌⊎◌, inl, inr, ℕ, List, Option, None, Some, IfSome, Ok, Err, refl, sym, ◌∙◌}
 use Rattle.std.proofs.lemmas.Option.{none-some, same_Some}
 use Rattle.icn_host.specs.FileMaps.{FileMap}
 use Rattle.icn_host.specs.Sinks.{Gains, GainsPart}
 use Rattle.icn_host.proofs.SinkSteps.{gains_nothing, part_nothing}
-use Rattle.icn_tree.specs.declared.token.Token.{Token}
 use Rattle.icn_form.specs.declared.tree.Procedure.{Procedure}
 use Rattle.icn_form.specs.Meaning.{meaning}
-use Rattle.icn_form.specs.Programs.{IsProgram}
-use Rattle.icn_form.proofs.Trees.{one_program}
 use Rattle.icont_top.specs.declared.answer.Answer.{Answer}
 use Rattle.icont_top.specs.declared.answer.Answer.TheVariants.{Ran, NoMemory}
 use Rattle.icont_top.specs.declared.answer.Ending.TheVariants.{Done}
 use Rattle.icont_top.specs.Answers.{IsFault}
-use Rattle.icont_top.specs.Job.{Job, refusal, success, IsTokensJob, refused, ran, IsFileJob, no_tokens, of_tokens, IsJob, wrong_words, of_file}
+use Rattle.icont_top.specs.Job.{Job, refusal, success, IsTokensJob, ran, IsFileJob, no_tokens, of_tokens, IsJob, wrong_words, of_file}
 use Rattle.icont_top.specs.Outcomes.{Does, did, failed}
-use Rattle.icont_top.specs.Sources.{source_read}
+use Rattle.icont_top.specs.Programs.{IsProgram}
+use Rattle.icont_top.specs.Sources.{Scan, source_read}
 use Rattle.icont_top.specs.Words.{file_asked}
+use Rattle.icont_top.proofs.Deciding.{one_tokens_job}
+use Rattle.icont_top.proofs.Matching.{same_Ok, ok-err}
 
 pub if_some : {T : Type 0} (o : Option T) (P : T → Type 0) → ((x : T) → o ≡ Some x → P x) → IfSome o P
 if_some None P f = tt
@@ -42,37 +42,29 @@ refuses files left answer given out is (inr e) = rw e (nothing_done NoMemory out
 
 -- Tokens
 
-part_of_tokens : {name : List ℕ} {tokens : List Token} {files : FileMap} {left : List ℕ} {out out' : Option (List ℕ)} (tree : Procedure) → IsProgram tokens tree → GainsPart out out' (meaning tree)
-    → (job : Job) → IsTokensJob name tokens files left job → GainsPart out out' job.output
-part_of_tokens tree is part _ (refused none) = absurd (none tree is)
-part_of_tokens {name} {tokens} tree is part _ (ran other also) = rw (one_program tokens other tree also is) part
+part_of_tokens : {scan : Scan} {files : FileMap} {left : List ℕ} {out out' : Option (List ℕ)} (program : Procedure) → IsProgram scan.tokens program → GainsPart out out' (meaning program)
+    → (job : Job) → IsTokensJob scan files left job → GainsPart out out' job.output
+part_of_tokens {scan} {files} {left} program is part job other =
+    let same : job ≡ success files left (meaning program) = one_tokens_job job (success files left (meaning program)) other (ran program is) in
+    rw same part
 
-pub tokens_broke : {name : List ℕ} {tokens : List Token} {out out' : Option (List ℕ)} (answer : Answer) (tree : Procedure) → IsFault answer → IsProgram tokens tree → GainsPart out out' (meaning tree)
-    → (files : FileMap) (left : List ℕ) → Does (IsTokensJob name tokens files left) answer out out'
-tokens_broke answer tree f is part files left = failed f (part_of_tokens tree is part)
+pub tokens_broke : {scan : Scan} {out out' : Option (List ℕ)} (answer : Answer) (program : Procedure) → IsFault answer → IsProgram scan.tokens program → GainsPart out out' (meaning program)
+    → (files : FileMap) (left : List ℕ) → Does (IsTokensJob scan files left) answer out out'
+tokens_broke answer program f is part files left = failed f (part_of_tokens program is part)
 
-pub tokens_ran : {name : List ℕ} {tokens : List Token} {out out' : Option (List ℕ)} (tree : Procedure) → IsProgram tokens tree → Gains out out' (meaning tree)
-    → (files : FileMap) (left : List ℕ) → Does (IsTokensJob name tokens files left) (Ran Done) out out'
-tokens_ran tree is g files left = did (success files left (meaning tree)) (ran tree is) refl refl g
+pub tokens_ran : {scan : Scan} {out out' : Option (List ℕ)} (program : Procedure) → IsProgram scan.tokens program → Gains out out' (meaning program)
+    → (files : FileMap) (left : List ℕ) → Does (IsTokensJob scan files left) (Ran Done) out out'
+tokens_ran program is g files left = did (success files left (meaning program)) (ran program is) refl refl g
 
 -- Files
 
-pub same_Ok : {A E : Type 0} (a b : A) → ◌≡◌ {A = Result A E} (Ok a) (Ok b) → a ≡ b
-same_Ok a b e = ap (λ r. elim r [ Ok x ↦ x | Err f ↦ a ]) e
+tokens_of_file : {name : List ℕ} {files : FileMap} {left : List ℕ} (scan : Scan) → source_read files name ≡ Ok scan → (job : Job) → IsFileJob name files left job → IsTokensJob scan files left job
+tokens_of_file scan e _ (no_tokens answer f) = absurd (ok-err scan answer (sym e ∙ f))
+tokens_of_file scan e _ (of_tokens other job f is) = let same : other ≡ scan = same_Ok other scan (sym f ∙ e) in rw same at is
 
-pub same_Err : {A E : Type 0} (a b : E) → ◌≡◌ {A = Result A E} (Err a) (Err b) → a ≡ b
-same_Err a b e = ap (λ r. elim r [ Ok x ↦ a | Err f ↦ f ]) e
-
-pub ok-err : {A E : Type 0} (a : A) (f : E) → ◌≡◌ {A = Result A E} (Ok a) (Err f) → ⊥
-ok-err a f e = cc
-
-tokens_of_file : {name : List ℕ} {files : FileMap} {left : List ℕ} (tokens : List Token) → source_read files name ≡ Ok tokens → (job : Job) → IsFileJob name files left job → IsTokensJob name tokens files left job
-tokens_of_file tokens e _ (no_tokens answer f) = absurd (ok-err tokens answer (sym e ∙ f))
-tokens_of_file tokens e _ (of_tokens other job f is) = let same : other ≡ tokens = same_Ok other tokens (sym f ∙ e) in rw same at is
-
-pub file_does : {name : List ℕ} {files : FileMap} {left : List ℕ} {answer : Answer} {out out' : Option (List ℕ)} (tokens : List Token) → source_read files name ≡ Ok tokens
-    → Does (IsTokensJob name tokens files left) answer out out' → Does (IsFileJob name files left) answer out out'
-file_does tokens e d = does_as (λ job j. of_tokens tokens job e j) (tokens_of_file tokens e) d
+pub file_does : {name : List ℕ} {files : FileMap} {left : List ℕ} {answer : Answer} {out out' : Option (List ℕ)} (scan : Scan) → source_read files name ≡ Ok scan
+    → Does (IsTokensJob scan files left) answer out out' → Does (IsFileJob name files left) answer out out'
+file_does scan e d = does_as (λ job j. of_tokens scan job e j) (tokens_of_file scan e) d
 
 pub file_refused : {name : List ℕ} (files : FileMap) (left : List ℕ) (answer : Answer) (out : Option (List ℕ)) → IsFault answer ⊎ (source_read files name ≡ Err answer) → Does (IsFileJob name files left) answer out out
 file_refused files left answer out (inl f) = nothing_done answer out f

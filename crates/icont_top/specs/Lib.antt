@@ -1,9 +1,12 @@
 pub mod Answers
+pub mod Built
+pub mod Faults
 pub mod Job
 pub mod Machines
 pub mod Outcomes
-pub mod Reading
+pub mod Programs
 pub mod Sources
+pub mod Stages
 pub mod Words
 pub use Rattle.icn_host.specs.Counts
 pub use Rattle.icn_host.specs.FileMaps

@@ -1,9 +1,9 @@
 -- What the machine keeps, as a state of a run.
-use Rattle.std.specs.Prelude.{ℕ, ◌-◌, ◌&&◌, ◌++◌, List, map, take, drop, length, nat_lt, Option, None, if◌then◌else◌}
+use Rattle.std.specs.Prelude.{ℕ, ◌-◌, ◌++◌, List, [], ◌∷◌, map, take, drop, length, nat_lt, Option, None, if◌then◌else◌}
 use Rattle.std.specs.Option.{option_map}
-use Rattle.icn_ucode.specs.CodeRun.{Operand, Variable, Integer, Text, OpenMark, State, Step, goes_on, ends, stuck, line_written}
+use Rattle.icn_ucode.specs.CodeRun.{Operand, Variable, Null, Integer, Text, OpenMark, State, Step, goes_on, ends, stuck, line_written, result_of}
 use Rattle.icont_top.specs.declared.machine.Operand.{Operand as Kept}
-use Rattle.icont_top.specs.declared.machine.Operand.TheVariants.{Variable as KeptVariable, Integer as KeptInteger, Text as KeptText}
+use Rattle.icont_top.specs.declared.machine.Operand.TheVariants.{Variable as KeptVariable, Null as KeptNull, Integer as KeptInteger, Text as KeptText}
 use Rattle.icont_top.specs.declared.machine.OpenMark.{OpenMark as KeptMark}
 use Rattle.icont_top.specs.declared.machine.Machine.{Machine}
 use Rattle.icont_top.specs.declared.machine.Stepped.{Stepped}
@@ -11,6 +11,7 @@ use Rattle.icont_top.specs.declared.machine.Stepped.TheVariants.{On, Ended, Stuc
 
 abbrev pub operand_of : Kept → Operand
 operand_of (KeptVariable name) = Variable name.now
+operand_of KeptNull = Null
 operand_of (KeptInteger n) = Integer n
 operand_of (KeptText text) = Text text.now
 
@@ -31,5 +32,4 @@ step_of Stuck machine = stuck
 -- the line that a call writes, and the operands after it
 abbrev pub call_of : ℕ → List Operand → Option (List ℕ × List Operand)
 call_of count operands = let below = length operands - 1 - count in
-    if nat_lt 0 count && nat_lt count (length operands)
-    then option_map (λ line. (line, take below operands ++ drop (length operands - 1) operands)) (line_written (drop below operands)) else None
+    if nat_lt count (length operands) then option_map (λ line. (line, take below operands ++ result_of (drop below operands) ∷ [])) (line_written (drop below operands)) else None

@@ -46,7 +46,7 @@ told files left output errors = record { files = files; left = left; output = ou
 
 -- the store tells its files, and the file of this name has these tokens
 abbrev pub Gives : Option FileMap → List ℕ → List Token → Type 0
-Gives held name tokens = (files : FileMap) × (held ≡ Some files) × (source_read files name ≡ Ok tokens)
+Gives held name tokens = (files : FileMap) × (held ≡ Some files) × ((names : List (List ℕ)) × (source_read files name ≡ Ok (record { names = names; tokens = tokens })))
 
 -- a program ran to its end, and wrote these bytes and no line
 pub record Runs (answer : Answer) (written : List ℕ) (out out' err err' : Option (List ℕ)) : Type 0 where

@@ -1,12 +1,15 @@
 -- What a named file has as tokens, or the answer that refuses it.
-use Rattle.std.specs.Prelude.{◌≡◌, ◌⊎◌, ℕ, List, [], slice_index_or, Result, Ok, Err, Vec}
+use Rattle.std.specs.Prelude.{◌≡◌, ◌⊎◌, ℕ, List, [], slice_index_or, Result, Ok, Err}
 use Rattle.icn_host.specs.FileMaps.{FileMap}
-use Rattle.icn_tree.specs.declared.rule.Rule.TheVariants.{P6, S4}
+use Rattle.icn_tree.specs.declared.rule.Rule.{Rule}
+use Rattle.icn_tree.specs.declared.rule.Rule.TheVariants.{P6, S1, S2, S3, S4, C1, C2, C3, C4, C5, C6, C7, C8}
 use Rattle.icn_tree.specs.declared.token.Token.{Token}
+use Rattle.icn_tree.specs.declared.tree.Place.{Place}
 use Rattle.icn_tree.specs.Tokens.{Outcome, Scanned, Fault, tokens_of}
 use Rattle.icn_prep.specs.declared.fault.PrepFault.{PrepFault}
 use Rattle.icn_prep.specs.declared.fault.PrepFault.TheVariants as Prep
 use Rattle.icn_prep.specs.SourceLines.{Source, source_lines}
+use Rattle.icont_top.specs.declared.source.SourceTokens.{SourceTokens}
 use Rattle.icont_top.specs.declared.answer.Answer.{Answer}
 use Rattle.icont_top.specs.declared.answer.Answer.TheVariants.{Refused, Command, Missing, FileFault, NoMemory}
 use Rattle.icont_top.specs.Answers.{IsFault}
@@ -15,10 +18,19 @@ use Rattle.icont_top.specs.Answers.{IsFault}
 abbrev pub name_at : List (List ℕ) → ℕ → List ℕ
 name_at names file = slice_index_or names file []
 
+-- the answer that a rule refuses a file at a place
+abbrev pub refused_at : List (List ℕ) → Rule → Place → Answer
+refused_at names rule place = Refused (name_at names place.file) place.line rule
+
+-- what a named file has: its tokens, and the names of the files that they stand in
+pub record Scan : Type 0 where
+  pub names : List (List ℕ)
+  pub tokens : List Token
+
 -- what the lines have as tokens
-abbrev pub tokens_read : List (List ℕ) → Outcome → Result (List Token) Answer
-tokens_read names (Scanned tokens) = Ok tokens
-tokens_read names (Fault rule file line) = Err (Refused (name_at names file) line rule)
+abbrev pub tokens_read : List (List ℕ) → Outcome → Result Scan Answer
+tokens_read names (Scanned tokens) = Ok (record { names = names; tokens = tokens })
+tokens_read names (Fault rule file line) = Err (refused_at names rule (record { line = line; file = file }))
 
 -- the answer where the file of this name gives no lines
 abbrev pub fault_answer : List ℕ → PrepFault → Answer
@@ -27,17 +39,20 @@ fault_answer name (Prep.Broken rule file line) = Refused file line rule
 fault_answer name Prep.FileFault = FileFault
 fault_answer name Prep.NoMemory = NoMemory
 
-abbrev pub lines_read : List ℕ → Result Source PrepFault → Result (List Token) Answer
+abbrev pub lines_read : List ℕ → Result Source PrepFault → Result Scan Answer
 lines_read name (Ok source) = tokens_read source.names (tokens_of source.lines)
 lines_read name (Err fault) = Err (fault_answer name fault)
 
 -- what the named file has as tokens: all its lines first, and then all its tokens
-abbrev pub source_read : FileMap → List ℕ → Result (List Token) Answer
+abbrev pub source_read : FileMap → List ℕ → Result Scan Answer
 source_read files name = lines_read name (source_lines files name)
 
+abbrev pub scan_of : SourceTokens → Scan
+scan_of source = record { names = source.names.items; tokens = source.tokens.items }
+
 -- a call found this, or answers a fault of the outside
-abbrev pub IsRead : {Z : Type 0} → Result (List Token) Answer → Result (Vec Token Z) Answer → Type 0
-IsRead read (Ok tokens) = read ≡ Ok tokens.items
+abbrev pub IsRead : Result Scan Answer → Result SourceTokens Answer → Type 0
+IsRead read (Ok source) = read ≡ Ok (scan_of source)
 IsRead read (Err answer) = IsFault answer ⊎ (read ≡ Err answer)
 
 -- an answer that a file was not there
@@ -58,9 +73,25 @@ IsOfRead FileFault = Unit {0}
 IsOfRead NoMemory = Unit {0}
 IsOfRead _ = ⊥
 
+-- a rule of trees or of contexts
+abbrev pub IsTreeRule : Rule → Type 0
+IsTreeRule S1 = Unit {0}
+IsTreeRule S2 = Unit {0}
+IsTreeRule S3 = Unit {0}
+IsTreeRule S4 = Unit {0}
+IsTreeRule C1 = Unit {0}
+IsTreeRule C2 = Unit {0}
+IsTreeRule C3 = Unit {0}
+IsTreeRule C4 = Unit {0}
+IsTreeRule C5 = Unit {0}
+IsTreeRule C6 = Unit {0}
+IsTreeRule C7 = Unit {0}
+IsTreeRule C8 = Unit {0}
+IsTreeRule _ = ⊥
+
 -- an answer about tokens that were read
 abbrev pub IsOfTokens : Answer → Type 0
-IsOfTokens (Refused file line rule) = rule ≡ S4
+IsOfTokens (Refused file line rule) = IsTreeRule rule
 IsOfTokens (Missing name) = ⊥
 IsOfTokens (Command kind) = ⊥
 IsOfTokens FileFault = ⊥

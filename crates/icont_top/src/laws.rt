@@ -1,8 +1,16 @@
 // Laws of the definitions that contracts cite.
 ghost use Rattle.std.specs.Prelude.{◌≡◌, ℕ, List};
 ghost use Rattle.icn_host.specs.FileMaps.{FileMap};
+ghost use Rattle.icn_tree.specs.declared.token.Token.{Token};
+ghost use Rattle.icn_form.specs.declared.tree.Procedure.{Procedure};
 ghost use Rattle.icont_top.specs.Answers.{IsFault};
 ghost use Rattle.icont_top.specs.Job.{Job, IsJob};
+ghost use Rattle.icont_top.specs.Programs.{IsProgram};
+
+/// A list of tokens is at most one program.
+pub fn one_program()
+    ensures { (tokens : List Token) (a b : Procedure) → IsProgram tokens a → IsProgram tokens b → a ≡ b }
+{}
 
 /// The words, the files and the input ask for a job, and for one alone, which answers no fault.
 pub fn one_job()

@@ -2,17 +2,19 @@
 #![tactic(auto)]
 
 mod answer;
+mod built;
 mod laws;
 mod machine;
-mod parser;
 mod program;
+mod program_fault;
 mod report;
 mod source;
 mod top;
 mod translator;
+mod unbuilt;
 mod words;
 mod work;
 
 pub use answer::{Answer, Ending};
-pub use laws::one_job;
+pub use laws::{one_job, one_program};
 pub use top::icont_main;

@@ -3,7 +3,7 @@ ghost use Rattle.std.specs.Prelude.{◌≡◌, IsSome, OnOk, OnErr, IfOk, IfSome
 ghost use Rattle.std.specs.Option.{option_map};
 ghost use Rattle.icn_host.specs.Counts.{HasCause};
 ghost use Rattle.icn_host.specs.Sinks.{Gains, GainsPart};
-ghost use Rattle.icn_ucode.specs.CodeRun.{writes, step, texts, is_write, line_written};
+ghost use Rattle.icn_ucode.specs.CodeRun.{writes, step, pushed, texts, is_write, line_written, result_of};
 ghost use Rattle.icont_top.specs.Machines.{operand_of, operands_of, state_of, call_of, step_of};
 
 use icn_host::{Fault, Sink};
@@ -16,7 +16,8 @@ use std::alloc::{AllocError, Global};
 enum Operand<'a> {
     // The global variable of this name.
     Variable(&'a [u8]),
-    // An integer.
+    // The null value.
+    Null,
     Integer(i64),
     Text(&'a [u8]),
 }
@@ -94,18 +95,10 @@ fn step<'a>(
             })?;
             Ok(Stepped::On(Vec::new(alloc)))
         }
-        Instr::Global(name) => {
-            machine.operands.push(Operand::Variable(name.as_slice()))?;
-            Ok(Stepped::On(Vec::new(alloc)))
-        }
-        Instr::Int(n) => {
-            machine.operands.push(Operand::Integer(*n))?;
-            Ok(Stepped::On(Vec::new(alloc)))
-        }
-        Instr::Str(text) => {
-            machine.operands.push(Operand::Text(text.as_slice()))?;
-            Ok(Stepped::On(Vec::new(alloc)))
-        }
+        Instr::Global(name) => pushed(alloc, Operand::Variable(name.as_slice()), machine),
+        Instr::Pnull => pushed(alloc, Operand::Null, machine),
+        Instr::Int(n) => pushed(alloc, Operand::Integer(*n), machine),
+        Instr::Str(text) => pushed(alloc, Operand::Text(text.as_slice()), machine),
         Instr::Invoke(count) => match call(alloc, *count as usize, &mut machine.operands)? {
             Some(line) => Ok(Stepped::On(line)),
             None => Ok(Stepped::Stuck),
@@ -121,6 +114,18 @@ fn step<'a>(
     }
 }
 
+// Puts an operand on the stack.
+fn pushed<'a>(
+    alloc: Global,
+    operand: Operand<'a>,
+    machine: &mut Machine<'a>,
+) -> Result<Stepped, AllocError>
+    ensures { IfOk result (λ stepped. step_of stepped machine.new ≡ pushed (operand_of operand.entry) (state_of machine.old)) }
+{
+    machine.operands.push(operand)?;
+    Ok(Stepped::On(Vec::new(alloc)))
+}
+
 // Calls what stands below so many arguments, and leaves its result in their place. Answers the line that the call writes,
 // and `None` where there is no such call.
 fn call(
@@ -131,19 +136,31 @@ fn call(
     ensures { IfOk result (λ line. option_map (λ v. (v.items, operands_of operands.new.items)) line ≡ call_of count (operands_of operands.old.items)) }
 {
     let len = operands.len();
-    if count == 0 || count >= len {
+    if count >= len {
         return Ok(None);
     }
-    let last = len - 1;
-    let below = last - count;
+    let below = len - 1 - count;
     let (_, called) = operands.as_slice().split_at(below);
     let Some(line) = line_written(alloc, called)? else {
         return Ok(None);
     };
-    let result = operands[last];
+    let result = result_of(called);
     operands.truncate(below);
     operands.push(result)?;
     Ok(Some(line))
+}
+
+// What a call gives: its last argument, or null where it has none.
+fn result_of<'a>(called: &[Operand<'a>]) -> Operand<'a>
+    ensures { operand_of result ≡ result_of (operands_of called.now) }
+{
+    let Some((_, arguments)) = called.split_first() else {
+        return Operand::Null;
+    };
+    match arguments.last() {
+        Some(last) => *last,
+        None => Operand::Null,
+    }
 }
 
 // The line that a call writes: the called function and its arguments. `None` where it can't be called with them.
@@ -168,17 +185,18 @@ fn is_write(function: &Operand) -> bool
 {
     match function {
         Operand::Variable(name) => *name == b"write".as_slice(),
-        Operand::Integer(_) | Operand::Text(_) => false,
+        Operand::Null | Operand::Integer(_) | Operand::Text(_) => false,
     }
 }
 
-// The texts one after the other. `None` where an argument is none.
+// The texts one after the other, and none for null. `None` where an argument is a variable.
 fn texts(alloc: Global, arguments: &[Operand]) -> Result<Option<Vec<u8>>, AllocError>
     ensures { IfOk result (λ line. option_map (λ v. v.items) line ≡ texts (operands_of arguments.now)) }
 {
     let mut line = Vec::new(alloc);
     for argument in arguments {
         match argument {
+            Operand::Null => {}
             Operand::Integer(n) => line.extend_from_slice(decimal(*n).as_bytes())?,
             Operand::Text(text) => line.extend_from_slice(text)?,
             Operand::Variable(_) => return Ok(None),

@@ -1,55 +1,28 @@
-// The program that a text is.
-ghost use Rattle.std.specs.Prelude.{◌≡◌, ◌≤◌, length, IfOk, IfSome, IfNone};
-ghost use Rattle.std.specs.List.{list_all};
-ghost use Rattle.icn_form.specs.declared.tree.Procedure.{Procedure as Tree};
-ghost use Rattle.icn_form.specs.Programs.{IsProgram};
-ghost use Rattle.icont_top.specs.Reading.{calls_write, is_built};
+// The program that tokens are.
+ghost use Rattle.std.specs.Prelude.{MatchResult};
+ghost use Rattle.icn_decls.specs.Spelled.{AreScanned};
+ghost use Rattle.icont_top.specs.Programs.{IsProgram};
+ghost use Rattle.icont_top.specs.Stages.{Stops};
 
-use crate::parser::parse;
-use icn_form::{Expr, Procedure};
+use crate::built::program_of;
+use crate::program_fault::ProgramFault;
+use icn_decls::check;
+use icn_form::Procedure;
+use icn_parse::parse;
 use icn_tree::Token;
-use std::alloc::{AllocError, Global};
+use std::alloc::Global;
 
-/// The program that the tokens spell. `None` exactly where they spell none.
-pub fn program(alloc: Global, tokens: &[Token]) -> Result<Option<Procedure>, AllocError>
-    ensures found { IfOk result (λ found. IfSome found (IsProgram tokens.now)) }
-    ensures none { IfOk result (λ found. IfNone found ((tree : Tree) → IsProgram tokens.now tree → ⊥)) }
+/// The program that the tokens of a file of this base name are: they have a tree, it breaks no rule, and its forms are built.
+///
+/// # Errors
+///
+/// `Broken` with the first rule that is broken, stage by stage. `NoMemory` where memory ran out.
+pub fn program(alloc: Global, name: &str, tokens: &[Token]) -> Result<Procedure, ProgramFault>
+    requires scanned { AreScanned tokens.now }
+    ensures { MatchResult result (IsProgram tokens.now) (Stops tokens.now) }
 {
-    let Some(tree) = parse(alloc, tokens)? else {
-        return Ok(None);
-    };
-    if is_built(&tree) {
-        Ok(Some(tree))
-    } else {
-        Ok(None)
-    }
-}
-
-// Whether the procedure is `main`, and calls `write` alone.
-fn is_built(tree: &Procedure) -> bool
-    ensures { result ≡ is_built tree.now }
-{
-    tree.name.as_slice() == b"main".as_slice() && all_call_write(tree.body.as_slice())
-}
-
-// Whether each call is of `write`.
-fn all_call_write(exprs: &[Expr]) -> bool
-    ensures { result ≡ list_all calls_write exprs.now }
-{
-    for expr in exprs {
-        if !calls_write(expr) {
-            return false;
-        }
-    }
-    true
-}
-
-// Whether a call is of `write`.
-fn calls_write(expr: &Expr) -> bool
-    ensures { result ≡ calls_write expr.now }
-{
-    match expr {
-        Expr::Empty => true,
-        Expr::Call(call) => call.name.as_slice() == b"write".as_slice(),
-    }
+    let file = parse(alloc, name, tokens)?;
+    let checked = check(alloc, file)?;
+    let program = program_of(alloc, checked.file())?;
+    Ok(program)
 }

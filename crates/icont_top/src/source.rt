@@ -1,46 +1,61 @@
-// The tokens of a named file.
-ghost use Rattle.std.specs.Prelude.{◌≡◌, ◌⊎◌, IfSome, IfErr, IsErrOf};
+// What is read of a named file, up to its tokens.
+ghost use Rattle.std.specs.Prelude.{◌≡◌, ◌⊎◌, IfSome, IfOk, IfErr, IsErrOf};
 ghost use Rattle.icn_host.specs.Counts.{HasCause};
 ghost use Rattle.icn_tree.specs.Tokens.{tokens_of};
-ghost use Rattle.icont_top.specs.declared.answer.Answer.TheVariants.{Refused, Missing};
-ghost use Rattle.icont_top.specs.Sources.{name_at, tokens_read, fault_answer, source_read, IsRead, IsErrOfAbsence, IsOfRead};
+ghost use Rattle.icn_decls.specs.Spelled.{AreScanned};
+ghost use Rattle.icont_top.specs.declared.answer.Answer.TheVariants.{Missing};
+ghost use Rattle.icont_top.specs.Sources.{name_at, refused_at, tokens_read, fault_answer, source_read, IsRead, IsErrOfAbsence, IsOfRead};
 
 use crate::answer::Answer;
 use icn_host::Files;
 use icn_lex::{LexFault, tokens};
 use icn_prep::{PrepFault, preprocess};
-use icn_tree::{Bytes, Lines, Rule, Token};
-use std::alloc::{AllocError, Global};
+use icn_tree::{Bytes, Lines, Place, Rule, Token};
+use std::alloc::Global;
+
+/// The tokens of a named file, with the names of the files that they stand in.
+#[derive(Drop)]
+pub struct SourceTokens {
+    /// The names of files, the named one first.
+    pub names: Vec<Bytes>,
+    /// The tokens in their order.
+    pub tokens: Vec<Token>,
+}
 
 /// The tokens of the file of this name, or the answer where it has none.
 pub fn source_tokens<F: Files>(
     alloc: Global,
     name: &str,
     files: &mut F,
-) -> Result<Vec<Token>, Answer>
+) -> Result<SourceTokens, Answer>
     ensures read { IfSome (F.held files.old) (λ held. IsRead (source_read held name.now) result) }
+    ensures scanned { IfOk result (λ source. AreScanned source.tokens.items) }
     ensures others { IfErr result IsOfRead }
     ensures files { F.held files.new ≡ F.held files.old }
     ensures file_fault { HasCause (F.faults files.old) (F.faults files.new) (IsErrOf result Answer.FileFault) }
     ensures absence { HasCause (F.absences files.old) (F.absences files.new) (IsErrOfAbsence result) }
 {
     match preprocess(alloc, name, files) {
-        Ok(lines) => line_tokens(alloc, &lines),
+        Ok(lines) => line_tokens(alloc, lines),
         Err(fault) => Err(fault_answer(alloc, name, fault)),
     }
 }
 
-// The tokens of the lines, or the answer where they break a rule.
-fn line_tokens(alloc: Global, lines: &Lines) -> Result<Vec<Token>, Answer>
-    ensures read { IsRead (tokens_read lines.now.names.items (tokens_of lines.now.lines.items)) result }
+// The tokens of the lines, with the names of the lines, or the answer where they break a rule. The lines are dropped.
+fn line_tokens(alloc: Global, lines: Lines) -> Result<SourceTokens, Answer>
+    ensures read { IsRead (tokens_read lines.names.items (tokens_of lines.lines.items)) result }
+    ensures scanned { IfOk result (λ source. AreScanned source.tokens.items) }
     ensures others { IfErr result IsOfRead }
     ensures absence { IsErrOfAbsence result → ⊥ }
     ensures file_fault { IsErrOf result Answer.FileFault → ⊥ }
 {
-    match tokens(alloc, lines) {
-        Ok(tokens) => Ok(tokens),
+    match tokens(alloc, &lines) {
+        Ok(tokens) => Ok(SourceTokens {
+            names: lines.names,
+            tokens,
+        }),
         Err(LexFault::Broken { rule, file, line }) => {
-            Err(refused(alloc, name_at(&lines.names, file), line, rule))
+            Err(refused_at(alloc, &lines.names, rule, Place { line, file }))
         }
         Err(LexFault::NoMemory) => Err(Answer::NoMemory),
     }
@@ -58,16 +73,6 @@ fn fault_answer(alloc: Global, name: &str, fault: PrepFault) -> Answer
     }
 }
 
-// The name of a file by its place among the names.
-fn name_at(names: &[Bytes], file: u32) -> &[u8]
-    ensures { result.now ≡ name_at names.now file }
-{
-    match names.get(file as usize) {
-        Some(name) => name.as_slice(),
-        None => &[],
-    }
-}
-
 // The answer that the file of this name is not there.
 fn missing(alloc: Global, name: &str) -> Answer
     ensures { (result ≡ Missing name.now) ⊎ (result ≡ Answer.NoMemory) }
@@ -78,12 +83,26 @@ fn missing(alloc: Global, name: &str) -> Answer
     }
 }
 
-/// The answer that a rule refuses the file of this name at this line.
-pub fn refused(alloc: Global, name: &[u8], line: u32, rule: Rule) -> Answer
-    ensures { (result ≡ Refused name.now line rule) ⊎ (result ≡ Answer.NoMemory) }
+/// The answer that a rule refuses a file at a place, where the names of files are these.
+pub fn refused_at(alloc: Global, names: &[Bytes], rule: Rule, place: Place) -> Answer
+    ensures { (result ≡ refused_at names.now rule place) ⊎ (result ≡ Answer.NoMemory) }
 {
-    match Bytes::from_slice(alloc, name) {
-        Ok(file) => Answer::Refused { file, line, rule },
+    match Bytes::from_slice(alloc, name_at(names, place.file)) {
+        Ok(file) => Answer::Refused {
+            file,
+            line: place.line,
+            rule,
+        },
         Err(_) => Answer::NoMemory,
+    }
+}
+
+// The name of a file by its place among the names.
+fn name_at(names: &[Bytes], file: u32) -> &[u8]
+    ensures { result.now ≡ name_at names.now file }
+{
+    match names.get(file as usize) {
+        Some(name) => name.as_slice(),
+        None => &[],
     }
 }

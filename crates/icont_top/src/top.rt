@@ -5,10 +5,10 @@ ghost use Rattle.icn_host.specs.Sinks.{Gains};
 ghost use Rattle.icn_tree.specs.declared.token.Token.{Token};
 ghost use Rattle.icn_form.specs.declared.tree.Procedure.{Procedure};
 ghost use Rattle.icn_form.specs.Meaning.{meaning};
-ghost use Rattle.icn_form.specs.Programs.{IsProgram};
 ghost use Rattle.icont_top.specs.Answers.{IsFault, IsRefusal, IsCommand, line_of};
 ghost use Rattle.icont_top.specs.Job.{Job, IsJob};
 ghost use Rattle.icont_top.specs.Outcomes.{told, sunk, Gives, Completes, Leaves, Runs, IsReported};
+ghost use Rattle.icont_top.specs.Programs.{IsProgram};
 ghost use Rattle.icont_top.specs.Sources.{IsAbsence};
 ghost use Rattle.icont_top.specs.Words.{file_asked};
 

@@ -3,7 +3,7 @@ ghost use Rattle.std.specs.Prelude.{◌≡◌, ◌++◌, ◌∷◌, List, length
 ghost use Rattle.icn_form.specs.declared.tree.Expr.{Expr};
 ghost use Rattle.icn_ucode.specs.Translated.{constant, call_code, code_from, code_of};
 
-use icn_form::{Call, Expr, Literal, Procedure};
+use icn_form::{Argument, Call, Expr, Procedure};
 use icn_tree::Bytes;
 use icn_ucode::Instr;
 use std::alloc::{AllocError, Global};
@@ -38,32 +38,33 @@ fn translate_call(alloc: Global, call: &Call, code: &mut Vec<Instr>) -> Result<(
     let label = code.len() + count + 4;
     code.push(Instr::Mark(label as u64))?;
     code.push(Instr::Global(Bytes::from_slice(alloc, call.name.as_slice())?))?;
-    translate_literals(alloc, call.arguments.as_slice(), code)?;
+    translate_arguments(alloc, call.arguments.as_slice(), code)?;
     code.push(Instr::Invoke(count as u64))?;
     code.push(Instr::Unmark)?;
     Ok(())
 }
 
-// Adds the code that puts each of the literals on the stack.
-fn translate_literals(
+// Adds the code that puts each of the arguments on the stack.
+fn translate_arguments(
     alloc: Global,
-    literals: &[Literal],
+    arguments: &[Argument],
     code: &mut Vec<Instr>,
 ) -> Result<(), AllocError>
-    ensures { OnOk result (code.new.items ≡ code.old.items ++ map constant literals.now) }
+    ensures { OnOk result (code.new.items ≡ code.old.items ++ map constant arguments.now) }
 {
-    for literal in literals {
-        code.push(constant(alloc, literal)?)?;
+    for argument in arguments {
+        code.push(constant(alloc, argument)?)?;
     }
     Ok(())
 }
 
-// The instruction that puts a literal on the stack.
-fn constant(alloc: Global, literal: &Literal) -> Result<Instr, AllocError>
-    ensures { IfOk result (λ instr. instr ≡ constant literal.now) }
+// The instruction that puts an argument on the stack.
+fn constant(alloc: Global, argument: &Argument) -> Result<Instr, AllocError>
+    ensures { IfOk result (λ instr. instr ≡ constant argument.now) }
 {
-    match literal {
-        Literal::Integer(n) => Ok(Instr::Int(*n)),
-        Literal::Text(text) => Ok(Instr::Str(Bytes::from_slice(alloc, text.as_slice())?)),
+    match argument {
+        Argument::Nothing => Ok(Instr::Pnull),
+        Argument::Integer(n) => Ok(Instr::Int(*n)),
+        Argument::Text(text) => Ok(Instr::Str(Bytes::from_slice(alloc, text.as_slice())?)),
     }
 }

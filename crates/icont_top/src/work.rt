@@ -3,25 +3,26 @@ ghost use Rattle.std.specs.Prelude.{◌≡◌, ◌⊎◌, ◌≤◌, ℕ, List, 
 ghost use Rattle.icn_host.specs.Counts.{HasCause};
 ghost use Rattle.icn_host.specs.FileMaps.{FileMap};
 ghost use Rattle.icn_host.specs.Sinks.{Gains, GainsPart};
+ghost use Rattle.icn_decls.specs.Spelled.{AreScanned};
 ghost use Rattle.icn_form.specs.Meaning.{meaning};
 ghost use Rattle.icn_ucode.specs.CodeRun.{writes};
 ghost use Rattle.icn_ucode.specs.Translated.{code_of};
 ghost use Rattle.icont_top.specs.Answers.{IsRefusal, IsCommand};
 ghost use Rattle.icont_top.specs.Job.{IsTokensJob, IsFileJob, IsJob};
 ghost use Rattle.icont_top.specs.Outcomes.{Does};
-ghost use Rattle.icont_top.specs.Sources.{IsAbsence, IsOfTokens};
+ghost use Rattle.icont_top.specs.Sources.{IsAbsence, IsOfTokens, scan_of};
 ghost use Rattle.icont_top.specs.Words.{file_asked};
 
 use crate::answer::{Answer, Ending};
 use crate::machine::run;
 use crate::program::program;
-use crate::source::{refused, source_tokens};
+use crate::program_fault::ProgramFault;
+use crate::source::{SourceTokens, refused_at, source_tokens};
 use crate::translator::translate;
 use crate::words::file_asked;
 use icn_form::Procedure;
 use icn_host::{Fault, Files, Sink};
-use icn_tree::{Rule, Token};
-use std::alloc::{AllocError, Global};
+use std::alloc::Global;
 
 /// Does what the words and the files ask for.
 pub fn work<F: Files, O: Sink>(
@@ -56,27 +57,29 @@ fn work_on_file<F: Files, O: Sink>(alloc: Global, name: &str, files: &mut F, out
     ensures write_fault { HasCause (O.faults out.old) (O.faults out.new) (result ≡ Answer.WriteFault) }
     ensures absence { HasCause (F.absences files.old) (F.absences files.new) (IsAbsence result) }
 {
+    let base_name = name.strip_suffix(".icn").unwrap_or(name);
     match source_tokens(alloc, name, files) {
-        Ok(tokens) => work_on_tokens(alloc, name, &tokens, out),
+        Ok(source) => work_on_tokens(alloc, base_name, &source, out),
         Err(answer) => answer,
     }
 }
 
-// Does what the tokens of the file ask for.
-fn work_on_tokens<O: Sink>(alloc: Global, name: &str, tokens: &[Token], out: &mut O) -> Answer
-    ensures done { (held : FileMap) (left : List ℕ) → Does (IsTokensJob name.now tokens.now held left) result (O.held out.old) (O.held out.new) }
+// Does what the tokens of a file of this base name ask for.
+fn work_on_tokens<O: Sink>(alloc: Global, name: &str, source: &SourceTokens, out: &mut O) -> Answer
+    requires scanned { AreScanned source.now.tokens.items }
+    ensures done { (held : FileMap) (left : List ℕ) → Does (IsTokensJob (scan_of source.now) held left) result (O.held out.old) (O.held out.new) }
     ensures refused { IsRefusal result → O.held out.new ≡ O.held out.old }
     ensures cause { HasCause (O.faults out.old) (O.faults out.new) (result ≡ Answer.WriteFault) }
     ensures others { IsOfTokens result }
 {
-    match program(alloc, tokens) {
-        Ok(Some(tree)) => match run_program(alloc, &tree, out) {
+    match program(alloc, name, &source.tokens) {
+        Ok(program) => match run_program(alloc, &program, out) {
             Ok(()) => Answer::Ran(Ending::Done),
             Err(Fault::Failed) => Answer::WriteFault,
             Err(Fault::NoMemory) => Answer::NoMemory,
         },
-        Ok(None) => refused(alloc, name.as_bytes(), 0, Rule::S4),
-        Err(_) => Answer::NoMemory,
+        Err(ProgramFault::Broken { rule, place }) => refused_at(alloc, &source.names, rule, place),
+        Err(ProgramFault::NoMemory) => Answer::NoMemory,
     }
 }
 

@@ -1,20 +1,22 @@
-use Rattle.std.proofs.Common.{◌≡◌, length, None, Some, sym, ◌∙◌}
-use Rattle.icn_form.specs.Symbols.{kinds}
-use Rattle.icn_form.specs.Reading.{procedure_read}
-use Rattle.icont_top.proofs.Programs.{program_at, no_program, not_built}
+use Rattle.std.proofs.Common.{◌≡◌, ap, ◌∙◌}
+use Rattle.std.proofs.lemmas.Result.{err_from_is_err_and}
+use Rattle.icn_tree.specs.TreeOf.{declarations_of}
+use Rattle.icn_parse.specs.Outcomes.{IsTree, IsOutcome}
+use Rattle.icont_top.proofs.Staging.{parse_stops, context_stops, forms_stop}
 use Rattle.icont_top.proofs.program.program.Goals as goal
 
-pub returns-in_default-clause-none : goal.returns-in_default-clause-none
-returns-in_default-clause-none c = λ tree is.
-    let read : procedure_read (length c.args.tokens.now) (kinds c.args.tokens.now) ≡ None = cc (c.in_ok-tree.ensures, c.in_default.is) in
-    no_program c.args.tokens.now tree read is
+pub returns-in_err-file : goal.returns-in_err-file
+returns-in_err-file c =
+    let p = err_from_is_err_and c.from_residual.result c.from_residual.ensures.1 in rw (p.1, p.2) (parse_stops c.args.tokens.now _ c.in_err-file.ensures.exact)
 
-pub returns-then-is_built-clause-found : goal.returns-then-is_built-clause-found
-returns-then-is_built-clause-found c =
-    let read : procedure_read (length c.args.tokens.now) (kinds c.args.tokens.now) ≡ Some c.in-Some.tree = cc (c.in_ok-tree.ensures, c.in-Some.is) in
-    program_at c.args.tokens.now c.in-Some.tree read (sym c.is_built.ensures ∙ c.if-is_built.true)
+pub returns-in_err-checked : goal.returns-in_err-checked
+returns-in_err-checked c =
+    let p = err_from_is_err_and c.from_residual-in_err-checked.result c.from_residual-in_err-checked.ensures.1 in
+    rw (p.1, p.2) (context_stops c.args.tokens.now (declarations_of c.in_ok-file.file) _ c.in_ok-file.ensures.exact c.in_err-checked.ensures.first)
 
-pub returns-else-is_built-clause-none : goal.returns-else-is_built-clause-none
-returns-else-is_built-clause-none c = λ tree is.
-    let read : procedure_read (length c.args.tokens.now) (kinds c.args.tokens.now) ≡ Some c.in-Some.tree = cc (c.in_ok-tree.ensures, c.in-Some.is) in
-    not_built c.args.tokens.now c.in-Some.tree tree read (sym c.is_built.ensures ∙ c.if-is_built.false) is
+pub returns-in_err-program : goal.returns-in_err-program
+returns-in_err-program c =
+    let p = err_from_is_err_and c.from_residual-in_err-program.result c.from_residual-in_err-program.ensures.1 in
+    let same : declarations_of c.file.result.now ≡ declarations_of c.in_ok-file.file = ap declarations_of (c.file.ensures.file ∙ c.in_ok-checked.ensures.same) in
+    let is : IsOutcome c.args.tokens.now (IsTree (declarations_of c.file.result.now)) = rw same c.in_ok-file.ensures.exact in
+    rw (p.1, p.2) (forms_stop c.args.tokens.now (declarations_of c.file.result.now) _ is c.file.ensures.context c.in_err-program.ensures)

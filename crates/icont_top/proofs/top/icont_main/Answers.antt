@@ -20,7 +20,7 @@ returns-clause-leaves g c =
 
 pub returns-clause-headline : goal.returns-clause-headline
 returns-clause-headline g c = λ name tokens program asked gives is.
-    runs gives.0 [] name tokens program asked gives.2 is (at_some _ (g.F.Files.held c.args.files.now) gives.0 gives.1 c.work-answer.ensures.done []) c.report.ensures.line
+    runs gives.0 [] name (record { names = gives.2.0; tokens = tokens }) program asked gives.2.1 is (at_some _ (g.F.Files.held c.args.files.now) gives.0 gives.1 c.work-answer.ensures.done []) c.report.ensures.line
 
 pub returns-clause-command : goal.returns-clause-command
 returns-clause-command g c = command_of (file_asked (map string_bytes c.args.words.now)) c.report.ensures.line c.work-answer.ensures.command

@@ -1,0 +1,5 @@
+use Rattle.icont_top.proofs.Deciding.{one_program}
+use Rattle.icont_top.proofs.laws.one_program.Goals as goal
+
+pub returns : goal.returns
+returns c = one_program

@@ -1,0 +1,98 @@
+// The tokens of a text.
+ghost use Rattle.std.specs.Prelude.{◌≡◌, ◌≤◌, ◌+◌, IsTrue, length, true};
+ghost use Rattle.icn_tree.specs.SourceTexts.{joined_len, names_files};
+
+use icn_lex::tokens;
+use icn_tree::{Bytes, Lines, SourceLine, Token};
+use std::alloc::{AllocError, Global};
+use std::process::Abort;
+
+// Lines that are put together one after another, of a file whose name is empty.
+#[derive(Drop)]
+struct Text {
+    names: Vec<Bytes>,
+    lines: Vec<SourceLine>,
+    len: usize,
+    ghost within: { joined_len lines.items ≤ len },
+    ghost small: { len ≤ 16777216 },
+    ghost named: { IsTrue (names_files names.items lines.items) },
+    ghost has_name: { length names.items ≡ 1 },
+}
+
+impl Text {
+    fn new(alloc: Global) -> Result<Text, AllocError> {
+        let names = vec![in alloc; Bytes::new(Vec::new(alloc))]?;
+        Ok(Text {
+            names,
+            lines: Vec::new(alloc),
+            len: 0,
+        })
+    }
+
+    // Adds a line, where the lines stay short enough.
+    fn push(&mut self, alloc: Global, bytes: &[u8], number: u32) -> Result<(), AllocError> {
+        let len = self.len + bytes.len() + 1;
+        let bytes = Bytes::from_slice(alloc, bytes)?;
+        if len <= 16777216 {
+            let line = SourceLine {
+                bytes,
+                file: 0,
+                number,
+            };
+            self.len = len;
+            self.lines.push(line)?;
+        }
+        Ok(())
+    }
+}
+
+/// The lines of a text, numbered from 1.
+pub fn lines_of(alloc: Global, text: &str) -> Result<Lines, AllocError> {
+    let mut lines = Text::new(alloc)?;
+    let mut number = 0u32;
+    for line in text.as_bytes().split(|byte| *byte == b'\n') {
+        number = number.saturating_add(1);
+        lines.push(alloc, line, number)?;
+    }
+    let Text {
+        names,
+        lines,
+        len: _,
+    } = lines;
+    Ok(Lines { names, lines })
+}
+
+/// The tokens of a text that breaks no rule of tokens.
+pub fn scan(rt: &impl Abort, alloc: Global, text: &str) -> Result<Vec<Token>, AllocError> {
+    match tokens(alloc, &lines_of(alloc, text)?) {
+        Ok(found) => Ok(found),
+        Err(fault) => { panic!(rt; "{fault:?} in {text}") }
+    }
+}
+
+/// The tokens of texts that stand in one file each, one behind another.
+pub fn scan_all(
+    rt: &impl Abort,
+    alloc: Global,
+    texts: &[&'static str],
+) -> Result<Vec<Token>, AllocError> {
+    let mut all = Vec::new(alloc);
+    let mut file = 0u32;
+    for text in texts {
+        for mut token in scan(rt, alloc, text)? {
+            token.file = file;
+            all.push(token)?;
+        }
+        file = file.saturating_add(1);
+    }
+    Ok(all)
+}
+
+/// Puts each token on a line of its own. The one behind this many is on line 1.
+pub fn number(tokens: &mut Vec<Token>, front: u32) {
+    let mut line = 0u32;
+    for token in tokens.iter_mut() {
+        line = line.saturating_add(1);
+        token.line = line.saturating_sub(front);
+    }
+}
