@@ -1,7 +1,7 @@
-// The rules that can refuse a program text or a unit of code.
+// The rules that can refuse a program text, a unit of code or an image.
 ghost use Rattle.std.specs.Prelude.{◌≡◌};
 
-/// A rule that refuses a program text or a unit of code. Its name is the code that a refusal prints.
+/// A rule that refuses a program text, a unit of code or an image. Its name is the code that a refusal prints.
 #[derive(Clone, Copy, Debug, PartialEq, Eq)]
 pub enum Rule {
     /// A directive has no name, or one that is none.
@@ -76,6 +76,28 @@ pub enum Rule {
     U7,
     /// A file of ucode is too long.
     U8,
+    /// The first bytes of an image are not its head.
+    I1,
+    /// The bytes of an image end too early.
+    I2,
+    /// A number of an instruction, a kind or a flag of an image is none.
+    I3,
+    /// An index, a function, a keyword, an operation or a label of an image is out of range.
+    I4,
+    /// Bytes stand behind the end of an image.
+    I5,
+    /// An image is too long.
+    I6,
+    /// An instruction lacks an operand.
+    V1,
+    /// Two shapes lead to one place, or a label leads back to a place without that shape.
+    V2,
+    /// A label leads in the wrong direction.
+    V3,
+    /// An instruction of marks, scans, procedures or co-expressions stands where it can't.
+    V4,
+    /// The end of a procedure's code is reached.
+    V5,
 }
 
 impl Rule {
@@ -122,6 +144,17 @@ impl Rule {
             Rule::U6 => b"U6",
             Rule::U7 => b"U7",
             Rule::U8 => b"U8",
+            Rule::I1 => b"I1",
+            Rule::I2 => b"I2",
+            Rule::I3 => b"I3",
+            Rule::I4 => b"I4",
+            Rule::I5 => b"I5",
+            Rule::I6 => b"I6",
+            Rule::V1 => b"V1",
+            Rule::V2 => b"V2",
+            Rule::V3 => b"V3",
+            Rule::V4 => b"V4",
+            Rule::V5 => b"V5",
         }
     }
 }

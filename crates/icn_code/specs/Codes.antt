@@ -1,0 +1,41 @@
+-- Codes as definitions and laws see them: without the room of their vectors.
+use Rattle.std.specs.Prelude.{ℕ, ℤ, Bool, List, map}
+use Rattle.icn_value.specs.declared.cset.Cset.{Cset}
+use Rattle.icn_code.specs.declared.instr.Instr.{Instr}
+use Rattle.icn_code.specs.declared.code.Global.{Global}
+use Rattle.icn_code.specs.declared.code.Procedure.{Procedure}
+use Rattle.icn_code.specs.declared.code.Record.{Record}
+
+pub record RecordType : Type 0 where
+  pub name : ℕ
+  pub fields : List ℕ
+
+pub record Proc : Type 0 where
+  pub name : ℕ
+  pub parameters : ℕ
+  pub collects : Bool
+  pub locals : ℕ
+  pub statics : ℕ
+  pub instrs : List Instr
+
+-- the tables of a program
+pub record Tables : Type 0 where
+  pub strings : List (List ℕ)
+  pub csets : List Cset
+  pub integers : List ℤ
+  pub fields : List ℕ
+  pub records : List RecordType
+  pub globals : List Global
+  pub procs : List Proc
+
+abbrev pub record_of : Record → RecordType
+record_of kind = record { name = kind.name; fields = kind.fields.items }
+
+abbrev pub proc_of : Procedure → Proc
+proc_of proc = record { name = proc.name; parameters = proc.parameters; collects = proc.collects; locals = proc.locals; statics = proc.statics; instrs = proc.instrs.items }
+
+abbrev pub records_of : List Record → List RecordType
+records_of records = map record_of records
+
+abbrev pub procs_of : List Procedure → List Proc
+procs_of procs = map proc_of procs

@@ -1,0 +1,96 @@
+-- The rules of the tables: each place is one of its table, and each number fits the tables' bounds.
+use Rattle.std.specs.Prelude.{◌==◌, ℕ, ℤ, ◌+◌, ◌^◌, pos, negsuc, Bool, true, ◌&&◌, ◌||◌, not, nat_le, nat_lt, List, [], ◌∷◌, length, map, slice_index_or}
+use Rattle.std.specs.List.{list_all, list_any}
+use Rattle.std.specs.Str.{bytes_eq}
+use Rattle.icn_value.specs.declared.cset.Cset.{Cset}
+use Rattle.icn_code.specs.declared.instr.Instr.{Instr}
+use Rattle.icn_code.specs.declared.instr.Instr.TheVariants.{Int, Str, Cset as CsetAt, Local, Static, Global as GlobalAt, Llist, Field, Invoke, Mark, Chfail, Goto, Loop, Init, Create}
+use Rattle.icn_code.specs.declared.code.Global.{Global}
+use Rattle.icn_code.specs.declared.code.Start.{Start}
+use Rattle.icn_code.specs.declared.code.Start.TheVariants.{Null, Procedure, Record, Function}
+use Rattle.icn_code.specs.Codes.{RecordType, Proc, Tables}
+
+-- a table has at most 65535 entries, and so have other things that are counted
+abbrev pub is_count : ℕ → Bool
+is_count n = nat_le n 65535
+
+abbrev pub is_byte : ℕ → Bool
+is_byte b = nat_lt b 256
+
+abbrev pub is_string : List ℕ → Bool
+is_string bytes = is_count (length bytes) && list_all is_byte bytes
+
+abbrev pub is_cset : Cset → Bool
+is_cset cset = (length cset.bits == 32) && list_all is_byte cset.bits
+
+-- an integer has 64 bits
+abbrev pub is_integer : ℤ → Bool
+is_integer (pos n) = nat_lt n (2 ^ 63)
+is_integer (negsuc n) = nat_lt n (2 ^ 63)
+
+-- a record's name is a string, and its fields are fields
+abbrev pub is_record : ℕ → ℕ → RecordType → Bool
+is_record strings fields kind = nat_lt kind.name strings && is_count (length kind.fields) && list_all (λ field. nat_lt field fields) kind.fields
+
+abbrev pub is_start : ℕ → ℕ → Start → Bool
+is_start records procs Null = true
+is_start records procs (Procedure place) = nat_lt place procs
+is_start records procs (Record place) = nat_lt place records
+is_start records procs (Function func) = true
+
+abbrev pub is_global : ℕ → ℕ → ℕ → Global → Bool
+is_global strings records procs global = nat_lt global.name strings && is_start records procs global.start
+
+-- the name of a global
+abbrev pub name_of : List (List ℕ) → Global → List ℕ
+name_of strings global = slice_index_or strings global.name []
+
+abbrev pub has_name : List (List ℕ) → List ℕ → Bool
+has_name names name = list_any (λ other. bytes_eq other name) names
+
+abbrev pub names_differ : List (List ℕ) → Bool
+names_differ [] = true
+names_differ (name ∷ names) = not (has_name names name) && names_differ names
+
+-- what an instruction names is there: of the code's tables, of its procedure's variables and places
+abbrev pub is_instr : Tables → Proc → Instr → Bool
+is_instr tables proc (Int place) = nat_lt place (length tables.integers)
+is_instr tables proc (Str place) = nat_lt place (length tables.strings)
+is_instr tables proc (CsetAt place) = nat_lt place (length tables.csets)
+is_instr tables proc (Local place) = nat_lt place (proc.parameters + proc.locals)
+is_instr tables proc (Static place) = nat_lt place proc.statics
+is_instr tables proc (GlobalAt place) = nat_lt place (length tables.globals)
+is_instr tables proc (Llist count) = is_count count
+is_instr tables proc (Field place) = nat_lt place (length tables.fields)
+is_instr tables proc (Invoke count) = is_count count
+is_instr tables proc (Mark label) = nat_le label (length proc.instrs)
+is_instr tables proc (Chfail label) = nat_le label (length proc.instrs)
+is_instr tables proc (Goto label) = nat_le label (length proc.instrs)
+is_instr tables proc (Loop label) = nat_le label (length proc.instrs)
+is_instr tables proc (Init label) = nat_le label (length proc.instrs)
+is_instr tables proc (Create label) = nat_le label (length proc.instrs)
+is_instr tables proc _ = true
+
+-- a last parameter collects only where there is one; parameters and other locals are numbered together
+abbrev pub is_head : ℕ → Proc → Bool
+is_head strings proc =
+    nat_lt proc.name strings && (not proc.collects || nat_lt 0 proc.parameters) && is_count (proc.parameters + proc.locals) && is_count proc.statics
+    && nat_lt (length proc.instrs) (2 ^ 32)
+
+abbrev pub is_proc : Tables → Proc → Bool
+is_proc tables proc = is_head (length tables.strings) proc && list_all (is_instr tables proc) proc.instrs
+
+-- how many entries the tables have
+abbrev pub are_counts : Tables → Bool
+are_counts tables =
+    is_count (length tables.strings) && is_count (length tables.csets) && is_count (length tables.integers) && is_count (length tables.fields)
+    && is_count (length tables.records) && is_count (length tables.globals) && is_count (length tables.procs)
+
+unfoldable pub keeps_rules : Tables → Bool
+keeps_rules tables =
+    are_counts tables && list_all is_string tables.strings && list_all is_cset tables.csets && list_all is_integer tables.integers
+    && list_all (λ name. nat_lt name (length tables.strings)) tables.fields
+    && list_all (is_record (length tables.strings) (length tables.fields)) tables.records
+    && list_all (is_global (length tables.strings) (length tables.records) (length tables.procs)) tables.globals
+    && names_differ (map (name_of tables.strings) tables.globals)
+    && list_all (is_proc tables) tables.procs

@@ -1,0 +1,4 @@
+pub mod OpNumbers
+pub mod FuncNumbers
+pub mod KeywordNumbers
+pub mod Found

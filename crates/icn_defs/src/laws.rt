@@ -1,0 +1,19 @@
+// Laws of the tables.
+ghost use Rattle.std.specs.Prelude.{◌≡◌, ℕ, Some};
+ghost use Rattle.icn_defs.specs.Numbers.{func_of, keyword_of, op_of};
+ghost use Rattle.icn_text.specs.Funcs.{func_number};
+ghost use Rattle.icn_text.specs.Keywords.{keyword_number};
+ghost use Rattle.icn_text.specs.Ops.{op_number};
+ghost use Rattle.icn_text.specs.declared.func.Func.{Func};
+ghost use Rattle.icn_text.specs.declared.keyword.Keyword.{Keyword};
+ghost use Rattle.icn_text.specs.declared.op.Op.{Op};
+
+/// The number of an operation, a function or a keyword leads back to it, and what a number leads to has that number.
+pub fn numbers_lead_back()
+    ensures ops { (op : Op) → op_of (op_number op) ≡ Some op }
+    ensures funcs { (func : Func) → func_of (func_number func) ≡ Some func }
+    ensures keywords { (keyword : Keyword) → keyword_of (keyword_number keyword) ≡ Some keyword }
+    ensures op_numbers { (n : ℕ) (op : Op) → op_of n ≡ Some op → op_number op ≡ n }
+    ensures func_numbers { (n : ℕ) (func : Func) → func_of n ≡ Some func → func_number func ≡ n }
+    ensures keyword_numbers { (n : ℕ) (keyword : Keyword) → keyword_of n ≡ Some keyword → keyword_number keyword ≡ n }
+{}

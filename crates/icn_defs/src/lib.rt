@@ -1,0 +1,10 @@
+//! The tables of operations, functions and keywords by their numbers.
+#![tactic(auto)]
+
+mod arities;
+mod laws;
+mod numbers;
+
+pub use arities::arity;
+pub use laws::numbers_lead_back;
+pub use numbers::{func_numbered, keyword_numbered, op_numbered};

@@ -1,0 +1,2 @@
+pub mod Csets
+pub mod Limited

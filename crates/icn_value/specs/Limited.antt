@@ -1,0 +1,23 @@
+-- The limits of a run, as definitions and laws see them.
+use Rattle.std.specs.Prelude.{ℕ, ◌≤◌, ◌-◌, ◌^◌}
+use Rattle.icn_value.specs.declared.limits.Limits.{Limits}
+
+pub record Bounds : Type 0 where
+  pub turns : ℕ
+  pub strings : ℕ
+  pub cells : ℕ
+  pub levels : ℕ
+
+abbrev pub limits_of : Limits → Bounds
+limits_of limits = record { turns = limits.turns; strings = limits.strings; cells = limits.cells; levels = limits.levels }
+
+-- the ranges of the limits
+pub record AreLimits (bounds : Bounds) : Type 0 where
+  pub turns : bounds.turns ≤ 2 ^ 64 - 1
+  pub strings : bounds.strings ≤ 2 ^ 40
+  pub cells : bounds.cells ≤ 4294967295
+  pub some_levels : 1 ≤ bounds.levels
+  pub levels : bounds.levels ≤ 4294967295
+
+abbrev pub default_limits : Bounds
+default_limits = record { turns = 18446744073709551615; strings = 268435456; cells = 16777216; levels = 20000 }
