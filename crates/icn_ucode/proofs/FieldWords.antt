@@ -3,8 +3,9 @@ use Rattle.std.proofs.Common.{◌==◌, ◌≡◌, ℕ, ◌+◌, ◌<◌, suc, B
 use Rattle.std.specs.List.{prefix_len}
 use Rattle.std.specs.Option.{option_and_then}
 use Rattle.std.proofs.lemmas.Bool.{cond-true, cond-false}
-use Rattle.icn_ucode.specs.UnitOperands.{behind, cut, is_inside, is_name}
-use Rattle.icn_ucode.specs.UnitReading.{has_name, with_field, fields_from}
+use Rattle.icn_unit.specs.UnitOperands.{behind, cut, is_inside, is_name}
+use Rattle.icn_unit.specs.UnitRules.{has_name}
+use Rattle.icn_ucode.specs.UnitReading.{with_field, fields_from}
 use Rattle.icn_ucode.proofs.TextLines.{shorter}
 
 abbrev word_len : List ℕ → ℕ

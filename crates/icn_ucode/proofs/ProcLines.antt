@@ -1,15 +1,16 @@
 -- The lines of procedures, up to the end of their text.
-use Rattle.std.proofs.Common.{◌≡◌, ℕ, ◌<◌, List, [], length, take, drop, map, None, Some, Result, Ok, Err, Vec, ◌∙◌, ap}
+use Rattle.std.proofs.Common.{◌≡◌, ℕ, ◌<◌, List, [], length, take, drop, Option, None, Some, Result, Ok, Err, ◌∙◌, ap}
 use Rattle.icn_tree.specs.declared.rule.Rule.{Rule}
-use Rattle.icn_tree.specs.declared.rule.Rule.TheVariants.{U1}
-use Rattle.icn_ucode.specs.declared.fault.Stop.{Stop}
-use Rattle.icn_ucode.specs.declared.fault.Stop.TheVariants.{Broken as StopBroken, NoMemory as StopNoMemory}
-use Rattle.icn_ucode.specs.declared.proc_reader.Stage.{Stage as StageRead}
-use Rattle.icn_ucode.specs.declared.unit.ProcCode.{ProcCode}
-use Rattle.icn_ucode.specs.UnitOperands.{behind}
-use Rattle.icn_ucode.specs.UnitReading.{Proc, ProcsRead, Heading, each_line, then_step, procs_line, procs_end, procs_of, stage_end}
-use Rattle.icn_ucode.specs.UnitViews.{LineIs, ProcsAre, StopIs, proc_seen, procs_seen, stage_seen}
-use Rattle.icn_ucode.proofs.TextLines.{line_at, line_len, unended_at, ended}
+use Rattle.icn_tree.specs.declared.rule.Rule.TheVariants.{U3}
+use Rattle.icn_unit.specs.declared.fault.Stop.{Stop}
+use Rattle.icn_unit.specs.declared.fault.Stop.TheVariants.{Broken as StopBroken, NoMemory as StopNoMemory}
+use Rattle.icn_unit.specs.PlainUnits.{Proc}
+use Rattle.icn_unit.specs.UnitOperands.{behind}
+use Rattle.icn_ucode.specs.declared.proc_lists.Procs.{Procs}
+use Rattle.icn_ucode.specs.declared.proc_lists.Reading.{Reading}
+use Rattle.icn_ucode.specs.UnitReading.{ProcsRead, Heading, each_line, then_step, procs_line, procs_end, procs_of}
+use Rattle.icn_ucode.specs.UnitViews.{LineIs, ProcsAre, StopIs, reading_seen}
+use Rattle.icn_ucode.proofs.TextLines.{line_at, line_len, lines_after, ended}
 
 -- what was read so far, and what is left of the text, come to what the text comes to
 abbrev pub ReadSo : List ℕ → List ℕ → ProcsRead → Type 0
@@ -19,26 +20,29 @@ of_read : (text : List ℕ) (found : Result ProcsRead Rule) → each_line procs_
 unfolding procs_of
 of_read text found e = ap (λ f. then_step f procs_end) e
 
-procs_are_same : {Z : Type 0} (result : Result (Vec ProcCode Z) Stop) (a b : Result (List Proc) Rule) → b ≡ a → ProcsAre result a → ProcsAre result b
-procs_are_same (Ok procs) a b same e = same ∙ e
-procs_are_same (Err (StopBroken rule)) a b same e = same ∙ e
-procs_are_same (Err StopNoMemory) a b same e = tt
+are_same : (result : Result Procs Stop) (a b : Result (List Proc) Rule) → b ≡ a → ProcsAre result a → ProcsAre result b
+are_same (Ok items) a b same e = same ∙ e
+are_same (Err (StopBroken rule)) a b same e = same ∙ e
+are_same (Err StopNoMemory) a b same e = tt
 
-pub unended_procs : (text rest : List ℕ) (read : ProcsRead) → ReadSo text rest read → None ≡ behind (drop (line_len rest) rest) → 0 < length rest → procs_of text ≡ Err U1
-unended_procs text rest read so e h = of_read text (Err U1) (so ∙ unended_at procs_line read rest e h)
+-- a line and what stands behind it
+line_so : (text rest line : List ℕ) (more : Option (List ℕ)) (read : ProcsRead) (found : Result ProcsRead Rule) → ReadSo text rest read → 0 < length rest → line ≡ take (line_len rest) rest → more ≡ behind (drop (line_len rest) rest) → procs_line read line ≡ found
+    → each_line procs_line (record { procs = []; stage = Heading }) [] text ≡ then_step found (λ next. lines_after procs_line more next)
+line_so text rest line more read found so h is e f = so ∙ (line_at procs_line read rest line more h is e ∙ ap (λ f. then_step f (λ next. lines_after procs_line more next)) f)
 
-pub next_procs : (text rest line more : List ℕ) (read : ProcsRead) (procs : List ProcCode) (stage : StageRead) → ReadSo text rest read → line ≡ take (line_len rest) rest → Some more ≡ behind (drop (line_len rest) rest)
-    → LineIs procs (Ok stage) (procs_line read line) → ReadSo text more (procs_seen procs stage)
-next_procs text rest line more read procs stage so is e found =
-    so ∙ (line_at procs_line read rest line more is e ∙ ap (λ f. then_step f (λ next. each_line procs_line next [] more)) found)
+pub unended_procs : (text rest line : List ℕ) (read : ProcsRead) (reading : Reading) → ReadSo text rest read → 0 < length rest → line ≡ take (line_len rest) rest → None ≡ behind (drop (line_len rest) rest) → LineIs (Ok reading) (procs_line read line)
+    → procs_of text ≡ Err U3
+unended_procs text rest line read reading so h is e found = of_read text (Err U3) (line_so text rest line None read (Ok (reading_seen reading)) so h is e found)
 
-pub stopped_procs : (text rest line more : List ℕ) (read : ProcsRead) (procs : List ProcCode) (stop : Stop) → ReadSo text rest read → line ≡ take (line_len rest) rest → Some more ≡ behind (drop (line_len rest) rest)
-    → LineIs procs (Err stop) (procs_line read line) → StopIs stop (procs_of text)
-stopped_procs text rest line more read procs (StopBroken rule) so is e found =
-    of_read text (Err rule) (so ∙ (line_at procs_line read rest line more is e ∙ ap (λ f. then_step f (λ next. each_line procs_line next [] more)) found))
-stopped_procs text rest line more read procs StopNoMemory so is e found = tt
+pub next_procs : (text rest line more : List ℕ) (read : ProcsRead) (reading : Reading) → ReadSo text rest read → 0 < length rest → line ≡ take (line_len rest) rest → Some more ≡ behind (drop (line_len rest) rest)
+    → LineIs (Ok reading) (procs_line read line) → ReadSo text more (reading_seen reading)
+next_procs text rest line more read reading so h is e found = line_so text rest line (Some more) read (Ok (reading_seen reading)) so h is e found
 
-pub finished_procs : {Z : Type 0} (text rest : List ℕ) (procs : List ProcCode) (stage : StageRead) (result : Result (Vec ProcCode Z) Stop) → ReadSo text rest (procs_seen procs stage) → length rest ≡ 0
-    → ProcsAre result (stage_end (map proc_seen procs) (stage_seen stage)) → ProcsAre result (procs_of text)
-finished_procs text rest procs stage result so h e =
-    procs_are_same result _ _ (of_read text (Ok (procs_seen procs stage)) (so ∙ ended procs_line (procs_seen procs stage) rest h)) e
+pub stopped_procs : (text rest line : List ℕ) (more : Option (List ℕ)) (read : ProcsRead) (stop : Stop) → ReadSo text rest read → 0 < length rest → line ≡ take (line_len rest) rest → more ≡ behind (drop (line_len rest) rest)
+    → LineIs (Err stop) (procs_line read line) → StopIs stop (procs_of text)
+stopped_procs text rest line more read (StopBroken rule) so h is e found = of_read text (Err rule) (line_so text rest line more read (Err rule) so h is e found)
+stopped_procs text rest line more read StopNoMemory so h is e found = tt
+
+pub finished_procs : (text rest : List ℕ) (reading : Reading) (result : Result Procs Stop) → ReadSo text rest (reading_seen reading) → length rest ≡ 0
+    → ProcsAre result (procs_end (reading_seen reading)) → ProcsAre result (procs_of text)
+finished_procs text rest reading result so h e = are_same result _ _ (of_read text (Ok (reading_seen reading)) (so ∙ ended procs_line (reading_seen reading) rest h)) e

@@ -1,26 +1,26 @@
 -- The lines of units are the spelling of what they are read as.
-use Rattle.std.proofs.Common.{◌==◌, ◌≡◌, ℕ, ◌+◌, Bool, true, false, cond, not, ◌&&◌, ◌||◌, nat_le, nat_lt, List, [], ◌∷◌, ◌++◌, length, map, Option, None, Some, Result, Ok, Err, refl, sym, ◌∙◌, ap, subst, arith, append_assoc, append-nil}
+use Rattle.std.proofs.Common.{◌==◌, ◌≡◌, ℕ, Bool, true, false, cond, not, ◌&&◌, ◌||◌, nat_le, nat_lt, List, [], ◌∷◌, ◌++◌, length, Option, None, Some, Result, Ok, Err, refl, sym, ◌∙◌, ap, subst, append_assoc, append-nil}
 use Rattle.std.specs.Prelude.{codes}
 use Rattle.std.specs.Fmt.{decimal}
-use Rattle.std.specs.List.{list_any, flat_map}
-use Rattle.std.specs.Option.{option_map, option_and_then}
+use Rattle.std.specs.List.{flat_map}
+use Rattle.std.specs.Option.{option_and_then}
 use Rattle.std.specs.Str.{bytes_eq}
 use Rattle.std.specs.Cmp.Lexicographic.{same_text}
-use Rattle.std.proofs.lemmas.Bool.{eqb-true, false≢true}
-use Rattle.std.proofs.lemmas.List.Concat.{flat_map-append}
+use Rattle.std.proofs.lemmas.Bool.{eqb-true}
 use Rattle.std.proofs.lemmas.Option.{none-some, same_Some}
 use Rattle.icn_tree.specs.declared.rule.Rule.{Rule}
 use Rattle.icn_tree.specs.declared.rule.Rule.TheVariants.{U1, U2, U3, U4, U5, U6}
 use Rattle.icn_tree.specs.Numbers.{is_nothing}
-use Rattle.icn_ucode.specs.declared.instr_word.InstrWord.{InstrWord}
-use Rattle.icn_ucode.specs.declared.unit.NameKind.{NameKind}
-use Rattle.icn_ucode.specs.declared.unit.NameKind.TheVariants.{Parameter, Local, Static, Undeclared}
-use Rattle.icn_ucode.specs.declared.unit.UnitInstr.{UnitInstr}
-use Rattle.icn_ucode.specs.declared.unit.UnitName.{UnitName}
-use Rattle.icn_ucode.specs.InstrWords.{word_text, word_of, instr_word_of}
-use Rattle.icn_ucode.specs.UnitOperands.{cut, number_of, is_name}
-use Rattle.icn_ucode.specs.UnitReading.{Proc, Head, Stage, Heading, Outside, Naming, Coding, ProcsRead, begun, collects_read, code_line, coding_line, each_line, end_line, entry_by, entry_named, entry_read, flag_of, has_entry, has_proc, head_by, head_read, instr_line, instr_of, is_repeated, kind_of, labels_placed, last_rank, naming_line, or_bad, outside_line, params_in, params_read, procs_end, procs_line, procs_of, rank, stage_end, stage_line, then_step, with_entry, with_instr}
-use Rattle.icn_ucode.specs.UnitTexts.{flag_text, head_text, instr_text, kind_text, name_text, operand_text, proc_text, procs_text}
+use Rattle.icn_unit.specs.declared.instr_word.InstrWord.{InstrWord}
+use Rattle.icn_unit.specs.declared.unit.NameKind.{NameKind}
+use Rattle.icn_unit.specs.declared.unit.NameKind.TheVariants.{Parameter, Local, Static, Undeclared}
+use Rattle.icn_unit.specs.declared.unit.UnitName.{UnitName}
+use Rattle.icn_unit.specs.InstrWords.{instr_word_of}
+use Rattle.icn_unit.specs.UnitOperands.{cut, number_of, is_name}
+use Rattle.icn_unit.specs.PlainUnits.{Proc, entry_names, params_in, proc_names}
+use Rattle.icn_unit.specs.UnitRules.{has_name, labels_placed, rank}
+use Rattle.icn_ucode.specs.UnitReading.{alone, headed, is_indented, Head, Stage, Heading, Outside, Naming, Coding, ProcsRead, begun, collects_read, code_line, coding_line, each_line, end_line, entry_by, entry_named, entry_read, flag_of, head_by, head_read, instr_line, instr_of, is_repeated, kind_of, last_rank, naming_line, or_bad, outside_line, params_read, procs_end, procs_line, procs_of, stage_end, stage_line, then_step, with_entry, with_instr}
+use Rattle.icn_unit.specs.UnitTexts.{flag_text, instr_text, kind_text, name_text, proc_text, procs_text}
 use Rattle.icn_ucode.proofs.Spelling.{rest_text, cut_all, number_text, word_spelled, instr_spelled}
 
 pub ok_same : {A : Type 0} (x y : A) → ◌≡◌ {A = Result A Rule} (Ok x) (Ok y) → x ≡ y
@@ -29,14 +29,19 @@ ok_same x y e = cc
 pub err_ok : {A : Type 0} (rule : Rule) (x : A) → ◌≡◌ {A = Result A Rule} (Err rule) (Ok x) → ⊥
 err_ok rule x e = cc
 
+-- no line that does not end leads anywhere
+pub unended : {S : Type 0} (found : Result S Rule) (last : S) → ◌≡◌ {A = Result S Rule} (then_step found (λ next. Err U3)) (Ok last) → ⊥
+unended (Ok state) last e = err_ok U3 last e
+unended (Err rule) last e = err_ok rule last e
+
 -- a text of lines, where each step adds its line
 pub lines_spelled : {S : Type 0} (step : S → List ℕ → Result S Rule) (text_of : S → List ℕ) (Good : S → Type 0)
     → ((state : S) (line : List ℕ) (next : S) → Good state → step state line ≡ Ok next → Good next × (text_of next ≡ text_of state ++ line ++ 10 ∷ []))
     → (state : S) (line text : List ℕ) (last : S) → Good state → each_line step state line text ≡ Ok last → Good last × (text_of last ≡ text_of state ++ line ++ text)
 lines_spelled {S} step text_of Good adds state line [] last good e = by_line line e where
-  by_line : (line : List ℕ) → cond (is_nothing line) (Ok state) (Err U1) ≡ Ok last → Good last × (text_of last ≡ text_of state ++ line ++ [])
+  by_line : (line : List ℕ) → cond (is_nothing line) (Ok state) (then_step (step state line) (λ next. Err U3)) ≡ Ok last → Good last × (text_of last ≡ text_of state ++ line ++ [])
   by_line [] e = subst (λ (last : S). Good last × (text_of last ≡ text_of state ++ [] ++ [])) (ok_same state last e) (good, sym (append-nil (text_of state ++ []) ∙ append-nil (text_of state)))
-  by_line (b ∷ line) e = absurd (err_ok U1 last e)
+  by_line (b ∷ line) e = absurd (unended (step state (b ∷ line)) last e)
 lines_spelled {S} step text_of Good adds state line (b ∷ text) last good e =
     by_end (b == 10) refl (step state line) refl (λ next g f. lines_spelled step text_of Good adds next [] text last g f) (λ f. lines_spelled step text_of Good adds state (line ++ b ∷ []) text last good f) e where
       by_end : (test : Bool) → (b == 10) ≡ test → (found : Result S Rule) → step state line ≡ found
@@ -58,9 +63,13 @@ pub chosen : {A : Type 0} (test : Bool) (x : A) (rule : Rule) (y : A) → cond t
 chosen true x rule y e = (refl, ok_same x y e)
 chosen false x rule y e = absurd (err_ok rule y e)
 
-not_chosen : {A : Type 0} (test : Bool) (x : A) (rule : Rule) (y : A) → cond test (Err rule) (Ok x) ≡ Ok y → x ≡ y
+pub not_chosen : {A : Type 0} (test : Bool) (x : A) (rule : Rule) (y : A) → cond test (Err rule) (Ok x) ≡ Ok y → x ≡ y
 not_chosen true x rule y e = absurd (err_ok rule y e)
 not_chosen false x rule y e = ok_same x y e
+
+pub not_chosen_step : {A : Type 0} (test : Bool) (x : Result A Rule) (rule : Rule) (y : A) → cond test (Err rule) x ≡ Ok y → x ≡ Ok y
+not_chosen_step true x rule y e = absurd (err_ok rule y e)
+not_chosen_step false x rule y e = e
 
 pub found_in : {A B : Type 0} (found : Option A) (more : A → Result B Rule) (y : B) → or_bad found more ≡ Ok y → (x : A) × (found ≡ Some x) × (more x ≡ Ok y)
 found_in None more y e = absurd (err_ok U3 y e)
@@ -135,7 +144,7 @@ named_spelled : (names : List UnitName) (kind : List ℕ) (rest : Option (List �
 named_spelled names kind None entry e = absurd (none-some entry e)
 named_spelled names kind (Some name) entry e =
     let k = then_some (kind_of kind) (λ k. entry_by names k name) entry e in
-    let same = picked (is_name name && nat_le (last_rank names) (rank k.0) && not (has_entry names name)) (record { kind = k.0; name = name }) entry k.2 in
+    let same = picked (is_name name && nat_le (last_rank names) (rank k.0) && not (has_name (entry_names names) name)) (record { kind = k.0; name = name }) entry k.2 in
     ap (λ xs. xs ++ 32 ∷ name) (sym (kind_spelled kind k.0 k.1)) ∙ ap (λ (entry : UnitName). kind_text entry.kind ++ 32 ∷ entry.name) same
 
 entry_spelled : (names : List UnitName) (operand : Option (List ℕ)) (entry : UnitName) → entry_read names operand ≡ Some entry → rest_text operand ≡ 32 ∷ (kind_text entry.kind ++ 32 ∷ entry.name)
@@ -177,23 +186,33 @@ proc_opened proc =
 glue : (a h n w : List ℕ) → a ++ (h ++ 10 ∷ (n ++ (w ++ 10 ∷ []))) ≡ ((a ++ (h ++ 10 ∷ n)) ++ w) ++ 10 ∷ []
 glue a h n w = sym (append_assoc (a ++ (h ++ 10 ∷ n)) w (10 ∷ []) ∙ (append_assoc a (h ++ 10 ∷ n) (w ++ 10 ∷ []) ∙ ap (λ x. a ++ x) (append_assoc h (10 ∷ n) (w ++ 10 ∷ []))))
 
-pub texts_more : {A : Type 0} (text : A → List ℕ) (xs : List A) (x : A) → flat_map text (xs ++ x ∷ []) ≡ flat_map text xs ++ text x
+pub texts_more : {A B : Type 0} (text : A → List B) (xs : List A) (x : A) → flat_map text (xs ++ x ∷ []) ≡ flat_map text xs ++ text x
 texts_more text [] x = append-nil (text x)
 texts_more text (y ∷ xs) x = ap (λ t. text y ++ t) (texts_more text xs x) ∙ sym (append_assoc (text y) (flat_map text xs) (text x))
 
+headed_by : {A : Type 0} (heading word : List ℕ) (operand : Option (List ℕ)) (value next : A) → headed heading word operand value ≡ Ok next → (word ++ rest_text operand ≡ heading) × (value ≡ next)
+headed_by {A} heading word operand value next e = by_word (bytes_eq word heading) refl operand e where
+  by_word : (test : Bool) → bytes_eq word heading ≡ test → (operand : Option (List ℕ)) → ◌≡◌ {A = Result A Rule} (cond test (alone operand value) (Err U1)) (Ok next) → (word ++ rest_text operand ≡ heading) × (value ≡ next)
+  by_word true t None e = (append-nil word ∙ same_text word heading (sym t), ok_same value next e)
+  by_word true t (Some text) e = absurd (err_ok U3 next e)
+  by_word false t operand e = absurd (err_ok U1 next e)
+
+-- a heading is its line
+pub heading_line : {A : Type 0} (heading line : List ℕ) (value next : A) → headed heading (cut line).0 (cut line).1 value ≡ Ok next → (line ≡ heading) × (value ≡ next)
+heading_line heading line value next e = let found = headed_by heading (cut line).0 (cut line).1 value next e in (cut_all line ∙ found.0, found.1)
+
 heading_adds : (procs : List Proc) (line : List ℕ) (next : ProcsRead) → procs ≡ [] → stage_line procs Heading line ≡ Ok next → Adds [] line next
 heading_adds procs line next none e =
-    let found = chosen (bytes_eq line (codes "U9.1")) (record { procs = procs; stage = Outside }) U1 next e in
-    subst (λ (next : ProcsRead). Adds [] line next) found.1
-    (tt, ap procs_text none ∙ ap (λ l. l ++ 10 ∷ []) (sym (same_text line (codes "U9.1") (sym found.0))))
+    let found = heading_line (codes "U9.1") line (record { procs = procs; stage = Outside }) next e in
+    subst (λ (next : ProcsRead). Adds [] line next) found.1 (tt, ap procs_text none ∙ ap (λ l. l ++ 10 ∷ []) (sym found.0))
 
 outside_adds : (procs : List Proc) (word : List ℕ) (operand : Option (List ℕ)) (next : ProcsRead) → outside_line procs word operand ≡ Ok next → Adds (procs_text procs) (word ++ rest_text operand) next
 outside_adds procs word operand next e = by_word (bytes_eq word (codes "proc")) refl e where
   by_word : (test : Bool) → bytes_eq word (codes "proc") ≡ test
-      → cond test (or_bad (head_read operand) (λ head. cond (has_proc procs head.name) (Err U3) (Ok (record { procs = procs; stage = Naming head.params (begun head) })))) (Err U1) ≡ Ok next → Adds (procs_text procs) (word ++ rest_text operand) next
+      → cond test (or_bad (head_read operand) (λ head. cond (has_name (proc_names procs) head.name) (Err U3) (Ok (record { procs = procs; stage = Naming head.params (begun head) })))) (Err U1) ≡ Ok next → Adds (procs_text procs) (word ++ rest_text operand) next
   by_word true t e =
-      let found = found_in (head_read operand) (λ head. cond (has_proc procs head.name) (Err U3) (Ok (record { procs = procs; stage = Naming head.params (begun head) }))) next e in
-      let same = not_chosen (has_proc procs found.0.name) (record { procs = procs; stage = Naming found.0.params (begun found.0) }) U3 next found.2 in
+      let found = found_in (head_read operand) (λ head. cond (has_name (proc_names procs) head.name) (Err U3) (Ok (record { procs = procs; stage = Naming head.params (begun head) }))) next e in
+      let same = not_chosen (has_name (proc_names procs) found.0.name) (record { procs = procs; stage = Naming found.0.params (begun found.0) }) U3 next found.2 in
       let line : codes "proc" ++ 32 ∷ head_line found.0.name found.0.params found.0.collects ≡ word ++ rest_text operand =
       ap (λ xs. codes "proc" ++ xs) (sym (head_spelled operand found.0 found.1)) ∙ ap (λ w. w ++ rest_text operand) (sym (same_text word (codes "proc") (sym t))) in
       subst (λ (next : ProcsRead). Adds (procs_text procs) (word ++ rest_text operand) next) same
@@ -289,7 +308,7 @@ stage_adds procs (Coding proc) line next good e =
 
 line_adds : (read : ProcsRead) (line : List ℕ) (next : ProcsRead) → IsGood read → procs_line read line ≡ Ok next → Adds (spelled_so_far read) line next
 unfolding procs_line
-line_adds read line next good e = stage_adds read.procs read.stage line next good e
+line_adds read line next good e = stage_adds read.procs read.stage line next good (not_chosen_step (is_indented line) (stage_line read.procs read.stage line) U3 next e)
 
 stage_whole : (procs : List Proc) (stage : Stage) (found : List Proc) → stage_end procs stage ≡ Ok found → stage_spelled procs stage ≡ procs_text found
 stage_whole procs Heading found e = absurd (err_ok U1 found e)

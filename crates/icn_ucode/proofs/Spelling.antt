@@ -1,12 +1,12 @@
 -- What is read is the spelling of what it is read as.
-use Rattle.std.proofs.Common.{◌==◌, ◌≡◌, ℕ, ℤ, pos, ◌+◌, ◌-◌, ◌*◌, ◌/◌, ◌%◌, ◌<◌, ◌≤◌, zero, suc, Bool, true, false, cond, not, ◌&&◌, ◌||◌, nat_le, nat_lt, List, [], ◌∷◌, ◌++◌, length, take, drop, map, Option, None, Some, Result, Ok, Err, refl, sym, ◌∙◌, ap, subst, arith, append_assoc, append-nil, ◌⊎◌, inl, inr}
+use Rattle.std.proofs.Common.{◌==◌, ◌≡◌, ℕ, pos, ◌+◌, ◌-◌, ◌*◌, ◌/◌, ◌%◌, ◌<◌, ◌≤◌, zero, suc, Bool, true, false, cond, ◌&&◌, ◌||◌, nat_le, nat_lt, List, [], ◌∷◌, ◌++◌, length, take, drop, map, Option, None, Some, refl, sym, ◌∙◌, ap, subst, arith, ◌⊎◌, inl, inr}
 use Rattle.std.specs.Prelude.{codes, find}
-use Rattle.std.specs.Fmt.{decimal, signed_decimal}
-use Rattle.std.specs.List.{prefix_len, list_any, list_all, flat_map}
+use Rattle.std.specs.Fmt.{decimal}
+use Rattle.std.specs.List.{prefix_len, list_any, flat_map}
 use Rattle.std.specs.Option.{option_map, option_and_then}
 use Rattle.std.specs.Str.{bytes_eq}
 use Rattle.std.specs.Cmp.Lexicographic.{same_text}
-use Rattle.std.proofs.lemmas.Bool.{cond-true, cond-false, eqb-true, false≢true, cases_lt, ne_eqb}
+use Rattle.std.proofs.lemmas.Bool.{cond-true, cond-false, eqb-true, cases_lt, ne_eqb}
 use Rattle.std.proofs.lemmas.Bool.Decides.{nat_tests}
 use Rattle.std.proofs.lemmas.Option.{none-some, same_Some}
 use Rattle.icn_text.specs.declared.keyword.Keyword.{Keyword}
@@ -14,16 +14,17 @@ use Rattle.icn_text.specs.declared.op.Op.{Op as OpCode}
 use Rattle.icn_text.specs.Keywords.{keyword_name}
 use Rattle.icn_text.specs.Ops.{op_number}
 use Rattle.icn_tree.specs.Spellings.{lookup_text}
-use Rattle.icn_ucode.specs.declared.instr_word.InstrWord.{InstrWord}
-use Rattle.icn_ucode.specs.declared.instr_word.InstrWord.TheVariants.{Pnull, Int, Str, Cset, Var, Keywd, Pop, Dup, Op, Llist, Field, Invoke, Appl, Mark, Mark0, Unmark, Eret, Esusp, Limit, Lsusp, Efail, Chfail, Goto, Loop, Bscan, Escan, Ccase, Init, Psusp, Pret, Pfail, Create, Coact, Coret, Cofail, Lab}
-use Rattle.icn_ucode.specs.declared.unit.UnitInstr.{UnitInstr}
-use Rattle.icn_ucode.specs.declared.unit.UnitInstr.TheVariants.{Pnull as IPnull, Int as IInt, Str as IStr, Cset as ICset, Var as IVar, Keywd as IKeywd, Pop as IPop, Dup as IDup, Op as IOp, Llist as ILlist, Field as IField, Invoke as IInvoke, Appl as IAppl, Mark as IMark, Mark0 as IMark0, Unmark as IUnmark, Eret as IEret, Esusp as IEsusp, Limit as ILimit, Lsusp as ILsusp, Efail as IEfail, Chfail as IChfail, Goto as IGoto, Loop as ILoop, Bscan as IBscan, Escan as IEscan, Ccase as ICcase, Init as IInit, Psusp as IPsusp, Pret as IPret, Pfail as IPfail, Create as ICreate, Coact as ICoact, Coret as ICoret, Cofail as ICofail, Lab as ILab}
-use Rattle.icn_ucode.specs.InstrWords.{word_text, instr_words, instr_word_of, word_of, alone_of, labelled_of}
+use Rattle.icn_unit.specs.declared.instr_word.InstrWord.{InstrWord}
+use Rattle.icn_unit.specs.declared.instr_word.InstrWord.TheVariants.{Pnull, Int, Str, Cset, Var, Keywd, Pop, Dup, Op, Llist, Field, Invoke, Appl, Mark, Mark0, Unmark, Eret, Esusp, Limit, Lsusp, Efail, Chfail, Goto, Loop, Bscan, Escan, Ccase, Init, Psusp, Pret, Pfail, Create, Coact, Coret, Cofail, Lab}
+use Rattle.icn_unit.specs.declared.unit.UnitInstr.{UnitInstr}
+use Rattle.icn_unit.specs.declared.unit.UnitInstr.TheVariants.{Pnull as IPnull, Int as IInt, Str as IStr, Cset as ICset, Var as IVar, Keywd as IKeywd, Pop as IPop, Dup as IDup, Op as IOp, Llist as ILlist, Field as IField, Invoke as IInvoke, Appl as IAppl, Mark as IMark, Mark0 as IMark0, Unmark as IUnmark, Eret as IEret, Esusp as IEsusp, Limit as ILimit, Lsusp as ILsusp, Efail as IEfail, Chfail as IChfail, Goto as IGoto, Loop as ILoop, Bscan as IBscan, Escan as IEscan, Ccase as ICcase, Init as IInit, Psusp as IPsusp, Pret as IPret, Pfail as IPfail, Create as ICreate, Coact as ICoact, Coret as ICoret, Cofail as ICofail, Lab as ILab}
+use Rattle.icn_unit.specs.InstrWords.{word_text, instr_words, instr_word_of, word_of, alone_of}
 use Rattle.icn_ucode.specs.UnitReading.{instr_of, operand_instr}
 use Rattle.icn_tree.specs.ByteSets.{members_below, members_of}
 use Rattle.icn_tree.specs.Characters.{is_digit, is_between}
-use Rattle.icn_ucode.specs.UnitOperands.{cut, behind, is_inside, number_of, value_from, label_of, is_hexadecimal, hexadecimal_value, hexadecimal_bytes, bytes_of, ascends, is_name, keyword_of, keywords, op_of, ops}
-use Rattle.icn_ucode.specs.UnitTexts.{hexadecimal_digit, byte_text, bytes_text, label_text, operand_text}
+use Rattle.icn_unit.specs.UnitOperands.{cut, behind, is_inside, number_of, value_from, label_of, is_hexadecimal, hexadecimal_value, hexadecimal_bytes, bytes_of, ascends, is_name, keyword_of, keywords, op_of, ops}
+use Rattle.icn_ucode.proofs.Differing.{both}
+use Rattle.icn_unit.specs.UnitTexts.{hexadecimal_digit, byte_text, bytes_text, label_text, operand_text}
 
 abbrev pub rest_text : Option (List ℕ) → List ℕ
 rest_text None = []
@@ -38,12 +39,8 @@ cut_all (b ∷ text) = by_blank (b == 32) refl (cut_all text) where
   by_blank true t rest = ap (λ c. c ∷ text) (eqb-true b 32 t)
   by_blank false t rest = let more : 1 + prefix_len is_inside text ≡ suc (prefix_len is_inside text) = omega arith in rw more (ap (λ xs. b ∷ xs) rest)
 
-both : (x y : Bool) → (x && y) ≡ true → (x ≡ true) × (y ≡ true)
-both true y h = (refl, h)
-both false y h = absurd (false≢true h)
-
 -- what a choice found
-found_if : {A : Type 0} (test : Bool) (x y : A) → ◌≡◌ {A = Option A} (cond test (Some x) None) (Some y) → (test ≡ true) × (x ≡ y)
+pub found_if : {A : Type 0} (test : Bool) (x y : A) → ◌≡◌ {A = Option A} (cond test (Some x) None) (Some y) → (test ≡ true) × (x ≡ y)
 found_if true x y e = (refl, same_Some x y e)
 found_if false x y e = absurd (none-some y e)
 
@@ -87,7 +84,7 @@ abbrev pub AreBytes : List ℕ → Type 0
 AreBytes [] = Unit {0}
 AreBytes (b ∷ rest) = (b < 256) × AreBytes rest
 
-hexadecimal_spelled : (text bytes : List ℕ) → hexadecimal_bytes text ≡ Some bytes → (flat_map byte_text bytes ≡ text) × AreBytes bytes
+pub hexadecimal_spelled : (text bytes : List ℕ) → hexadecimal_bytes text ≡ Some bytes → (flat_map byte_text bytes ≡ text) × AreBytes bytes
 hexadecimal_spelled [] bytes e = subst (λ (bytes : List ℕ). (flat_map byte_text bytes ≡ []) × AreBytes bytes) (same_Some [] bytes e) (refl, tt)
 hexadecimal_spelled (a ∷ []) bytes e = absurd (none-some bytes e)
 hexadecimal_spelled (a ∷ b ∷ rest) bytes e = by_test (is_hexadecimal a && is_hexadecimal b) refl (hexadecimal_bytes rest) refl (hexadecimal_spelled rest) e where
@@ -208,7 +205,7 @@ unfolding below
 all_below [] all = refl
 all_below (b ∷ rest) all = cond-true (nat_lt b 256) _ _ (grind (arith, nat_tests, all.0)) ∙ ap (λ xs. b ∷ xs) (all_below rest all.1)
 
-members_same : (bytes : List ℕ) → ascends bytes ≡ true → AreBytes bytes → members_of bytes ≡ bytes
+pub members_same : (bytes : List ℕ) → ascends bytes ≡ true → AreBytes bytes → members_of bytes ≡ bytes
 members_same bytes h all = members_are 256 bytes h ∙ all_below bytes all
 
 -- Words, keywords and operations
@@ -304,7 +301,7 @@ alone_spelled Coret instr e = same_instr Coret [] ICoret instr e refl
 alone_spelled Cofail instr e = same_instr Cofail [] ICofail instr e refl
 alone_spelled Lab instr e = absurd (none-some instr e)
 
-no_label : {A B : Type 0} (found : Option A) (x : B) → option_and_then (λ (a : A). None) found ≡ Some x → ⊥
+pub no_label : {A B : Type 0} (found : Option A) (x : B) → option_and_then (λ (a : A). None) found ≡ Some x → ⊥
 no_label None x e = none-some x e
 no_label (Some a) x e = none-some x e
 
@@ -315,7 +312,7 @@ labelled_spelled word text make instr g e = by_found (label_of text) refl e wher
   by_found None f e = absurd (none-some instr e)
   by_found (Some n) f e = same_instr word (32 ∷ text) (make n) instr e (ap (λ t. word_text word ++ 32 ∷ t) (sym (label_spelled text n f)) ∙ g n)
 
-guarded : {A : Type 0} (found : Option A) (test : A → Bool) (make : A → UnitInstr) (instr : UnitInstr) (P : UnitInstr → Type 0) → ((x : A) → found ≡ Some x → test x ≡ true → P (make x))
+pub guarded : {A : Type 0} (found : Option A) (test : A → Bool) (make : A → UnitInstr) (instr : UnitInstr) (P : UnitInstr → Type 0) → ((x : A) → found ≡ Some x → test x ≡ true → P (make x))
     → option_and_then (λ x. cond (test x) (Some (make x)) None) found ≡ Some instr → P instr
 guarded None test make instr P h e = absurd (none-some instr e)
 guarded (Some x) test make instr P h e = by_test (test x) refl e where

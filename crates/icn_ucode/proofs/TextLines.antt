@@ -3,11 +3,11 @@ use Rattle.std.proofs.Common.{◌==◌, ◌≡◌, ℕ, ◌+◌, ◌<◌, suc, B
 use Rattle.std.specs.List.{prefix_len}
 use Rattle.std.proofs.lemmas.Bool.{cond-false, eqb-true}
 use Rattle.icn_tree.specs.declared.rule.Rule.{Rule}
-use Rattle.icn_tree.specs.declared.rule.Rule.TheVariants.{U1}
+use Rattle.icn_tree.specs.declared.rule.Rule.TheVariants.{U3}
 use Rattle.icn_tree.specs.Numbers.{is_nothing}
-use Rattle.icn_ucode.specs.UnitOperands.{behind}
+use Rattle.icn_unit.specs.OperandViews.{is_in_line}
+use Rattle.icn_unit.specs.UnitOperands.{behind}
 use Rattle.icn_ucode.specs.UnitReading.{then_step, each_line}
-use Rattle.icn_ucode.specs.UnitViews.{is_in_line}
 
 abbrev pub line_len : List ℕ → ℕ
 line_len text = prefix_len is_in_line text
@@ -21,45 +21,36 @@ line_len_in b text e = let more : 1 + line_len text ≡ suc (line_len text) = om
 some_same : (a b : List ℕ) → ◌≡◌ {A = Option (List ℕ)} (Some a) (Some b) → a ≡ b
 some_same a b e = cc
 
--- a line that ends
-line_from : {S : Type 0} (step : S → List ℕ → Result S Rule) (state : S) (line text rest : List ℕ) → behind (drop (line_len text) text) ≡ Some rest
-    → each_line step state line text ≡ then_step (step state (line ++ take (line_len text) text)) (λ next. each_line step next [] rest)
-line_from step state line [] rest e = absurd (cc)
-line_from step state line (b ∷ text) rest e = by_end (b == 10) refl (line_from step state (line ++ b ∷ []) text rest) where
+-- what stands behind a line: no newline, or more lines
+abbrev pub lines_after : {S : Type 0} → (S → List ℕ → Result S Rule) → Option (List ℕ) → S → Result S Rule
+lines_after step None state = Err U3
+lines_after step (Some text) state = each_line step state [] text
+
+line_from : {S : Type 0} (step : S → List ℕ → Result S Rule) (state : S) (line text : List ℕ) → is_nothing (line ++ text) ≡ false
+    → each_line step state line text ≡ then_step (step state (line ++ take (line_len text) text)) (λ next. lines_after step (behind (drop (line_len text) text)) next)
+line_from step state line [] h = cond-false (is_nothing line) _ _ (ap is_nothing (sym (append-nil line)) ∙ h) ∙ ap (λ l. then_step (step state l) (λ next. Err U3)) (sym (append-nil line))
+line_from step state line (b ∷ text) h = by_end (b == 10) refl (line_from step state (line ++ b ∷ []) text) where
   by_end : (test : Bool) → (b == 10) ≡ test
-      → (behind (drop (line_len text) text) ≡ Some rest → each_line step state (line ++ b ∷ []) text ≡ then_step (step state ((line ++ b ∷ []) ++ take (line_len text) text)) (λ next. each_line step next [] rest))
-      → cond test (then_step (step state line) (λ next. each_line step next [] text)) (each_line step state (line ++ b ∷ []) text) ≡ then_step (step state (line ++ take (line_len (b ∷ text)) (b ∷ text))) (λ next. each_line step next [] rest)
+      → (is_nothing ((line ++ b ∷ []) ++ text) ≡ false → each_line step state (line ++ b ∷ []) text ≡ then_step (step state ((line ++ b ∷ []) ++ take (line_len text) text)) (λ next. lines_after step (behind (drop (line_len text) text)) next))
+      → cond test (then_step (step state line) (λ next. each_line step next [] text)) (each_line step state (line ++ b ∷ []) text)
+      ≡ then_step (step state (line ++ take (line_len (b ∷ text)) (b ∷ text))) (λ next. lines_after step (behind (drop (line_len (b ∷ text)) (b ∷ text))) next)
   by_end true t more =
-      let none = line_len_at b text t in
-      let same : text ≡ rest = some_same text rest (sym (ap (λ n. behind (drop n (b ∷ text))) none) ∙ e) in
-      ap (λ r. then_step (step state line) (λ next. each_line step next [] r)) same
-      ∙ ap (λ l. then_step (step state l) (λ next. each_line step next [] rest)) (sym (append-nil line) ∙ ap (λ n. line ++ take n (b ∷ text)) (sym none))
+      ap (λ l. then_step (step state l) (λ next. each_line step next [] text)) (sym (append-nil line))
+      ∙ ap (λ n. then_step (step state (line ++ take n (b ∷ text))) (λ next. lines_after step (behind (drop n (b ∷ text))) next)) (sym (line_len_at b text t))
   by_end false t more =
-      let one = line_len_in b text t in
-      more (sym (ap (λ n. behind (drop n (b ∷ text))) one) ∙ e)
-      ∙ ap (λ l. then_step (step state l) (λ next. each_line step next [] rest)) (append_assoc line (b ∷ []) (take (line_len text) text) ∙ ap (λ n. line ++ take n (b ∷ text)) (sym one))
-
--- one that does not
-unended_from : {S : Type 0} (step : S → List ℕ → Result S Rule) (state : S) (line text : List ℕ) → behind (drop (line_len text) text) ≡ None → is_nothing (line ++ text) ≡ false → each_line step state line text ≡ Err U1
-unended_from step state line [] e h = cond-false (is_nothing line) _ _ (ap is_nothing (sym (append-nil line)) ∙ h)
-unended_from step state line (b ∷ text) e h = by_end (b == 10) refl (unended_from step state (line ++ b ∷ []) text) where
-  by_end : (test : Bool) → (b == 10) ≡ test → (behind (drop (line_len text) text) ≡ None → is_nothing ((line ++ b ∷ []) ++ text) ≡ false → each_line step state (line ++ b ∷ []) text ≡ Err U1)
-      → cond test (then_step (step state line) (λ next. each_line step next [] text)) (each_line step state (line ++ b ∷ []) text) ≡ Err U1
-  by_end true t more = absurd (some_none (sym (ap (λ n. behind (drop n (b ∷ text))) (line_len_at b text t)) ∙ e)) where
-    some_none : ◌≡◌ {A = Option (List ℕ)} (Some text) None → ⊥
-    some_none e = cc
-  by_end false t more = more (sym (ap (λ n. behind (drop n (b ∷ text))) (line_len_in b text t)) ∙ e) (ap is_nothing (append_assoc line (b ∷ []) text) ∙ h)
-
-pub line_at : {S : Type 0} (step : S → List ℕ → Result S Rule) (state : S) (text line rest : List ℕ) → line ≡ take (line_len text) text → Some rest ≡ behind (drop (line_len text) text)
-    → each_line step state [] text ≡ then_step (step state line) (λ next. each_line step next [] rest)
-line_at step state text line rest is e = line_from step state [] text rest (sym e) ∙ ap (λ l. then_step (step state l) (λ next. each_line step next [] rest)) (sym is)
+      more (ap is_nothing (append_assoc line (b ∷ []) text) ∙ h)
+      ∙ (ap (λ l. then_step (step state l) (λ next. lines_after step (behind (drop (line_len text) text)) next)) (append_assoc line (b ∷ []) (take (line_len text) text))
+      ∙ ap (λ n. then_step (step state (line ++ take n (b ∷ text))) (λ next. lines_after step (behind (drop n (b ∷ text))) next)) (sym (line_len_in b text t)))
 
 some_bytes : (text : List ℕ) → 0 < length text → is_nothing text ≡ false
 some_bytes [] h = absurd (omega arith)
 some_bytes (b ∷ text) h = refl
 
-pub unended_at : {S : Type 0} (step : S → List ℕ → Result S Rule) (state : S) (text : List ℕ) → None ≡ behind (drop (line_len text) text) → 0 < length text → each_line step state [] text ≡ Err U1
-unended_at step state text e h = unended_from step state [] text (sym e) (some_bytes text h)
+pub line_at : {S : Type 0} (step : S → List ℕ → Result S Rule) (state : S) (text line : List ℕ) (more : Option (List ℕ)) → 0 < length text → line ≡ take (line_len text) text → more ≡ behind (drop (line_len text) text)
+    → each_line step state [] text ≡ then_step (step state line) (λ next. lines_after step more next)
+line_at step state text line more h is e =
+    line_from step state [] text (some_bytes text h)
+    ∙ (ap (λ l. then_step (step state l) (λ next. lines_after step (behind (drop (line_len text) text)) next)) (sym is) ∙ ap (λ m. then_step (step state line) (λ next. lines_after step m next)) (sym e))
 
 pub ended : {S : Type 0} (step : S → List ℕ → Result S Rule) (state : S) (text : List ℕ) → length text ≡ 0 → each_line step state [] text ≡ Ok state
 ended step state [] h = refl

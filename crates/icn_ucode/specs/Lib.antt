@@ -1,8 +1,6 @@
 pub mod CodeRun
 pub mod DeclViews
-pub mod InstrWords
+pub mod NameSets
 pub mod Translated
-pub mod UnitOperands
 pub mod UnitReading
-pub mod UnitTexts
 pub mod UnitViews

@@ -1,21 +1,22 @@
 -- What the two texts of a unit are, line by line: its procedures and its declarations, or the rule of the first fault.
-use Rattle.std.specs.Prelude.{◌==◌, ℕ, ◌-◌, pos, Bool, true, false, ◌&&◌, ◌||◌, not, map, nat_le, nat_lt, List, [], ◌∷◌, ◌++◌, length, slice_get, codes, count_by, Option, Some, None, Result, Ok, Err, if◌then◌else◌}
-use Rattle.std.specs.List.{list_all, list_any, flat_map}
+use Rattle.std.specs.Prelude.{◌==◌, ℕ, ◌-◌, pos, Bool, true, false, ◌&&◌, ◌||◌, not, nat_le, nat_lt, List, [], ◌∷◌, ◌++◌, length, slice_get, codes, Option, Some, None, Result, Ok, Err, if◌then◌else◌}
 use Rattle.std.specs.Option.{option_map, option_and_then, option_map_or}
 use Rattle.std.specs.Str.{bytes_eq}
 use Rattle.icn_tree.specs.declared.rule.Rule.{Rule}
 use Rattle.icn_tree.specs.declared.rule.Rule.TheVariants.{U1, U2, U3, U4, U5, U6, U7}
 use Rattle.icn_tree.specs.ByteSets.{members_of}
 use Rattle.icn_tree.specs.Numbers.{is_nothing}
-use Rattle.icn_ucode.specs.declared.instr_word.InstrWord.{InstrWord}
-use Rattle.icn_ucode.specs.declared.instr_word.InstrWord.TheVariants.{Int as WordInt, Str as WordStr, Cset as WordCset, Var as WordVar, Keywd as WordKeywd, Op as WordOp, Field as WordField, Llist as WordLlist, Invoke as WordInvoke}
-use Rattle.icn_ucode.specs.declared.unit.UnitInstr.{UnitInstr}
-use Rattle.icn_ucode.specs.declared.unit.UnitInstr.TheVariants.{Int, Str, Cset, Var, Keywd, Op, Field, Llist, Invoke, Mark, Chfail, Goto, Loop, Init, Create, Lab}
-use Rattle.icn_ucode.specs.declared.unit.NameKind.{NameKind}
-use Rattle.icn_ucode.specs.declared.unit.NameKind.TheVariants.{Parameter, Local, Static, Undeclared}
-use Rattle.icn_ucode.specs.declared.unit.UnitName.{UnitName}
-use Rattle.icn_ucode.specs.InstrWords.{instr_word_of, alone_of, labelled_of}
-use Rattle.icn_ucode.specs.UnitOperands.{cut, number_of, label_of, is_name, bytes_of, ascends, keyword_of, op_of}
+use Rattle.icn_unit.specs.declared.instr_word.InstrWord.{InstrWord}
+use Rattle.icn_unit.specs.declared.instr_word.InstrWord.TheVariants.{Int as WordInt, Str as WordStr, Cset as WordCset, Var as WordVar, Keywd as WordKeywd, Op as WordOp, Field as WordField, Llist as WordLlist, Invoke as WordInvoke}
+use Rattle.icn_unit.specs.declared.unit.UnitInstr.{UnitInstr}
+use Rattle.icn_unit.specs.declared.unit.UnitInstr.TheVariants.{Int, Str, Cset, Var, Keywd, Op, Field, Llist, Invoke}
+use Rattle.icn_unit.specs.declared.unit.NameKind.{NameKind}
+use Rattle.icn_unit.specs.declared.unit.NameKind.TheVariants.{Parameter, Local, Static, Undeclared}
+use Rattle.icn_unit.specs.declared.unit.UnitName.{UnitName}
+use Rattle.icn_unit.specs.InstrWords.{instr_word_of, alone_of, labelled_of}
+use Rattle.icn_unit.specs.PlainUnits.{Proc, Decl, Global, Procedure, Link, Record, UnitRead, params_in, proc_names, entry_names, owned_names}
+use Rattle.icn_unit.specs.UnitOperands.{cut, number_of, label_of, is_name, bytes_of, ascends, keyword_of, op_of}
+use Rattle.icn_unit.specs.UnitRules.{has_name, has_label, labels_placed, place_of, placed, rank, same_names}
 
 -- Steps
 
@@ -23,10 +24,15 @@ abbrev pub then_step : {S T : Type 0} → Result S Rule → (S → Result T Rule
 then_step (Ok state) more = more state
 then_step (Err rule) more = Err rule
 
--- a text line by line, with the bytes of the line that is begun: what does not end in a newline is no line
+-- a text line by line, with the bytes of the line that is begun: a last line that does not end in a newline is bad, where it breaks no other rule
 abbrev pub each_line : {S : Type 0} → (S → List ℕ → Result S Rule) → S → List ℕ → List ℕ → Result S Rule
-each_line step state line [] = if is_nothing line then Ok state else Err U1
+each_line step state line [] = if is_nothing line then Ok state else then_step (step state line) (λ next. Err U3)
 each_line step state line (b ∷ rest) = if b == 10 then then_step (step state line) (λ next. each_line step next [] rest) else each_line step state (line ++ b ∷ []) rest
+
+-- a line that begins with a blank is bad wherever it stands
+abbrev pub is_indented : List ℕ → Bool
+is_indented [] = false
+is_indented (b ∷ rest) = b == 32
 
 -- a step where there is a value, or a bad operand
 abbrev pub or_bad : {A B : Type 0} → Option A → (A → Result B Rule) → Result B Rule
@@ -52,45 +58,11 @@ abbrev pub instr_of : InstrWord → Option (List ℕ) → ℕ → Option UnitIns
 instr_of word None names = alone_of word
 instr_of word (Some text) names = operand_instr word text names
 
--- whether an instruction is the place of a label
-abbrev pub places : ℕ → UnitInstr → Bool
-places label (Lab other) = other == label
-places label _ = false
-
-abbrev pub is_placed : List UnitInstr → ℕ → Bool
-is_placed instrs label = list_any (λ instr. places label instr) instrs
-
--- the label that an instruction goes to
-abbrev pub label_in : UnitInstr → Option ℕ
-label_in (Mark label) = Some label
-label_in (Chfail label) = Some label
-label_in (Goto label) = Some label
-label_in (Loop label) = Some label
-label_in (Init label) = Some label
-label_in (Create label) = Some label
-label_in _ = None
-
-abbrev pub label_placed : List UnitInstr → UnitInstr → Bool
-label_placed instrs instr = option_map_or (λ label. is_placed instrs label) (label_in instr) true
-
-abbrev pub labels_placed : List UnitInstr → Bool
-labels_placed instrs = list_all (λ instr. label_placed instrs instr) instrs
-
 -- the place of a label that has one
-abbrev pub place_of : UnitInstr → Option ℕ
-place_of (Lab label) = Some label
-place_of _ = None
-
 abbrev pub is_repeated : List UnitInstr → UnitInstr → Bool
-is_repeated instrs instr = option_map_or (λ label. is_placed instrs label) (place_of instr) false
+is_repeated instrs instr = option_map_or (λ label. has_label (placed instrs) label) (place_of instr) false
 
 -- Procedures
-
-pub record Proc : Type 0 where
-  pub name : List ℕ
-  pub collects : Bool
-  pub names : List UnitName
-  pub instrs : List UnitInstr
 
 pub record Head : Type 0 where
   pub name : List ℕ
@@ -121,24 +93,11 @@ abbrev pub kind_of : List ℕ → Option NameKind
 kind_of (b ∷ []) = if b == 112 then Some Parameter else (if b == 108 then Some Local else (if b == 115 then Some Static else (if b == 117 then Some Undeclared else None)))
 kind_of _ = None
 
--- parameters come first, then locals and statics, then undeclared names
-abbrev pub rank : NameKind → ℕ
-rank Parameter = 0
-rank Local = 1
-rank Static = 1
-rank Undeclared = 2
-
 abbrev pub last_rank : List UnitName → ℕ
 last_rank names = option_map_or (λ name. rank name.kind) (slice_get names (length names - 1)) 0
 
-abbrev pub has_name : List (List ℕ) → List ℕ → Bool
-has_name names name = list_any (λ other. bytes_eq name other) names
-
-abbrev pub has_entry : List UnitName → List ℕ → Bool
-has_entry names name = list_any (λ entry. bytes_eq name entry.name) names
-
 abbrev pub entry_by : List UnitName → NameKind → List ℕ → Option UnitName
-entry_by names kind name = if is_name name && nat_le (last_rank names) (rank kind) && not (has_entry names name) then Some (record { kind = kind; name = name }) else None
+entry_by names kind name = if is_name name && nat_le (last_rank names) (rank kind) && not (has_name (entry_names names) name) then Some (record { kind = kind; name = name }) else None
 
 abbrev pub entry_named : List UnitName → List ℕ → Option (List ℕ) → Option UnitName
 entry_named names kind None = None
@@ -148,13 +107,6 @@ entry_named names kind (Some name) = option_and_then (λ k. entry_by names k nam
 abbrev pub entry_read : List UnitName → Option (List ℕ) → Option UnitName
 entry_read names None = None
 entry_read names (Some text) = let words = cut text in entry_named names words.0 words.1
-
-abbrev pub is_parameter : NameKind → Bool
-is_parameter Parameter = true
-is_parameter _ = false
-
-abbrev pub params_in : List UnitName → ℕ
-params_in names = count_by (λ name. is_parameter name.kind) names
 
 -- what the lines so far come to, and what the next may be: the heading, a procedure, a name or an instruction of one
 pub data Stage : Type 0 where
@@ -167,15 +119,12 @@ pub record ProcsRead : Type 0 where
   pub procs : List Proc
   pub stage : Stage
 
-abbrev pub has_proc : List Proc → List ℕ → Bool
-has_proc procs name = list_any (λ proc. bytes_eq name proc.name) procs
-
 abbrev pub begun : Head → Proc
 begun head = record { name = head.name; collects = head.collects; names = []; instrs = [] }
 
 abbrev pub outside_line : List Proc → List ℕ → Option (List ℕ) → Result ProcsRead Rule
 outside_line procs word operand =
-    if bytes_eq word (codes "proc") then or_bad (head_read operand) (λ head. if has_proc procs head.name then Err U3 else Ok (record { procs = procs; stage = Naming head.params (begun head) }))
+    if bytes_eq word (codes "proc") then or_bad (head_read operand) (λ head. if has_name (proc_names procs) head.name then Err U3 else Ok (record { procs = procs; stage = Naming head.params (begun head) }))
     else Err U1
 
 abbrev pub code_line : List Proc → ℕ → Proc → Option (List ℕ) → Result ProcsRead Rule
@@ -205,14 +154,23 @@ instr_line procs proc (Some word) operand =
 abbrev pub coding_line : List Proc → Proc → List ℕ → Option (List ℕ) → Result ProcsRead Rule
 coding_line procs proc word operand = if bytes_eq word (codes "end") then end_line procs proc operand else instr_line procs proc (instr_word_of word) operand
 
+-- nothing stands behind a word
+abbrev pub alone : {B : Type 0} → Option (List ℕ) → B → Result B Rule
+alone None value = Ok value
+alone (Some text) value = Err U3
+
+-- the heading of a text
+abbrev pub headed : {B : Type 0} → List ℕ → List ℕ → Option (List ℕ) → B → Result B Rule
+headed heading word operand value = if bytes_eq word heading then alone operand value else Err U1
+
 abbrev pub stage_line : List Proc → Stage → List ℕ → Result ProcsRead Rule
-stage_line procs Heading line = if bytes_eq line (codes "U9.1") then Ok (record { procs = procs; stage = Outside }) else Err U1
+stage_line procs Heading line = let words = cut line in headed (codes "U9.1") words.0 words.1 (record { procs = procs; stage = Outside })
 stage_line procs Outside line = let words = cut line in outside_line procs words.0 words.1
 stage_line procs (Naming params proc) line = let words = cut line in naming_line procs params proc words.0 words.1
 stage_line procs (Coding proc) line = let words = cut line in coding_line procs proc words.0 words.1
 
 unfoldable pub procs_line : ProcsRead → List ℕ → Result ProcsRead Rule
-procs_line read line = stage_line read.procs read.stage line
+procs_line read line = if is_indented line then Err U3 else stage_line read.procs read.stage line
 
 -- what stands at the end of the text
 abbrev pub stage_end : List Proc → Stage → Result (List Proc) Rule
@@ -228,22 +186,6 @@ unfoldable pub procs_of : List ℕ → Result (List Proc) Rule
 procs_of text = then_step (each_line procs_line (record { procs = []; stage = Heading }) [] text) procs_end
 
 -- Declarations
-
-pub data Decl : Type 0 where
-  Global : List ℕ → Decl
-  Procedure : List ℕ → Decl
-  Link : List ℕ → Decl
-  Record : List ℕ → List (List ℕ) → Decl
-
--- the name of a procedure or a record
-abbrev pub owned_name : Decl → List (List ℕ)
-owned_name (Global name) = []
-owned_name (Procedure name) = name ∷ []
-owned_name (Link bytes) = []
-owned_name (Record name fields) = name ∷ []
-
-abbrev pub is_owned : List Decl → List ℕ → Bool
-is_owned decls name = list_any (λ decl. has_name (owned_name decl) name) decls
 
 -- names with blanks between them, which differ
 abbrev pub with_field : List (List ℕ) → List ℕ → Option (List (List ℕ))
@@ -265,16 +207,22 @@ abbrev pub bytes_read : Option (List ℕ) → Option (List ℕ)
 bytes_read None = None
 bytes_read (Some text) = bytes_of text
 
-abbrev pub record_by : List Decl → List ℕ → Option (List ℕ) → Option Decl
-record_by decls name rest = if is_name name && not (is_owned decls name) then option_map (λ fields. Record name fields) (fields_read rest) else None
+abbrev pub global_read : Option (List ℕ) → Option Decl
+global_read operand = option_map (λ name. Global name) (name_read operand)
 
--- `NAME` and its fields
-abbrev pub record_read : List Decl → Option (List ℕ) → Option Decl
-record_read decls None = None
-record_read decls (Some text) = let words = cut text in record_by decls words.0 words.1
+abbrev pub link_read : Option (List ℕ) → Option Decl
+link_read operand = option_map (λ bytes. Link bytes) (bytes_read operand)
+
+abbrev pub record_by : List (List ℕ) → List Decl → List ℕ → Option (List ℕ) → Option Decl
+record_by procs decls name rest = if is_name name && not (has_name procs name) && not (has_name (owned_names decls) name) then option_map (λ fields. Record name fields) (fields_read rest) else None
+
+-- `NAME` and its fields, where procedures have names
+abbrev pub record_read : List (List ℕ) → List Decl → Option (List ℕ) → Option Decl
+record_read procs decls None = None
+record_read procs decls (Some text) = let words = cut text in record_by procs decls words.0 words.1
 
 abbrev pub procedure_read : List Decl → Option (List ℕ) → Option Decl
-procedure_read decls operand = option_and_then (λ name. if is_owned decls name then None else Some (Procedure name)) (name_read operand)
+procedure_read decls operand = option_and_then (λ name. if has_name (owned_names decls) name then None else Some (Procedure name)) (name_read operand)
 
 pub data DeclStage : Type 0 where
   DeclHeading : DeclStage
@@ -292,21 +240,22 @@ abbrev pub ended_line : List Decl → Option (List ℕ) → Result DeclsRead Rul
 ended_line decls None = Ok (record { decls = decls; stage = Ended })
 ended_line decls (Some text) = Err U3
 
-abbrev pub declaring_line : List Decl → List ℕ → Option (List ℕ) → Result DeclsRead Rule
-declaring_line decls word operand =
-    if bytes_eq word (codes "global") then or_bad (name_read operand) (λ name. with_decl decls (Global name))
+abbrev pub declaring_line : List (List ℕ) → List Decl → List ℕ → Option (List ℕ) → Result DeclsRead Rule
+declaring_line procs decls word operand =
+    if bytes_eq word (codes "global") then or_bad (global_read operand) (with_decl decls)
     else (if bytes_eq word (codes "proc") then or_bad (procedure_read decls operand) (with_decl decls)
-    else (if bytes_eq word (codes "link") then or_bad (bytes_read operand) (λ bytes. with_decl decls (Link bytes))
-    else (if bytes_eq word (codes "record") then or_bad (record_read decls operand) (with_decl decls)
+    else (if bytes_eq word (codes "link") then or_bad (link_read operand) (with_decl decls)
+    else (if bytes_eq word (codes "record") then or_bad (record_read procs decls operand) (with_decl decls)
     else (if bytes_eq word (codes "end") then ended_line decls operand else Err U1))))
 
-abbrev pub decl_stage_line : List Decl → DeclStage → List ℕ → Result DeclsRead Rule
-decl_stage_line decls DeclHeading line = if bytes_eq line (codes "U9.2") then Ok (record { decls = decls; stage = Declaring }) else Err U1
-decl_stage_line decls Declaring line = let words = cut line in declaring_line decls words.0 words.1
-decl_stage_line decls Ended line = Err U1
+abbrev pub decl_stage_line : List (List ℕ) → List Decl → DeclStage → List ℕ → Result DeclsRead Rule
+decl_stage_line procs decls DeclHeading line = let words = cut line in headed (codes "U9.2") words.0 words.1 (record { decls = decls; stage = Declaring })
+decl_stage_line procs decls Declaring line = let words = cut line in declaring_line procs decls words.0 words.1
+decl_stage_line procs decls Ended line = Err U1
 
-unfoldable pub decls_line : DeclsRead → List ℕ → Result DeclsRead Rule
-decls_line read line = decl_stage_line read.decls read.stage line
+-- a line, where the procedures of the first text have these names
+unfoldable pub decls_line : List (List ℕ) → DeclsRead → List ℕ → Result DeclsRead Rule
+decls_line procs read line = if is_indented line then Err U3 else decl_stage_line procs read.decls read.stage line
 
 abbrev pub decl_stage_end : List Decl → DeclStage → Result (List Decl) Rule
 decl_stage_end decls DeclHeading = Err U1
@@ -316,31 +265,10 @@ decl_stage_end decls Ended = Ok decls
 abbrev pub decls_end : DeclsRead → Result (List Decl) Rule
 decls_end read = decl_stage_end read.decls read.stage
 
-unfoldable pub decls_of : List ℕ → Result (List Decl) Rule
-decls_of text = then_step (each_line decls_line (record { decls = []; stage = DeclHeading }) [] text) decls_end
+unfoldable pub decls_of : List (List ℕ) → List ℕ → Result (List Decl) Rule
+decls_of procs text = then_step (each_line (decls_line procs) (record { decls = []; stage = DeclHeading }) [] text) decls_end
 
 -- Units
-
-pub record UnitRead : Type 0 where
-  pub name : List ℕ
-  pub procs : List Proc
-  pub decls : List Decl
-
-abbrev pub declared_name : Decl → List (List ℕ)
-declared_name (Procedure name) = name ∷ []
-declared_name (Global name) = []
-declared_name (Link bytes) = []
-declared_name (Record name fields) = []
-
-abbrev pub same_texts : List (List ℕ) → List (List ℕ) → Bool
-same_texts [] [] = true
-same_texts [] (y ∷ ys) = false
-same_texts (x ∷ xs) [] = false
-same_texts (x ∷ xs) (y ∷ ys) = bytes_eq x y && same_texts xs ys
-
--- the procedures in their order, by name, are those that the declarations name
-abbrev pub same_names : List Proc → List Decl → Bool
-same_names procs decls = same_texts (map (λ proc. proc.name) procs) (flat_map declared_name decls)
 
 -- a unit, or the rule that its texts break first and whether that is in the second
 pub data UnitOutcome : Type 0 where
@@ -354,9 +282,9 @@ abbrev pub with_decls : List ℕ → List Proc → Result (List Decl) Rule → U
 with_decls name procs (Err rule) = Faulty rule true
 with_decls name procs (Ok decls) = matched name procs decls
 
-abbrev pub with_procs : List ℕ → Result (List Proc) Rule → Result (List Decl) Rule → UnitOutcome
-with_procs name (Err rule) decls = Faulty rule false
-with_procs name (Ok procs) decls = with_decls name procs decls
+abbrev pub with_procs : List ℕ → Result (List Proc) Rule → List ℕ → UnitOutcome
+with_procs name (Err rule) u2 = Faulty rule false
+with_procs name (Ok procs) u2 = with_decls name procs (decls_of (proc_names procs) u2)
 
 abbrev pub unit_read : List ℕ → List ℕ → List ℕ → UnitOutcome
-unit_read name u1 u2 = with_procs name (procs_of u1) (decls_of u2)
+unit_read name u1 u2 = with_procs name (procs_of u1) u2

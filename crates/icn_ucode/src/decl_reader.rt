@@ -1,46 +1,19 @@
 // Reads the declarations of a unit, line by line.
-ghost use Rattle.std.specs.Prelude.{◌≡◌, ◌&&◌, List, map, not, IfOk};
-ghost use Rattle.icn_ucode.specs.UnitOperands.{is_name};
+ghost use Rattle.std.specs.Prelude.{◌≡◌, ◌&&◌, codes, map, not, IfOk};
 ghost use Rattle.std.specs.Option.{option_copied, option_map};
-ghost use Rattle.icn_ucode.specs.DeclViews.{DeclsAre, FoundIs, LineIs, decl_seen, decls_seen, is_owned_seen, stage_seen};
-ghost use Rattle.icn_ucode.specs.declared.unit.UnitDecl.{UnitDecl};
-ghost use Rattle.icn_ucode.specs.UnitReading.{DeclHeading, Declaring, bytes_read, decl_stage_end, decl_stage_line, declaring_line, decls_line, decls_of, ended_line, fields_read, has_name, is_owned, name_read, or_bad, owned_name, procedure_read, record_read, with_decl};
+ghost use Rattle.icn_unit.specs.PlainUnits.{proc_names};
+ghost use Rattle.icn_unit.specs.UnitOperands.{cut, is_name};
+ghost use Rattle.icn_unit.specs.UnitRules.{has_name};
+ghost use Rattle.icn_unit.specs.UnitViews.{decl_seen, proc_seen};
+ghost use Rattle.icn_ucode.specs.DeclViews.{DeclsAre, LineIs, reading_seen, stage_seen};
+ghost use Rattle.icn_ucode.specs.UnitReading.{Declaring, bytes_read, decl_stage_end, decl_stage_line, decls_line, decls_of, ended_line, fields_read, global_read, headed, link_read, name_read, or_bad, procedure_read, record_read, with_decl};
 
-use crate::fault::Stop;
-use crate::operand::{byte_text, cut, cut_line, is_name};
-use crate::unit::UnitDecl;
+use crate::decl_lists::{DeclReading, DeclStage, Decls, Fields};
+use crate::proc_lists::Procs;
+use crate::proc_reader::is_indented;
 use icn_tree::{Bytes, Rule};
+use icn_unit::{Stop, UnitDecl, byte_text, cut, cut_line, is_name};
 use std::alloc::{AllocError, Global};
-
-// What the lines so far come to, and what the next may be.
-#[derive(Clone, Copy)]
-pub enum DeclStage {
-    Heading,
-    Declaring,
-    Ended,
-}
-
-fn has_name(names: &[Bytes], name: &[u8]) -> bool
-    ensures { result ≡ has_name names.now name.now }
-{
-    names.iter().any(|other| name == other.as_slice())
-}
-
-// Whether a procedure or a record has a name.
-fn is_owned(decls: &[UnitDecl], name: &[u8]) -> bool
-    ensures { result ≡ is_owned_seen decls.now name.now }
-{
-    decls.iter().any(|decl| owns(decl, name))
-}
-
-fn owns(decl: &UnitDecl, name: &[u8]) -> bool
-    ensures { result ≡ has_name (owned_name (decl_seen decl.now)) name.now }
-{
-    match decl {
-        UnitDecl::Proc(other) | UnitDecl::Record(other, _) => name == other.as_slice(),
-        UnitDecl::Global(_) | UnitDecl::Link(_) => false,
-    }
-}
 
 // A name alone.
 fn read_name(alloc: Global, operand: Option<&[u8]>) -> Result<Option<Bytes>, AllocError>
@@ -64,170 +37,209 @@ fn read_bytes(alloc: Global, operand: Option<&[u8]>) -> Result<Option<Bytes>, Al
     }
 }
 
-// A procedure's name.
-fn read_procedure(
-    alloc: Global,
-    decls: &[UnitDecl],
-    operand: Option<&[u8]>,
-) -> Result<Option<UnitDecl>, AllocError>
-    ensures { IfOk result (λ found. FoundIs found (procedure_read (map decl_seen decls.now) (option_copied operand.entry))) }
-{
-    match operand {
-        Some(name) if is_name(name) && !has_owner(decls, name) => {
-            Ok(Some(UnitDecl::Proc(Bytes::from_slice(alloc, name)?)))
-        }
-        _ => Ok(None),
-    }
-}
-
 // The fields of a record: names with blanks between them, which differ.
 fn read_fields(alloc: Global, operand: Option<&[u8]>) -> Result<Option<Vec<Bytes>>, AllocError>
     ensures { IfOk result (λ found. option_map (λ v. v.items) found ≡ fields_read (option_copied operand.entry)) }
 {
-    let mut fields = Vec::new(alloc);
+    let mut fields = Fields::new(alloc);
     let mut rest = operand;
     while let Some(text) = rest {
         let (name, behind) = cut(text);
         if !is_further(&fields, name) {
             return Ok(None);
         }
-        fields.push(Bytes::from_slice(alloc, name)?)?;
+        fields = fields.with(alloc, name)?;
         rest = behind;
     }
-    Ok(Some(fields))
+    Ok(Some(fields.fields))
 }
 
 // Whether a word is a name that is not among fields.
-fn is_further(fields: &[Bytes], name: &[u8]) -> bool
-    ensures { result ≡ (is_name name.now && not (has_name fields.now name.now)) }
+fn is_further<'a>(fields: &Fields<'a>, name: &'a [u8]) -> bool
+    ensures { result ≡ (is_name name.now && not (has_name fields.now.fields.items name.now)) }
 {
-    is_name(name) && !has_name(fields, name)
+    is_name(name) && !fields.has(name)
 }
 
-// A record, `NAME` and its fields.
-fn read_record(
+// Takes the line of a global name.
+fn global_line<'a>(
     alloc: Global,
-    decls: &[UnitDecl],
+    decls: Decls<'a>,
     operand: Option<&[u8]>,
-) -> Result<Option<UnitDecl>, AllocError>
-    ensures { IfOk result (λ found. FoundIs found (record_read (map decl_seen decls.now) (option_copied operand.entry))) }
+) -> Result<DeclReading<'a>, Stop>
+    ensures { LineIs result (or_bad (global_read (option_copied operand.entry)) (with_decl (map decl_seen decls.entry.decls.items))) }
+{
+    let Some(name) = read_name(alloc, operand)? else {
+        return Err(Stop::Broken(Rule::U3));
+    };
+    Ok(declaring(decls.with(UnitDecl::Global(name))?))
+}
+
+// Takes the line of a link.
+fn link_line<'a>(
+    alloc: Global,
+    decls: Decls<'a>,
+    operand: Option<&[u8]>,
+) -> Result<DeclReading<'a>, Stop>
+    ensures { LineIs result (or_bad (link_read (option_copied operand.entry)) (with_decl (map decl_seen decls.entry.decls.items))) }
+{
+    let Some(bytes) = read_bytes(alloc, operand)? else {
+        return Err(Stop::Broken(Rule::U3));
+    };
+    Ok(declaring(decls.with(UnitDecl::Link(bytes))?))
+}
+
+// Takes the line of a procedure.
+fn proc_line<'a>(
+    alloc: Global,
+    decls: Decls<'a>,
+    operand: Option<&'a [u8]>,
+) -> Result<DeclReading<'a>, Stop>
+    ensures { LineIs result (or_bad (procedure_read (map decl_seen decls.entry.decls.items) (option_copied operand.entry)) (with_decl (map decl_seen decls.entry.decls.items))) }
+{
+    match operand {
+        Some(name) if is_name(name) && !decls.has(name) => {
+            let decl = UnitDecl::Proc(Bytes::from_slice(alloc, name)?);
+            Ok(declaring(decls.with_owner(name, decl)?))
+        }
+        _ => Err(Stop::Broken(Rule::U3)),
+    }
+}
+
+// Takes the line of a record, `NAME` and its fields. Procedures have other names.
+fn record_line<'a>(
+    alloc: Global,
+    procs: &Procs<'a>,
+    decls: Decls<'a>,
+    operand: Option<&'a [u8]>,
+) -> Result<DeclReading<'a>, Stop>
+    ensures { LineIs result (or_bad (record_read (proc_names (map proc_seen procs.now.procs.items)) (map decl_seen decls.entry.decls.items) (option_copied operand.entry)) (with_decl (map decl_seen decls.entry.decls.items))) }
 {
     let Some(text) = operand else {
-        return Ok(None);
+        return Err(Stop::Broken(Rule::U3));
     };
     let (name, rest) = cut(text);
-    if !is_name(name) || has_owner(decls, name) {
-        return Ok(None);
+    if !is_name(name) || procs.has(name) || decls.has(name) {
+        return Err(Stop::Broken(Rule::U3));
     }
-    match read_fields(alloc, rest)? {
-        Some(fields) => Ok(Some(UnitDecl::Record(Bytes::from_slice(alloc, name)?, fields))),
-        None => Ok(None),
-    }
+    let Some(fields) = read_fields(alloc, rest)? else {
+        return Err(Stop::Broken(Rule::U3));
+    };
+    let decl = UnitDecl::Record(Bytes::from_slice(alloc, name)?, fields);
+    Ok(declaring(decls.with_owner(name, decl)?))
 }
 
-fn has_owner(decls: &[UnitDecl], name: &[u8]) -> bool
-    ensures { result ≡ is_owned (map decl_seen decls.now) name.now }
+fn declaring(decls: Decls<'_>) -> DeclReading<'_>
+    ensures decls { result.decls.decls.items ≡ decls.entry.decls.items }
+    ensures stage { stage_seen result.stage ≡ Declaring }
 {
-    is_owned(decls, name)
-}
-
-// Adds a declaration, where a line has one.
-fn push(decls: &mut Vec<UnitDecl>, found: Option<UnitDecl>) -> Result<DeclStage, Stop>
-    ensures { LineIs decls.new.items result (or_bad (option_map decl_seen found) (with_decl (map decl_seen decls.old.items))) }
-{
-    match found {
-        Some(decl) => {
-            decls.push(decl)?;
-            Ok(DeclStage::Declaring)
-        }
-        None => Err(Stop::Broken(Rule::U3)),
+    DeclReading {
+        decls,
+        stage: DeclStage::Declaring,
     }
 }
 
 // Takes a line behind the heading.
-fn declaring(alloc: Global, decls: &mut Vec<UnitDecl>, line: &[u8]) -> Result<DeclStage, Stop>
-    ensures { LineIs decls.new.items result (decl_stage_line (map decl_seen decls.old.items) Declaring line.now) }
+fn decl_line<'a>(
+    alloc: Global,
+    procs: &Procs<'a>,
+    decls: Decls<'a>,
+    line: &'a [u8],
+) -> Result<DeclReading<'a>, Stop>
+    ensures { LineIs result (decl_stage_line (proc_names (map proc_seen procs.now.procs.items)) (map decl_seen decls.entry.decls.items) Declaring line.now) }
 {
     let (word, operand) = cut(line);
     if word == b"global".as_slice() {
-        let name = read_name(alloc, operand)?;
-        push(decls, name.map(UnitDecl::Global))
+        global_line(alloc, decls, operand)
     } else if word == b"proc".as_slice() {
-        let found = read_procedure(alloc, decls, operand)?;
-        push(decls, found)
+        proc_line(alloc, decls, operand)
     } else if word == b"link".as_slice() {
-        let bytes = read_bytes(alloc, operand)?;
-        push(decls, bytes.map(UnitDecl::Link))
+        link_line(alloc, decls, operand)
     } else if word == b"record".as_slice() {
-        let found = read_record(alloc, decls, operand)?;
-        push(decls, found)
+        record_line(alloc, procs, decls, operand)
     } else if word == b"end".as_slice() {
-        end(operand)
+        end(decls, operand)
     } else {
         Err(Stop::Broken(Rule::U1))
     }
 }
 
-fn end(operand: Option<&[u8]>) -> Result<DeclStage, Stop>
-    ensures { (decls : List UnitDecl) → LineIs decls result (ended_line (map decl_seen decls) (option_copied operand.entry)) }
+fn end<'a>(decls: Decls<'a>, operand: Option<&[u8]>) -> Result<DeclReading<'a>, Stop>
+    ensures { LineIs result (ended_line (map decl_seen decls.entry.decls.items) (option_copied operand.entry)) }
 {
     match operand {
-        None => Ok(DeclStage::Ended),
+        None => Ok(DeclReading {
+            decls,
+            stage: DeclStage::Ended,
+        }),
         Some(_) => Err(Stop::Broken(Rule::U3)),
     }
 }
 
-fn heading(line: &[u8]) -> Result<DeclStage, Stop>
-    ensures { (decls : List UnitDecl) → LineIs decls result (decl_stage_line (map decl_seen decls) DeclHeading line.now) }
+fn heading<'a>(decls: Decls<'a>, line: &[u8]) -> Result<DeclReading<'a>, Stop>
+    ensures { LineIs result (headed (codes "U9.2") (cut line.now).0 (cut line.now).1 (record { decls = map decl_seen decls.entry.decls.items; stage = Declaring })) }
 {
-    if line == b"U9.2".as_slice() {
-        Ok(DeclStage::Declaring)
-    } else {
-        Err(Stop::Broken(Rule::U1))
+    let (word, operand) = cut(line);
+    if word != b"U9.2".as_slice() {
+        return Err(Stop::Broken(Rule::U1));
+    }
+    match operand {
+        None => Ok(declaring(decls)),
+        Some(_) => Err(Stop::Broken(Rule::U3)),
     }
 }
 
 // Takes a line.
 #[tactic(auto, unfolding(crate::specs::UnitReading::decls_line))]
-fn take_line(
+fn take_line<'a>(
     alloc: Global,
-    decls: &mut Vec<UnitDecl>,
-    stage: DeclStage,
-    line: &[u8],
-) -> Result<DeclStage, Stop>
-    ensures { LineIs decls.new.items result (decls_line (decls_seen decls.old.items stage) line.now) }
+    procs: &Procs<'a>,
+    reading: DeclReading<'a>,
+    line: &'a [u8],
+) -> Result<DeclReading<'a>, Stop>
+    ensures { LineIs result (decls_line (proc_names (map proc_seen procs.now.procs.items)) (reading_seen reading.entry) line.now) }
 {
+    if is_indented(line) {
+        return Err(Stop::Broken(Rule::U3));
+    }
+    let DeclReading { decls, stage } = reading;
     match stage {
-        DeclStage::Heading => heading(line),
-        DeclStage::Declaring => declaring(alloc, decls, line),
+        DeclStage::Heading => heading(decls, line),
+        DeclStage::Declaring => decl_line(alloc, procs, decls, line),
         DeclStage::Ended => Err(Stop::Broken(Rule::U1)),
     }
 }
 
 // The declarations of a text.
-pub fn read_decls(alloc: Global, text: &[u8]) -> Result<Vec<UnitDecl>, Stop>
-    ensures { DeclsAre result (decls_of text.now) }
+pub fn read_decls<'a>(
+    alloc: Global,
+    procs: &Procs<'a>,
+    text: &'a [u8],
+) -> Result<Vec<UnitDecl>, Stop>
+    ensures { DeclsAre result (decls_of (proc_names (map proc_seen procs.now.procs.items)) text.now) }
 {
-    let mut decls = Vec::new(alloc);
-    let mut stage = DeclStage::Heading;
+    let mut reading = DeclReading {
+        decls: Decls::new(alloc),
+        stage: DeclStage::Heading,
+    };
     let mut rest = text;
     while !rest.is_empty() {
         let (line, behind) = cut_line(rest);
+        reading = take_line(alloc, procs, reading, line)?;
         let Some(behind) = behind else {
-            return Err(Stop::Broken(Rule::U1));
+            return Err(Stop::Broken(Rule::U3));
         };
-        stage = take_line(alloc, &mut decls, stage, line)?;
         rest = behind;
     }
-    finish(decls, stage)
+    finish(reading)
 }
 
-fn finish(decls: Vec<UnitDecl>, stage: DeclStage) -> Result<Vec<UnitDecl>, Stop>
-    ensures { DeclsAre result (decl_stage_end (map decl_seen decls.items) (stage_seen stage)) }
+fn finish(reading: DeclReading<'_>) -> Result<Vec<UnitDecl>, Stop>
+    ensures { DeclsAre result (decl_stage_end (map decl_seen reading.entry.decls.decls.items) (stage_seen reading.entry.stage)) }
 {
-    match stage {
+    match reading.stage {
         DeclStage::Heading => Err(Stop::Broken(Rule::U1)),
         DeclStage::Declaring => Err(Stop::Broken(Rule::U6)),
-        DeclStage::Ended => Ok(decls),
+        DeclStage::Ended => Ok(reading.decls.decls),
     }
 }

@@ -1,30 +1,37 @@
 // Reads units.
 ghost use Rattle.std.specs.Prelude.{◌≡◌, ◌⊎◌, Err, Some, map};
 ghost use Rattle.std.specs.Option.{option_copied};
-ghost use Rattle.icn_ucode.specs.DeclViews.{decl_seen, outcome_of, procs_behind};
-ghost use Rattle.icn_ucode.specs.UnitReading.{declared_name, same_names, unit_read};
-ghost use Rattle.icn_ucode.specs.UnitViews.{proc_seen};
+ghost use Rattle.icn_unit.specs.PlainUnits.{declared_name};
+ghost use Rattle.icn_unit.specs.UnitRules.{same_names};
+ghost use Rattle.icn_unit.specs.UnitViews.{decl_seen, proc_seen};
+ghost use Rattle.icn_ucode.specs.DeclViews.{outcome_of, procs_behind};
+ghost use Rattle.icn_ucode.specs.UnitReading.{unit_read};
 
 use crate::decl_reader::read_decls;
-use crate::fault::UcodeFault;
 use crate::proc_reader::read_procs;
-use crate::unit::{ProcCode, Unit, UnitDecl};
 use icn_tree::{Bytes, Rule};
+use icn_unit::{ProcCode, UcodeFault, Unit, UnitDecl};
 use std::alloc::{AllocError, Global};
 
 /// The unit that two texts spell, under a base name. An error is the first rule that the texts break, the first text before
 /// the second, or want of memory.
-pub fn read_unit(alloc: Global, name: &str, u1: &[u8], u2: &[u8]) -> Result<Unit, UcodeFault>
+pub fn read_unit<'a>(
+    alloc: Global,
+    name: &str,
+    u1: &'a [u8],
+    u2: &'a [u8],
+) -> Result<Unit, UcodeFault>
     ensures exact { (result ≡ Err UcodeFault.NoMemory) ⊎ (outcome_of result ≡ Some (unit_read name.now u1.now u2.now)) }
 {
     let procs = match read_procs(alloc, u1) {
         Ok(procs) => procs,
         Err(stop) => return Err(stop.in_text(false)),
     };
-    let decls = match read_decls(alloc, u2) {
+    let decls = match read_decls(alloc, &procs, u2) {
         Ok(decls) => decls,
         Err(stop) => return Err(stop.in_text(true)),
     };
+    let procs = procs.procs;
     if !same_names(&procs, &decls) {
         return Err(UcodeFault::Broken {
             rule: Rule::U7,

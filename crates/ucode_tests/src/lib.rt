@@ -1,12 +1,17 @@
 //! Tests of units as ucode.
 #![tactic(auto)]
 
+pub mod built;
+#[cfg(test)]
+mod changes;
+#[cfg(test)]
+mod limits;
+
 #[cfg(test)]
 mod tests {
-    use icn_tree::{Bytes, Rule};
-    use icn_ucode::{
-        NameKind, ProcCode, UcodeFault, Unit, UnitDecl, UnitInstr, UnitName, read_unit, write_unit,
-    };
+    use crate::built::main_unit;
+    use icn_tree::Rule;
+    use icn_ucode::{UcodeFault, read_unit, write_unit};
     use std::alloc::{AllocError, Global};
     use std::process::Abort;
     use std::test::Fail;
@@ -15,37 +20,6 @@ mod tests {
         "U9.1\nproc main 0 0\nname u write\ncode\nmark L1\nvar 0\nstr 6869\ninvoke 1\nunmark\nlab L1\npfail\nend\n";
 
     const MAIN_DECLS: &str = "U9.2\nproc main\nend\n";
-
-    // `main` with `write("hi")`.
-    fn main_unit(alloc: Global) -> Result<Unit, AllocError> {
-        let name = Bytes::from_slice(alloc, b"main")?;
-        let write = UnitName {
-            kind: NameKind::Undeclared,
-            name: Bytes::from_slice(alloc, b"write")?,
-        };
-        let text = Bytes::from_slice(alloc, b"hi")?;
-        let instrs = vec![in alloc;
-            UnitInstr::Mark(1),
-            UnitInstr::Var(0),
-            UnitInstr::Str(text),
-            UnitInstr::Invoke(1),
-            UnitInstr::Unmark,
-            UnitInstr::Lab(1),
-            UnitInstr::Pfail,
-        ]?;
-        let proc = ProcCode {
-            name,
-            collects: false,
-            names: vec![in alloc; write]?,
-            instrs,
-        };
-        let decl = UnitDecl::Proc(Bytes::from_slice(alloc, b"main")?);
-        Ok(Unit {
-            name: Bytes::from_slice(alloc, b"f")?,
-            procs: vec![in alloc; proc]?,
-            decls: vec![in alloc; decl]?,
-        })
-    }
 
     #[test]
     fn writes_a_unit(rt: HostRuntime) -> Result<(), Fail> {
@@ -125,7 +99,11 @@ mod tests {
             ("name  l b\ncode\n", Rule::U3),
             ("code\nfoo\n", Rule::U2),
             ("code\nPop\n", Rule::U2),
-            ("code\n pop\n", Rule::U2),
+            ("code\n pop\n", Rule::U3),
+            (" code\n", Rule::U3),
+            (" \ncode\n", Rule::U3),
+            ("\ncode\n", Rule::U1),
+            ("code\n \n", Rule::U3),
             ("code\n\n", Rule::U2),
             ("code\npop \n", Rule::U3),
             ("code\npop 1\n", Rule::U3),
@@ -167,11 +145,32 @@ mod tests {
         for (u1, u2, rule, second) in [
             ("", "U9.2\nend\n", Rule::U1, false),
             ("U9.2\n", "U9.2\nend\n", Rule::U1, false),
-            ("U9.1", "U9.2\nend\n", Rule::U1, false),
+            ("U9.1", "U9.2\nend\n", Rule::U3, false),
+            ("U9.1 ", "", Rule::U3, false),
+            ("U9.1 \n", "", Rule::U3, false),
+            ("U9.1 x\n", "", Rule::U3, false),
+            (" U9.1\n", "", Rule::U3, false),
+            ("U9.12\n", "", Rule::U1, false),
+            ("U9.2", "", Rule::U1, false),
+            ("\n", "", Rule::U1, false),
+            (" ", "", Rule::U3, false),
             ("U9.1\nfoo\n", "", Rule::U1, false),
             ("U9.1\nproc f 0 0\n", "", Rule::U6, false),
             ("U9.1\nproc f 0 0\ncode\npop\n", "", Rule::U6, false),
-            ("U9.1\nproc f 0 0\ncode\nend", "", Rule::U1, false),
+            ("U9.1\nproc f 0 0\ncode\nend", "", Rule::U3, false),
+            ("U9.1\nproc f 0 0", "", Rule::U3, false),
+            ("U9.1\nproc f 0 0\ncode\npop", "", Rule::U3, false),
+            ("U9.1\nproc f 0 0\ncode\nfoo", "", Rule::U2, false),
+            ("U9.1\nproc f 0 0\ncode\nmark L1\nend", "", Rule::U4, false),
+            (
+                "U9.1\nproc f 0 0\ncode\nlab L1\nlab L1",
+                "",
+                Rule::U5,
+                false,
+            ),
+            ("U9.1\nfoo", "", Rule::U1, false),
+            ("U9.1\n pop\n", "", Rule::U3, false),
+            ("U9.1\n\n", "", Rule::U1, false),
             ("U9.1\nproc f 0 0\ncode\nend x\n", "", Rule::U3, false),
             ("U9.1\nproc f 0 1\ncode\nend\n", "", Rule::U3, false),
             ("U9.1\nproc f 1 0\ncode\nend\n", "", Rule::U3, false),
@@ -187,7 +186,16 @@ mod tests {
             ("U9.1\n", "", Rule::U1, true),
             ("U9.1\n", "U9.1\nend\n", Rule::U1, true),
             ("U9.1\n", "U9.2\n", Rule::U6, true),
-            ("U9.1\n", "U9.2\nend", Rule::U1, true),
+            ("U9.1\n", "U9.2\nend", Rule::U3, true),
+            ("U9.1\n", "U9.2", Rule::U3, true),
+            ("U9.1\n", "U9.2 x\nend\n", Rule::U3, true),
+            ("U9.1\n", "U9.2 \nend\n", Rule::U3, true),
+            ("U9.1\n", " U9.2\nend\n", Rule::U3, true),
+            ("U9.1\n", "U9.2\nend\n ", Rule::U3, true),
+            ("U9.1\n", "U9.2\nend\n\n", Rule::U1, true),
+            ("U9.1\n", "U9.2\n\nend\n", Rule::U1, true),
+            ("U9.1\n", "U9.2\n end\n", Rule::U3, true),
+            ("U9.1\n", "U9.2\nglobal a", Rule::U3, true),
             ("U9.1\n", "U9.2\nend\nend\n", Rule::U1, true),
             ("U9.1\n", "U9.2\nend x\n", Rule::U3, true),
             ("U9.1\n", "U9.2\nfoo\nend\n", Rule::U1, true),
@@ -199,6 +207,24 @@ mod tests {
             ("U9.1\n", "U9.2\nrecord r x  y\nend\n", Rule::U3, true),
             ("U9.1\n", "U9.2\nrecord r\nproc r\nend\n", Rule::U3, true),
             ("U9.1\n", "U9.2\nproc f\nend\n", Rule::U7, true),
+            (
+                "U9.1\nproc f 0 0\ncode\nend\n",
+                "U9.2\nrecord f\nend\n",
+                Rule::U3,
+                true,
+            ),
+            (
+                "U9.1\nproc f 0 0\ncode\nend\n",
+                "U9.2\nproc f\nproc f\nend\n",
+                Rule::U3,
+                true,
+            ),
+            (
+                "U9.1\nproc f 0 0\ncode\nend\nproc g 0 0\ncode\nend\n",
+                "U9.2\nproc g\nproc f\nend\n",
+                Rule::U7,
+                true,
+            ),
             (
                 "U9.1\nproc f 0 0\ncode\nend\n",
                 "U9.2\nend\n",

@@ -1,7 +1,6 @@
 use Rattle.std.proofs.Common.{◌≡◌, drop, map}
-use Rattle.icn_ucode.specs.DeclViews.{decl_seen}
-use Rattle.icn_ucode.specs.UnitReading.{same_names}
-use Rattle.icn_ucode.specs.UnitViews.{proc_seen}
+use Rattle.icn_unit.specs.UnitViews.{decl_seen, proc_seen}
+use Rattle.icn_unit.specs.UnitRules.{same_names}
 use Rattle.icn_ucode.proofs.reader.same_names.Given as goal
 
 abbrev pub invariant-loop-decl : goal.invariant-loop-decl

@@ -1,0 +1,39 @@
+-- Sets of names and labels.
+use Rattle.std.specs.Prelude.{ℕ, Bool, true, false, List, nat_eq, Option, None, Some, if◌then◌else◌}
+use Rattle.std.specs.Option.{option_map_or}
+use Rattle.std.specs.HashSet.{contains, contains_by}
+use Rattle.std.specs.Str.{bytes_eq}
+use Rattle.icn_ucode.specs.declared.sets.Labels.{Labels}
+use Rattle.icn_ucode.specs.declared.sets.Names.{Names}
+
+-- a name is in the set
+abbrev pub has : Names → List ℕ → Bool
+has names name = contains_by (λ key. bytes_eq name key.now) names.names
+
+abbrev pub no_names : List ℕ → Bool
+no_names = λ name. false
+
+abbrev pub with_name : (List ℕ → Bool) → List ℕ → List ℕ → Bool
+with_name names name = λ other. if bytes_eq name other then true else names other
+
+-- a label is in the set
+abbrev pub holds : Labels → ℕ → Bool
+holds labels label = contains nat_eq labels.labels label
+
+abbrev pub no_labels : ℕ → Bool
+no_labels = λ label. false
+
+abbrev pub with_label : (ℕ → Bool) → ℕ → ℕ → Bool
+with_label labels label = λ other. if nat_eq label other then true else labels other
+
+-- the label that has its place at an instruction is in a set
+abbrev pub has_place : (ℕ → Bool) → Option ℕ → Bool
+has_place labels place = option_map_or (λ label. labels label) place false
+
+-- the label that an instruction goes to is in a set
+abbrev pub known_label : (ℕ → Bool) → Option ℕ → Bool
+known_label labels goal = option_map_or (λ label. labels label) goal true
+
+abbrev pub with_place : (ℕ → Bool) → Option ℕ → ℕ → Bool
+with_place labels None = labels
+with_place labels (Some label) = with_label labels label

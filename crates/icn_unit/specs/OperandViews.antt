@@ -1,0 +1,27 @@
+-- How contracts see the parts of operands.
+use Rattle.std.specs.Prelude.{◌==◌, ℕ, ◌+◌, ◌*◌, Bool, true, false, ◌&&◌, nat_le, nat_lt, List, [], ◌∷◌, Option, Some, None, if◌then◌else◌}
+use Rattle.icn_unit.specs.declared.fault.Stop.{Stop}
+use Rattle.icn_unit.specs.declared.fault.Stop.TheVariants.{Broken as StopBroken, NoMemory as StopNoMemory}
+use Rattle.icn_unit.specs.declared.fault.UcodeFault.{UcodeFault}
+use Rattle.icn_unit.specs.declared.fault.UcodeFault.TheVariants.{Broken, NoMemory}
+use Rattle.icn_unit.specs.UnitOperands.{value_from, is_hexadecimal, hexadecimal_value}
+
+abbrev pub limited : ℕ → Option ℕ
+limited n = if nat_le n 9223372036854775807 then Some n else None
+
+abbrev pub value_limited : List ℕ → Option ℕ
+value_limited text = limited (value_from 0 text)
+
+abbrev pub byte_item : ℕ → ℕ → Option ℕ
+byte_item a b = if is_hexadecimal a && is_hexadecimal b then Some (hexadecimal_value a * 16 + hexadecimal_value b) else None
+
+abbrev pub below_first : ℕ → List ℕ → Bool
+below_first b [] = true
+below_first b (c ∷ rest) = nat_lt b c
+
+abbrev pub is_in_line : ℕ → Bool
+is_in_line b = if b == 10 then false else true
+
+abbrev pub fault_in : Bool → Stop → UcodeFault
+fault_in second (StopBroken rule) = Broken rule second
+fault_in second StopNoMemory = NoMemory

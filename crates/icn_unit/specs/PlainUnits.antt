@@ -1,0 +1,59 @@
+-- Units as plain lists.
+use Rattle.std.specs.Prelude.{ℕ, Bool, true, false, List, [], ◌∷◌, map, count_by}
+use Rattle.std.specs.List.{flat_map}
+use Rattle.icn_unit.specs.declared.unit.NameKind.{NameKind}
+use Rattle.icn_unit.specs.declared.unit.NameKind.TheVariants.{Parameter, Local, Static, Undeclared}
+use Rattle.icn_unit.specs.declared.unit.UnitInstr.{UnitInstr}
+use Rattle.icn_unit.specs.declared.unit.UnitName.{UnitName}
+
+pub record Proc : Type 0 where
+  pub name : List ℕ
+  pub collects : Bool
+  pub names : List UnitName
+  pub instrs : List UnitInstr
+
+pub data Decl : Type 0 where
+  Global : List ℕ → Decl
+  Procedure : List ℕ → Decl
+  Link : List ℕ → Decl
+  Record : List ℕ → List (List ℕ) → Decl
+
+pub record UnitRead : Type 0 where
+  pub name : List ℕ
+  pub procs : List Proc
+  pub decls : List Decl
+
+abbrev pub is_parameter : NameKind → Bool
+is_parameter Parameter = true
+is_parameter Local = false
+is_parameter Static = false
+is_parameter Undeclared = false
+
+abbrev pub params_in : List UnitName → ℕ
+params_in names = count_by (λ name. is_parameter name.kind) names
+
+abbrev pub proc_names : List Proc → List (List ℕ)
+proc_names procs = map (λ proc. proc.name) procs
+
+abbrev pub entry_names : List UnitName → List (List ℕ)
+entry_names names = map (λ entry. entry.name) names
+
+-- the name of a procedure or a record
+abbrev pub owned_name : Decl → List (List ℕ)
+owned_name (Global name) = []
+owned_name (Procedure name) = name ∷ []
+owned_name (Link bytes) = []
+owned_name (Record name fields) = name ∷ []
+
+abbrev pub owned_names : List Decl → List (List ℕ)
+owned_names decls = flat_map owned_name decls
+
+-- the name of a procedure
+abbrev pub declared_name : Decl → List (List ℕ)
+declared_name (Procedure name) = name ∷ []
+declared_name (Global name) = []
+declared_name (Link bytes) = []
+declared_name (Record name fields) = []
+
+abbrev pub declared_names : List Decl → List (List ℕ)
+declared_names decls = flat_map declared_name decls

@@ -1,0 +1,156 @@
+-- The rules that a unit keeps.
+use Rattle.std.specs.Prelude.{ℕ, ℤ, pos, negsuc, Bool, true, false, ◌&&◌, ◌||◌, not, nat_eq, nat_le, nat_lt, List, [], ◌∷◌, length, Option, Some, None}
+use Rattle.std.specs.List.{list_all, list_any, flat_map}
+use Rattle.std.specs.Option.{option_map_or}
+use Rattle.std.specs.Str.{bytes_eq}
+use Rattle.icn_unit.specs.declared.unit.NameKind.{NameKind}
+use Rattle.icn_unit.specs.declared.unit.NameKind.TheVariants.{Parameter, Local, Static, Undeclared}
+use Rattle.icn_unit.specs.declared.unit.UnitInstr.{UnitInstr}
+use Rattle.icn_unit.specs.declared.unit.UnitInstr.TheVariants.{Int, Str, Cset, Var, Llist, Field, Invoke, Mark, Chfail, Goto, Loop, Init, Create, Lab}
+use Rattle.icn_unit.specs.declared.unit.UnitName.{UnitName}
+use Rattle.icn_unit.specs.PlainUnits.{Proc, Decl, Global, Procedure, Link, Record, params_in, proc_names, entry_names, owned_names, declared_names}
+use Rattle.icn_unit.specs.UnitOperands.{is_name, ascends}
+
+-- Texts and numbers
+
+abbrev pub is_byte : ℕ → Bool
+is_byte b = nat_lt b 256
+
+-- at most 65535 bytes
+abbrev pub is_byte_text : List ℕ → Bool
+is_byte_text bytes = list_all is_byte bytes && nat_le (length bytes) 65535
+
+abbrev pub is_integer : ℤ → Bool
+is_integer (pos n) = nat_le n 9223372036854775807
+is_integer (negsuc n) = false
+
+-- every number but an integer's
+abbrev pub is_number : ℕ → Bool
+is_number n = nat_le n 4294967295
+
+-- Names and labels that differ
+
+abbrev pub is_among : {A : Type 0} → (A → A → Bool) → List A → A → Bool
+is_among same xs x = list_any (λ y. same x y) xs
+
+abbrev pub all_differ : {A : Type 0} → (A → A → Bool) → List A → Bool
+all_differ same [] = true
+all_differ same (x ∷ xs) = not (is_among same xs x) && all_differ same xs
+
+abbrev pub has_name : List (List ℕ) → List ℕ → Bool
+has_name names name = is_among bytes_eq names name
+
+abbrev pub names_differ : List (List ℕ) → Bool
+names_differ names = all_differ bytes_eq names
+
+abbrev pub has_label : List ℕ → ℕ → Bool
+has_label labels label = is_among nat_eq labels label
+
+abbrev pub labels_differ : List ℕ → Bool
+labels_differ labels = all_differ nat_eq labels
+
+-- Instructions
+
+-- the operand, in a procedure of so many names
+abbrev pub keeps_operand : ℕ → UnitInstr → Bool
+keeps_operand names (Int n) = is_integer n
+keeps_operand names (Str bytes) = is_byte_text bytes
+keeps_operand names (Cset bytes) = is_byte_text bytes && ascends bytes
+keeps_operand names (Var k) = nat_lt k names && is_number k
+keeps_operand names (Field name) = is_name name
+keeps_operand names (Llist n) = is_number n
+keeps_operand names (Invoke n) = is_number n
+keeps_operand names (Mark label) = is_number label
+keeps_operand names (Chfail label) = is_number label
+keeps_operand names (Goto label) = is_number label
+keeps_operand names (Loop label) = is_number label
+keeps_operand names (Init label) = is_number label
+keeps_operand names (Create label) = is_number label
+keeps_operand names (Lab label) = is_number label
+keeps_operand names _ = true
+
+-- the label that has its place there
+abbrev pub place_of : UnitInstr → Option ℕ
+place_of (Lab label) = Some label
+place_of _ = None
+
+abbrev pub place_list : Option ℕ → List ℕ
+place_list None = []
+place_list (Some label) = label ∷ []
+
+-- the labels that have their places among instructions
+abbrev pub placed : List UnitInstr → List ℕ
+placed instrs = flat_map (λ instr. place_list (place_of instr)) instrs
+
+-- the label that an instruction goes to
+abbrev pub label_in : UnitInstr → Option ℕ
+label_in (Mark label) = Some label
+label_in (Chfail label) = Some label
+label_in (Goto label) = Some label
+label_in (Loop label) = Some label
+label_in (Init label) = Some label
+label_in (Create label) = Some label
+label_in _ = None
+
+abbrev pub label_placed : List UnitInstr → UnitInstr → Bool
+label_placed instrs instr = option_map_or (λ label. has_label (placed instrs) label) (label_in instr) true
+
+-- each label that an instruction goes to has its place
+abbrev pub labels_placed : List UnitInstr → Bool
+labels_placed instrs = list_all (λ instr. label_placed instrs instr) instrs
+
+abbrev pub keeps_code : ℕ → List UnitInstr → Bool
+keeps_code names instrs = list_all (λ instr. keeps_operand names instr) instrs && labels_differ (placed instrs) && labels_placed instrs
+
+-- Procedures
+
+-- parameters come first, then locals and statics, then undeclared names
+abbrev pub rank : NameKind → ℕ
+rank Parameter = 0
+rank Local = 1
+rank Static = 1
+rank Undeclared = 2
+
+abbrev pub in_order : List UnitName → Bool
+in_order [] = true
+in_order (a ∷ []) = true
+in_order (a ∷ b ∷ rest) = nat_le (rank a.kind) (rank b.kind) && in_order (b ∷ rest)
+
+abbrev pub keeps_names : List UnitName → Bool
+keeps_names names = list_all is_name (entry_names names) && names_differ (entry_names names) && in_order names
+
+-- the last parameter collects only where there is one
+abbrev pub keeps_head : List ℕ → ℕ → Bool → Bool
+keeps_head name params collects = is_name name && is_number params && (not collects || nat_lt 0 params)
+
+abbrev pub keeps_proc : Proc → Bool
+keeps_proc proc = keeps_head proc.name (params_in proc.names) proc.collects && keeps_names proc.names && keeps_code (length proc.names) proc.instrs
+
+abbrev pub keeps_procs : List Proc → Bool
+keeps_procs procs = list_all keeps_proc procs && names_differ (proc_names procs)
+
+-- Declarations
+
+abbrev pub keeps_decl : Decl → Bool
+keeps_decl (Global name) = is_name name
+keeps_decl (Procedure name) = is_name name
+keeps_decl (Link bytes) = is_byte_text bytes
+keeps_decl (Record name fields) = is_name name && list_all is_name fields && names_differ fields
+
+abbrev pub keeps_decls : List Decl → Bool
+keeps_decls decls = list_all keeps_decl decls && names_differ (owned_names decls)
+
+-- Units
+
+abbrev pub same_texts : List (List ℕ) → List (List ℕ) → Bool
+same_texts [] [] = true
+same_texts [] (y ∷ ys) = false
+same_texts (x ∷ xs) [] = false
+same_texts (x ∷ xs) (y ∷ ys) = bytes_eq x y && same_texts xs ys
+
+-- the procedures in their order, by name, are those that the declarations name
+abbrev pub same_names : List Proc → List Decl → Bool
+same_names procs decls = same_texts (proc_names procs) (declared_names decls)
+
+unfoldable pub keeps_rules : List Proc → List Decl → Bool
+keeps_rules procs decls = keeps_procs procs && keeps_decls decls && same_names procs decls

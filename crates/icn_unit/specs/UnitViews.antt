@@ -1,0 +1,14 @@
+-- How contracts see units.
+use Rattle.icn_unit.specs.declared.unit.ProcCode.{ProcCode}
+use Rattle.icn_unit.specs.declared.unit.UnitDecl.{UnitDecl}
+use Rattle.icn_unit.specs.declared.unit.UnitDecl.TheVariants.{Global as GlobalDecl, Proc as ProcDecl, Link as LinkDecl, Record as RecordDecl}
+use Rattle.icn_unit.specs.PlainUnits.{Proc, Decl, Global, Procedure, Link, Record}
+
+abbrev pub proc_seen : ProcCode → Proc
+proc_seen proc = record { name = proc.name; collects = proc.collects; names = proc.names.items; instrs = proc.instrs.items }
+
+abbrev pub decl_seen : UnitDecl → Decl
+decl_seen (GlobalDecl name) = Global name
+decl_seen (ProcDecl name) = Procedure name
+decl_seen (LinkDecl bytes) = Link bytes
+decl_seen (RecordDecl name fields) = Record name fields.items
