@@ -1,0 +1,13 @@
+pub mod Numbered
+pub mod Loops
+pub mod Globals
+pub mod Bodies
+pub mod Puts
+pub mod Fields
+pub mod Entries
+pub mod Instructions
+pub mod Starts
+pub mod Differing
+pub mod Heads
+pub mod Procedures
+pub mod Whole

@@ -1,0 +1,18 @@
+-- The names that globals have already.
+use Rattle.std.specs.Prelude.{ℕ, Bool, true, false, List, if◌then◌else◌}
+use Rattle.std.specs.HashSet.{contains_by}
+use Rattle.std.specs.Str.{bytes_eq}
+use Rattle.icn_image.specs.declared.names.Met.{Met}
+
+abbrev pub NameTest : Type 0
+NameTest = List ℕ → Bool
+
+abbrev pub none_met : NameTest
+none_met = λ name. false
+
+abbrev pub with_name : NameTest → List ℕ → NameTest
+with_name met name = λ other. if bytes_eq name other then true else met other
+
+-- a name is among them
+abbrev pub has : Met → NameTest
+has met name = contains_by (λ key. bytes_eq name key.now) met.names

@@ -1,0 +1,22 @@
+//! The image of linked code: its bytes, read and written exactly.
+#![tactic(auto)]
+
+mod fault;
+mod front;
+mod global;
+mod head;
+mod instr;
+mod laws;
+mod names;
+mod number;
+mod operand;
+mod procs;
+mod reading;
+mod scope;
+mod table;
+mod writing;
+
+pub use fault::ImageFault;
+pub use laws::one_spelling;
+pub use reading::read_image;
+pub use writing::write_image;

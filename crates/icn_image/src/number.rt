@@ -1,0 +1,60 @@
+// Bytes and numbers at the front of an image.
+ghost use Rattle.std.specs.Prelude.{◌<◌, IfOk};
+ghost use Rattle.std.specs.Int.{w16, w32};
+ghost use Rattle.icn_image.specs.Readers.{Gives, byte_at, bytes_at, number_at, place_at};
+
+use crate::fault::ImageFault;
+use icn_tree::Rule;
+
+// So many bytes, and what stands behind them.
+pub fn bytes_at(count: usize, bytes: &[u8]) -> Result<(&[u8], &[u8]), ImageFault>
+    ensures { Gives (λ x. (x.0.now, x.1.now)) result (bytes_at count bytes.now) }
+{
+    if bytes.len() < count {
+        return Err(ImageFault::Broken(Rule::I2));
+    }
+    Ok(bytes.split_at(count))
+}
+
+// A byte.
+pub fn byte_at(bytes: &[u8]) -> Result<(u8, &[u8]), ImageFault>
+    ensures { Gives (λ x. (x.0, x.1.now)) result (byte_at bytes.now) }
+{
+    match bytes {
+        [] => Err(ImageFault::Broken(Rule::I2)),
+        [byte, rest @ ..] => Ok((*byte, rest)),
+    }
+}
+
+// A count, a length, a place in a table or an operand. This alone knows how wide they are.
+#[tactic(auto, unfolding(crate::specs::Readers::number_at))]
+pub fn number_at(bytes: &[u8]) -> Result<(u32, &[u8]), ImageFault>
+    ensures { Gives (λ x. (x.0, x.1.now)) result (number_at w16 bytes.now) }
+{
+    let (number, rest) = bytes_at(2, bytes)?;
+    let number = u16::from_le_bytes([number[0], number[1]]);
+    Ok((u32::from(number), rest))
+}
+
+// A label, or how many instructions a procedure has.
+#[tactic(auto, unfolding(crate::specs::Readers::number_at))]
+pub fn label_at(bytes: &[u8]) -> Result<(u32, &[u8]), ImageFault>
+    ensures { Gives (λ x. (x.0, x.1.now)) result (number_at w32 bytes.now) }
+{
+    let (number, rest) = bytes_at(4, bytes)?;
+    let number = u32::from_le_bytes([number[0], number[1], number[2], number[3]]);
+    Ok((number, rest))
+}
+
+// A place in a table of so many entries.
+#[tactic(auto, unfolding(crate::specs::Readers::place_at))]
+pub fn place_at(count: usize, bytes: &[u8]) -> Result<(u32, &[u8]), ImageFault>
+    ensures gives { Gives (λ x. (x.0, x.1.now)) result (place_at w16 count bytes.now) }
+    ensures there { IfOk result (λ x. x.0 < count) }
+{
+    let (place, rest) = number_at(bytes)?;
+    if place as usize >= count {
+        return Err(ImageFault::Broken(Rule::I4));
+    }
+    Ok((place, rest))
+}

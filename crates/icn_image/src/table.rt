@@ -1,0 +1,193 @@
+// The tables of strings, csets, integers, fields and records.
+ghost use Rattle.std.specs.Prelude.{map};
+ghost use Rattle.std.specs.Int.{w16};
+ghost use Rattle.icn_code.specs.Codes.{record_of, records_of};
+ghost use Rattle.icn_image.specs.Readers.{Gives, place_at, table_at, times};
+ghost use Rattle.icn_image.specs.Reading.{cset_at, integer_at, record_at, string_at};
+
+use crate::fault::ImageFault;
+use crate::number::{bytes_at, number_at, place_at};
+use icn_code::Record;
+use icn_tree::{Bytes, Rule};
+use icn_value::Cset;
+use std::alloc::Global;
+
+// A count may be greater than what the bytes hold, so each table grows as its entries are read, and never takes room by its
+// count.
+
+#[tactic(auto, unfolding(crate::specs::Reading::string_at))]
+fn string_at(alloc: Global, bytes: &[u8]) -> Result<(Bytes, &[u8]), ImageFault>
+    ensures { Gives (λ x. (x.0, x.1.now)) result (string_at w16 bytes.now) }
+{
+    let (count, rest) = number_at(bytes)?;
+    let (text, rest) = bytes_at(count as usize, rest)?;
+    Ok((Bytes::from_slice(alloc, text)?, rest))
+}
+
+fn so_many_strings(
+    alloc: Global,
+    count: u32,
+    bytes: &[u8],
+) -> Result<(Vec<Bytes>, &[u8]), ImageFault>
+    ensures { Gives (λ x. (x.0.items, x.1.now)) result (times (string_at w16) count bytes.now) }
+{
+    let mut strings = Vec::new(alloc);
+    let mut rest = bytes;
+    for _ in 0..count {
+        let (string, after) = string_at(alloc, rest)?;
+        strings.push(string)?;
+        rest = after;
+    }
+    Ok((strings, rest))
+}
+
+// The table of strings.
+#[tactic(auto, unfolding(crate::specs::Readers::table_at))]
+pub fn strings_at(alloc: Global, bytes: &[u8]) -> Result<(Vec<Bytes>, &[u8]), ImageFault>
+    ensures { Gives (λ x. (x.0.items, x.1.now)) result (table_at w16 (string_at w16) bytes.now) }
+{
+    let (count, rest) = number_at(bytes)?;
+    so_many_strings(alloc, count, rest)
+}
+
+fn cset_at(bytes: &[u8]) -> Result<(Cset, &[u8]), ImageFault>
+    ensures { Gives (λ x. (x.0, x.1.now)) result (cset_at bytes.now) }
+{
+    match bytes.split_first_chunk::<32>() {
+        None => Err(ImageFault::Broken(Rule::I2)),
+        Some((bits, rest)) => Ok((Cset { bits: *bits }, rest)),
+    }
+}
+
+fn so_many_csets(alloc: Global, count: u32, bytes: &[u8]) -> Result<(Vec<Cset>, &[u8]), ImageFault>
+    ensures { Gives (λ x. (x.0.items, x.1.now)) result (times cset_at count bytes.now) }
+{
+    let mut csets = Vec::new(alloc);
+    let mut rest = bytes;
+    for _ in 0..count {
+        let (cset, after) = cset_at(rest)?;
+        csets.push(cset)?;
+        rest = after;
+    }
+    Ok((csets, rest))
+}
+
+// The table of csets.
+#[tactic(auto, unfolding(crate::specs::Readers::table_at))]
+pub fn csets_at(alloc: Global, bytes: &[u8]) -> Result<(Vec<Cset>, &[u8]), ImageFault>
+    ensures { Gives (λ x. (x.0.items, x.1.now)) result (table_at w16 cset_at bytes.now) }
+{
+    let (count, rest) = number_at(bytes)?;
+    so_many_csets(alloc, count, rest)
+}
+
+#[tactic(auto, unfolding(crate::specs::Reading::integer_at, crate::specs::Readers::number_at))]
+fn integer_at(bytes: &[u8]) -> Result<(i64, &[u8]), ImageFault>
+    ensures { Gives (λ x. (x.0, x.1.now)) result (integer_at bytes.now) }
+{
+    let (front, rest) = bytes_at(8, bytes)?;
+    let integer = i64::from_le_bytes([
+        front[0], front[1], front[2], front[3], front[4], front[5], front[6], front[7],
+    ]);
+    Ok((integer, rest))
+}
+
+fn so_many_integers(
+    alloc: Global,
+    count: u32,
+    bytes: &[u8],
+) -> Result<(Vec<i64>, &[u8]), ImageFault>
+    ensures { Gives (λ x. (x.0.items, x.1.now)) result (times integer_at count bytes.now) }
+{
+    let mut integers = Vec::new(alloc);
+    let mut rest = bytes;
+    for _ in 0..count {
+        let (integer, after) = integer_at(rest)?;
+        integers.push(integer)?;
+        rest = after;
+    }
+    Ok((integers, rest))
+}
+
+// The table of integers.
+#[tactic(auto, unfolding(crate::specs::Readers::table_at))]
+pub fn integers_at(alloc: Global, bytes: &[u8]) -> Result<(Vec<i64>, &[u8]), ImageFault>
+    ensures { Gives (λ x. (x.0.items, x.1.now)) result (table_at w16 integer_at bytes.now) }
+{
+    let (count, rest) = number_at(bytes)?;
+    so_many_integers(alloc, count, rest)
+}
+
+fn so_many_places(
+    alloc: Global,
+    among: usize,
+    count: u32,
+    bytes: &[u8],
+) -> Result<(Vec<u32>, &[u8]), ImageFault>
+    ensures { Gives (λ x. (x.0.items, x.1.now)) result (times (place_at w16 among) count bytes.now) }
+{
+    let mut places = Vec::new(alloc);
+    let mut rest = bytes;
+    for _ in 0..count {
+        let (place, after) = place_at(among, rest)?;
+        places.push(place)?;
+        rest = after;
+    }
+    Ok((places, rest))
+}
+
+// A table of places in a table of so many entries.
+#[tactic(auto, unfolding(crate::specs::Readers::table_at))]
+pub fn places_at(alloc: Global, among: usize, bytes: &[u8]) -> Result<(Vec<u32>, &[u8]), ImageFault>
+    ensures { Gives (λ x. (x.0.items, x.1.now)) result (table_at w16 (place_at w16 among) bytes.now) }
+{
+    let (count, rest) = number_at(bytes)?;
+    so_many_places(alloc, among, count, rest)
+}
+
+#[tactic(auto, unfolding(crate::specs::Reading::record_at))]
+fn record_at(
+    alloc: Global,
+    strings: usize,
+    fields: usize,
+    bytes: &[u8],
+) -> Result<(Record, &[u8]), ImageFault>
+    ensures { Gives (λ x. (record_of x.0, x.1.now)) result (record_at w16 strings fields bytes.now) }
+{
+    let (name, rest) = place_at(strings, bytes)?;
+    let (fields, rest) = places_at(alloc, fields, rest)?;
+    Ok((Record { name, fields }, rest))
+}
+
+fn so_many_records(
+    alloc: Global,
+    strings: usize,
+    fields: usize,
+    count: u32,
+    bytes: &[u8],
+) -> Result<(Vec<Record>, &[u8]), ImageFault>
+    ensures { Gives (λ x. (records_of x.0.items, x.1.now)) result (times (record_at w16 strings fields) count bytes.now) }
+{
+    let mut records = Vec::new(alloc);
+    let mut rest = bytes;
+    for _ in 0..count {
+        let (kind, after) = record_at(alloc, strings, fields, rest)?;
+        records.push(kind)?;
+        rest = after;
+    }
+    Ok((records, rest))
+}
+
+// The table of records, in a code with so many strings and fields.
+#[tactic(auto, unfolding(crate::specs::Readers::table_at))]
+pub fn records_at(
+    alloc: Global,
+    strings: usize,
+    fields: usize,
+    bytes: &[u8],
+) -> Result<(Vec<Record>, &[u8]), ImageFault>
+    ensures { Gives (λ x. (records_of x.0.items, x.1.now)) result (table_at w16 (record_at w16 strings fields) bytes.now) }
+{
+    let (count, rest) = number_at(bytes)?;
+    so_many_records(alloc, strings, fields, count, rest)
+}
