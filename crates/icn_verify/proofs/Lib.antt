@@ -1,0 +1,14 @@
+mod Same
+mod Seeing
+mod Ways
+mod Arriving
+mod Judging
+mod Passed
+mod Giving
+mod Stacking
+mod Entering
+mod Looking
+mod Tables
+mod Bounding
+mod Checking
+mod Lawful

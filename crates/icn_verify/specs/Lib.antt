@@ -1,0 +1,10 @@
+pub mod Shapes
+pub mod Rows
+pub mod Reaching
+pub mod Faults
+pub mod Given
+pub mod Laws
+pub mod Passing
+pub mod Refusals
+pub mod Entries
+pub mod Stacks

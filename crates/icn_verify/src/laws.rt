@@ -1,0 +1,15 @@
+// Laws of the shapes and of the first fault.
+ghost use Rattle.icn_verify.specs.Laws.{HaveOneShape, AreLeast, HaveOneFault, HaveNoFault};
+
+/// At most one shape reaches a place that is not refused for it, and the shapes that reach are the least that hold at the start
+/// and are carried on.
+pub fn least_shapes()
+    ensures one_shape { HaveOneShape }
+    ensures least { AreLeast }
+{}
+
+/// Procedures have at most one first fault, and none where they break no rule.
+pub fn one_fault()
+    ensures one_fault { HaveOneFault }
+    ensures no_fault { HaveNoFault }
+{}

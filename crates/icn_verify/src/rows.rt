@@ -1,0 +1,204 @@
+// The table of the instructions.
+ghost use Rattle.std.specs.Prelude.{◌≡◌};
+ghost use Rattle.icn_verify.specs.Rows.{works, asking, changing, leading, row_of, meets, is_ended, has_operand};
+
+use crate::shape::{Level, LevelKind, Look};
+use icn_code::Instr;
+use icn_defs::arity;
+
+/// What an instruction asks for.
+#[derive(Clone, Copy)]
+pub enum Asks {
+    Nothing,
+    /// An open mark.
+    OpenMark,
+    /// An open mark with exactly one operand and no open scan.
+    EndedMark,
+    /// The same of a plain mark.
+    EndedPlain,
+    /// The same of a limit mark.
+    EndedLimit,
+    /// An open plain mark.
+    OpenPlain,
+    /// An open scan in the innermost level.
+    OpenScan,
+    /// An open mark, and an operand in the level outside it.
+    OperandOutside,
+    /// A place outside create bodies.
+    OutsideCreate,
+    /// A place inside a create body.
+    InsideCreate,
+}
+
+/// What an instruction does to the levels.
+#[derive(Clone, Copy)]
+pub enum Change {
+    Keeps,
+    OpensPlain,
+    OpensLimit,
+    /// The innermost mark goes.
+    Drops,
+    OpensScan,
+    ClosesScan,
+}
+
+/// How an instruction goes on.
+#[derive(Clone, Copy)]
+pub enum Way {
+    /// To the next instruction.
+    On,
+    Ends,
+    /// To the next instruction; where the mark that it opens fails, to the label.
+    Fails(u32),
+    /// To a label that lies after it.
+    Jumps(u32),
+    /// Back to a label.
+    Returns(u32),
+    /// To the next instruction; where the innermost mark fails, back to the label.
+    Retries(u32),
+    /// To the next instruction, or to a label that lies after it.
+    Skips(u32),
+    /// To a label that lies after it; a create body begins at the next instruction.
+    Forks(u32),
+}
+
+/// A row of the table.
+#[derive(Clone, Copy)]
+pub struct Row {
+    /// How many operands the instruction takes from the innermost level.
+    pub takes: u64,
+    /// How many it leaves in the level that is innermost then.
+    pub leaves: u32,
+    pub asks: Asks,
+    pub change: Change,
+    pub way: Way,
+}
+
+impl Row {
+    // Operands taken and left, and on to the next instruction.
+    fn works(takes: u64, leaves: u32) -> Row
+        ensures { result ≡ works takes leaves }
+    {
+        Row::asking(Asks::Nothing, takes, leaves)
+    }
+
+    fn asking(asks: Asks, takes: u64, leaves: u32) -> Row
+        ensures { result ≡ asking asks takes leaves }
+    {
+        Row::changing(asks, Change::Keeps, takes, leaves)
+    }
+
+    fn changing(asks: Asks, change: Change, takes: u64, leaves: u32) -> Row
+        ensures { result ≡ changing asks change takes leaves }
+    {
+        Row {
+            takes,
+            leaves,
+            asks,
+            change,
+            way: Way::On,
+        }
+    }
+
+    // On in another way, without operands.
+    fn leading(asks: Asks, way: Way) -> Row
+        ensures { result ≡ leading asks way }
+    {
+        Row {
+            takes: 0,
+            leaves: 0,
+            asks,
+            change: Change::Keeps,
+            way,
+        }
+    }
+}
+
+/// The row of an instruction.
+pub fn row_of(instr: Instr) -> Row
+    ensures { result ≡ row_of instr }
+{
+    match instr {
+        Instr::Pnull
+        | Instr::Int(_)
+        | Instr::Str(_)
+        | Instr::Cset(_)
+        | Instr::Local(_)
+        | Instr::Static(_)
+        | Instr::Global(_)
+        | Instr::Keywd(_) => Row::works(0, 1),
+        Instr::Pop => Row::works(1, 0),
+        Instr::Dup => Row::works(1, 2),
+        Instr::Op(op) => Row::works(u64::from(arity(op)), 1),
+        Instr::Llist(count) => Row::works(u64::from(count), 1),
+        Instr::Field(_) => Row::works(1, 1),
+        Instr::Invoke(count) => Row::works(u64::from(count) + 1, 1),
+        Instr::Appl | Instr::Coact => Row::works(2, 1),
+        Instr::Mark(label) => Row {
+            way: Way::Fails(label),
+            ..Row::changing(Asks::Nothing, Change::OpensPlain, 0, 0)
+        },
+        Instr::Mark0 => Row::changing(Asks::Nothing, Change::OpensPlain, 0, 0),
+        Instr::Unmark => Row::changing(Asks::OpenMark, Change::Drops, 0, 0),
+        Instr::Eret => Row::changing(Asks::EndedMark, Change::Drops, 1, 1),
+        Instr::Esusp => Row::changing(Asks::EndedPlain, Change::Drops, 1, 1),
+        Instr::Limit => Row::changing(Asks::Nothing, Change::OpensLimit, 1, 0),
+        Instr::Lsusp => Row::changing(Asks::EndedLimit, Change::Drops, 1, 1),
+        Instr::Efail => Row::leading(Asks::Nothing, Way::Ends),
+        Instr::Chfail(label) => Row::leading(Asks::OpenPlain, Way::Retries(label)),
+        Instr::Goto(label) => Row::leading(Asks::Nothing, Way::Jumps(label)),
+        Instr::Loop(label) => Row::leading(Asks::Nothing, Way::Returns(label)),
+        Instr::Bscan => Row::changing(Asks::Nothing, Change::OpensScan, 1, 0),
+        Instr::Escan => Row::changing(Asks::OpenScan, Change::ClosesScan, 1, 1),
+        Instr::Ccase => Row::asking(Asks::OperandOutside, 0, 1),
+        Instr::Init(label) => Row::leading(Asks::OutsideCreate, Way::Skips(label)),
+        Instr::Psusp => Row::asking(Asks::OutsideCreate, 1, 1),
+        Instr::Pret => Row {
+            way: Way::Ends,
+            ..Row::asking(Asks::OutsideCreate, 1, 0)
+        },
+        Instr::Pfail => Row::leading(Asks::OutsideCreate, Way::Ends),
+        Instr::Create(label) => Row {
+            way: Way::Forks(label),
+            ..Row::works(0, 1)
+        },
+        Instr::Coret => Row::asking(Asks::InsideCreate, 1, 1),
+        Instr::Cofail => Row::leading(Asks::InsideCreate, Way::Ends),
+    }
+}
+
+// Exactly one operand, and no open scan.
+fn is_ended(level: Level) -> bool
+    ensures { result ≡ is_ended level }
+{
+    level.operands == 1 && level.scans == 0
+}
+
+fn has_operand(level: Level) -> bool
+    ensures { result ≡ has_operand level }
+{
+    level.operands > 0
+}
+
+/// Whether what an instruction asks for is there.
+pub fn meets(asks: Asks, look: Look) -> bool
+    ensures { result ≡ meets asks look }
+{
+    let is_open = look.outside.is_some();
+    let inner = look.inner;
+    match asks {
+        Asks::Nothing => true,
+        Asks::OpenMark => is_open,
+        Asks::EndedMark => is_open && is_ended(inner),
+        Asks::EndedPlain => is_open && inner.kind == LevelKind::Plain && is_ended(inner),
+        Asks::EndedLimit => is_open && inner.kind == LevelKind::Limit && is_ended(inner),
+        Asks::OpenPlain => is_open && inner.kind == LevelKind::Plain,
+        Asks::OpenScan => inner.scans > 0,
+        Asks::OperandOutside => match look.outside {
+            Some(level) => has_operand(level),
+            None => false,
+        },
+        Asks::OutsideCreate => !look.in_create,
+        Asks::InsideCreate => look.in_create,
+    }
+}
