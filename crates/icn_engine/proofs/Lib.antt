@@ -1,0 +1,5 @@
+pub mod Closing
+pub mod Marks
+pub mod Safe
+pub mod Standing
+pub mod Starting

@@ -1,0 +1,40 @@
+-- The status of each answer, and which answers are faults.
+use Rattle.std.specs.Prelude.{ℕ, Bool, true, false, IsTrue}
+use Rattle.icn_run.specs.declared.ending.Ending.TheVariants.{Done, Exit, Errored, AtBound}
+use Rattle.icn_engine.specs.declared.answer.Answer.{Answer}
+use Rattle.icn_engine.specs.declared.answer.Answer.TheVariants.{Wrote, Ran, Refused, Command, Missing, BadImage, FileFault, ReadFault, WriteFault, NoMemory}
+
+-- the status that the program ends with
+abbrev pub status_of : Answer → ℕ
+status_of Wrote = 0
+status_of (Ran Done) = 0
+status_of (Ran (Exit status)) = status
+status_of (Ran (Errored number)) = 1
+status_of (Ran AtBound) = 3
+status_of (Refused file line rule) = 2
+status_of (Command kind) = 2
+status_of (Missing name) = 2
+status_of (BadImage rule) = 2
+status_of FileFault = 2
+status_of ReadFault = 2
+status_of WriteFault = 2
+status_of NoMemory = 5
+
+-- an answer that says what failed outside, in place of what the words and the files ask for
+abbrev pub is_fault : Answer → Bool
+is_fault FileFault = true
+is_fault ReadFault = true
+is_fault WriteFault = true
+is_fault NoMemory = true
+is_fault answer = false
+
+abbrev pub IsFault : Answer → Type 0
+IsFault answer = IsTrue (is_fault answer)
+
+-- an answer after which the files, the input and the output are as they were
+abbrev pub IsRefusal : Answer → Type 0
+IsRefusal (Refused file line rule) = Unit {0}
+IsRefusal (Command kind) = Unit {0}
+IsRefusal (Missing name) = Unit {0}
+IsRefusal (BadImage rule) = Unit {0}
+IsRefusal _ = ⊥

@@ -1,0 +1,6 @@
+pub mod Faults
+pub mod Machines
+pub mod Mains
+pub mod Asked
+pub mod Runs
+pub mod Answers

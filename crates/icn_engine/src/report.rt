@@ -1,0 +1,60 @@
+// The report of a run's end.
+ghost use Rattle.std.specs.Prelude.{◌≡◌, ◌≤◌, IfOk, OnOk, OnErr, IsErrOf};
+ghost use Rattle.icn_host.specs.Counts.{HasCause};
+ghost use Rattle.icn_host.specs.Sinks.{Gains, GainsPart};
+ghost use Rattle.icn_run.specs.Reports.{error_text, report_of};
+
+use crate::fault::RunFault;
+use icn_host::Sink;
+use icn_run::Ending;
+use icn_text::decimal;
+use std::alloc::{AllocError, Global};
+
+/// Puts the report of a run that ended so, if it has one.
+pub fn report<E: Sink>(alloc: Global, ending: Ending, err: &mut E) -> Result<(), RunFault>
+    ensures ok { OnOk result (Gains (E.held err.old) (E.held err.new) (report_of ending)) }
+    ensures err { OnErr result (GainsPart (E.held err.old) (E.held err.new) (report_of ending)) }
+    ensures cause { HasCause (E.faults err.old) (E.faults err.new) (IsErrOf result RunFault.WriteFault) }
+    ensures wants { E.wants err.old ≤ E.wants err.new }
+    ensures unread { IsErrOf result RunFault.ReadFault → ⊥ }
+{
+    match ending {
+        Ending::Done | Ending::Exit(_) => Ok(()),
+        Ending::AtBound => put(b"turn bound reached\n", err),
+        Ending::Errored(number) => put(&error_report(alloc, number)?, err),
+    }
+}
+
+fn put<E: Sink>(line: &[u8], err: &mut E) -> Result<(), RunFault>
+    ensures ok { OnOk result (Gains (E.held err.old) (E.held err.new) line.now) }
+    ensures err { OnErr result (GainsPart (E.held err.old) (E.held err.new) line.now) }
+    ensures cause { HasCause (E.faults err.old) (E.faults err.new) (IsErrOf result RunFault.WriteFault) }
+    ensures wants { E.wants err.old ≤ E.wants err.new }
+    ensures unread { IsErrOf result RunFault.ReadFault → ⊥ }
+{
+    err.put(line)?;
+    Ok(())
+}
+
+// The report of a run-time error.
+fn error_report(alloc: Global, number: u16) -> Result<Vec<u8>, AllocError>
+    ensures { IfOk result (λ line. line.items ≡ report_of (Ending.Errored number)) }
+{
+    let mut line = Vec::from_slice(alloc, b"Run-time error ")?;
+    line.extend_from_slice(decimal(i64::from(number)).as_bytes())?;
+    line.push(b'\n')?;
+    line.extend_from_slice(error_text(number))?;
+    line.push(b'\n')?;
+    Ok(line)
+}
+
+fn error_text(number: u16) -> &'static [u8]
+    ensures { result.now ≡ error_text number }
+{
+    match number {
+        117 => b"missing main procedure",
+        306 => b"inadequate space in string region",
+        307 => b"inadequate space in block region",
+        _ => b"",
+    }
+}

@@ -1,0 +1,6 @@
+pub mod Values
+pub mod States
+pub mod CodeStep
+pub mod CodeRun
+pub mod Built
+pub mod Reports
