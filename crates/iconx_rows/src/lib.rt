@@ -1,0 +1,457 @@
+//! Worked rows of `iconx`: calls of its top call over objects in memory, with what they answer and put.
+#![tactic(auto)]
+
+#[cfg(test)]
+mod tests {
+    use icn_host::{MemFiles, MemSink, MemSource};
+    use icn_tree::Rule;
+    use iconx_top::{Answer, Ending, iconx_main};
+    use std::alloc::Global;
+    use std::collections::BTreeMap;
+    use std::test::Fail;
+
+    // The image of `write("hi")`, by hand, without a mark.
+    const HI: [u8; 72] = [
+        0x49, 0x63, 0x6e, 0x39, 0x69, 0x6d, 0x67, 0x01, 0x03, 0x00, 0x04, 0x00, 0x6d, 0x61, 0x69,
+        0x6e, 0x05, 0x00, 0x77, 0x72, 0x69, 0x74, 0x65, 0x02, 0x00, 0x68, 0x69, 0x00, 0x00, 0x00,
+        0x00, 0x00, 0x00, 0x00, 0x00, 0x02, 0x00, 0x00, 0x00, 0x01, 0x00, 0x00, 0x01, 0x00, 0x03,
+        0x32, 0x00, 0x01, 0x00, 0x00, 0x00, 0x00, 0x00, 0x00, 0x00, 0x00, 0x00, 0x00, 0x04, 0x00,
+        0x00, 0x00, 0x07, 0x01, 0x00, 0x03, 0x02, 0x00, 0x0e, 0x01, 0x00, 0x21,
+    ];
+
+    const USAGE: &str =
+        "usage: iconx [-n turns] [-s bytes] [-b cells] [-l levels] image [argument ...]\n";
+
+    // What a call answers, by name and number, and what it puts.
+    struct Row {
+        words: &'static [&'static str],
+        answer: &'static str,
+        status: u8,
+        output: &'static str,
+        errors: &'static str,
+    }
+
+    const NO_STRINGS: &str = "Run-time error 306\ninadequate space in string region\n";
+
+    const NO_CELLS: &str = "Run-time error 307\ninadequate space in block region\n";
+
+    // `hi` is the image, `cut` lacks its last byte, `more` has a byte behind its end, `two` calls with two arguments,
+    // `none` has no global `main`, `pop` has an instruction that is not built.
+    const ROWS: [Row; 36] = [
+        Row {
+            words: &["hi"],
+            answer: "Done",
+            status: 0,
+            output: "hi\n",
+            errors: "",
+        },
+        Row {
+            words: &["hi", "a", "-n", "b"],
+            answer: "Done",
+            status: 0,
+            output: "hi\n",
+            errors: "",
+        },
+        Row {
+            words: &["-n", "1", "hi"],
+            answer: "Done",
+            status: 0,
+            output: "hi\n",
+            errors: "",
+        },
+        Row {
+            words: &["-n", "0", "hi"],
+            answer: "AtBound",
+            status: 3,
+            output: "",
+            errors: "turn bound reached\n",
+        },
+        Row {
+            words: &["-n", "000", "hi"],
+            answer: "AtBound",
+            status: 3,
+            output: "",
+            errors: "turn bound reached\n",
+        },
+        Row {
+            words: &["-n", "18446744073709551615", "hi"],
+            answer: "Done",
+            status: 0,
+            output: "hi\n",
+            errors: "",
+        },
+        Row {
+            words: &["-n", "0", "-n", "1", "hi"],
+            answer: "Done",
+            status: 0,
+            output: "hi\n",
+            errors: "",
+        },
+        Row {
+            words: &["-n", "1", "-n", "0", "hi"],
+            answer: "AtBound",
+            status: 3,
+            output: "",
+            errors: "turn bound reached\n",
+        },
+        Row {
+            words: &["-b", "0", "hi"],
+            answer: "307",
+            status: 1,
+            output: "",
+            errors: NO_CELLS,
+        },
+        Row {
+            words: &["-b", "1", "hi"],
+            answer: "Done",
+            status: 0,
+            output: "hi\n",
+            errors: "",
+        },
+        Row {
+            words: &["-b", "1", "hi", "x"],
+            answer: "307",
+            status: 1,
+            output: "",
+            errors: NO_CELLS,
+        },
+        Row {
+            words: &["-b", "2", "hi", "x"],
+            answer: "Done",
+            status: 0,
+            output: "hi\n",
+            errors: "",
+        },
+        Row {
+            words: &["-s", "2", "hi", "abc"],
+            answer: "306",
+            status: 1,
+            output: "",
+            errors: NO_STRINGS,
+        },
+        Row {
+            words: &["-s", "3", "hi", "abc"],
+            answer: "Done",
+            status: 0,
+            output: "hi\n",
+            errors: "",
+        },
+        Row {
+            words: &["-s", "2", "hi", "ab", "c"],
+            answer: "306",
+            status: 1,
+            output: "",
+            errors: NO_STRINGS,
+        },
+        // the texts are charged before the list, and both before the first turn
+        Row {
+            words: &["-s", "2", "-b", "0", "-n", "0", "hi", "abc"],
+            answer: "306",
+            status: 1,
+            output: "",
+            errors: NO_STRINGS,
+        },
+        Row {
+            words: &["-b", "0", "-n", "0", "hi"],
+            answer: "307",
+            status: 1,
+            output: "",
+            errors: NO_CELLS,
+        },
+        Row {
+            words: &["-l", "1", "hi"],
+            answer: "Done",
+            status: 0,
+            output: "hi\n",
+            errors: "",
+        },
+        // words
+        Row {
+            words: &["-n"],
+            answer: "Command(3)",
+            status: 2,
+            output: "",
+            errors: USAGE,
+        },
+        Row {
+            words: &["-n", "x", "i"],
+            answer: "Command(4)",
+            status: 2,
+            output: "",
+            errors: USAGE,
+        },
+        Row {
+            words: &["-q"],
+            answer: "Command(5)",
+            status: 2,
+            output: "",
+            errors: USAGE,
+        },
+        Row {
+            words: &[],
+            answer: "Command(2)",
+            status: 2,
+            output: "",
+            errors: USAGE,
+        },
+        Row {
+            words: &["-n", "1"],
+            answer: "Command(2)",
+            status: 2,
+            output: "",
+            errors: USAGE,
+        },
+        Row {
+            words: &["-n", "18446744073709551616", "hi"],
+            answer: "Command(4)",
+            status: 2,
+            output: "",
+            errors: USAGE,
+        },
+        Row {
+            words: &["-n", "+1", "hi"],
+            answer: "Command(4)",
+            status: 2,
+            output: "",
+            errors: USAGE,
+        },
+        Row {
+            words: &["-n", "", "hi"],
+            answer: "Command(4)",
+            status: 2,
+            output: "",
+            errors: USAGE,
+        },
+        Row {
+            words: &["-s", "1099511627777", "hi"],
+            answer: "Command(4)",
+            status: 2,
+            output: "",
+            errors: USAGE,
+        },
+        Row {
+            words: &["-b", "4294967296", "hi"],
+            answer: "Command(4)",
+            status: 2,
+            output: "",
+            errors: USAGE,
+        },
+        Row {
+            words: &["-l", "0", "hi"],
+            answer: "Command(4)",
+            status: 2,
+            output: "",
+            errors: USAGE,
+        },
+        Row {
+            words: &["-n", "x", "-q"],
+            answer: "Command(4)",
+            status: 2,
+            output: "",
+            errors: USAGE,
+        },
+        // images
+        Row {
+            words: &["gone"],
+            answer: "Missing",
+            status: 2,
+            output: "",
+            errors: "gone: not there\n",
+        },
+        Row {
+            words: &["cut"],
+            answer: "BadImage(I2)",
+            status: 2,
+            output: "",
+            errors: "cut: bad image, I2\n",
+        },
+        Row {
+            words: &["more"],
+            answer: "BadImage(I5)",
+            status: 2,
+            output: "",
+            errors: "more: bad image, I5\n",
+        },
+        Row {
+            words: &["two"],
+            answer: "BadImage(V1)",
+            status: 2,
+            output: "",
+            errors: "two: bad image, V1\n",
+        },
+        Row {
+            words: &["none"],
+            answer: "117",
+            status: 1,
+            output: "",
+            errors: "Run-time error 117\nmissing main procedure\n",
+        },
+        Row {
+            words: &["pop"],
+            answer: "BadImage(S4)",
+            status: 2,
+            output: "",
+            errors: "pop: bad image, S4\n",
+        },
+    ];
+
+    // The images beside `hi`.
+    fn images(alloc: Global) -> Result<BTreeMap<String, Vec<u8>>, Fail> {
+        let mut held = BTreeMap::new(alloc);
+        held.insert(String::from_str(alloc, "hi")?, HI.to_vec(alloc)?)?;
+        held.insert(String::from_str(alloc, "cut")?, HI[..71].to_vec(alloc)?)?;
+        let mut more = HI.to_vec(alloc)?;
+        more.push(0)?;
+        held.insert(String::from_str(alloc, "more")?, more)?;
+        // `invoke 2` in place of `invoke 1`
+        let mut two = HI;
+        two[69] = 2;
+        held.insert(String::from_str(alloc, "two")?, two.to_vec(alloc)?)?;
+        // the first global is named `hi`
+        let mut none = HI;
+        none[37] = 2;
+        held.insert(String::from_str(alloc, "none")?, none.to_vec(alloc)?)?;
+        // `efail` in place of `pfail`
+        let mut pop = HI;
+        pop[71] = 0x17;
+        held.insert(String::from_str(alloc, "pop")?, pop.to_vec(alloc)?)?;
+        Ok(held)
+    }
+
+    fn name_of(answer: &Answer) -> &'static str {
+        match answer {
+            Answer::Ran(Ending::Done) => "Done",
+            Answer::Ran(Ending::AtBound) => "AtBound",
+            Answer::Ran(Ending::Errored(117)) => "117",
+            Answer::Ran(Ending::Errored(306)) => "306",
+            Answer::Ran(Ending::Errored(307)) => "307",
+            Answer::Command(2) => "Command(2)",
+            Answer::Command(3) => "Command(3)",
+            Answer::Command(4) => "Command(4)",
+            Answer::Command(5) => "Command(5)",
+            Answer::Missing(_) => "Missing",
+            Answer::BadImage(Rule::I2) => "BadImage(I2)",
+            Answer::BadImage(Rule::I5) => "BadImage(I5)",
+            Answer::BadImage(Rule::V1) => "BadImage(V1)",
+            Answer::BadImage(Rule::S4) => "BadImage(S4)",
+            Answer::FileFault => "FileFault",
+            Answer::WriteFault => "WriteFault",
+            Answer::NoMemory => "NoMemory",
+            _ => "another",
+        }
+    }
+
+    fn words_of(alloc: Global, given: &[&str]) -> Result<Vec<String>, Fail> {
+        let mut words = Vec::new(alloc);
+        words.push(String::from_str(alloc, "iconx")?)?;
+        for word in given {
+            words.push(String::from_str(alloc, *word)?)?;
+        }
+        Ok(words)
+    }
+
+    #[test]
+    fn rows_hold(rt: HostRuntime) -> Result<(), Fail> {
+        let alloc = rt.alloc();
+        for row in &ROWS {
+            let words = words_of(alloc, row.words)?;
+            let mut files = MemFiles::new(alloc, images(alloc)?, Vec::new(alloc));
+            let mut input = MemSource::new(b"input\n".to_vec(alloc)?, Vec::new(alloc));
+            let mut out = MemSink::new(Vec::new(alloc), Vec::new(alloc));
+            let mut err = MemSink::new(Vec::new(alloc), Vec::new(alloc));
+            let answer = iconx_main(alloc, &words, &mut files, &mut input, &mut out, &mut err);
+            assert_eq!(rt; name_of(&answer), row.answer);
+            assert_eq!(rt; answer.code(), row.status);
+            assert_eq!(rt; out.content(), row.output.as_bytes());
+            assert_eq!(rt; err.content(), row.errors.as_bytes());
+            assert_eq!(rt; input.content(), b"input\n".as_slice());
+            assert_eq!(rt; files.content().len(), 6);
+        }
+        Ok(())
+    }
+
+    // Calls of which one fails: the files, the output and the error output, by the number of the call.
+    struct Failing {
+        words: &'static [&'static str],
+        files: &'static [u64],
+        output: &'static [u64],
+        errors: &'static [u64],
+        answer: &'static str,
+        put: &'static str,
+        said: &'static str,
+    }
+
+    const FAULTS: [Failing; 6] = [
+        Failing {
+            words: &["hi"],
+            files: &[0],
+            output: &[],
+            errors: &[],
+            answer: "FileFault",
+            put: "",
+            said: "file fault\n",
+        },
+        Failing {
+            words: &["hi"],
+            files: &[],
+            output: &[0],
+            errors: &[],
+            answer: "WriteFault",
+            put: "",
+            said: "",
+        },
+        Failing {
+            words: &["-n", "0", "hi"],
+            files: &[],
+            output: &[],
+            errors: &[0],
+            answer: "WriteFault",
+            put: "",
+            said: "",
+        },
+        Failing {
+            words: &["cut"],
+            files: &[],
+            output: &[],
+            errors: &[0],
+            answer: "WriteFault",
+            put: "",
+            said: "",
+        },
+        Failing {
+            words: &["-q"],
+            files: &[],
+            output: &[],
+            errors: &[0],
+            answer: "WriteFault",
+            put: "",
+            said: "",
+        },
+        Failing {
+            words: &["hi"],
+            files: &[0],
+            output: &[],
+            errors: &[0],
+            answer: "FileFault",
+            put: "",
+            said: "",
+        },
+    ];
+
+    #[test]
+    fn faults_are_answered(rt: HostRuntime) -> Result<(), Fail> {
+        let alloc = rt.alloc();
+        for fault in &FAULTS {
+            let words = words_of(alloc, fault.words)?;
+            let mut files = MemFiles::new(alloc, images(alloc)?, fault.files.to_vec(alloc)?);
+            let mut input = MemSource::new(Vec::new(alloc), Vec::new(alloc));
+            let mut out = MemSink::new(Vec::new(alloc), fault.output.to_vec(alloc)?);
+            let mut err = MemSink::new(Vec::new(alloc), fault.errors.to_vec(alloc)?);
+            let answer = iconx_main(alloc, &words, &mut files, &mut input, &mut out, &mut err);
+            assert_eq!(rt; name_of(&answer), fault.answer);
+            assert_eq!(rt; out.content(), fault.put.as_bytes());
+            assert_eq!(rt; err.content(), fault.said.as_bytes());
+        }
+        Ok(())
+    }
+}

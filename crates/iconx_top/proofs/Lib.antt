@@ -1,0 +1,4 @@
+pub mod Digits
+pub mod Optional
+pub mod Judging
+pub mod Refused

@@ -1,0 +1,92 @@
+-- What the words and the files ask for, and what became of it.
+use Rattle.std.proofs.Common.{◌≡◌, ◌⊎◌, inl, inr, ℕ, true, false, List, [], Option, None, Some, IfSome, Ok, Err, refl, sym, ◌∙◌, subst}
+use Rattle.icn_host.specs.FileMaps.{FileMap}
+use Rattle.icn_host.proofs.SinkSteps.{gains_nothing}
+use Rattle.icn_report.specs.Puts.{Sunk, Puts, all, Leads}
+use Rattle.icn_code.specs.Seen.{tables_of}
+use Rattle.icn_value.specs.Limited.{Bounds}
+use Rattle.icn_run.specs.declared.ending.Ending.{Ending}
+use Rattle.icn_run.specs.CodeRun.{Run}
+use Rattle.icn_verify.specs.declared.verified.Verified.{Verified}
+use Rattle.icn_engine.specs.declared.answer.Answer.{Answer}
+use Rattle.icn_engine.specs.declared.answer.Answer.TheVariants.{Ran, Missing, BadImage, FileFault, NoMemory}
+use Rattle.icn_engine.specs.Answers.{IsFault, is_fault}
+use Rattle.icn_engine.specs.declared.fault.RunFault.{RunFault}
+use Rattle.icn_engine.specs.declared.fault.RunFault.TheVariants as Runs
+use Rattle.icn_engine.specs.Runs.{Breaks, Ends}
+use Rattle.iconx_top.specs.Faulting.{of_run}
+use Rattle.iconx_top.specs.Images.{IsJudged}
+use Rattle.iconx_top.specs.Job.{IsJob, IsRun, bad, missing, observation, ran, refusal}
+use Rattle.iconx_top.specs.Lines.{line_of}
+use Rattle.iconx_top.specs.Loading.{IsLoaded}
+use Rattle.iconx_top.specs.Outcomes.{Begins, Outcome, Told, broke, done, fault, idle, told}
+use Rattle.iconx_top.specs.Refusing.{Refuses, own, put, want, write_fault}
+use Rattle.iconx_top.specs.Words.{Asks, asked}
+
+pub no_fault : (answer : Answer) → is_fault answer ≡ false → IsFault answer → ⊥
+no_fault answer e f = let both : true ≡ false = sym f ∙ e in cc
+
+-- an answer is the job's refusal, or a fault
+abbrev pub Asked : List (List ℕ) → FileMap → List ℕ → List ℕ → Answer → Type 0
+Asked words files left name answer = IsFault answer ⊎ IsJob words files left (refusal files left name answer)
+
+begins_of : {words : List (List ℕ)} {files : FileMap} {left : List ℕ} (name : List ℕ) (answer : Answer) (before between : Sunk) → IsJob words files left (refusal files left name answer) → Leads before between (line_of name answer)
+    → Begins (IsJob words files left) before between
+begins_of name answer before between is (inl same) = inl same
+begins_of {files = files} {left} name answer before between is (inr stops) = inr (refusal files left name answer, is, stops)
+
+-- nothing was done but to put a line
+pub refused : {words : List (List ℕ)} {files : FileMap} {left : List ℕ} (name : List ℕ) (answer given : Answer) (held held' : Option FileMap) (left' out : Option (List ℕ)) (before after : Sunk) → Asked words files left name answer
+    → held' ≡ held → held ≡ Some files → left' ≡ Some left → Refuses name answer before after given → Outcome words files left given (told held left' out before) (told held' left' out after)
+refused name answer given held held' left' out before after (inl f) same e d (put n h) = absurd (n f)
+refused {files = files} {left} name answer given held held' left' out before after (inr is) same e d (put n h) =
+    done (refusal files left name answer) is (record { answered = refl; files = same ∙ e; left = d; output = gains_nothing out; errors = h })
+refused name answer given held held' left' out before after asks same e d (own f puts) = fault f same (idle before refl refl (inl refl) puts)
+refused name answer given held held' left' out before after (inl f) same e d (write_fault n leads) = absurd (n f)
+refused name answer given held held' left' out before after (inr is) same e d (write_fault n leads) = fault refl same (idle after refl refl (begins_of name answer before after is leads) (all (gains_nothing after.held)))
+refused name answer given held held' left' out before after (inl f) same e d (want n between leads puts) = absurd (n f)
+refused name answer given held held' left' out before after (inr is) same e d (want n between leads puts) = fault refl same (idle between refl refl (begins_of name answer before between is leads) puts)
+
+-- what was loaded
+
+pub asked_load : {words : List (List ℕ)} {files : FileMap} {left : List ℕ} (bounds : Bounds) (name : List ℕ) (arguments : List (List ℕ)) (answer : Answer) → asked words ≡ Asks bounds name arguments
+    → IsLoaded (files name) name (Err answer) → Asked words files left name answer
+asked_load {words} {files} {left} bounds name arguments (Missing other) e is =
+    let job : IsJob words files left (refusal files left name (Missing name)) = missing bounds name arguments e is.1 in
+    inr (subst (λ n. IsJob words files left (refusal files left name (Missing n))) (sym is.0) job)
+asked_load bounds name arguments (BadImage rule) e is = inr (bad bounds name is.0 arguments rule e is.1.0 is.1.1)
+asked_load bounds name arguments FileFault e is = inl refl
+asked_load bounds name arguments NoMemory e is = inl refl
+asked_load bounds name arguments _ e is = absurd is
+
+pub run_asked : {words : List (List ℕ)} {files : FileMap} (left : List ℕ) (run : Run) (name : List ℕ) (verified : Verified) → asked words ≡ Asks run.bounds name run.words → run.tables ≡ tables_of verified.code → run.left ≡ left
+    → IsLoaded (files name) name (Ok verified) → IsRun words files left run
+run_asked left run name verified e tables input is =
+    record { name = name; bytes = is.0; asks = e; there = is.1.0; judged = subst (λ t. IsJudged is.0 (Ok t)) (sym tables) is.1.1; input = input }
+
+pub ran_outcome : {words : List (List ℕ)} {files : FileMap} {left : List ℕ} {left' out out' : Option (List ℕ)} {before after : Sunk} (run : Run) (ending : Ending) (held' : Option FileMap) (left0 : Option (List ℕ)) → IsRun words files left run
+    → held' ≡ Some files → Ends run ending left' out out' before.held after.held → Outcome words files left (Ran ending) (told held' left0 out before) (told held' left' out' after)
+ran_outcome {files = files} run ending held' left0 is e ends =
+    done (observation files (record { ending = ending; outside = ends.outside })) (ran run _ is ends.observed)
+    (record { answered = refl; files = e; left = ends.left; output = ends.output; errors = ends.errors })
+
+pub broke_outcome : {words : List (List ℕ)} {files : FileMap} {left : List ℕ} {left' out out' : Option (List ℕ)} {before between after : Sunk} (run : Run) (answer : Answer) (held' : Option FileMap) (left0 : Option (List ℕ)) → IsRun words files left run
+    → IsFault answer → Breaks run left' out out' before.held between.held → Puts between after (line_of [] answer) → Outcome words files left answer (told held' left0 out before) (told held' left' out' after)
+broke_outcome {between = between} run answer held' left0 is f breaks puts = fault f refl (broke between run is breaks puts)
+
+pub if_some : {T : Type 0} (o : Option T) (P : T → Type 0) → ((x : T) → o ≡ Some x → P x) → IfSome o P
+if_some None P f = tt
+if_some (Some x) P f = f x refl
+
+pub at_some : {T : Type 0} (P : T → Type 0) (o : Option T) (x : T) → o ≡ Some x → IfSome o P → P x
+at_some P o x e h = rw e at h
+
+pub is_run_fault : (fault : RunFault) → IsFault (of_run fault)
+is_run_fault Runs.ReadFault = refl
+is_run_fault Runs.WriteFault = refl
+is_run_fault Runs.NoMemory = refl
+
+-- the files that are told behind a call
+pub held_as : {words : List (List ℕ)} {files : FileMap} {left : List ℕ} {answer : Answer} {before : Told} {left' out : Option (List ℕ)} {after : Sunk} (held held' : Option FileMap) → held' ≡ held
+    → Outcome words files left answer before (told held left' out after) → Outcome words files left answer before (told held' left' out after)
+held_as held held' e outcome = rw e outcome

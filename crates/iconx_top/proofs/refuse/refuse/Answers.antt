@@ -1,0 +1,16 @@
+use Rattle.std.proofs.Common.{sym, ◌∙◌}
+use Rattle.iconx_top.specs.Refusing.{own, put, want, write_fault}
+use Rattle.iconx_top.proofs.Refused.{no_fault}
+use Rattle.iconx_top.proofs.refuse.refuse.Goals as goal
+
+pub returns-then-is_fault-clause-line : goal.returns-then-is_fault-clause-line
+returns-then-is_fault-clause-line g c = own (sym c.is_fault.ensures ∙ c.if-is_fault.true) c.own_line.ensures.puts
+
+pub returns-in-Ok-clause-line : goal.returns-in-Ok-clause-line
+returns-in-Ok-clause-line g c = put (no_fault c.args.answer (sym c.is_fault.ensures ∙ c.if-is_fault.false)) c.in-Ok.ensures.ok
+
+pub returns-in-Err-Failed-clause-line : goal.returns-in-Err-Failed-clause-line
+returns-in-Err-Failed-clause-line g c = write_fault (no_fault c.args.answer (sym c.is_fault.ensures ∙ c.if-is_fault.false)) c.in-Err-Failed.ensures.err
+
+pub returns-clause-line : goal.returns-clause-line
+returns-clause-line g c = want (no_fault c.args.answer (sym c.is_fault.ensures ∙ c.if-is_fault.false)) _ c.in-Err-NoMemory.ensures.err c.try_put.ensures.puts

@@ -1,0 +1,18 @@
+use Rattle.std.proofs.Common.{map}
+use Rattle.std.specs.Prelude.{string_bytes}
+use Rattle.icn_value.specs.Limited.{limits_of}
+use Rattle.iconx_top.proofs.Refused.{asked_load, at_some, held_as, if_some, refused}
+use Rattle.iconx_top.proofs.top.image_answer.Goals as goal
+
+pub returns-in-Err-clause-outcome : goal.returns-in-Err-clause-outcome
+returns-in-Err-clause-outcome g c words asks =
+    if_some (g.F.Files.held c.args.files.now) _ (λ held e. if_some (g.I.Source.left c.args.input.now) _ (λ left d.
+    refused c.args.run.image.now c.in-Err.answer c.refuse.result _ _ _ _ _ _
+    (asked_load (limits_of c.args.run.limits) c.args.run.image.now (map string_bytes c.args.run.arguments.now) c.in-Err.answer asks (at_some _ (g.F.Files.held c.args.files.now) held e c.in-Err.ensures.loaded)) c.in-Err.ensures.files e d c.refuse.ensures.line))
+
+pub returns-in-Ok-clause-outcome : goal.returns-in-Ok-clause-outcome
+returns-in-Ok-clause-outcome g c words asks =
+    if_some (g.F.Files.held c.args.files.now) _ (λ held e. if_some (g.I.Source.left c.args.input.now) _ (λ left d.
+    held_as _ _ c.in-Ok.ensures.files
+    (at_some _ (g.I.Source.left c.args.input.now) left d
+    (c.run_answer.ensures.outcome words held (g.F.Files.held c.args.files.now) asks (at_some _ (g.F.Files.held c.args.files.now) held e c.in-Ok.ensures.loaded) e))))

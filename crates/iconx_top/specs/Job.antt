@@ -1,0 +1,44 @@
+-- What the words, the files and the input ask for.
+use Rattle.std.specs.Prelude.{◌≡◌, ℕ, List, [], None, Some, Ok, Err}
+use Rattle.icn_host.specs.FileMaps.{FileMap}
+use Rattle.icn_tree.specs.declared.rule.Rule.{Rule}
+use Rattle.icn_value.specs.Limited.{Bounds}
+use Rattle.icn_run.specs.CodeRun.{Run, Observed, Observes}
+use Rattle.icn_engine.specs.declared.answer.Answer.{Answer}
+use Rattle.icn_engine.specs.declared.answer.Answer.TheVariants.{Ran, Command, Missing, BadImage}
+use Rattle.iconx_top.specs.Images.{IsJudged}
+use Rattle.iconx_top.specs.Lines.{line_of}
+use Rattle.iconx_top.specs.Words.{Asks, Faulty, asked}
+
+-- the answer, the files and the input left after it, and what is added to the output and to the error output
+pub record Job : Type 0 where
+  pub answer : Answer
+  pub files : FileMap
+  pub left : List ℕ
+  pub output : List ℕ
+  pub errors : List ℕ
+
+-- nothing is done but to put the answer's own line
+abbrev pub refusal : FileMap → List ℕ → List ℕ → Answer → Job
+refusal files left name answer = record { answer = answer; files = files; left = left; output = []; errors = line_of name answer }
+
+-- a run was observed
+abbrev pub observation : FileMap → Observed → Job
+observation files observed = record { answer = Ran observed.ending; files = files; left = observed.outside.left; output = observed.outside.output; errors = observed.outside.errors }
+
+-- the run of the image that the words name
+pub record IsRun (words : List (List ℕ)) (files : FileMap) (left : List ℕ) (run : Run) : Type 0 where
+  pub name : List ℕ
+  pub bytes : List ℕ
+  pub asks : asked words ≡ Asks run.bounds name run.words
+  pub there : files name ≡ Some bytes
+  pub judged : IsJudged bytes (Ok run.tables)
+  pub input : run.left ≡ left
+
+-- what the words, the files and the input ask for
+pub data IsJob (words : List (List ℕ)) (files : FileMap) (left : List ℕ) : Job → Type 0 where
+  wrong_words : (kind : ℕ) → asked words ≡ Faulty kind → IsJob words files left (refusal files left [] (Command kind))
+  missing : (bounds : Bounds) (name : List ℕ) (arguments : List (List ℕ)) → asked words ≡ Asks bounds name arguments → files name ≡ None → IsJob words files left (refusal files left name (Missing name))
+  bad : (bounds : Bounds) (name bytes : List ℕ) (arguments : List (List ℕ)) (rule : Rule) → asked words ≡ Asks bounds name arguments → files name ≡ Some bytes → IsJudged bytes (Err rule)
+      → IsJob words files left (refusal files left name (BadImage rule))
+  ran : (run : Run) (observed : Observed) → IsRun words files left run → Observes run observed → IsJob words files left (observation files observed)

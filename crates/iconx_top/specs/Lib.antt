@@ -1,0 +1,11 @@
+pub mod Numbers
+pub mod Words
+pub mod Asking
+pub mod Images
+pub mod Lines
+pub mod Job
+pub mod Outcomes
+pub mod Loading
+pub mod Refusing
+pub mod Faulting
+pub mod Commanded

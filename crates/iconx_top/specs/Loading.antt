@@ -1,0 +1,70 @@
+-- How the code tells what it reads.
+use Rattle.std.specs.Prelude.{◌≡◌, ◌⊎◌, ℕ, true, false, List, take, Option, None, Some, Result, Ok, Err}
+use Rattle.icn_tree.specs.declared.rule.Rule.{Rule}
+use Rattle.icn_tree.specs.declared.rule.Rule.TheVariants.{S4}
+use Rattle.icn_code.specs.Codes.{Tables}
+use Rattle.icn_code.specs.Seen.{tables_of}
+use Rattle.icn_run.specs.Built.{is_built}
+use Rattle.icn_image.specs.declared.fault.ImageFault.{ImageFault}
+use Rattle.icn_image.specs.declared.fault.ImageFault.TheVariants.{Broken, NoMemory as WantsMemory}
+use Rattle.icn_verify.specs.Faults.{IsFirstFault, IsVerified}
+use Rattle.icn_verify.specs.declared.verified.Verified.{Verified}
+use Rattle.icn_engine.specs.declared.answer.Answer.{Answer}
+use Rattle.icn_engine.specs.declared.answer.Answer.TheVariants.{Missing, BadImage, FileFault, NoMemory}
+use Rattle.iconx_top.specs.Images.{IsJudged}
+
+-- the first bytes of a text, up to one more than an image may have
+abbrev pub Takes : List ℕ → List ℕ → Type 0
+Takes bytes all = bytes ≡ take 1073741825 all
+
+-- a code is refused by this rule
+abbrev pub IsRefused : Tables → Rule → Type 0
+IsRefused tables rule = ((number : ℕ) × ((place : ℕ) × IsFirstFault tables.procs rule number place)) ⊎ ((rule ≡ S4) × (IsVerified tables × (is_built tables ≡ false)))
+
+-- a code is verified and built, or is refused, or memory was wanting
+abbrev pub IsChecked : Tables → Result Verified Answer → Type 0
+IsChecked tables (Ok verified) = (tables_of verified.code ≡ tables) × (IsVerified tables × (is_built tables ≡ true))
+IsChecked tables (Err (BadImage rule)) = IsRefused tables rule
+IsChecked tables (Err NoMemory) = Unit {0}
+IsChecked tables (Err answer) = ⊥
+
+-- the bytes of an image come to this, or memory was wanting
+abbrev pub IsJudgement : List ℕ → Result Verified Answer → Type 0
+IsJudgement bytes (Ok verified) = IsJudged bytes (Ok (tables_of verified.code))
+IsJudgement bytes (Err (BadImage rule)) = IsJudged bytes (Err rule)
+IsJudgement bytes (Err NoMemory) = Unit {0}
+IsJudgement bytes (Err answer) = ⊥
+
+-- what the store holds under the image's name comes to this, or the outside failed
+abbrev pub IsLoaded : Option (List ℕ) → List ℕ → Result Verified Answer → Type 0
+IsLoaded held name (Ok verified) = (bytes : List ℕ) × ((held ≡ Some bytes) × IsJudged bytes (Ok (tables_of verified.code)))
+IsLoaded held name (Err (BadImage rule)) = (bytes : List ℕ) × ((held ≡ Some bytes) × IsJudged bytes (Err rule))
+IsLoaded held name (Err (Missing other)) = (other ≡ name) × (held ≡ None)
+IsLoaded held name (Err FileFault) = Unit {0}
+IsLoaded held name (Err NoMemory) = Unit {0}
+IsLoaded held name (Err answer) = ⊥
+
+-- the answer where bytes are no image
+abbrev pub of_image : ImageFault → Answer
+of_image (Broken rule) = BadImage rule
+of_image WantsMemory = NoMemory
+
+abbrev pub IsOfImage : Answer → Type 0
+IsOfImage (BadImage rule) = Unit {0}
+IsOfImage NoMemory = Unit {0}
+IsOfImage answer = ⊥
+
+abbrev pub IsOfLoading : Answer → Type 0
+IsOfLoading (Missing name) = Unit {0}
+IsOfLoading (BadImage rule) = Unit {0}
+IsOfLoading FileFault = Unit {0}
+IsOfLoading NoMemory = Unit {0}
+IsOfLoading answer = ⊥
+
+abbrev pub IsAbsence : Answer → Type 0
+IsAbsence (Missing name) = Unit {0}
+IsAbsence answer = ⊥
+
+abbrev pub IsErrOfAbsence : {A : Type 0} → Result A Answer → Type 0
+IsErrOfAbsence (Ok a) = ⊥
+IsErrOfAbsence (Err answer) = IsAbsence answer

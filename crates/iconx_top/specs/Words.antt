@@ -1,0 +1,58 @@
+-- What the words of the command ask for.
+use Rattle.std.specs.Prelude.{ℕ, Bool, false, List, [], ◌∷◌, codes, ◌==◌, Option, None, Some, if◌then◌else◌}
+use Rattle.std.specs.Option.{option_map}
+use Rattle.std.specs.Str.{bytes_eq}
+use Rattle.icn_value.specs.Limited.{Bounds, default_limits}
+use Rattle.iconx_top.specs.declared.words.Limit.{Limit}
+use Rattle.iconx_top.specs.declared.words.Limit.TheVariants.{Turns, Strings, Cells, Levels}
+use Rattle.iconx_top.specs.Numbers.{number_within}
+
+-- a run of an image under these limits with these arguments, or the way in which the first wrong word is wrong
+pub data Reading : Type 0 where
+  Asks : Bounds → List ℕ → List (List ℕ) → Reading
+  Faulty : ℕ → Reading
+
+abbrev pub option_of : List ℕ → Option Limit
+option_of word =
+    if bytes_eq word (codes "-n") then Some Turns
+    else (if bytes_eq word (codes "-s") then Some Strings
+    else (if bytes_eq word (codes "-b") then Some Cells
+    else (if bytes_eq word (codes "-l") then Some Levels else None)))
+
+-- the limits with this one as a word says it
+abbrev pub limited : Limit → Bounds → List ℕ → Option Bounds
+limited Turns bounds text = option_map (λ n. record bounds { turns = n }) (number_within 0 18446744073709551615 text)
+limited Strings bounds text = option_map (λ n. record bounds { strings = n }) (number_within 0 1099511627776 text)
+limited Cells bounds text = option_map (λ n. record bounds { cells = n }) (number_within 0 4294967295 text)
+limited Levels bounds text = option_map (λ n. record bounds { levels = n }) (number_within 1 4294967295 text)
+
+abbrev pub is_dashed : List ℕ → Bool
+is_dashed [] = false
+is_dashed (b ∷ rest) = b == 45
+
+-- the image, and the arguments behind it
+abbrev pub image_asked : Bounds → List ℕ → List (List ℕ) → Reading
+image_asked bounds word words = if is_dashed word then Faulty 5 else Asks bounds word words
+
+abbrev pub last_word : Bounds → List ℕ → Option Limit → Reading
+last_word bounds word None = image_asked bounds word []
+last_word bounds word (Some option) = Faulty 3
+
+abbrev pub or_faulty : Option Bounds → (Bounds → Reading) → Reading
+or_faulty None next = Faulty 4
+or_faulty (Some bounds) next = next bounds
+
+abbrev pub two_words : Bounds → List ℕ → List ℕ → List (List ℕ) → Option Limit → (Bounds → Reading) → Reading
+two_words bounds word value words None next = image_asked bounds word (value ∷ words)
+two_words bounds word value words (Some option) next = or_faulty (limited option bounds value) next
+
+-- While the next word is an option, the word after it is its value, and a later one replaces an earlier. Then the image stands.
+abbrev pub options : Bounds → List (List ℕ) → Reading
+options bounds [] = Faulty 2
+options bounds (word ∷ []) = last_word bounds word (option_of word)
+options bounds (word ∷ value ∷ words) = two_words bounds word value words (option_of word) (λ next. options next words)
+
+-- the program's own name stands first
+abbrev pub asked : List (List ℕ) → Reading
+asked [] = Faulty 2
+asked (program ∷ words) = options default_limits words

@@ -1,0 +1,12 @@
+//! The top call of the program `iconx`.
+#![tactic(auto)]
+
+mod lines;
+mod load;
+mod number;
+mod refuse;
+mod top;
+mod words;
+
+pub use icn_engine::{Answer, Ending};
+pub use top::iconx_main;

@@ -1,0 +1,59 @@
+// The lines of answers.
+ghost use Rattle.std.specs.Prelude.{◌≡◌, [], IfOk};
+ghost use Rattle.icn_engine.specs.declared.answer.Answer.TheVariants.{BadImage, Missing};
+ghost use Rattle.iconx_top.specs.Lines.{line_of, rule_code};
+
+use icn_engine::Answer;
+use icn_tree::{Bytes, Rule};
+use std::alloc::{AllocError, Global};
+
+const USAGE: &[u8] =
+    b"usage: iconx [-n turns] [-s bytes] [-b cells] [-l levels] image [argument ...]\n";
+
+pub const FILE_FAULT: &[u8] = b"file fault\n";
+
+pub const READ_FAULT: &[u8] = b"read fault\n";
+
+pub const NO_MEMORY: &[u8] = b"no memory\n";
+
+/// The line of an answer, where the image has this name.
+pub fn line_of(alloc: Global, name: &str, answer: &Answer) -> Result<Vec<u8>, AllocError>
+    ensures { IfOk result (λ line. line.items ≡ line_of name.now answer.now) }
+{
+    match answer {
+        Answer::Command(_) => Vec::from_slice(alloc, USAGE),
+        Answer::Missing(missing) => missing_line(alloc, missing),
+        Answer::BadImage(rule) => bad_image_line(alloc, name, *rule),
+        Answer::FileFault => Vec::from_slice(alloc, FILE_FAULT),
+        Answer::ReadFault => Vec::from_slice(alloc, READ_FAULT),
+        Answer::NoMemory => Vec::from_slice(alloc, NO_MEMORY),
+        _ => Ok(Vec::new(alloc)),
+    }
+}
+
+fn missing_line(alloc: Global, name: &Bytes) -> Result<Vec<u8>, AllocError>
+    ensures { IfOk result (λ line. line.items ≡ line_of [] (Missing name.now)) }
+{
+    let mut line = Vec::from_slice(alloc, name.as_slice())?;
+    line.extend_from_slice(b": not there\n")?;
+    Ok(line)
+}
+
+fn bad_image_line(alloc: Global, name: &str, rule: Rule) -> Result<Vec<u8>, AllocError>
+    ensures { IfOk result (λ line. line.items ≡ line_of name.now (BadImage rule)) }
+{
+    let mut line = Vec::from_slice(alloc, name.as_bytes())?;
+    line.extend_from_slice(b": bad image, ")?;
+    line.extend_from_slice(rule_code(rule))?;
+    line.push(b'\n')?;
+    Ok(line)
+}
+
+// The code of a rule, which its text begins with.
+fn rule_code(rule: Rule) -> &'static [u8]
+    ensures { result.now ≡ rule_code rule }
+{
+    let text = rule.text();
+    let (code, _) = text.split_at(text.len().min(2));
+    code
+}

@@ -1,0 +1,84 @@
+// The image that is to run.
+ghost use Rattle.std.specs.Prelude.{◌≡◌, ◌⊎◌, ℕ, List, Some, None, IfSome, IfOk, IfErr, IsErrOf, true};
+ghost use Rattle.icn_host.specs.Counts.{HasCause};
+ghost use Rattle.icn_code.specs.Seen.{tables_of};
+ghost use Rattle.icn_run.specs.Built.{is_built};
+ghost use Rattle.iconx_top.specs.Loading.{IsChecked, IsErrOfAbsence, IsJudgement, IsLoaded, IsOfImage, IsOfLoading, Takes, of_image};
+
+use icn_code::Code;
+use icn_engine::{Answer, built};
+use icn_host::{Files, Look};
+use icn_image::{ImageFault, read_image};
+use icn_tree::{Bytes, Rule};
+use icn_verify::{Verified, VerifyFault, verify};
+use std::alloc::Global;
+
+// The greatest length of an image.
+const LONGEST: u64 = 1073741824;
+
+/// The code of the image of this name, or the answer where it has none that runs.
+pub fn load<F: Files>(alloc: Global, name: &str, files: &mut F) -> Result<Verified, Answer>
+    ensures loaded { IfSome (F.held files.old) (λ held. IsLoaded (held name.now) name.now result) }
+    ensures built { IfOk result (λ verified. is_built (tables_of verified.code) ≡ true) }
+    ensures others { IfErr result IsOfLoading }
+    ensures files { F.held files.new ≡ F.held files.old }
+    ensures file_fault { HasCause (F.faults files.old) (F.faults files.new) (IsErrOf result Answer.FileFault) }
+    ensures absence { HasCause (F.absences files.old) (F.absences files.new) (IsErrOfAbsence result) }
+{
+    let mut bytes = Vec::new(alloc);
+    match files.read(name, LONGEST, &mut bytes) {
+        Ok(()) => judge(alloc, &bytes),
+        Err(Look::NotThere) => Err(missing(alloc, name)),
+        Err(Look::Failed) => Err(Answer::FileFault),
+        Err(Look::NoMemory) => Err(Answer::NoMemory),
+    }
+}
+
+// The answer where the image is not there.
+fn missing(alloc: Global, name: &str) -> Answer
+    ensures { (result ≡ Answer.Missing name.now) ⊎ (result ≡ Answer.NoMemory) }
+{
+    match Bytes::from_slice(alloc, name.as_bytes()) {
+        Ok(name) => Answer::Missing(name),
+        Err(_) => Answer::NoMemory,
+    }
+}
+
+// What the first bytes of an image come to: all of them, or one more than an image may have.
+fn judge(alloc: Global, bytes: &[u8]) -> Result<Verified, Answer>
+    ensures judged { (all : List ℕ) → Takes bytes.now all → IsJudgement all result }
+    ensures built { IfOk result (λ verified. is_built (tables_of verified.code) ≡ true) }
+    ensures others { IfErr result IsOfImage }
+{
+    if bytes.len() as u64 > LONGEST {
+        return Err(Answer::BadImage(Rule::I6));
+    }
+    match read_image(alloc, bytes) {
+        Ok(code) => verified(alloc, code),
+        Err(fault) => Err(fault_answer(fault)),
+    }
+}
+
+// The answer where bytes are no image.
+fn fault_answer(fault: ImageFault) -> Answer
+    ensures { result ≡ of_image fault }
+{
+    match fault {
+        ImageFault::Broken(rule) => Answer::BadImage(rule),
+        ImageFault::NoMemory => Answer::NoMemory,
+    }
+}
+
+// The code, where it is verified and built.
+fn verified(alloc: Global, code: Code) -> Result<Verified, Answer>
+    ensures checked { IsChecked (tables_of code) result }
+    ensures built { IfOk result (λ verified. is_built (tables_of verified.code) ≡ true) }
+    ensures others { IfErr result IsOfImage }
+{
+    match verify(alloc, code) {
+        Ok(verified) if built(verified.code()) => Ok(verified),
+        Ok(_) => Err(Answer::BadImage(Rule::S4)),
+        Err(VerifyFault::V { rule, .. }) => Err(Answer::BadImage(rule)),
+        Err(VerifyFault::NoMemory) => Err(Answer::NoMemory),
+    }
+}

@@ -1,0 +1,132 @@
+// The top call.
+ghost use Rattle.std.specs.Prelude.{◌≡◌, ◌≢◌, ◌⊎◌, ◌≤◌, ℕ, List, Option, [], Ok, Some, map, string_bytes, IfSome, IsErrOf, true};
+ghost use Rattle.icn_host.specs.Counts.{HasCause, Rose};
+ghost use Rattle.icn_host.specs.FileMaps.{FileMap};
+ghost use Rattle.icn_report.specs.Puts.{sunk};
+ghost use Rattle.icn_code.specs.Seen.{tables_of};
+ghost use Rattle.icn_run.specs.Built.{is_built};
+ghost use Rattle.icn_engine.specs.Answers.{IsFault, IsRefusal};
+ghost use Rattle.iconx_top.specs.Asking.{asking};
+ghost use Rattle.iconx_top.specs.Commanded.{IsCommand, IsCommanded};
+ghost use Rattle.iconx_top.specs.Faulting.{IsOfRun, of_run};
+ghost use Rattle.iconx_top.specs.Loading.{IsAbsence, IsLoaded};
+ghost use Rattle.iconx_top.specs.Outcomes.{Outcome, told};
+ghost use Rattle.iconx_top.specs.Words.{asked as read};
+
+use crate::load::load;
+use crate::refuse::{own_line, refuse};
+use crate::words::{RunAsked, asked};
+use icn_engine::{Answer, RunFault, run};
+use icn_host::{Files, Sink, Source};
+use icn_verify::Verified;
+use std::alloc::Global;
+
+/// All that the program `iconx` does: it reads the image that the words name from `files`, and runs its code over `input`, `out`
+/// and `err`. The line of an answer goes to `err` too. The words begin with the program's name.
+pub fn iconx_main<F: Files, I: Source, O: Sink, E: Sink>(
+    alloc: Global,
+    words: &[String],
+    files: &mut F,
+    input: &mut I,
+    out: &mut O,
+    err: &mut E,
+) -> Answer
+    // Where the files and the input tell their content, the job was done, or a fault is answered and leaves a part of it.
+    ensures outcome { IfSome (F.held files.old) (λ held. IfSome (I.left input.old) (λ left. Outcome (map string_bytes words.now) held left result
+        (told (F.held files.old) (I.left input.old) (O.held out.old) (sunk (E.held err.old) (E.faults err.old) (E.wants err.old)))
+        (told (F.held files.new) (I.left input.new) (O.held out.new) (sunk (E.held err.new) (E.faults err.new) (E.wants err.new))))) }
+    // Where no count of faults rose, no fault is answered but want of memory.
+    ensures faultless { ¬ Rose (F.faults files.old) (F.faults files.new) → ¬ Rose (I.faults input.old) (I.faults input.new)
+        → ¬ Rose (O.faults out.old) (O.faults out.new) → ¬ Rose (E.faults err.old) (E.faults err.new)
+        → IsFault result → result ≡ Answer.NoMemory }
+
+    // The words are faulty exactly where they name no run of an image, in that way.
+    ensures command { IsCommanded (read (map string_bytes words.now)) result }
+
+    // A refusal leaves the output as it was.
+    ensures refused { IsRefusal result → O.held out.new ≡ O.held out.old }
+    ensures files { F.held files.new ≡ F.held files.old }
+    ensures file_fault { HasCause (F.faults files.old) (F.faults files.new) (result ≡ Answer.FileFault) }
+    ensures absence { HasCause (F.absences files.old) (F.absences files.new) (IsAbsence result) }
+    ensures read_fault { HasCause (I.faults input.old) (I.faults input.new) (result ≡ Answer.ReadFault) }
+    ensures write_fault { result ≡ Answer.WriteFault → Rose (O.faults out.old) (O.faults out.new) ⊎ Rose (E.faults err.old) (E.faults err.new) }
+    ensures output_faults { O.faults out.old ≤ O.faults out.new }
+    ensures error_faults { E.faults err.old ≤ E.faults err.new }
+    ensures error_wants { E.wants err.old ≤ E.wants err.new }
+{
+    match asked(words) {
+        Ok(asked) => image_answer(alloc, asked, files, input, out, err),
+        Err(kind) => refuse(alloc, "", Answer::Command(kind), err),
+    }
+}
+
+// Does what the image asks for.
+fn image_answer<F: Files, I: Source, O: Sink, E: Sink>(
+    alloc: Global,
+    run: RunAsked,
+    files: &mut F,
+    input: &mut I,
+    out: &mut O,
+    err: &mut E,
+) -> Answer
+    ensures outcome { (words : List (List ℕ)) → read words ≡ asking run.entry → IfSome (F.held files.old) (λ held. IfSome (I.left input.old) (λ left. Outcome words held left result
+        (told (F.held files.old) (I.left input.old) (O.held out.old) (sunk (E.held err.old) (E.faults err.old) (E.wants err.old)))
+        (told (F.held files.new) (I.left input.new) (O.held out.new) (sunk (E.held err.new) (E.faults err.new) (E.wants err.new))))) }
+    ensures command { IsCommand result → ⊥ }
+    ensures refused { IsRefusal result → O.held out.new ≡ O.held out.old }
+    ensures files { F.held files.new ≡ F.held files.old }
+    ensures file_fault { HasCause (F.faults files.old) (F.faults files.new) (result ≡ Answer.FileFault) }
+    ensures absence { HasCause (F.absences files.old) (F.absences files.new) (IsAbsence result) }
+    ensures read_fault { HasCause (I.faults input.old) (I.faults input.new) (result ≡ Answer.ReadFault) }
+    ensures write_fault { result ≡ Answer.WriteFault → Rose (O.faults out.old) (O.faults out.new) ⊎ Rose (E.faults err.old) (E.faults err.new) }
+    ensures output_faults { O.faults out.old ≤ O.faults out.new }
+    ensures error_faults { E.faults err.old ≤ E.faults err.new }
+    ensures error_wants { E.wants err.old ≤ E.wants err.new }
+{
+    match load(alloc, run.image, files) {
+        Ok(verified) => run_answer(alloc, &verified, run, input, out, err),
+        Err(answer) => refuse(alloc, run.image, answer, err),
+    }
+}
+
+// Runs the code of an image.
+fn run_answer<I: Source, O: Sink, E: Sink>(
+    alloc: Global,
+    code: &Verified,
+    asked: RunAsked,
+    input: &mut I,
+    out: &mut O,
+    err: &mut E,
+) -> Answer
+    requires built { is_built (tables_of code.now.code) ≡ true }
+    ensures outcome { (words : List (List ℕ)) (held : FileMap) (told_files : Option FileMap) → read words ≡ asking asked.entry → IsLoaded (held asked.entry.image.now) asked.entry.image.now (Ok code.now) → told_files ≡ Some held
+        → IfSome (I.left input.old) (λ left. Outcome words held left result
+        (told told_files (I.left input.old) (O.held out.old) (sunk (E.held err.old) (E.faults err.old) (E.wants err.old)))
+        (told told_files (I.left input.new) (O.held out.new) (sunk (E.held err.new) (E.faults err.new) (E.wants err.new)))) }
+    ensures others { IsOfRun result }
+    ensures read_fault { HasCause (I.faults input.old) (I.faults input.new) (result ≡ Answer.ReadFault) }
+    ensures write_fault { result ≡ Answer.WriteFault → Rose (O.faults out.old) (O.faults out.new) ⊎ Rose (E.faults err.old) (E.faults err.new) }
+    ensures output_faults { O.faults out.old ≤ O.faults out.new }
+    ensures error_faults { E.faults err.old ≤ E.faults err.new }
+    ensures error_wants { E.wants err.old ≤ E.wants err.new }
+{
+    match run(alloc, code, asked.arguments, asked.limits, input, out, err) {
+        Ok(ending) => Answer::Ran(ending),
+        Err(fault) => {
+            let answer = fault_answer(fault);
+            own_line(&answer, err);
+            answer
+        }
+    }
+}
+
+// The answer where a run could not go on.
+fn fault_answer(fault: RunFault) -> Answer
+    ensures { result ≡ of_run fault }
+{
+    match fault {
+        RunFault::ReadFault => Answer::ReadFault,
+        RunFault::WriteFault => Answer::WriteFault,
+        RunFault::NoMemory => Answer::NoMemory,
+    }
+}
