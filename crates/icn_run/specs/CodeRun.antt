@@ -1,11 +1,11 @@
 -- The run of a code: the steps from its begin on, and what is observed of it.
-use Rattle.std.specs.Prelude.{◌≡◌, ℕ, zero, suc, ◌≤◌, List, [], length, take, Option, Some}
+use Rattle.std.specs.Prelude.{◌≡◌, ℕ, zero, suc, ◌≤◌, List, [], length, take, Option}
 use Rattle.std.specs.Io.KnownBytes.{Appends}
 use Rattle.icn_value.specs.Limited.{Bounds}
 use Rattle.icn_code.specs.Codes.{Tables}
 use Rattle.icn_run.specs.declared.ending.Ending.{Ending}
 use Rattle.icn_run.specs.CodeStep.{step}
-use Rattle.icn_run.specs.States.{Outside, Config, Begins, Over, Stuck, outside_of}
+use Rattle.icn_run.specs.States.{Outside, Config, Begins, Over, Stuck}
 
 -- a code with the words, the limits and the input of its run
 pub record Run : Type 0 where
@@ -43,11 +43,3 @@ pub record GainsBetween (before after : Option (List ℕ)) (first longer : List 
   pub count : ℕ
   pub within : length first ≤ count
   pub appends : Appends before after (take count longer)
-
--- What a fault left of a run: it stood somewhere, and of what its next step puts some first part was put.
-pub record Breaks (run : Run) (left' out out' err err' : Option (List ℕ)) : Type 0 where
-  pub at : Config
-  pub reached : Reaches run at
-  pub left : left' ≡ Some (outside_of at).left
-  pub output : GainsBetween out out' (outside_of at).output (outside_of (step run.tables run.words run.bounds at)).output
-  pub errors : GainsBetween err err' (outside_of at).errors (outside_of (step run.tables run.words run.bounds at)).errors

@@ -1,8 +1,19 @@
 // Laws of runs.
-ghost use Rattle.std.specs.Prelude.{◌≡◌};
+ghost use Rattle.std.specs.Prelude.{◌≡◌, List, Some, true};
+ghost use Rattle.icn_code.specs.declared.instr.Instr.{Instr};
+ghost use Rattle.icn_code.specs.Codes.{Tables};
+ghost use Rattle.icn_run.specs.declared.awaited.Awaited.TheVariants.{Piece};
+ghost use Rattle.icn_run.specs.Built.{comes_to_end};
 ghost use Rattle.icn_run.specs.CodeRun.{Observed, Observes, Run};
+ghost use Rattle.icn_run.specs.Pieces.{IsOfPieces};
 
 /// A run has at most one observation: one ending, with the input left and what was put on both outputs.
 pub fn one_observation()
     ensures { (run : Run) (a b : Observed) → Observes run a → Observes run b → a ≡ b }
+{}
+
+/// A procedure's code comes to its end as built code does exactly where it is a list of pieces ended by `pfail`.
+pub fn built_by_pieces()
+    ensures of_pieces { (tables : Tables) (instrs : List Instr) → comes_to_end tables (Some Piece) instrs ≡ true → IsOfPieces tables instrs }
+    ensures built { (tables : Tables) (instrs : List Instr) → IsOfPieces tables instrs → comes_to_end tables (Some Piece) instrs ≡ true }
 {}
