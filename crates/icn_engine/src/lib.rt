@@ -4,6 +4,7 @@
 mod answer;
 mod call;
 mod fault;
+mod laws;
 mod machine;
 mod main_run;
 mod report;
@@ -13,4 +14,5 @@ mod start;
 pub use answer::Answer;
 pub use fault::RunFault;
 pub use icn_run::{Ending, built};
+pub use laws::never_stuck;
 pub use running::run;

@@ -2,10 +2,12 @@
 ghost use Rattle.std.specs.Prelude.{◌≡◌, ◌≤◌, IfOk, OnOk, OnErr, IsErrOf};
 ghost use Rattle.icn_host.specs.Counts.{HasCause};
 ghost use Rattle.icn_host.specs.Sinks.{Gains, GainsPart};
+ghost use Rattle.icn_report.specs.Puts.{Leads, sunk};
 ghost use Rattle.icn_run.specs.Reports.{error_text, report_of};
 
 use crate::fault::RunFault;
 use icn_host::Sink;
+use icn_report::put_line;
 use icn_run::Ending;
 use icn_text::decimal;
 use std::alloc::{AllocError, Global};
@@ -14,6 +16,8 @@ use std::alloc::{AllocError, Global};
 pub fn report<E: Sink>(alloc: Global, ending: Ending, err: &mut E) -> Result<(), RunFault>
     ensures ok { OnOk result (Gains (E.held err.old) (E.held err.new) (report_of ending)) }
     ensures err { OnErr result (GainsPart (E.held err.old) (E.held err.new) (report_of ending)) }
+    ensures leads { OnErr result (Leads (sunk (E.held err.old) (E.faults err.old) (E.wants err.old))
+        (sunk (E.held err.new) (E.faults err.new) (E.wants err.new)) (report_of ending)) }
     ensures cause { HasCause (E.faults err.old) (E.faults err.new) (IsErrOf result RunFault.WriteFault) }
     ensures wants { E.wants err.old ≤ E.wants err.new }
     ensures unread { IsErrOf result RunFault.ReadFault → ⊥ }
@@ -28,11 +32,13 @@ pub fn report<E: Sink>(alloc: Global, ending: Ending, err: &mut E) -> Result<(),
 fn put<E: Sink>(line: &[u8], err: &mut E) -> Result<(), RunFault>
     ensures ok { OnOk result (Gains (E.held err.old) (E.held err.new) line.now) }
     ensures err { OnErr result (GainsPart (E.held err.old) (E.held err.new) line.now) }
+    ensures leads { OnErr result (Leads (sunk (E.held err.old) (E.faults err.old) (E.wants err.old))
+        (sunk (E.held err.new) (E.faults err.new) (E.wants err.new)) line.now) }
     ensures cause { HasCause (E.faults err.old) (E.faults err.new) (IsErrOf result RunFault.WriteFault) }
     ensures wants { E.wants err.old ≤ E.wants err.new }
     ensures unread { IsErrOf result RunFault.ReadFault → ⊥ }
 {
-    err.put(line)?;
+    put_line(line, err)?;
     Ok(())
 }
 

@@ -1,9 +1,12 @@
 // The run of a code.
 ghost use Rattle.std.specs.Prelude.{◌≡◌, ◌≤◌, ◌⊎◌, Err, IfOk, IfSome, OnErr, IsErrOf, true};
 ghost use Rattle.icn_host.specs.Counts.{HasCause, Rose};
+ghost use Rattle.icn_host.specs.Sinks.{Gains};
+ghost use Rattle.icn_report.specs.Puts.{Leads, sunk};
 ghost use Rattle.icn_code.specs.Seen.{tables_of};
 ghost use Rattle.icn_verify.specs.Given.{HaveShapes};
 ghost use Rattle.icn_run.specs.Built.{is_built};
+ghost use Rattle.icn_run.specs.Reports.{report_of};
 ghost use Rattle.icn_engine.specs.Asked.{run_of};
 ghost use Rattle.icn_engine.specs.Runs.{Breaks, Ends};
 
@@ -38,6 +41,10 @@ pub fn run<I: Source, O: Sink, E: Sink>(
         Ends (run_of code.now.code words.now limits left) ending (I.left input.new) (O.held out.old) (O.held out.new) (E.held err.old) (E.held err.new))) }
     ensures err { OnErr result (IfSome (I.left input.old) (λ left.
         Breaks (run_of code.now.code words.now limits left) (I.left input.new) (O.held out.old) (O.held out.new) (E.held err.old) (E.held err.new))) }
+    // Whatever the input tells, the report was put, or of some report a first part.
+    ensures reported { IfOk result (λ ending. Gains (E.held err.old) (E.held err.new) (report_of ending)) }
+    ensures error_line { OnErr result ((ending : Ending) × Leads (sunk (E.held err.old) (E.faults err.old) (E.wants err.old))
+        (sunk (E.held err.new) (E.faults err.new) (E.wants err.new)) (report_of ending)) }
     ensures read_fault { HasCause (I.faults input.old) (I.faults input.new) (IsErrOf result RunFault.ReadFault) }
     ensures write_fault { IsErrOf result RunFault.WriteFault → Rose (O.faults out.old) (O.faults out.new) ⊎ Rose (E.faults err.old) (E.faults err.new) }
     ensures output_faults { O.faults out.old ≤ O.faults out.new }
@@ -63,6 +70,9 @@ fn run_shaped<I: Source, O: Sink, E: Sink>(
         Ends (run_of code.now words.now limits left) ending (I.left input.new) (O.held out.old) (O.held out.new) (E.held err.old) (E.held err.new))) }
     ensures err { OnErr result (IfSome (I.left input.old) (λ left.
         Breaks (run_of code.now words.now limits left) (I.left input.new) (O.held out.old) (O.held out.new) (E.held err.old) (E.held err.new))) }
+    ensures reported { IfOk result (λ ending. Gains (E.held err.old) (E.held err.new) (report_of ending)) }
+    ensures error_line { OnErr result ((ending : Ending) × Leads (sunk (E.held err.old) (E.faults err.old) (E.wants err.old))
+        (sunk (E.held err.new) (E.faults err.new) (E.wants err.new)) (report_of ending)) }
     ensures read_fault { HasCause (I.faults input.old) (I.faults input.new) (IsErrOf result RunFault.ReadFault) }
     ensures write_fault { IsErrOf result RunFault.WriteFault → Rose (O.faults out.old) (O.faults out.new) ⊎ Rose (E.faults err.old) (E.faults err.new) }
     ensures output_faults { O.faults out.old ≤ O.faults out.new }
