@@ -2,3 +2,6 @@ pub mod Digits
 pub mod Optional
 pub mod Judging
 pub mod Refused
+pub mod Reported
+pub mod Deciding
+pub mod Answering

@@ -1,5 +1,5 @@
 -- What the words and the files ask for, and what became of it.
-use Rattle.std.proofs.Common.{◌≡◌, ◌⊎◌, inl, inr, ℕ, true, false, List, [], Option, None, Some, IfSome, Ok, Err, refl, sym, ◌∙◌, subst}
+use Rattle.std.proofs.Common.{◌≡◌, ◌⊎◌, inl, inr, ℕ, ◌≤◌, true, false, List, [], Option, None, Some, IfSome, Ok, Err, refl, sym, ◌∙◌, subst}
 use Rattle.icn_host.specs.FileMaps.{FileMap}
 use Rattle.icn_host.proofs.SinkSteps.{gains_nothing}
 use Rattle.icn_report.specs.Puts.{Sunk, Puts, all, Leads}
@@ -71,8 +71,8 @@ ran_outcome {files = files} run ending held' left0 is e ends =
     (record { answered = refl; files = e; left = ends.left; output = ends.output; errors = ends.errors })
 
 pub broke_outcome : {words : List (List ℕ)} {files : FileMap} {left : List ℕ} {left' out out' : Option (List ℕ)} {before between after : Sunk} (run : Run) (answer : Answer) (held' : Option FileMap) (left0 : Option (List ℕ)) → IsRun words files left run
-    → IsFault answer → Breaks run left' out out' before.held between.held → Puts between after (line_of [] answer) → Outcome words files left answer (told held' left0 out before) (told held' left' out' after)
-broke_outcome {between = between} run answer held' left0 is f breaks puts = fault f refl (broke between run is breaks puts)
+    → IsFault answer → before.faults ≤ between.faults → before.wants ≤ between.wants → Breaks run left' out out' before.held between.held → Puts between after (line_of [] answer) → Outcome words files left answer (told held' left0 out before) (told held' left' out' after)
+broke_outcome {between = between} run answer held' left0 is f faults wants breaks puts = fault f refl (broke between run is faults wants breaks puts)
 
 pub if_some : {T : Type 0} (o : Option T) (P : T → Type 0) → ((x : T) → o ≡ Some x → P x) → IfSome o P
 if_some None P f = tt

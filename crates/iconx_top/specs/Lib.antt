@@ -7,5 +7,7 @@ pub mod Job
 pub mod Outcomes
 pub mod Loading
 pub mod Refusing
+pub mod Reporting
 pub mod Faulting
 pub mod Commanded
+pub mod Answered

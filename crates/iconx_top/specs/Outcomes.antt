@@ -1,5 +1,5 @@
 -- What a call comes to, where the objects tell their content.
-use Rattle.std.specs.Prelude.{◌≡◌, ◌⊎◌, ℕ, List, [], Option, Some}
+use Rattle.std.specs.Prelude.{◌≡◌, ◌⊎◌, ◌≤◌, ℕ, List, [], Option, Some}
 use Rattle.icn_host.specs.FileMaps.{FileMap}
 use Rattle.icn_host.specs.Sinks.{Gains}
 use Rattle.icn_report.specs.Puts.{Sunk, Stops, Puts}
@@ -37,7 +37,7 @@ Begins IsJobOf before between = (between ≡ before) ⊎ ((job : Job) × IsJobOf
 pub data Faults (words : List (List ℕ)) (files : FileMap) (left : List ℕ) (answer : Answer) (before after : Told) : Type 0 where
   idle : (between : Sunk) → after.left ≡ before.left → after.output ≡ before.output → Begins (IsJob words files left) before.errors between → Puts between after.errors (line_of [] answer)
       → Faults words files left answer before after
-  broke : (between : Sunk) (run : Run) → IsRun words files left run → Breaks run after.left before.output after.output before.errors.held between.held → Puts between after.errors (line_of [] answer)
+  broke : (between : Sunk) (run : Run) → IsRun words files left run → before.errors.faults ≤ between.faults → before.errors.wants ≤ between.wants → Breaks run after.left before.output after.output before.errors.held between.held → Puts between after.errors (line_of [] answer)
       → Faults words files left answer before after
 
 -- the job was done, or a fault is answered

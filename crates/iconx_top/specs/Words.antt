@@ -56,3 +56,8 @@ options bounds (word ∷ value ∷ words) = two_words bounds word value words (o
 abbrev pub asked : List (List ℕ) → Reading
 asked [] = Faulty 2
 asked (program ∷ words) = options default_limits words
+
+-- the name of the image that words ask for
+abbrev pub image_name : Reading → List ℕ
+image_name (Asks bounds name arguments) = name
+image_name (Faulty kind) = []

@@ -1,6 +1,7 @@
 //! The top call of the program `iconx`.
 #![tactic(auto)]
 
+mod laws;
 mod lines;
 mod load;
 mod number;
@@ -9,4 +10,5 @@ mod top;
 mod words;
 
 pub use icn_engine::{Answer, Ending};
+pub use laws::one_job;
 pub use top::iconx_main;

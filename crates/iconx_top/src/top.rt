@@ -2,16 +2,20 @@
 ghost use Rattle.std.specs.Prelude.{◌≡◌, ◌≢◌, ◌⊎◌, ◌≤◌, ℕ, List, Option, [], Ok, Some, map, string_bytes, IfSome, IsErrOf, true};
 ghost use Rattle.icn_host.specs.Counts.{HasCause, Rose};
 ghost use Rattle.icn_host.specs.FileMaps.{FileMap};
+ghost use Rattle.icn_host.specs.Sinks.{Gains};
 ghost use Rattle.icn_report.specs.Puts.{sunk};
 ghost use Rattle.icn_code.specs.Seen.{tables_of};
 ghost use Rattle.icn_run.specs.Built.{is_built};
 ghost use Rattle.icn_engine.specs.Answers.{IsFault, IsRefusal};
+ghost use Rattle.iconx_top.specs.Answered.{IsAnswered};
 ghost use Rattle.iconx_top.specs.Asking.{asking};
 ghost use Rattle.iconx_top.specs.Commanded.{IsCommand, IsCommanded};
 ghost use Rattle.iconx_top.specs.Faulting.{IsOfRun, of_run};
+ghost use Rattle.iconx_top.specs.Lines.{put_by};
 ghost use Rattle.iconx_top.specs.Loading.{IsAbsence, IsLoaded};
 ghost use Rattle.iconx_top.specs.Outcomes.{Outcome, told};
-ghost use Rattle.iconx_top.specs.Words.{asked as read};
+ghost use Rattle.iconx_top.specs.Reporting.{Reports};
+ghost use Rattle.iconx_top.specs.Words.{asked as read, image_name};
 
 use crate::load::load;
 use crate::refuse::{own_line, refuse};
@@ -40,11 +44,23 @@ pub fn iconx_main<F: Files, I: Source, O: Sink, E: Sink>(
         → ¬ Rose (O.faults out.old) (O.faults out.new) → ¬ Rose (E.faults err.old) (E.faults err.new)
         → IsFault result → result ≡ Answer.NoMemory }
 
+    // Every other answer's line was put, whatever the files and the input tell.
+    ensures line { IsFault result ⊎ Gains (E.held err.old) (E.held err.new) (put_by (image_name (read (map string_bytes words.now))) result) }
+
+    // A fault's own line was put too, behind what was put of another answer's line: less than the whole of it is there only where
+    // the error output's count of faults, or of its wants of memory, rose in that put.
+    ensures fault_line { Reports (image_name (read (map string_bytes words.now)))
+        (sunk (E.held err.old) (E.faults err.old) (E.wants err.old)) (sunk (E.held err.new) (E.faults err.new) (E.wants err.new)) result }
+
+    // Where the files tell their content, the answer is the one that the words and the files ask for, or a fault.
+    ensures answered { IfSome (F.held files.old) (λ held. IsAnswered (map string_bytes words.now) held result) }
+
     // The words are faulty exactly where they name no run of an image, in that way.
     ensures command { IsCommanded (read (map string_bytes words.now)) result }
 
-    // A refusal leaves the output as it was.
+    // A refusal leaves the output and the input as they were.
     ensures refused { IsRefusal result → O.held out.new ≡ O.held out.old }
+    ensures unread { IsRefusal result → I.left input.new ≡ I.left input.old }
     ensures files { F.held files.new ≡ F.held files.old }
     ensures file_fault { HasCause (F.faults files.old) (F.faults files.new) (result ≡ Answer.FileFault) }
     ensures absence { HasCause (F.absences files.old) (F.absences files.new) (IsAbsence result) }
@@ -72,8 +88,12 @@ fn image_answer<F: Files, I: Source, O: Sink, E: Sink>(
     ensures outcome { (words : List (List ℕ)) → read words ≡ asking run.entry → IfSome (F.held files.old) (λ held. IfSome (I.left input.old) (λ left. Outcome words held left result
         (told (F.held files.old) (I.left input.old) (O.held out.old) (sunk (E.held err.old) (E.faults err.old) (E.wants err.old)))
         (told (F.held files.new) (I.left input.new) (O.held out.new) (sunk (E.held err.new) (E.faults err.new) (E.wants err.new))))) }
+    ensures reported { Reports run.entry.image.now (sunk (E.held err.old) (E.faults err.old) (E.wants err.old))
+        (sunk (E.held err.new) (E.faults err.new) (E.wants err.new)) result }
+    ensures answered { (words : List (List ℕ)) → read words ≡ asking run.entry → IfSome (F.held files.old) (λ held. IsAnswered words held result) }
     ensures command { IsCommand result → ⊥ }
     ensures refused { IsRefusal result → O.held out.new ≡ O.held out.old }
+    ensures unread { IsRefusal result → I.left input.new ≡ I.left input.old }
     ensures files { F.held files.new ≡ F.held files.old }
     ensures file_fault { HasCause (F.faults files.old) (F.faults files.new) (result ≡ Answer.FileFault) }
     ensures absence { HasCause (F.absences files.old) (F.absences files.new) (IsAbsence result) }
@@ -103,6 +123,8 @@ fn run_answer<I: Source, O: Sink, E: Sink>(
         → IfSome (I.left input.old) (λ left. Outcome words held left result
         (told told_files (I.left input.old) (O.held out.old) (sunk (E.held err.old) (E.faults err.old) (E.wants err.old)))
         (told told_files (I.left input.new) (O.held out.new) (sunk (E.held err.new) (E.faults err.new) (E.wants err.new)))) }
+    ensures reported { (name : List ℕ) → Reports name (sunk (E.held err.old) (E.faults err.old) (E.wants err.old))
+        (sunk (E.held err.new) (E.faults err.new) (E.wants err.new)) result }
     ensures others { IsOfRun result }
     ensures read_fault { HasCause (I.faults input.old) (I.faults input.new) (result ≡ Answer.ReadFault) }
     ensures write_fault { result ≡ Answer.WriteFault → Rose (O.faults out.old) (O.faults out.new) ⊎ Rose (E.faults err.old) (E.faults err.new) }

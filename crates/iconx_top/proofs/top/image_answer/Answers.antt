@@ -1,7 +1,9 @@
 use Rattle.std.proofs.Common.{map}
 use Rattle.std.specs.Prelude.{string_bytes}
 use Rattle.icn_value.specs.Limited.{limits_of}
+use Rattle.iconx_top.proofs.Answering.{answer_put, load_answered, run_answered}
 use Rattle.iconx_top.proofs.Refused.{asked_load, at_some, held_as, if_some, refused}
+use Rattle.iconx_top.proofs.Reported.{line_put, reports_of}
 use Rattle.iconx_top.proofs.top.image_answer.Goals as goal
 
 pub returns-in-Err-clause-outcome : goal.returns-in-Err-clause-outcome
@@ -16,3 +18,19 @@ returns-in-Ok-clause-outcome g c words asks =
     held_as _ _ c.in-Ok.ensures.files
     (at_some _ (g.I.Source.left c.args.input.now) left d
     (c.run_answer.ensures.outcome words held (g.F.Files.held c.args.files.now) asks (at_some _ (g.F.Files.held c.args.files.now) held e c.in-Ok.ensures.loaded) e))))
+
+pub returns-in-Err-clause-reported : goal.returns-in-Err-clause-reported
+returns-in-Err-clause-reported g c = reports_of (line_put _ c.in-Err.answer c.in-Err.ensures.others) c.refuse.ensures.line
+
+pub returns-in-Ok-clause-reported : goal.returns-in-Ok-clause-reported
+returns-in-Ok-clause-reported g c = c.run_answer.ensures.reported c.args.run.image.now
+
+pub returns-in-Err-clause-answered : goal.returns-in-Err-clause-answered
+returns-in-Err-clause-answered g c words asks =
+    if_some (g.F.Files.held c.args.files.now) _ (λ held e. answer_put c.in-Err.answer c.refuse.result
+    (load_answered (limits_of c.args.run.limits) c.args.run.image.now (map string_bytes c.args.run.arguments.now) c.in-Err.answer asks (at_some _ (g.F.Files.held c.args.files.now) held e c.in-Err.ensures.loaded)) c.refuse.ensures.line)
+
+pub returns-in-Ok-clause-answered : goal.returns-in-Ok-clause-answered
+returns-in-Ok-clause-answered g c words asks =
+    if_some (g.F.Files.held c.args.files.now) _ (λ held e. run_answered (limits_of c.args.run.limits) c.args.run.image.now (map string_bytes c.args.run.arguments.now) c.in-Ok.verified c.run_answer.result asks
+    (at_some _ (g.F.Files.held c.args.files.now) held e c.in-Ok.ensures.loaded) c.run_answer.ensures.others)

@@ -1,0 +1,22 @@
+-- Which answer the words and the files ask for.
+use Rattle.std.specs.Prelude.{◌≡◌, ℕ, List, None, Some, Ok, Err}
+use Rattle.icn_host.specs.FileMaps.{FileMap}
+use Rattle.icn_tree.specs.declared.rule.Rule.{Rule}
+use Rattle.icn_value.specs.Limited.{Bounds}
+use Rattle.icn_code.specs.Codes.{Tables}
+use Rattle.icn_run.specs.declared.ending.Ending.{Ending}
+use Rattle.icn_engine.specs.declared.answer.Answer.{Answer}
+use Rattle.icn_engine.specs.declared.answer.Answer.TheVariants.{Ran, Command, Missing, BadImage}
+use Rattle.icn_engine.specs.Answers.{IsFault}
+use Rattle.iconx_top.specs.Images.{IsJudged}
+use Rattle.iconx_top.specs.Words.{Asks, Faulty, asked}
+
+-- A fault; or what the words and the files ask for, where a run may have any ending.
+pub data IsAnswered (words : List (List ℕ)) (files : FileMap) : Answer → Type 0 where
+  fault : (answer : Answer) → IsFault answer → IsAnswered words files answer
+  wrong_words : (kind : ℕ) → asked words ≡ Faulty kind → IsAnswered words files (Command kind)
+  missing : (bounds : Bounds) (name : List ℕ) (arguments : List (List ℕ)) → asked words ≡ Asks bounds name arguments → files name ≡ None → IsAnswered words files (Missing name)
+  bad : (bounds : Bounds) (name bytes : List ℕ) (arguments : List (List ℕ)) (rule : Rule) → asked words ≡ Asks bounds name arguments → files name ≡ Some bytes → IsJudged bytes (Err rule)
+      → IsAnswered words files (BadImage rule)
+  ran : (bounds : Bounds) (name bytes : List ℕ) (arguments : List (List ℕ)) (tables : Tables) (ending : Ending) → asked words ≡ Asks bounds name arguments → files name ≡ Some bytes → IsJudged bytes (Ok tables)
+      → IsAnswered words files (Ran ending)
