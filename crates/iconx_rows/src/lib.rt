@@ -19,6 +19,23 @@ mod tests {
         0x00, 0x00, 0x07, 0x01, 0x00, 0x03, 0x02, 0x00, 0x0e, 0x01, 0x00, 0x21,
     ];
 
+    // The image of `write("a", 7)`, `write()`, each in a mark, and `write(-1, &null)`, by hand.
+    const CALLS: [u8; 118] = [
+        0x49, 0x63, 0x6e, 0x39, 0x69, 0x6d, 0x67, 0x01, 0x03, 0x00, 0x04, 0x00, 0x6d, 0x61, 0x69,
+        0x6e, 0x05, 0x00, 0x77, 0x72, 0x69, 0x74, 0x65, 0x01, 0x00, 0x61, 0x00, 0x00, 0x02, 0x00,
+        0x07, 0x00, 0x00, 0x00, 0x00, 0x00, 0x00, 0x00, 0xff, 0xff, 0xff, 0xff, 0xff, 0xff, 0xff,
+        0xff, 0x00, 0x00, 0x00, 0x00, 0x02, 0x00, 0x00, 0x00, 0x01, 0x00, 0x00, 0x01, 0x00, 0x03,
+        0x32, 0x00, 0x01, 0x00, 0x00, 0x00, 0x00, 0x00, 0x00, 0x00, 0x00, 0x00, 0x00, 0x0f, 0x00,
+        0x00, 0x00, 0x10, 0x06, 0x00, 0x00, 0x00, 0x07, 0x01, 0x00, 0x03, 0x02, 0x00, 0x02, 0x00,
+        0x00, 0x0e, 0x02, 0x00, 0x12, 0x10, 0x0a, 0x00, 0x00, 0x00, 0x07, 0x01, 0x00, 0x0e, 0x00,
+        0x00, 0x12, 0x07, 0x01, 0x00, 0x02, 0x01, 0x00, 0x01, 0x0e, 0x02, 0x00, 0x21,
+    ];
+
+    // The image of no tables.
+    const EMPTY: [u8; 22] = [
+        0x49, 0x63, 0x6e, 0x39, 0x69, 0x6d, 0x67, 0x01, 0, 0, 0, 0, 0, 0, 0, 0, 0, 0, 0, 0, 0, 0,
+    ];
+
     const USAGE: &str =
         "usage: iconx [-n turns] [-s bytes] [-b cells] [-l levels] image [argument ...]\n";
 
@@ -35,9 +52,9 @@ mod tests {
 
     const NO_CELLS: &str = "Run-time error 307\ninadequate space in block region\n";
 
-    // `hi` is the image, `cut` lacks its last byte, `more` has a byte behind its end, `two` calls with two arguments,
+    // `hi` is the first image, `calls` the second, `cut` lacks the last byte of `hi`, `more` has a byte behind its end, `two` calls with two arguments,
     // `none` has no global `main`, `pop` has an instruction that is not built.
-    const ROWS: [Row; 36] = [
+    const ROWS: [Row; 46] = [
         Row {
             words: &["hi"],
             answer: "Done",
@@ -293,6 +310,76 @@ mod tests {
             output: "",
             errors: "pop: bad image, S4\n",
         },
+        Row {
+            words: &["calls"],
+            answer: "Done",
+            status: 0,
+            output: "a7\n\n-1\n",
+            errors: "",
+        },
+        Row {
+            words: &["-n", "3", "calls"],
+            answer: "Done",
+            status: 0,
+            output: "a7\n\n-1\n",
+            errors: "",
+        },
+        Row {
+            words: &["-n", "2", "calls"],
+            answer: "AtBound",
+            status: 3,
+            output: "a7\n\n",
+            errors: "turn bound reached\n",
+        },
+        Row {
+            words: &["-n", "1", "calls"],
+            answer: "AtBound",
+            status: 3,
+            output: "a7\n",
+            errors: "turn bound reached\n",
+        },
+        Row {
+            words: &["empty"],
+            answer: "117",
+            status: 1,
+            output: "",
+            errors: "Run-time error 117\nmissing main procedure\n",
+        },
+        Row {
+            words: &["-s", "0", "-b", "0", "-n", "0", "empty", "x"],
+            answer: "117",
+            status: 1,
+            output: "",
+            errors: "Run-time error 117\nmissing main procedure\n",
+        },
+        Row {
+            words: &["head"],
+            answer: "BadImage(I1)",
+            status: 2,
+            output: "",
+            errors: "head: bad image, I1\n",
+        },
+        Row {
+            words: &["kind"],
+            answer: "BadImage(I3)",
+            status: 2,
+            output: "",
+            errors: "kind: bad image, I3\n",
+        },
+        Row {
+            words: &["place"],
+            answer: "BadImage(I4)",
+            status: 2,
+            output: "",
+            errors: "place: bad image, I4\n",
+        },
+        Row {
+            words: &["open"],
+            answer: "BadImage(V5)",
+            status: 2,
+            output: "",
+            errors: "open: bad image, V5\n",
+        },
     ];
 
     // The images beside `hi`.
@@ -311,6 +398,24 @@ mod tests {
         let mut none = HI;
         none[37] = 2;
         held.insert(String::from_str(alloc, "none")?, none.to_vec(alloc)?)?;
+        held.insert(String::from_str(alloc, "calls")?, CALLS.to_vec(alloc)?)?;
+        held.insert(String::from_str(alloc, "empty")?, EMPTY.to_vec(alloc)?)?;
+        // version 2
+        let mut head = HI;
+        head[7] = 2;
+        held.insert(String::from_str(alloc, "head")?, head.to_vec(alloc)?)?;
+        // a global of a kind that there is none of
+        let mut kind = HI;
+        kind[39] = 4;
+        held.insert(String::from_str(alloc, "kind")?, kind.to_vec(alloc)?)?;
+        // a global named by a string behind the last
+        let mut place = HI;
+        place[42] = 3;
+        held.insert(String::from_str(alloc, "place")?, place.to_vec(alloc)?)?;
+        // `pnull` in place of `pfail`
+        let mut open = HI;
+        open[71] = 1;
+        held.insert(String::from_str(alloc, "open")?, open.to_vec(alloc)?)?;
         // `efail` in place of `pfail`
         let mut pop = HI;
         pop[71] = 0x17;
@@ -330,6 +435,10 @@ mod tests {
             Answer::Command(4) => "Command(4)",
             Answer::Command(5) => "Command(5)",
             Answer::Missing(_) => "Missing",
+            Answer::BadImage(Rule::I1) => "BadImage(I1)",
+            Answer::BadImage(Rule::I3) => "BadImage(I3)",
+            Answer::BadImage(Rule::I4) => "BadImage(I4)",
+            Answer::BadImage(Rule::V5) => "BadImage(V5)",
             Answer::BadImage(Rule::I2) => "BadImage(I2)",
             Answer::BadImage(Rule::I5) => "BadImage(I5)",
             Answer::BadImage(Rule::V1) => "BadImage(V1)",
@@ -365,7 +474,7 @@ mod tests {
             assert_eq!(rt; out.content(), row.output.as_bytes());
             assert_eq!(rt; err.content(), row.errors.as_bytes());
             assert_eq!(rt; input.content(), b"input\n".as_slice());
-            assert_eq!(rt; files.content().len(), 6);
+            assert_eq!(rt; files.content().len(), 12);
         }
         Ok(())
     }
@@ -381,7 +490,27 @@ mod tests {
         said: &'static str,
     }
 
-    const FAULTS: [Failing; 6] = [
+    const FAULTS: [Failing; 8] = [
+        // the second call fails, behind the line of the first
+        Failing {
+            words: &["calls"],
+            files: &[],
+            output: &[1],
+            errors: &[],
+            answer: "WriteFault",
+            put: "a7\n",
+            said: "",
+        },
+        // the report fails behind output
+        Failing {
+            words: &["-n", "1", "calls"],
+            files: &[],
+            output: &[],
+            errors: &[0],
+            answer: "WriteFault",
+            put: "a7\n",
+            said: "",
+        },
         Failing {
             words: &["hi"],
             files: &[0],
