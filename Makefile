@@ -1,4 +1,4 @@
-PROGRAMS = icont
+PROGRAMS = icont iconx
 PREFIX = /usr/local
 SOURCES = $(shell find crates -type f -not -path '*/out/*')
 
@@ -6,11 +6,14 @@ SOURCES = $(shell find crates -type f -not -path '*/out/*')
 
 all: $(PROGRAMS:%=bin/%)
 
-# A program is built by proving it, and by one run on the first example.
+# A program is built by proving it, and by one run on a first example.
+FIRST_icont = ../../examples/hello.icn -x
+FIRST_iconx = data/hi
+
 bin/%: crates.txt examples/hello.icn $(SOURCES)
 	@mkdir -p bin
 	@echo "proving and building $* (the first time takes some minutes; bin/$*.log)"
-	@cd crates/$* && rt run -- ../../examples/hello.icn -x > ../../bin/$*.log 2>&1 || { tail -20 ../../bin/$*.log; exit 1; }
+	@cd crates/$* && rt run -- $(FIRST_$*) > ../../bin/$*.log 2>&1 || { tail -20 ../../bin/$*.log; exit 1; }
 	@cp crates/$*/out/$* $@
 
 test:
