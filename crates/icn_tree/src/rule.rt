@@ -60,6 +60,12 @@ pub enum Rule {
     C7,
     /// A procedure or record is declared twice.
     C8,
+    /// Units declare a name as procedures or records more than once.
+    K1,
+    /// A file of ucode that a unit links is not there.
+    K2,
+    /// A program is too large for the tables of its code.
+    K3,
     /// A line of ucode is none of the grammar.
     U1,
     /// An instruction of ucode is unknown.
@@ -136,6 +142,9 @@ impl Rule {
             Rule::C6 => b"C6 field declared twice",
             Rule::C7 => b"C7 too many names or fields",
             Rule::C8 => b"C8 procedure or record declared twice",
+            Rule::K1 => b"K1 inconsistent redeclaration",
+            Rule::K2 => b"K2 linked file not there",
+            Rule::K3 => b"K3 program too large",
             Rule::U1 => b"U1",
             Rule::U2 => b"U2",
             Rule::U3 => b"U3",
