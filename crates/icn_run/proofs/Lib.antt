@@ -1,3 +1,4 @@
 pub mod Runs
 pub mod Putting
 pub mod Piecewise
+pub mod RunsEnd

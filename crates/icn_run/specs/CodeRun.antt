@@ -1,5 +1,5 @@
 -- The run of a code: the steps from its begin on, and what is observed of it.
-use Rattle.std.specs.Prelude.{◌≡◌, ℕ, zero, suc, ◌≤◌, List, [], length, take, Option}
+use Rattle.std.specs.Prelude.{◌≡◌, ◌⊎◌, ℕ, zero, suc, ◌≤◌, List, [], length, take, Option}
 use Rattle.std.specs.Io.KnownBytes.{Appends}
 use Rattle.icn_value.specs.Limited.{Bounds}
 use Rattle.icn_code.specs.Codes.{Tables}
@@ -33,6 +33,10 @@ pub record Observed : Type 0 where
 
 abbrev pub Observes : Run → Observed → Type 0
 Observes run observed = Reaches run (Over observed.ending observed.outside)
+
+-- the run comes to its end, or to an instruction that lacks what it needs
+abbrev pub EndsOrSticks : Run → Type 0
+EndsOrSticks run = ((observed : Observed) × Observes run observed) ⊎ ((outside : Outside) × Reaches run (Stuck outside))
 
 -- no step of the run lacks anything
 abbrev pub IsNeverStuck : Run → Type 0

@@ -4,12 +4,17 @@ ghost use Rattle.icn_code.specs.declared.instr.Instr.{Instr};
 ghost use Rattle.icn_code.specs.Codes.{Tables};
 ghost use Rattle.icn_run.specs.declared.awaited.Awaited.TheVariants.{Piece};
 ghost use Rattle.icn_run.specs.Built.{comes_to_end};
-ghost use Rattle.icn_run.specs.CodeRun.{Observed, Observes, Run};
+ghost use Rattle.icn_run.specs.CodeRun.{EndsOrSticks, Observed, Observes, Run};
 ghost use Rattle.icn_run.specs.Pieces.{IsOfPieces};
 
 /// A run has at most one observation: one ending, with the input left and what was put on both outputs.
 pub fn one_observation()
     ensures { (run : Run) (a b : Observed) → Observes run a → Observes run b → a ≡ b }
+{}
+
+/// Each run comes to its end, or to an instruction that lacks what it needs: no instruction that runs so far leads back.
+pub fn runs_end()
+    ensures { (run : Run) → EndsOrSticks run }
 {}
 
 /// A procedure's code comes to its end as built code does exactly where it is a list of pieces ended by `pfail`.

@@ -7,4 +7,4 @@ mod laws;
 
 pub use awaited::built;
 pub use ending::Ending;
-pub use laws::{built_by_pieces, one_observation};
+pub use laws::{built_by_pieces, one_observation, runs_end};
