@@ -7,13 +7,14 @@ use Rattle.std.specs.Fmt.{decimal}
 use Rattle.std.specs.Str.{bytes_eq}
 use Rattle.std.proofs.lemmas.Bool.Decides.{nat_tests}
 use Rattle.std.proofs.lemmas.Option.{none-some, same_Some}
+use Rattle.icn_defs.specs.Numbers.{op_of}
 use Rattle.icn_tree.specs.ByteSets.{members_of}
 use Rattle.icn_unit.specs.declared.instr_word.InstrWord.{InstrWord}
 use Rattle.icn_unit.specs.declared.instr_word.InstrWord.TheVariants.{Pnull, Int, Str, Cset, Var, Keywd, Pop, Dup, Op, Llist, Field, Invoke, Appl, Mark, Mark0, Unmark, Eret, Esusp, Limit, Lsusp, Efail, Chfail, Goto, Loop, Bscan, Escan, Ccase, Init, Psusp, Pret, Pfail, Create, Coact, Coret, Cofail, Lab}
 use Rattle.icn_unit.specs.declared.unit.UnitInstr.{UnitInstr}
 use Rattle.icn_unit.specs.declared.unit.UnitInstr.TheVariants.{Pnull as IPnull, Int as IInt, Str as IStr, Cset as ICset, Var as IVar, Keywd as IKeywd, Pop as IPop, Dup as IDup, Op as IOp, Llist as ILlist, Field as IField, Invoke as IInvoke, Appl as IAppl, Mark as IMark, Mark0 as IMark0, Unmark as IUnmark, Eret as IEret, Esusp as IEsusp, Limit as ILimit, Lsusp as ILsusp, Efail as IEfail, Chfail as IChfail, Goto as IGoto, Loop as ILoop, Bscan as IBscan, Escan as IEscan, Ccase as ICcase, Init as IInit, Psusp as IPsusp, Pret as IPret, Pfail as IPfail, Create as ICreate, Coact as ICoact, Coret as ICoret, Cofail as ICofail, Lab as ILab}
 use Rattle.icn_unit.specs.InstrWords.{alone_of}
-use Rattle.icn_unit.specs.UnitOperands.{ascends, bytes_of, hexadecimal_bytes, is_name, keyword_of, label_of, number_of, op_of, value_from}
+use Rattle.icn_unit.specs.UnitOperands.{ascends, bytes_of, hexadecimal_bytes, is_name, keyword_of, label_of, number_of, value_from}
 use Rattle.icn_unit.specs.UnitRules.{is_byte, is_byte_text, is_number, keeps_operand}
 use Rattle.icn_unit.specs.UnitTexts.{byte_text}
 use Rattle.icn_ucode.specs.UnitReading.{instr_of, operand_instr}

@@ -5,7 +5,6 @@ pub mod FieldWords
 pub mod KeptInstrs
 pub mod KeptRules
 pub mod KnownNames
-pub mod Meanings
 pub mod ProcLines
 pub mod ReadAgain
 pub mod ReadDeclsAgain

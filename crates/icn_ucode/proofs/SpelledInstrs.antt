@@ -19,9 +19,11 @@ use Rattle.icn_unit.specs.declared.instr_word.InstrWord.TheVariants.{Pnull, Int,
 use Rattle.icn_unit.specs.declared.unit.UnitInstr.{UnitInstr}
 use Rattle.icn_unit.specs.declared.unit.UnitInstr.TheVariants.{Pnull as IPnull, Int as IInt, Str as IStr, Cset as ICset, Var as IVar, Keywd as IKeywd, Pop as IPop, Dup as IDup, Op as IOp, Llist as ILlist, Field as IField, Invoke as IInvoke, Appl as IAppl, Mark as IMark, Mark0 as IMark0, Unmark as IUnmark, Eret as IEret, Esusp as IEsusp, Limit as ILimit, Lsusp as ILsusp, Efail as IEfail, Chfail as IChfail, Goto as IGoto, Loop as ILoop, Bscan as IBscan, Escan as IEscan, Ccase as ICcase, Init as IInit, Psusp as IPsusp, Pret as IPret, Pfail as IPfail, Create as ICreate, Coact as ICoact, Coret as ICoret, Cofail as ICofail, Lab as ILab}
 use Rattle.icn_unit.specs.InstrWords.{instr_word_of, instr_words, word_of, word_text}
-use Rattle.icn_unit.specs.UnitOperands.{ascends, is_name, op_of}
+use Rattle.icn_unit.specs.UnitOperands.{ascends, is_name}
 use Rattle.icn_unit.specs.UnitRules.{is_byte, is_byte_text, is_number, keeps_operand}
 use Rattle.icn_unit.specs.UnitTexts.{bytes_text, label_text, operand_text}
+use Rattle.icn_defs.specs.Numbers.{op_of}
+use Rattle.icn_defs.proofs.OpNumbers.{op_back}
 use Rattle.icn_unit.proofs.Decimals.{keyword_again}
 use Rattle.icn_ucode.specs.UnitReading.{instr_of, is_indented}
 use Rattle.icn_ucode.proofs.CleanWords.{clean, name_clean}
@@ -184,53 +186,6 @@ not_indented Coret rest = refl
 not_indented Cofail rest = refl
 not_indented Lab rest = refl
 
-op_again : (op : OpCode) → op_of (op_number op) ≡ Some op
-op_again OpIsNull = refl
-op_again OpIsNotNull = refl
-op_again OpDereference = refl
-op_again OpNumber = refl
-op_again OpNegate = refl
-op_again OpSize = refl
-op_again OpComplement = refl
-op_again OpElements = refl
-op_again OpRandom = refl
-op_again OpTabMatch = refl
-op_again OpRefresh = refl
-op_again OpAdd = refl
-op_again OpSubtract = refl
-op_again OpMultiply = refl
-op_again OpDivide = refl
-op_again OpRemainder = refl
-op_again OpPower = refl
-op_again OpLess = refl
-op_again OpLessOrEqual = refl
-op_again OpEqual = refl
-op_again OpGreaterOrEqual = refl
-op_again OpGreater = refl
-op_again OpNotEqual = refl
-op_again OpLexicallyLess = refl
-op_again OpLexicallyLessOrEqual = refl
-op_again OpLexicallyEqual = refl
-op_again OpLexicallyGreaterOrEqual = refl
-op_again OpLexicallyGreater = refl
-op_again OpLexicallyNotEqual = refl
-op_again OpEquivalent = refl
-op_again OpNotEquivalent = refl
-op_again OpConcatenate = refl
-op_again OpConcatenateLists = refl
-op_again OpUnion = refl
-op_again OpDifference = refl
-op_again OpIntersection = refl
-op_again OpAssign = refl
-op_again OpSwap = refl
-op_again OpReversibleAssign = refl
-op_again OpReversibleSwap = refl
-op_again OpSubscript = refl
-op_again OpSection = refl
-op_again OpSectionPlus = refl
-op_again OpSectionMinus = refl
-op_again OpToBy = refl
-
 op_small : (op : OpCode) → is_number (op_number op) ≡ true
 op_small OpIsNull = refl
 op_small OpIsNotNull = refl
@@ -344,7 +299,7 @@ instr_line (IVar k) names h =
 instr_line (IKeywd keyword) names h = record { operand = Some (keyword_name keyword); spelled = refl; clean = keyword_clean keyword; read = ap (λ found. option_map (λ keyword. IKeywd keyword) found) (keyword_again keyword) }
 instr_line IPop names h = record { operand = None; spelled = refl; clean = tt; read = refl }
 instr_line IDup names h = record { operand = None; spelled = refl; clean = tt; read = refl }
-instr_line (IOp op) names h = record { operand = Some (decimal (op_number op)); spelled = refl; clean = small_clean (op_number op) (op_small op); read = ap (λ found. option_and_then (λ n. option_map (λ op. IOp op) (op_of n)) found) (small_again (op_number op) (op_small op)) ∙ ap (λ found. option_map (λ op. IOp op) found) (op_again op) }
+instr_line (IOp op) names h = record { operand = Some (decimal (op_number op)); spelled = refl; clean = small_clean (op_number op) (op_small op); read = ap (λ found. option_and_then (λ n. option_map (λ op. IOp op) (op_of n)) found) (small_again (op_number op) (op_small op)) ∙ ap (λ found. option_map (λ op. IOp op) found) (op_back op) }
 instr_line (ILlist n) names h = record { operand = Some (decimal n); spelled = refl; clean = small_clean n h; read = ap (λ found. option_map (λ n. ILlist n) found) (small_again n h) }
 instr_line (IField name) names h = record { operand = Some name; spelled = refl; clean = name_clean name h; read = cond-true (is_name name) _ _ h }
 instr_line (IInvoke n) names h = record { operand = Some (decimal n); spelled = refl; clean = small_clean n h; read = ap (λ found. option_map (λ n. IInvoke n) found) (small_again n h) }

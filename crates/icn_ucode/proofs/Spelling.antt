@@ -1,6 +1,6 @@
 -- What is read is the spelling of what it is read as.
 use Rattle.std.proofs.Common.{◌==◌, ◌≡◌, ℕ, pos, ◌+◌, ◌-◌, ◌*◌, ◌/◌, ◌%◌, ◌<◌, ◌≤◌, zero, suc, Bool, true, false, cond, ◌&&◌, ◌||◌, nat_le, nat_lt, List, [], ◌∷◌, ◌++◌, length, take, drop, map, Option, None, Some, refl, sym, ◌∙◌, ap, subst, arith, ◌⊎◌, inl, inr}
-use Rattle.std.specs.Prelude.{codes, find}
+use Rattle.std.specs.Prelude.{codes}
 use Rattle.std.specs.Fmt.{decimal}
 use Rattle.std.specs.List.{prefix_len, list_any, flat_map}
 use Rattle.std.specs.Option.{option_map, option_and_then}
@@ -10,9 +10,11 @@ use Rattle.std.proofs.lemmas.Bool.{cond-true, cond-false, eqb-true, cases_lt, ne
 use Rattle.std.proofs.lemmas.Bool.Decides.{nat_tests}
 use Rattle.std.proofs.lemmas.Option.{none-some, same_Some}
 use Rattle.icn_text.specs.declared.keyword.Keyword.{Keyword}
-use Rattle.icn_text.specs.declared.op.Op.{Op as OpCode}
+use Rattle.icn_text.specs.declared.op.TheConstants.Op.{ALL as ops}
 use Rattle.icn_text.specs.Keywords.{keyword_name}
 use Rattle.icn_text.specs.Ops.{op_number}
+use Rattle.icn_defs.specs.Numbers.{op_of}
+use Rattle.icn_defs.proofs.Found.{numbered}
 use Rattle.icn_tree.specs.Spellings.{lookup_text}
 use Rattle.icn_unit.specs.declared.instr_word.InstrWord.{InstrWord}
 use Rattle.icn_unit.specs.declared.instr_word.InstrWord.TheVariants.{Pnull, Int, Str, Cset, Var, Keywd, Pop, Dup, Op, Llist, Field, Invoke, Appl, Mark, Mark0, Unmark, Eret, Esusp, Limit, Lsusp, Efail, Chfail, Goto, Loop, Bscan, Escan, Ccase, Init, Psusp, Pret, Pfail, Create, Coact, Coret, Cofail, Lab}
@@ -22,7 +24,7 @@ use Rattle.icn_unit.specs.InstrWords.{word_text, instr_words, instr_word_of, wor
 use Rattle.icn_ucode.specs.UnitReading.{instr_of, operand_instr}
 use Rattle.icn_tree.specs.ByteSets.{members_below, members_of}
 use Rattle.icn_tree.specs.Characters.{is_digit, is_between}
-use Rattle.icn_unit.specs.UnitOperands.{cut, behind, is_inside, number_of, value_from, label_of, is_hexadecimal, hexadecimal_value, hexadecimal_bytes, bytes_of, ascends, is_name, keyword_of, keywords, op_of, ops}
+use Rattle.icn_unit.specs.UnitOperands.{cut, behind, is_inside, number_of, value_from, label_of, is_hexadecimal, hexadecimal_value, hexadecimal_bytes, bytes_of, ascends, is_name, keyword_of, keywords}
 use Rattle.icn_ucode.proofs.Differing.{both}
 use Rattle.icn_unit.specs.UnitTexts.{hexadecimal_digit, byte_text, bytes_text, label_text, operand_text}
 
@@ -242,13 +244,6 @@ keyword_spelled : (text : List ℕ) (keyword : Keyword) → keyword_of text ≡ 
 unfolding keyword_of
 keyword_spelled text keyword e = row_spelled keyword_name (map (λ (keyword : Keyword). (keyword_name keyword, keyword)) keywords) text keyword (keyword_rows keywords) e
 
-found_op : (n : ℕ) (all : List OpCode) (op : OpCode) → find (λ op. op_number op == n) all ≡ Some op → op_number op ≡ n
-found_op n [] op e = absurd (none-some op e)
-found_op n (first ∷ all) op e = by_test (op_number first == n) refl e (found_op n all op) where
-  by_test : (test : Bool) → (op_number first == n) ≡ test → cond test (Some first) (find (λ op. op_number op == n) all) ≡ Some op → (find (λ op. op_number op == n) all ≡ Some op → op_number op ≡ n) → op_number op ≡ n
-  by_test true t e later = ap op_number (sym (same_Some first op e)) ∙ eqb-true (op_number first) n t
-  by_test false t e later = later e
-
 -- Instructions
 
 -- an instruction is spelled by a word and what stands behind it
@@ -323,7 +318,7 @@ guarded (Some x) test make instr P h e = by_test (test x) refl e where
 chained : (text : List ℕ) (found : Option ℕ) (instr : UnitInstr) → number_of 4294967295 text ≡ found → option_and_then (λ n. option_map (λ op. IOp op) (op_of n)) found ≡ Some instr → SpelledBy Op (32 ∷ text) instr
 chained text None instr f e = absurd (none-some instr e)
 chained text (Some n) instr f e =
-    mapped Op text (λ op. IOp op) (λ op. decimal (op_number op)) (op_of n) instr (λ op o. ap decimal (found_op n ops op o) ∙ number_text 4294967295 text n f) (λ op. refl) e
+    mapped Op text (λ op. IOp op) (λ op. decimal (op_number op)) (op_of n) instr (λ op o. ap decimal (numbered op_number ops n op o) ∙ number_text 4294967295 text n f) (λ op. refl) e
 
 named : (text : List ℕ) (instr : UnitInstr) (test : Bool) → cond test (Some (IField text)) None ≡ Some instr → SpelledBy Field (32 ∷ text) instr
 named text instr true e = same_instr Field (32 ∷ text) (IField text) instr e refl

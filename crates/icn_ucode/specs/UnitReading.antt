@@ -2,6 +2,7 @@
 use Rattle.std.specs.Prelude.{◌==◌, ℕ, ◌-◌, pos, Bool, true, false, ◌&&◌, ◌||◌, not, nat_le, nat_lt, List, [], ◌∷◌, ◌++◌, length, slice_get, codes, Option, Some, None, Result, Ok, Err, if◌then◌else◌}
 use Rattle.std.specs.Option.{option_map, option_and_then, option_map_or}
 use Rattle.std.specs.Str.{bytes_eq}
+use Rattle.icn_defs.specs.Numbers.{op_of}
 use Rattle.icn_tree.specs.declared.rule.Rule.{Rule}
 use Rattle.icn_tree.specs.declared.rule.Rule.TheVariants.{U1, U2, U3, U4, U5, U6, U7}
 use Rattle.icn_tree.specs.ByteSets.{members_of}
@@ -15,7 +16,7 @@ use Rattle.icn_unit.specs.declared.unit.NameKind.TheVariants.{Parameter, Local, 
 use Rattle.icn_unit.specs.declared.unit.UnitName.{UnitName}
 use Rattle.icn_unit.specs.InstrWords.{instr_word_of, alone_of, labelled_of}
 use Rattle.icn_unit.specs.PlainUnits.{Proc, Decl, Global, Procedure, Link, Record, UnitRead, params_in, proc_names, entry_names, owned_names}
-use Rattle.icn_unit.specs.UnitOperands.{cut, number_of, label_of, is_name, bytes_of, ascends, keyword_of, op_of}
+use Rattle.icn_unit.specs.UnitOperands.{cut, number_of, label_of, is_name, bytes_of, ascends, keyword_of}
 use Rattle.icn_unit.specs.UnitRules.{has_name, has_label, labels_placed, place_of, placed, rank, same_names}
 
 -- Steps

@@ -4,10 +4,11 @@ ghost use Rattle.std.specs.Option.{option_copied};
 ghost use Rattle.icn_ucode.specs.UnitReading.{instr_of, operand_instr};
 ghost use Rattle.icn_ucode.specs.UnitViews.{label_read};
 
+use icn_defs::op_numbered;
 use icn_tree::{ByteSet, Bytes};
 use icn_unit::{
     InstrWord, UnitInstr, alone, ascends, byte_text, is_name, keyword, label, labelled, number,
-    op_numbered, small_number,
+    small_number,
 };
 use std::alloc::{AllocError, Global};
 

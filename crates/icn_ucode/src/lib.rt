@@ -1,12 +1,9 @@
-//! The code of a program: its instructions, what a tree is translated to, what a run of code writes, and units of code as
-//! ucode spells them.
+//! Reads the two texts of a unit of ucode. The types of a unit and its writer are passed on from `icn_unit`.
 #![tactic(auto)]
 
 mod decl_lists;
 mod decl_reader;
-mod instr;
 mod instr_reader;
-mod laws;
 mod proc_lists;
 mod proc_reader;
 mod reader;
@@ -17,7 +14,5 @@ pub use icn_unit::{
     InstrWord, NameKind, ProcCode, UcodeFault, Unit, UnitDecl, UnitInstr, UnitName, UnitText,
     write_unit,
 };
-pub use instr::Instr;
-pub use laws::translation_means;
 pub use reader::read_unit;
 pub use unit_laws::one_spelling;

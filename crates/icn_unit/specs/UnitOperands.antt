@@ -1,15 +1,12 @@
 -- The operands of a line of ucode.
-use Rattle.std.specs.Prelude.{◌==◌, ℕ, ◌+◌, ◌-◌, ◌*◌, Bool, true, false, ◌&&◌, ◌||◌, nat_le, nat_lt, List, [], ◌∷◌, length, take, drop, map, find, codes, Option, Some, None, if◌then◌else◌}
+use Rattle.std.specs.Prelude.{◌==◌, ℕ, ◌+◌, ◌-◌, ◌*◌, Bool, true, false, ◌&&◌, ◌||◌, nat_le, nat_lt, List, [], ◌∷◌, length, take, drop, map, codes, Option, Some, None, if◌then◌else◌}
 use Rattle.std.specs.Fmt.{decimal}
 use Rattle.std.specs.List.{prefix_len, list_all}
 use Rattle.std.specs.Option.{option_map}
 use Rattle.std.specs.Str.{bytes_eq}
 use Rattle.icn_text.specs.declared.keyword.Keyword.{Keyword}
 use Rattle.icn_text.specs.declared.keyword.Keyword.TheVariants.{Ascii, Cset, Current, Digits, Errout, Fail, Input, Lcase, Letters, Level, Main, Null, Output, Pos, Random, Source, Subject, Ucase}
-use Rattle.icn_text.specs.declared.op.Op.{Op}
-use Rattle.icn_text.specs.declared.op.Op.TheVariants.{IsNull, IsNotNull, Dereference, Number, Negate, Size, Complement, Elements, Random, TabMatch, Refresh, Add, Subtract, Multiply, Divide, Remainder, Power, Less, LessOrEqual, Equal, GreaterOrEqual, Greater, NotEqual, LexicallyLess, LexicallyLessOrEqual, LexicallyEqual, LexicallyGreaterOrEqual, LexicallyGreater, LexicallyNotEqual, Equivalent, NotEquivalent, Concatenate, ConcatenateLists, Union, Difference, Intersection, Assign, Swap, ReversibleAssign, ReversibleSwap, Subscript, Section, SectionPlus, SectionMinus, ToBy}
 use Rattle.icn_text.specs.Keywords.{keyword_name}
-use Rattle.icn_text.specs.Ops.{op_number}
 use Rattle.icn_tree.specs.Characters.{begins_identifier, continues_identifier, is_digit, is_between}
 use Rattle.icn_tree.specs.Spellings.{lookup_text}
 
@@ -73,10 +70,3 @@ keywords = Ascii ∷ Cset ∷ Current ∷ Digits ∷ Errout ∷ Fail ∷ Input �
 
 unfoldable pub keyword_of : List ℕ → Option Keyword
 keyword_of text = lookup_text (map (λ keyword. (keyword_name keyword, keyword)) keywords) text
-
-abbrev pub ops : List Op
-ops = IsNull ∷ IsNotNull ∷ Dereference ∷ Number ∷ Negate ∷ Size ∷ Complement ∷ Elements ∷ Random ∷ TabMatch ∷ Refresh ∷ Add ∷ Subtract ∷ Multiply ∷ Divide ∷ Remainder ∷ Power ∷ Less ∷ LessOrEqual ∷ Equal ∷ GreaterOrEqual ∷ Greater ∷ NotEqual ∷ LexicallyLess ∷ LexicallyLessOrEqual ∷ LexicallyEqual ∷ LexicallyGreaterOrEqual ∷ LexicallyGreater ∷ LexicallyNotEqual ∷ Equivalent ∷ NotEquivalent ∷ Concatenate ∷ ConcatenateLists ∷ Union ∷ Difference ∷ Intersection ∷ Assign ∷ Swap ∷ ReversibleAssign ∷ ReversibleSwap ∷ Subscript ∷ Section ∷ SectionPlus ∷ SectionMinus ∷ ToBy ∷ []
-
--- the operation of a number
-abbrev pub op_of : ℕ → Option Op
-op_of n = find (λ op. op_number op == n) ops

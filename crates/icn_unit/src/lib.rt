@@ -10,7 +10,7 @@ mod writer;
 pub use fault::{Stop, UcodeFault};
 pub use instr_word::{InstrWord, alone, labelled, word_named};
 pub use operand::{
-    ascends, byte_text, cut, cut_line, is_name, keyword, label, number, op_numbered, small_number,
+    ascends, byte_text, cut, cut_line, is_name, keyword, label, number, small_number,
 };
 pub use unit::{NameKind, ProcCode, Unit, UnitDecl, UnitInstr, UnitName};
 pub use writer::{UnitText, params_in, write_unit};

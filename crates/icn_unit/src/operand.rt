@@ -3,10 +3,10 @@ ghost use Rattle.std.specs.Prelude.{◌≡◌, ◌≤◌, ◌+◌, ◌-◌, ◌*
 ghost use Rattle.std.specs.List.{prefix_len, list_all};
 ghost use Rattle.std.specs.Option.{option_copied, option_map};
 ghost use Rattle.icn_tree.specs.Characters.{begins_identifier, continues_identifier};
-ghost use Rattle.icn_unit.specs.UnitOperands.{ascends, behind, bytes_of, cut, hexadecimal_bytes, hexadecimal_value, is_hexadecimal, is_inside, is_name, keyword_of, label_of, number_of, op_of};
+ghost use Rattle.icn_unit.specs.UnitOperands.{ascends, behind, bytes_of, cut, hexadecimal_bytes, hexadecimal_value, is_hexadecimal, is_inside, is_name, keyword_of, label_of, number_of};
 ghost use Rattle.icn_unit.specs.OperandViews.{below_first, byte_item, is_in_line, limited, value_limited};
 
-use icn_text::{Keyword, Op, decimal, keyword_named};
+use icn_text::{Keyword, decimal, keyword_named};
 use std::alloc::{AllocError, Global};
 
 /// What stands before the first blank, and what stands behind it.
@@ -202,61 +202,6 @@ pub fn keyword(text: &[u8]) -> Option<Keyword>
     ensures { result ≡ keyword_of text.now }
 {
     keyword_named(text)
-}
-
-const OPS: [Op; 45] = [
-    Op::IsNull,
-    Op::IsNotNull,
-    Op::Dereference,
-    Op::Number,
-    Op::Negate,
-    Op::Size,
-    Op::Complement,
-    Op::Elements,
-    Op::Random,
-    Op::TabMatch,
-    Op::Refresh,
-    Op::Add,
-    Op::Subtract,
-    Op::Multiply,
-    Op::Divide,
-    Op::Remainder,
-    Op::Power,
-    Op::Less,
-    Op::LessOrEqual,
-    Op::Equal,
-    Op::GreaterOrEqual,
-    Op::Greater,
-    Op::NotEqual,
-    Op::LexicallyLess,
-    Op::LexicallyLessOrEqual,
-    Op::LexicallyEqual,
-    Op::LexicallyGreaterOrEqual,
-    Op::LexicallyGreater,
-    Op::LexicallyNotEqual,
-    Op::Equivalent,
-    Op::NotEquivalent,
-    Op::Concatenate,
-    Op::ConcatenateLists,
-    Op::Union,
-    Op::Difference,
-    Op::Intersection,
-    Op::Assign,
-    Op::Swap,
-    Op::ReversibleAssign,
-    Op::ReversibleSwap,
-    Op::Subscript,
-    Op::Section,
-    Op::SectionPlus,
-    Op::SectionMinus,
-    Op::ToBy,
-];
-
-/// The operation of a number.
-pub fn op_numbered(n: u32) -> Option<Op>
-    ensures { result ≡ op_of n }
-{
-    OPS.iter().copied().find(|op| u32::from(op.number()) == n)
 }
 
 /// What stands before the first newline, and what stands behind it.
