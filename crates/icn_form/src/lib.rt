@@ -1,6 +1,6 @@
-//! The one form of program that runs so far: its tree, and what the tree means.
+//! The one form of program that runs so far, as a tree.
 #![tactic(auto)]
 
 mod tree;
 
-pub use tree::{Argument, Arguments, Call, Expr, Exprs, Procedure};
+pub use tree::{Argument, Arguments, Expr, Exprs, Program};

@@ -1,4 +1,4 @@
-// The tree of a program of the form.
+// The tree of a program that runs so far: calls of `write` with literals.
 ghost use Rattle.std.specs.Prelude.{◌≡◌};
 
 use icn_tree::Bytes;
@@ -9,7 +9,7 @@ use std::marker::Model;
 pub enum Argument {
     /// Nothing stands there: the null value.
     Nothing,
-    /// An integer, from 0 on.
+    /// An integer.
     Integer(i64),
     /// A string, by its bytes.
     Text(Bytes),
@@ -46,21 +46,13 @@ impl Arguments {
     }
 }
 
-/// A call of what a name stands for, with literals or nothing as arguments.
-#[derive(Debug, Drop)]
-pub struct Call {
-    /// The name that is called.
-    pub name: Bytes,
-    /// Its arguments.
-    pub arguments: Arguments,
-}
-
-/// An expression of a procedure's body.
+/// An expression of the body of `main`.
 #[derive(Debug, Drop)]
 pub enum Expr {
     /// Nothing stands before a semicolon.
     Empty,
-    Call(Call),
+    /// A call of the function `write` with these arguments.
+    Write(Arguments),
 }
 
 /// Expressions in their order.
@@ -94,11 +86,8 @@ impl Exprs {
     }
 }
 
-/// A procedure without parameters.
+/// A program: the body of its procedure `main`, where it has one.
 #[derive(Debug, Drop)]
-pub struct Procedure {
-    /// The procedure's name.
-    pub name: Bytes,
-    /// The expressions of its body.
-    pub body: Exprs,
+pub struct Program {
+    pub main: Option<Exprs>,
 }

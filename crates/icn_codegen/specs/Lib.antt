@@ -1,0 +1,5 @@
+pub mod Linked
+pub mod Sizes
+pub mod Mentions
+pub mod FirstMentions
+pub mod Laws

@@ -1,0 +1,13 @@
+-- What a call leaves of an evaluation that it broke off.
+use Rattle.std.specs.Prelude.{◌≡◌, ℕ, List, Option, Some}
+use Rattle.icn_run.specs.CodeRun.{GainsBetween}
+use Rattle.icn_meaning.specs.Meaning.{Evaluation, Stand, Comes, outside_of, step}
+
+-- The evaluation stood somewhere: the input left is the one of that stand. Of what its next step puts on each output some first part
+-- was put.
+pub record Breaks (evaluation : Evaluation) (left' out out' err err' : Option (List ℕ)) : Type 0 where
+  pub at : Stand
+  pub comes : Comes evaluation at
+  pub left : left' ≡ Some (outside_of at).left
+  pub output : GainsBetween out out' (outside_of at).output (outside_of (step evaluation at)).output
+  pub errors : GainsBetween err err' (outside_of at).errors (outside_of (step evaluation at)).errors
