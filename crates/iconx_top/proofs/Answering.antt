@@ -8,12 +8,13 @@ use Rattle.icn_verify.specs.declared.verified.Verified.{Verified}
 use Rattle.icn_engine.specs.declared.answer.Answer.{Answer}
 use Rattle.icn_engine.specs.declared.answer.Answer.TheVariants.{Ran, Missing, BadImage, FileFault, ReadFault, WriteFault, NoMemory}
 use Rattle.iconx_top.specs.Answered.{IsAnswered, fault, missing, bad, ran}
-use Rattle.iconx_top.specs.Faulting.{IsOfRun}
+use Rattle.icn_lines.specs.Faulting.{IsOfRun}
 use Rattle.iconx_top.specs.Loading.{IsLoaded}
-use Rattle.iconx_top.specs.Refusing.{Refuses, own, put, want, write_fault}
+use Rattle.iconx_top.specs.Usage.{usage}
+use Rattle.icn_lines.specs.Refusing.{Refuses, own, put, want, write_fault}
 use Rattle.iconx_top.specs.Words.{Asks, asked}
 
-pub answer_put : {words : List (List ℕ)} {files : FileMap} {name : List ℕ} {before after : Sunk} (answer given : Answer) → IsAnswered words files answer → Refuses name answer before after given → IsAnswered words files given
+pub answer_put : {words : List (List ℕ)} {files : FileMap} {name : List ℕ} {before after : Sunk} (answer given : Answer) → IsAnswered words files answer → Refuses usage name answer before after given → IsAnswered words files given
 answer_put answer _ is (put n h) = is
 answer_put answer _ is (own f puts) = is
 answer_put answer _ is (write_fault n leads) = fault WriteFault refl

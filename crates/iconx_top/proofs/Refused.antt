@@ -10,34 +10,30 @@ use Rattle.icn_run.specs.CodeRun.{Run}
 use Rattle.icn_verify.specs.declared.verified.Verified.{Verified}
 use Rattle.icn_engine.specs.declared.answer.Answer.{Answer}
 use Rattle.icn_engine.specs.declared.answer.Answer.TheVariants.{Ran, Missing, BadImage, FileFault, NoMemory}
-use Rattle.icn_engine.specs.Answers.{IsFault, is_fault}
-use Rattle.icn_engine.specs.declared.fault.RunFault.{RunFault}
-use Rattle.icn_engine.specs.declared.fault.RunFault.TheVariants as Runs
+use Rattle.icn_engine.specs.Answers.{IsFault}
 use Rattle.icn_engine.specs.Runs.{Breaks, Ends}
-use Rattle.iconx_top.specs.Faulting.{of_run}
 use Rattle.iconx_top.specs.Images.{IsJudged}
 use Rattle.iconx_top.specs.Job.{IsJob, IsRun, bad, missing, observation, ran, refusal}
-use Rattle.iconx_top.specs.Lines.{line_of}
+use Rattle.icn_lines.specs.Lines.{fault_line, line_of}
 use Rattle.iconx_top.specs.Loading.{IsLoaded}
-use Rattle.iconx_top.specs.Outcomes.{Begins, Outcome, Told, broke, done, fault, idle, told}
-use Rattle.iconx_top.specs.Refusing.{Refuses, own, put, want, write_fault}
+use Rattle.icn_lines.specs.Telling.{Told, told}
+use Rattle.iconx_top.specs.Outcomes.{Begins, Outcome, broke, done, fault, idle}
+use Rattle.iconx_top.specs.Usage.{usage}
+use Rattle.icn_lines.specs.Refusing.{Refuses, own, put, want, write_fault}
 use Rattle.iconx_top.specs.Words.{Asks, asked}
-
-pub no_fault : (answer : Answer) → is_fault answer ≡ false → IsFault answer → ⊥
-no_fault answer e f = let both : true ≡ false = sym f ∙ e in cc
 
 -- an answer is the job's refusal, or a fault
 abbrev pub Asked : List (List ℕ) → FileMap → List ℕ → List ℕ → Answer → Type 0
 Asked words files left name answer = IsFault answer ⊎ IsJob words files left (refusal files left name answer)
 
-begins_of : {words : List (List ℕ)} {files : FileMap} {left : List ℕ} (name : List ℕ) (answer : Answer) (before between : Sunk) → IsJob words files left (refusal files left name answer) → Leads before between (line_of name answer)
+begins_of : {words : List (List ℕ)} {files : FileMap} {left : List ℕ} (name : List ℕ) (answer : Answer) (before between : Sunk) → IsJob words files left (refusal files left name answer) → Leads before between (line_of usage name answer)
     → Begins (IsJob words files left) before between
 begins_of name answer before between is (inl same) = inl same
 begins_of {files = files} {left} name answer before between is (inr stops) = inr (refusal files left name answer, is, stops)
 
 -- nothing was done but to put a line
 pub refused : {words : List (List ℕ)} {files : FileMap} {left : List ℕ} (name : List ℕ) (answer given : Answer) (held held' : Option FileMap) (left' out : Option (List ℕ)) (before after : Sunk) → Asked words files left name answer
-    → held' ≡ held → held ≡ Some files → left' ≡ Some left → Refuses name answer before after given → Outcome words files left given (told held left' out before) (told held' left' out after)
+    → held' ≡ held → held ≡ Some files → left' ≡ Some left → Refuses usage name answer before after given → Outcome words files left given (told held left' out before) (told held' left' out after)
 refused name answer given held held' left' out before after (inl f) same e d (put n h) = absurd (n f)
 refused {files = files} {left} name answer given held held' left' out before after (inr is) same e d (put n h) =
     done (refusal files left name answer) is (record { answered = refl; files = same ∙ e; left = d; output = gains_nothing out; errors = h })
@@ -71,7 +67,7 @@ ran_outcome {files = files} run ending held' left0 is e ends =
     (record { answered = refl; files = e; left = ends.left; output = ends.output; errors = ends.errors })
 
 pub broke_outcome : {words : List (List ℕ)} {files : FileMap} {left : List ℕ} {left' out out' : Option (List ℕ)} {before between after : Sunk} (run : Run) (answer : Answer) (held' : Option FileMap) (left0 : Option (List ℕ)) → IsRun words files left run
-    → IsFault answer → before.faults ≤ between.faults → before.wants ≤ between.wants → Breaks run left' out out' before.held between.held → Puts between after (line_of [] answer) → Outcome words files left answer (told held' left0 out before) (told held' left' out' after)
+    → IsFault answer → before.faults ≤ between.faults → before.wants ≤ between.wants → Breaks run left' out out' before.held between.held → Puts between after (fault_line answer) → Outcome words files left answer (told held' left0 out before) (told held' left' out' after)
 broke_outcome {between = between} run answer held' left0 is f faults wants breaks puts = fault f refl (broke between run is faults wants breaks puts)
 
 pub if_some : {T : Type 0} (o : Option T) (P : T → Type 0) → ((x : T) → o ≡ Some x → P x) → IfSome o P
@@ -80,11 +76,6 @@ if_some (Some x) P f = f x refl
 
 pub at_some : {T : Type 0} (P : T → Type 0) (o : Option T) (x : T) → o ≡ Some x → IfSome o P → P x
 at_some P o x e h = rw e at h
-
-pub is_run_fault : (fault : RunFault) → IsFault (of_run fault)
-is_run_fault Runs.ReadFault = refl
-is_run_fault Runs.WriteFault = refl
-is_run_fault Runs.NoMemory = refl
 
 -- the files that are told behind a call
 pub held_as : {words : List (List ℕ)} {files : FileMap} {left : List ℕ} {answer : Answer} {before : Told} {left' out : Option (List ℕ)} {after : Sunk} (held held' : Option FileMap) → held' ≡ held

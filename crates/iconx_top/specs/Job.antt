@@ -7,7 +7,8 @@ use Rattle.icn_run.specs.CodeRun.{Run, Observed, Observes}
 use Rattle.icn_engine.specs.declared.answer.Answer.{Answer}
 use Rattle.icn_engine.specs.declared.answer.Answer.TheVariants.{Ran, Command, Missing, BadImage}
 use Rattle.iconx_top.specs.Images.{IsJudged}
-use Rattle.iconx_top.specs.Lines.{line_of}
+use Rattle.icn_lines.specs.Lines.{line_of}
+use Rattle.iconx_top.specs.Usage.{usage}
 use Rattle.iconx_top.specs.Words.{Asks, Faulty, asked}
 
 -- the answer, the files and the input left after it, and what is added to the output and to the error output
@@ -20,7 +21,7 @@ pub record Job : Type 0 where
 
 -- nothing is done but to put the answer's own line
 abbrev pub refusal : FileMap → List ℕ → List ℕ → Answer → Job
-refusal files left name answer = record { answer = answer; files = files; left = left; output = []; errors = line_of name answer }
+refusal files left name answer = record { answer = answer; files = files; left = left; output = []; errors = line_of usage name answer }
 
 -- a run was observed
 abbrev pub observation : FileMap → Observed → Job

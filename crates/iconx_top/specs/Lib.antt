@@ -2,12 +2,9 @@ pub mod Numbers
 pub mod Words
 pub mod Asking
 pub mod Images
-pub mod Lines
+pub mod Usage
 pub mod Job
 pub mod Outcomes
 pub mod Loading
-pub mod Refusing
-pub mod Reporting
-pub mod Faulting
 pub mod Commanded
 pub mod Answered

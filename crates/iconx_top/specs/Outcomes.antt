@@ -8,17 +8,8 @@ use Rattle.icn_engine.specs.declared.answer.Answer.{Answer}
 use Rattle.icn_engine.specs.Answers.{IsFault}
 use Rattle.icn_engine.specs.Runs.{Breaks}
 use Rattle.iconx_top.specs.Job.{Job, IsJob, IsRun}
-use Rattle.iconx_top.specs.Lines.{line_of}
-
--- what the objects tell: the files, the input left, the output and the error output so far
-pub record Told : Type 0 where
-  pub files : Option FileMap
-  pub left : Option (List ℕ)
-  pub output : Option (List ℕ)
-  pub errors : Sunk
-
-abbrev pub told : Option FileMap → Option (List ℕ) → Option (List ℕ) → Sunk → Told
-told files left output errors = record { files = files; left = left; output = output; errors = errors }
+use Rattle.icn_lines.specs.Lines.{fault_line}
+use Rattle.icn_lines.specs.Telling.{Told}
 
 -- the job was done
 pub record Completes (job : Job) (answer : Answer) (before after : Told) : Type 0 where
@@ -35,9 +26,9 @@ Begins IsJobOf before between = (between ≡ before) ⊎ ((job : Job) × IsJobOf
 -- A fault: nothing was done but that a refusal's line may be begun; or a run stood somewhere, and of what its next step puts some
 -- first part was put. The fault's own line comes behind, as far as the error output took it.
 pub data Faults (words : List (List ℕ)) (files : FileMap) (left : List ℕ) (answer : Answer) (before after : Told) : Type 0 where
-  idle : (between : Sunk) → after.left ≡ before.left → after.output ≡ before.output → Begins (IsJob words files left) before.errors between → Puts between after.errors (line_of [] answer)
+  idle : (between : Sunk) → after.left ≡ before.left → after.output ≡ before.output → Begins (IsJob words files left) before.errors between → Puts between after.errors (fault_line answer)
       → Faults words files left answer before after
-  broke : (between : Sunk) (run : Run) → IsRun words files left run → before.errors.faults ≤ between.faults → before.errors.wants ≤ between.wants → Breaks run after.left before.output after.output before.errors.held between.held → Puts between after.errors (line_of [] answer)
+  broke : (between : Sunk) (run : Run) → IsRun words files left run → before.errors.faults ≤ between.faults → before.errors.wants ≤ between.wants → Breaks run after.left before.output after.output before.errors.held between.held → Puts between after.errors (fault_line answer)
       → Faults words files left answer before after
 
 -- the job was done, or a fault is answered

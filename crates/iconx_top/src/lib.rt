@@ -2,10 +2,8 @@
 #![tactic(auto)]
 
 mod laws;
-mod lines;
 mod load;
 mod number;
-mod refuse;
 mod top;
 mod words;
 

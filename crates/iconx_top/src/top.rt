@@ -10,20 +10,25 @@ ghost use Rattle.icn_engine.specs.Answers.{IsFault, IsRefusal};
 ghost use Rattle.iconx_top.specs.Answered.{IsAnswered};
 ghost use Rattle.iconx_top.specs.Asking.{asking};
 ghost use Rattle.iconx_top.specs.Commanded.{IsCommand, IsCommanded};
-ghost use Rattle.iconx_top.specs.Faulting.{IsOfRun, of_run};
-ghost use Rattle.iconx_top.specs.Lines.{put_by};
+ghost use Rattle.icn_lines.specs.Faulting.{IsOfRun};
+ghost use Rattle.icn_lines.specs.Lines.{put_by};
 ghost use Rattle.iconx_top.specs.Loading.{IsAbsence, IsLoaded};
-ghost use Rattle.iconx_top.specs.Outcomes.{Outcome, told};
-ghost use Rattle.iconx_top.specs.Reporting.{Reports};
+ghost use Rattle.icn_lines.specs.Telling.{told};
+ghost use Rattle.iconx_top.specs.Outcomes.{Outcome};
+ghost use Rattle.icn_lines.specs.Reporting.{Reports};
+ghost use Rattle.iconx_top.specs.Usage.{usage};
 ghost use Rattle.iconx_top.specs.Words.{asked as read, image_name};
 
 use crate::load::load;
-use crate::refuse::{own_line, refuse};
 use crate::words::{RunAsked, asked};
-use icn_engine::{Answer, RunFault, run};
+use icn_engine::{Answer, run};
 use icn_host::{Files, Sink, Source};
+use icn_lines::{answer_of, own_line, refuse};
 use icn_verify::Verified;
 use std::alloc::Global;
+
+const USAGE: &[u8] =
+    b"usage: iconx [-n turns] [-s bytes] [-b cells] [-l levels] image [argument ...]\n";
 
 /// All that the program `iconx` does: it reads the image that the words name from `files`, and runs its code over `input`, `out`
 /// and `err`. The line of an answer goes to `err` too. The words begin with the program's name.
@@ -45,11 +50,11 @@ pub fn iconx_main<F: Files, I: Source, O: Sink, E: Sink>(
         → IsFault result → result ≡ Answer.NoMemory }
 
     // Every other answer's line was put, whatever the files and the input tell.
-    ensures line { IsFault result ⊎ Gains (E.held err.old) (E.held err.new) (put_by (image_name (read (map string_bytes words.now))) result) }
+    ensures line { IsFault result ⊎ Gains (E.held err.old) (E.held err.new) (put_by usage (image_name (read (map string_bytes words.now))) result) }
 
     // A fault's own line was put too, behind what was put of another answer's line: less than the whole of it is there only where
     // the error output's count of faults, or of its wants of memory, rose in that put.
-    ensures fault_line { Reports (image_name (read (map string_bytes words.now)))
+    ensures fault_line { Reports usage (image_name (read (map string_bytes words.now)))
         (sunk (E.held err.old) (E.faults err.old) (E.wants err.old)) (sunk (E.held err.new) (E.faults err.new) (E.wants err.new)) result }
 
     // Where the files tell their content, the answer is the one that the words and the files ask for, or a fault.
@@ -72,7 +77,7 @@ pub fn iconx_main<F: Files, I: Source, O: Sink, E: Sink>(
 {
     match asked(words) {
         Ok(asked) => image_answer(alloc, asked, files, input, out, err),
-        Err(kind) => refuse(alloc, "", Answer::Command(kind), err),
+        Err(kind) => refuse(alloc, USAGE, "", Answer::Command(kind), err),
     }
 }
 
@@ -88,7 +93,7 @@ fn image_answer<F: Files, I: Source, O: Sink, E: Sink>(
     ensures outcome { (words : List (List ℕ)) → read words ≡ asking run.entry → IfSome (F.held files.old) (λ held. IfSome (I.left input.old) (λ left. Outcome words held left result
         (told (F.held files.old) (I.left input.old) (O.held out.old) (sunk (E.held err.old) (E.faults err.old) (E.wants err.old)))
         (told (F.held files.new) (I.left input.new) (O.held out.new) (sunk (E.held err.new) (E.faults err.new) (E.wants err.new))))) }
-    ensures reported { Reports run.entry.image.now (sunk (E.held err.old) (E.faults err.old) (E.wants err.old))
+    ensures reported { Reports usage run.entry.image.now (sunk (E.held err.old) (E.faults err.old) (E.wants err.old))
         (sunk (E.held err.new) (E.faults err.new) (E.wants err.new)) result }
     ensures answered { (words : List (List ℕ)) → read words ≡ asking run.entry → IfSome (F.held files.old) (λ held. IsAnswered words held result) }
     ensures command { IsCommand result → ⊥ }
@@ -105,7 +110,7 @@ fn image_answer<F: Files, I: Source, O: Sink, E: Sink>(
 {
     match load(alloc, run.image, files) {
         Ok(verified) => run_answer(alloc, &verified, run, input, out, err),
-        Err(answer) => refuse(alloc, run.image, answer, err),
+        Err(answer) => refuse(alloc, USAGE, run.image, answer, err),
     }
 }
 
@@ -123,7 +128,7 @@ fn run_answer<I: Source, O: Sink, E: Sink>(
         → IfSome (I.left input.old) (λ left. Outcome words held left result
         (told told_files (I.left input.old) (O.held out.old) (sunk (E.held err.old) (E.faults err.old) (E.wants err.old)))
         (told told_files (I.left input.new) (O.held out.new) (sunk (E.held err.new) (E.faults err.new) (E.wants err.new)))) }
-    ensures reported { (name : List ℕ) → Reports name (sunk (E.held err.old) (E.faults err.old) (E.wants err.old))
+    ensures reported { (name : List ℕ) → Reports usage name (sunk (E.held err.old) (E.faults err.old) (E.wants err.old))
         (sunk (E.held err.new) (E.faults err.new) (E.wants err.new)) result }
     ensures others { IsOfRun result }
     ensures read_fault { HasCause (I.faults input.old) (I.faults input.new) (result ≡ Answer.ReadFault) }
@@ -135,20 +140,9 @@ fn run_answer<I: Source, O: Sink, E: Sink>(
     match run(alloc, code, asked.arguments, asked.limits, input, out, err) {
         Ok(ending) => Answer::Ran(ending),
         Err(fault) => {
-            let answer = fault_answer(fault);
+            let answer = answer_of(fault);
             own_line(&answer, err);
             answer
         }
-    }
-}
-
-// The answer where a run could not go on.
-fn fault_answer(fault: RunFault) -> Answer
-    ensures { result ≡ of_run fault }
-{
-    match fault {
-        RunFault::ReadFault => Answer::ReadFault,
-        RunFault::WriteFault => Answer::WriteFault,
-        RunFault::NoMemory => Answer::NoMemory,
     }
 }

@@ -4,7 +4,8 @@ use Rattle.iconx_top.specs.Job.{wrong_words}
 use Rattle.iconx_top.specs.Answered.{wrong_words as by_words}
 use Rattle.iconx_top.proofs.Answering.{answer_put}
 use Rattle.iconx_top.proofs.Refused.{if_some, refused}
-use Rattle.iconx_top.proofs.Reported.{asked_reports, line_of_reports, reports_of}
+use Rattle.icn_lines.proofs.Reports.{line_of_reports, reports_of}
+use Rattle.iconx_top.proofs.Reported.{asked_reports}
 use Rattle.iconx_top.proofs.top.iconx_main.Goals as goal
 
 pub returns-in-Err-clause-outcome : goal.returns-in-Err-clause-outcome

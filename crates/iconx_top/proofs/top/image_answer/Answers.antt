@@ -3,7 +3,8 @@ use Rattle.std.specs.Prelude.{string_bytes}
 use Rattle.icn_value.specs.Limited.{limits_of}
 use Rattle.iconx_top.proofs.Answering.{answer_put, load_answered, run_answered}
 use Rattle.iconx_top.proofs.Refused.{asked_load, at_some, held_as, if_some, refused}
-use Rattle.iconx_top.proofs.Reported.{line_put, reports_of}
+use Rattle.icn_lines.proofs.Reports.{reports_of}
+use Rattle.iconx_top.proofs.Reported.{line_put}
 use Rattle.iconx_top.proofs.top.image_answer.Goals as goal
 
 pub returns-in-Err-clause-outcome : goal.returns-in-Err-clause-outcome

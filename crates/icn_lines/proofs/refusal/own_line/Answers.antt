@@ -1,4 +1,4 @@
-use Rattle.iconx_top.proofs.refuse.own_line.Goals as goal
+use Rattle.icn_lines.proofs.refusal.own_line.Goals as goal
 
 pub returns-in-FileFault-clause-puts : goal.returns-in-FileFault-clause-puts
 returns-in-FileFault-clause-puts g c = rw c.in-FileFault.is c.try_put.ensures.puts

@@ -1,11 +1,11 @@
 // The line of an answer that no program ran for.
-ghost use Rattle.std.specs.Prelude.{◌≡◌, ◌≢◌, ◌≤◌, [], OnOk, OnErr, IsErrOf};
+ghost use Rattle.std.specs.Prelude.{◌≡◌, ◌≢◌, ◌≤◌, OnOk, OnErr, IsErrOf};
 ghost use Rattle.icn_host.specs.Counts.{HasCause};
 ghost use Rattle.icn_host.specs.Sinks.{Gains};
 ghost use Rattle.icn_report.specs.Puts.{Leads, Puts, sunk};
 ghost use Rattle.icn_engine.specs.Answers.{IsFault};
-ghost use Rattle.iconx_top.specs.Lines.{line_of};
-ghost use Rattle.iconx_top.specs.Refusing.{Refuses};
+ghost use Rattle.icn_lines.specs.Lines.{fault_line, line_of};
+ghost use Rattle.icn_lines.specs.Refusing.{Refuses};
 
 use crate::lines::{FILE_FAULT, NO_MEMORY, READ_FAULT, line_of};
 use icn_engine::Answer;
@@ -13,10 +13,16 @@ use icn_host::{Fault, Sink};
 use icn_report::{put_line, try_put};
 use std::alloc::Global;
 
-/// Puts the line of an answer, where the image has this name, and gives the answer that stands then: a line that can't be put
-/// makes it a fault.
-pub fn refuse<E: Sink>(alloc: Global, name: &str, answer: Answer, err: &mut E) -> Answer
-    ensures line { Refuses name.now answer (sunk (E.held err.old) (E.faults err.old) (E.wants err.old))
+/// Puts the line of an answer of a program with this usage line, where the image has this name, and gives the answer that stands
+/// then: a line that can't be put makes it a fault.
+pub fn refuse<E: Sink>(
+    alloc: Global,
+    usage: &[u8],
+    name: &str,
+    answer: Answer,
+    err: &mut E,
+) -> Answer
+    ensures line { Refuses usage.now name.now answer (sunk (E.held err.old) (E.faults err.old) (E.wants err.old))
         (sunk (E.held err.new) (E.faults err.new) (E.wants err.new)) result }
     ensures cause { HasCause (E.faults err.old) (E.faults err.new)
         ((result ≡ Answer.WriteFault) × (answer ≢ Answer.WriteFault)) }
@@ -26,7 +32,7 @@ pub fn refuse<E: Sink>(alloc: Global, name: &str, answer: Answer, err: &mut E) -
         own_line(&answer, err);
         return answer;
     }
-    match named_line(alloc, name, &answer, err) {
+    match named_line(alloc, usage, name, &answer, err) {
         Ok(()) => answer,
         Err(Fault::Failed) => Answer::WriteFault,
         Err(Fault::NoMemory) => {
@@ -40,7 +46,7 @@ pub fn refuse<E: Sink>(alloc: Global, name: &str, answer: Answer, err: &mut E) -
 pub fn own_line<E: Sink>(fault: &Answer, err: &mut E)
     requires { IsFault fault.now }
     ensures puts { Puts (sunk (E.held err.old) (E.faults err.old) (E.wants err.old))
-        (sunk (E.held err.new) (E.faults err.new) (E.wants err.new)) (line_of [] fault.now) }
+        (sunk (E.held err.new) (E.faults err.new) (E.wants err.new)) (fault_line fault.now) }
     ensures faults { E.faults err.old ≤ E.faults err.new }
     ensures wants { E.wants err.old ≤ E.wants err.new }
 {
@@ -53,13 +59,19 @@ pub fn own_line<E: Sink>(fault: &Answer, err: &mut E)
 }
 
 // Puts the line of the answer.
-fn named_line<E: Sink>(alloc: Global, name: &str, answer: &Answer, err: &mut E) -> Result<(), Fault>
-    ensures ok { OnOk result (Gains (E.held err.old) (E.held err.new) (line_of name.now answer.now)) }
+fn named_line<E: Sink>(
+    alloc: Global,
+    usage: &[u8],
+    name: &str,
+    answer: &Answer,
+    err: &mut E,
+) -> Result<(), Fault>
+    ensures ok { OnOk result (Gains (E.held err.old) (E.held err.new) (line_of usage.now name.now answer.now)) }
     ensures err { OnErr result (Leads (sunk (E.held err.old) (E.faults err.old) (E.wants err.old))
-        (sunk (E.held err.new) (E.faults err.new) (E.wants err.new)) (line_of name.now answer.now)) }
+        (sunk (E.held err.new) (E.faults err.new) (E.wants err.new)) (line_of usage.now name.now answer.now)) }
     ensures cause { HasCause (E.faults err.old) (E.faults err.new) (IsErrOf result Fault.Failed) }
     ensures wants { E.wants err.old ≤ E.wants err.new }
 {
-    let line = line_of(alloc, name, answer)?;
+    let line = line_of(alloc, usage, name, answer)?;
     put_line(&line, err)
 }

@@ -1,7 +1,7 @@
 use Rattle.std.proofs.Common.{sym, ◌∙◌}
-use Rattle.iconx_top.specs.Refusing.{own, put, want, write_fault}
-use Rattle.iconx_top.proofs.Refused.{no_fault}
-use Rattle.iconx_top.proofs.refuse.refuse.Goals as goal
+use Rattle.icn_lines.specs.Refusing.{own, put, want, write_fault}
+use Rattle.icn_lines.proofs.Reports.{no_fault}
+use Rattle.icn_lines.proofs.refusal.refuse.Goals as goal
 
 pub returns-then-is_fault-clause-line : goal.returns-then-is_fault-clause-line
 returns-then-is_fault-clause-line g c = own (sym c.is_fault.ensures ∙ c.if-is_fault.true) c.own_line.ensures.puts

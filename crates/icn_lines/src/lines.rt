@@ -1,14 +1,12 @@
 // The lines of answers.
 ghost use Rattle.std.specs.Prelude.{◌≡◌, [], IfOk};
-ghost use Rattle.icn_engine.specs.declared.answer.Answer.TheVariants.{BadImage, Missing};
-ghost use Rattle.iconx_top.specs.Lines.{line_of, rule_code};
+ghost use Rattle.icn_engine.specs.declared.answer.Answer.TheVariants.{BadImage, Missing, Refused};
+ghost use Rattle.icn_lines.specs.Lines.{line_of, rule_code};
 
 use icn_engine::Answer;
+use icn_text::decimal;
 use icn_tree::{Bytes, Rule};
 use std::alloc::{AllocError, Global};
-
-const USAGE: &[u8] =
-    b"usage: iconx [-n turns] [-s bytes] [-b cells] [-l levels] image [argument ...]\n";
 
 pub const FILE_FAULT: &[u8] = b"file fault\n";
 
@@ -16,12 +14,18 @@ pub const READ_FAULT: &[u8] = b"read fault\n";
 
 pub const NO_MEMORY: &[u8] = b"no memory\n";
 
-/// The line of an answer, where the image has this name.
-pub fn line_of(alloc: Global, name: &str, answer: &Answer) -> Result<Vec<u8>, AllocError>
-    ensures { IfOk result (λ line. line.items ≡ line_of name.now answer.now) }
+/// The line of an answer of a program with this usage line, where the image has this name.
+pub fn line_of(
+    alloc: Global,
+    usage: &[u8],
+    name: &str,
+    answer: &Answer,
+) -> Result<Vec<u8>, AllocError>
+    ensures { IfOk result (λ line. line.items ≡ line_of usage.now name.now answer.now) }
 {
     match answer {
-        Answer::Command(_) => Vec::from_slice(alloc, USAGE),
+        Answer::Refused { file, line, rule } => refusal_line(alloc, file, *line, *rule),
+        Answer::Command(_) => Vec::from_slice(alloc, usage),
         Answer::Missing(missing) => missing_line(alloc, missing),
         Answer::BadImage(rule) => bad_image_line(alloc, name, *rule),
         Answer::FileFault => Vec::from_slice(alloc, FILE_FAULT),
@@ -31,8 +35,20 @@ pub fn line_of(alloc: Global, name: &str, answer: &Answer) -> Result<Vec<u8>, Al
     }
 }
 
+fn refusal_line(alloc: Global, file: &Bytes, number: u32, rule: Rule) -> Result<Vec<u8>, AllocError>
+    ensures { IfOk result (λ line. line.items ≡ line_of [] [] (Refused file.now number rule)) }
+{
+    let mut line = Vec::from_slice(alloc, file.as_slice())?;
+    line.extend_from_slice(b":")?;
+    line.extend_from_slice(decimal(i64::from(number)).as_bytes())?;
+    line.extend_from_slice(b": ")?;
+    line.extend_from_slice(rule.text())?;
+    line.extend_from_slice(b"\n")?;
+    Ok(line)
+}
+
 fn missing_line(alloc: Global, name: &Bytes) -> Result<Vec<u8>, AllocError>
-    ensures { IfOk result (λ line. line.items ≡ line_of [] (Missing name.now)) }
+    ensures { IfOk result (λ line. line.items ≡ line_of [] [] (Missing name.now)) }
 {
     let mut line = Vec::from_slice(alloc, name.as_slice())?;
     line.extend_from_slice(b": not there\n")?;
@@ -40,7 +56,7 @@ fn missing_line(alloc: Global, name: &Bytes) -> Result<Vec<u8>, AllocError>
 }
 
 fn bad_image_line(alloc: Global, name: &str, rule: Rule) -> Result<Vec<u8>, AllocError>
-    ensures { IfOk result (λ line. line.items ≡ line_of name.now (BadImage rule)) }
+    ensures { IfOk result (λ line. line.items ≡ line_of [] name.now (BadImage rule)) }
 {
     let mut line = Vec::from_slice(alloc, name.as_bytes())?;
     line.extend_from_slice(b": bad image, ")?;

@@ -1,0 +1,5 @@
+pub mod Lines
+pub mod Refusing
+pub mod Reporting
+pub mod Faulting
+pub mod Telling

@@ -1,0 +1,9 @@
+//! The line of an answer, as a program puts it on its error output.
+#![tactic(auto)]
+
+mod lines;
+mod refusal;
+mod run_fault;
+
+pub use refusal::{own_line, refuse};
+pub use run_fault::answer_of;

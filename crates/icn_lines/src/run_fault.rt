@@ -1,0 +1,16 @@
+// The answer where a run could not go on.
+ghost use Rattle.std.specs.Prelude.{◌≡◌};
+ghost use Rattle.icn_lines.specs.Faulting.{of_run};
+
+use icn_engine::{Answer, RunFault};
+
+/// The answer where a run could not go on. It takes no memory.
+pub fn answer_of(fault: RunFault) -> Answer
+    ensures { result ≡ of_run fault }
+{
+    match fault {
+        RunFault::ReadFault => Answer::ReadFault,
+        RunFault::WriteFault => Answer::WriteFault,
+        RunFault::NoMemory => Answer::NoMemory,
+    }
+}
