@@ -9,6 +9,7 @@ mod tests {
     use icn_text::decimal;
     use icn_tree::Bytes;
     use icont_top::{Answer, Ending, icont_main};
+    use iconx_top::iconx_main;
     use std::alloc::Global;
     use std::collections::BTreeMap;
     use std::process::Abort;
@@ -21,9 +22,7 @@ mod tests {
 
     const NO_PROGRAM: &[u8] = b"f.icn:0: S1 not a program\n";
 
-    // A form that is not built: line 0, and lines of the named file.
-    const UNBUILT_0: &[u8] = b"f.icn:0: S4 form not in this profile\n";
-
+    // A form that is not built, on a line of the named file.
     const UNBUILT_1: &[u8] = b"f.icn:1: S4 form not in this profile\n";
 
     const UNBUILT_2: &[u8] = b"f.icn:2: S4 form not in this profile\n";
@@ -258,11 +257,7 @@ mod tests {
     ];
 
     // Texts with a form that is not built, with the line of the refusal.
-    const UNBUILT: [(&[u8], &[u8]); 44] = [
-        // no declaration
-        (b"", UNBUILT_0),
-        (b"\n", UNBUILT_0),
-        (b"# nothing\n$define x y\n", UNBUILT_0),
+    const UNBUILT: [(&[u8], &[u8]); 41] = [
         // the head of the procedure, and another one
         (b"procedure Main()\nwrite(\"hi\")\nend\n", UNBUILT_1),
         (b"procedure p()\nwrite(\"hi\")\nend\n", UNBUILT_1),
@@ -479,7 +474,9 @@ mod tests {
         answer: Answer,
         output: Vec<u8>,
         errors: Vec<u8>,
-        // Whether the file holds what it held, and the input is all there.
+        // Whether `f` is there, which is the one name that is written.
+        image: bool,
+        // Whether each other file holds what it held, and the input is all there.
         untouched: bool,
     }
 
@@ -546,23 +543,31 @@ mod tests {
             Some(bytes) => bytes.as_slice() == source,
             None => false,
         };
+        let image = files.content().get("f").is_some();
         Ok(Row {
             answer,
             output: out.content().to_vec(alloc)?,
             errors: err.content().to_vec(alloc)?,
+            image,
             untouched: same
-                && files.content().len() == 7
+                && files.content().len() == 7 + usize::from(image)
                 && input.content() == b"input\n".as_slice(),
         })
     }
 
     fn name_of(answer: &Answer) -> &'static str {
         match answer {
+            Answer::Wrote => "Wrote",
             Answer::Ran(Ending::Done) => "Ran(Done)",
+            Answer::Ran(Ending::Exit(_)) => "Ran(Exit)",
+            Answer::Ran(Ending::Errored(_)) => "Ran(Errored)",
+            Answer::Ran(Ending::AtBound) => "Ran(AtBound)",
             Answer::Refused { .. } => "Refused",
             Answer::Command(_) => "Command",
             Answer::Missing(_) => "Missing",
+            Answer::BadImage(_) => "BadImage",
             Answer::FileFault => "FileFault",
+            Answer::ReadFault => "ReadFault",
             Answer::WriteFault => "WriteFault",
             Answer::NoMemory => "NoMemory",
         }
@@ -577,7 +582,7 @@ mod tests {
             assert_eq!(rt; name_of(&row.answer), "Ran(Done)", "at {source}");
             assert_eq!(rt; row.output.as_slice(), output, "at {source}");
             assert!(rt; row.errors.is_empty(), "at {source}");
-            assert!(rt; row.untouched, "at {source}");
+            assert!(rt; row.untouched && row.image, "at {source}");
         }
         Ok(())
     }
@@ -590,7 +595,7 @@ mod tests {
         assert_eq!(rt; row.answer.code(), 2, "at {source}");
         assert_eq!(rt; row.errors.as_slice(), errors, "at {source}");
         assert!(rt; row.output.is_empty(), "at {source}");
-        assert!(rt; row.untouched, "at {source}");
+        assert!(rt; row.untouched && !row.image, "at {source}");
         Ok(())
     }
 
@@ -741,14 +746,26 @@ mod tests {
     #[test]
     fn long_bodies_and_long_calls_run(rt: HostRuntime) -> Result<(), Fail> {
         let alloc = rt.alloc();
-        let rows: [(&[u8], &[u8], &[u8], &[u8]); 2] = [
-            (b"procedure main()\n", b"write(7)\n", b"end\n", b"7\n"),
-            (b"procedure main()\nwrite(7", b",7", b")\nend\n", b"7"),
+        let rows: [(&[u8], &[u8], &[u8], &[u8], u32); 2] = [
+            (
+                b"procedure main()\n",
+                b"write(7)\n",
+                b"end\n",
+                b"7\n",
+                100000,
+            ),
+            (
+                b"procedure main()\nwrite(7",
+                b",7",
+                b")\nend\n",
+                b"7",
+                65534,
+            ),
         ];
-        for (before, each, after, output) in rows {
+        for (before, each, after, output, count) in rows {
             let mut source = before.to_vec(alloc)?;
             let mut wanted = Vec::new(alloc);
-            for _ in 0..100000 {
+            for _ in 0..count {
                 source.extend_from_slice(each)?;
                 wanted.extend_from_slice(output)?;
             }
@@ -766,9 +783,24 @@ mod tests {
     #[test]
     fn words_are_taken_as_they_stand(rt: HostRuntime) -> Result<(), Fail> {
         let alloc = rt.alloc();
-        let rows: [(&[&str], &str, u8, &[u8]); 12] = [
+        let rows: [(&[&str], &str, u8, &[u8]); 17] = [
             (&["icont", "f.icn", "-x"], "Ran(Done)", 0, b""),
             (&["", "f.icn", "-x"], "Ran(Done)", 0, b""),
+            (&["icont", "f.icn", "-x", "a"], "Ran(Done)", 0, b""),
+            (
+                &["icont", "f.icn", "-x", "-x", "f.icn"],
+                "Ran(Done)",
+                0,
+                b"",
+            ),
+            (&["icont", "f.icn"], "Wrote", 0, b""),
+            (&["", "f.icn"], "Wrote", 0, b""),
+            (
+                &["icont", "nofile.icn"],
+                "Missing",
+                2,
+                b"nofile.icn: not there\n",
+            ),
             (
                 &["icont", "nofile.icn", "-x"],
                 "Missing",
@@ -778,20 +810,21 @@ mod tests {
             (&["icont", ".icn", "-x"], "Missing", 2, b".icn: not there\n"),
             (&[], "Command", 2, USAGE),
             (&["icont"], "Command", 2, USAGE),
-            (&["icont", "f.icn"], "Command", 2, USAGE),
+            (&["icont", "f"], "Command", 2, USAGE),
             (&["icont", "f", "-x"], "Command", 2, USAGE),
             (&["icont", "f.icn", "-X"], "Command", 2, USAGE),
             (&["icont", "f.icn", "x"], "Command", 2, USAGE),
             (&["icont", "-x", "f.icn"], "Command", 2, USAGE),
-            (&["icont", "f.icn", "-x", "a"], "Command", 2, USAGE),
+            (&["icont", "f.icn", "g.icn"], "Command", 2, USAGE),
         ];
         for (words, name, status, errors) in rows {
             let row = icont(alloc, words, HI, NONE)?;
             assert_eq!(rt; name_of(&row.answer), name, "at {words:?}");
             assert_eq!(rt; row.answer.code(), status, "at {words:?}");
             assert_eq!(rt; row.errors.as_slice(), errors, "at {words:?}");
-            let output: &[u8] = if status == 0 { b"hi\n" } else { b"" };
+            let output: &[u8] = if name == "Ran(Done)" { b"hi\n" } else { b"" };
             assert_eq!(rt; row.output.as_slice(), output, "at {words:?}");
+            assert_eq!(rt; row.image, status == 0, "at {words:?}");
             assert!(rt; row.untouched, "at {words:?}");
         }
         Ok(())
@@ -819,9 +852,18 @@ mod tests {
             ..NONE
         };
         let later = Failing {
-            files: &[1],
+            files: &[2],
             output: &[1],
             errors: &[1],
+        };
+        let image = Failing {
+            files: &[1],
+            ..NONE
+        };
+        let image_and_line = Failing {
+            files: &[1],
+            errors: &[0],
+            ..NONE
         };
         let second = Failing {
             output: &[1],
@@ -831,7 +873,9 @@ mod tests {
             files: &[1],
             ..NONE
         };
-        let rows: [(&str, &[u8], Failing, &str, &[u8], &[u8]); 12] = [
+        let rows: [(&str, &[u8], Failing, &str, &[u8], &[u8]); 14] = [
+            ("f.icn", HI, image, "FileFault", b"", b"file fault\n"),
+            ("f.icn", HI, image_and_line, "FileFault", b"", b""),
             (
                 "f.icn",
                 b"$include g.icn",
@@ -858,6 +902,9 @@ mod tests {
             assert_eq!(rt; row.output.as_slice(), output, "at {name}");
             assert_eq!(rt; row.errors.as_slice(), errors, "at {name}");
             assert!(rt; row.untouched, "at {name}");
+            // the image is written before the run
+            let is_written = answer == "Ran(Done)" || answer == "WriteFault" && !output.is_empty();
+            assert!(rt; row.image || !is_written, "at {name}");
         }
         Ok(())
     }
@@ -893,6 +940,253 @@ mod tests {
             assert_eq!(rt;
                 (out.wants, err.wants),
                 (u64::from(output), u64::from(errors))
+            );
+        }
+        Ok(())
+    }
+
+    // The images of `write("hi")`, of no call, of no declaration, of texts and integers that stand several times, and of arguments
+    // where nothing stands, by hand.
+    const WRITES_HI: [u8; 78] = [
+        0x49, 0x63, 0x6e, 0x39, 0x69, 0x6d, 0x67, 0x01, 0x03, 0x00, 0x04, 0x00, 0x6d, 0x61, 0x69,
+        0x6e, 0x05, 0x00, 0x77, 0x72, 0x69, 0x74, 0x65, 0x02, 0x00, 0x68, 0x69, 0x00, 0x00, 0x00,
+        0x00, 0x00, 0x00, 0x00, 0x00, 0x02, 0x00, 0x00, 0x00, 0x01, 0x00, 0x00, 0x01, 0x00, 0x03,
+        0x32, 0x00, 0x01, 0x00, 0x00, 0x00, 0x00, 0x00, 0x00, 0x00, 0x00, 0x00, 0x00, 0x06, 0x00,
+        0x00, 0x00, 0x10, 0x05, 0x00, 0x00, 0x00, 0x07, 0x01, 0x00, 0x03, 0x02, 0x00, 0x0e, 0x01,
+        0x00, 0x12, 0x21,
+    ];
+
+    const NO_CALL: [u8; 47] = [
+        0x49, 0x63, 0x6e, 0x39, 0x69, 0x6d, 0x67, 0x01, 0x01, 0x00, 0x04, 0x00, 0x6d, 0x61, 0x69,
+        0x6e, 0x00, 0x00, 0x00, 0x00, 0x00, 0x00, 0x00, 0x00, 0x01, 0x00, 0x00, 0x00, 0x01, 0x00,
+        0x00, 0x01, 0x00, 0x00, 0x00, 0x00, 0x00, 0x00, 0x00, 0x00, 0x00, 0x00, 0x01, 0x00, 0x00,
+        0x00, 0x21,
+    ];
+
+    const NO_DECLARATION: [u8; 22] = [
+        0x49, 0x63, 0x6e, 0x39, 0x69, 0x6d, 0x67, 0x01, 0, 0, 0, 0, 0, 0, 0, 0, 0, 0, 0, 0, 0, 0,
+    ];
+
+    const SEVERAL_TIMES: [u8; 91] = [
+        0x49, 0x63, 0x6e, 0x39, 0x69, 0x6d, 0x67, 0x01, 0x02, 0x00, 0x04, 0x00, 0x6d, 0x61, 0x69,
+        0x6e, 0x05, 0x00, 0x77, 0x72, 0x69, 0x74, 0x65, 0x00, 0x00, 0x01, 0x00, 0x01, 0x00, 0x00,
+        0x00, 0x00, 0x00, 0x00, 0x00, 0x00, 0x00, 0x00, 0x00, 0x02, 0x00, 0x00, 0x00, 0x01, 0x00,
+        0x00, 0x01, 0x00, 0x03, 0x32, 0x00, 0x01, 0x00, 0x00, 0x00, 0x00, 0x00, 0x00, 0x00, 0x00,
+        0x00, 0x00, 0x09, 0x00, 0x00, 0x00, 0x10, 0x08, 0x00, 0x00, 0x00, 0x07, 0x01, 0x00, 0x03,
+        0x00, 0x00, 0x02, 0x00, 0x00, 0x03, 0x01, 0x00, 0x02, 0x00, 0x00, 0x0e, 0x04, 0x00, 0x12,
+        0x21,
+    ];
+
+    const NOTHING_GIVEN: [u8; 95] = [
+        0x49, 0x63, 0x6e, 0x39, 0x69, 0x6d, 0x67, 0x01, 0x02, 0x00, 0x04, 0x00, 0x6d, 0x61, 0x69,
+        0x6e, 0x05, 0x00, 0x77, 0x72, 0x69, 0x74, 0x65, 0x00, 0x00, 0x01, 0x00, 0x02, 0x00, 0x00,
+        0x00, 0x00, 0x00, 0x00, 0x00, 0x00, 0x00, 0x00, 0x00, 0x02, 0x00, 0x00, 0x00, 0x01, 0x00,
+        0x00, 0x01, 0x00, 0x03, 0x32, 0x00, 0x01, 0x00, 0x00, 0x00, 0x00, 0x00, 0x00, 0x00, 0x00,
+        0x00, 0x00, 0x0b, 0x00, 0x00, 0x00, 0x10, 0x04, 0x00, 0x00, 0x00, 0x07, 0x01, 0x00, 0x0e,
+        0x00, 0x00, 0x12, 0x10, 0x0a, 0x00, 0x00, 0x00, 0x07, 0x01, 0x00, 0x01, 0x02, 0x00, 0x00,
+        0x0e, 0x02, 0x00, 0x12, 0x21,
+    ];
+
+    // Files in memory, where `f.icn` holds this source.
+    fn files_of(alloc: Global, source: &[u8]) -> Result<MemFiles, Fail> {
+        let mut held = BTreeMap::new(alloc);
+        held.insert(String::from_str(alloc, "f.icn")?, source.to_vec(alloc)?)?;
+        for (name, bytes) in BESIDE {
+            held.insert(String::from_str(alloc, name)?, bytes.to_vec(alloc)?)?;
+        }
+        Ok(MemFiles::new(alloc, held, Vec::new(alloc)))
+    }
+
+    // What a command of either program did on these files: its answer, and what it put on both outputs.
+    fn command(
+        alloc: Global,
+        given: &[&str],
+        files: &mut MemFiles,
+    ) -> Result<(Answer, Vec<u8>, Vec<u8>), Fail> {
+        let mut words = Vec::new(alloc);
+        for word in given {
+            words.push(String::from_str(alloc, word)?)?;
+        }
+        let mut input = MemSource::new(Vec::new(alloc), Vec::new(alloc));
+        let mut out = MemSink::new(Vec::new(alloc), Vec::new(alloc));
+        let mut err = MemSink::new(Vec::new(alloc), Vec::new(alloc));
+        let answer = if given.first() == Some(&"iconx") {
+            iconx_main(alloc, &words, files, &mut input, &mut out, &mut err)
+        } else {
+            icont_main(alloc, &words, files, &mut input, &mut out, &mut err)
+        };
+        Ok((
+            answer,
+            out.content().to_vec(alloc)?,
+            err.content().to_vec(alloc)?,
+        ))
+    }
+
+    #[test]
+    fn images_are_written(rt: HostRuntime) -> Result<(), Fail> {
+        let alloc = rt.alloc();
+        let rows: [(&[u8], &[u8]); 5] = [
+            (HI, &WRITES_HI),
+            (b"procedure main();;end", &NO_CALL),
+            (b"# nothing\n$define x y\n", &NO_DECLARATION),
+            (
+                b"procedure main()\nwrite(\"main\", 1, \"write\", 01)\nend\n",
+                &SEVERAL_TIMES,
+            ),
+            (
+                b"procedure main()\nwrite();write(,2)\nend\n",
+                &NOTHING_GIVEN,
+            ),
+        ];
+        for (source, image) in rows {
+            let mut files = files_of(alloc, source)?;
+            let (answer, output, errors) = command(alloc, &["icont", "f.icn"], &mut files)?;
+            let source = String::from_utf8_lossy(alloc, source)?;
+            assert_eq!(rt; name_of(&answer), "Wrote", "at {source}");
+            assert!(rt; output.is_empty() && errors.is_empty(), "at {source}");
+            match files.content().get("f") {
+                Some(bytes) => assert_eq!(rt; bytes.as_slice(), image, "at {source}"),
+                None => assert!(rt; false, "at {source}"),
+            }
+        }
+        Ok(())
+    }
+
+    // What `icont` writes `iconx` runs, on one store of files, as `icont` does with `-x`.
+    #[test]
+    fn written_images_run(rt: HostRuntime) -> Result<(), Fail> {
+        let alloc = rt.alloc();
+        for (source, output) in PROGRAMS {
+            let mut files = files_of(alloc, source)?;
+            let (wrote, _, _) = command(alloc, &["icont", "f.icn"], &mut files)?;
+            let (ran, written, errors) = command(alloc, &["iconx", "f", "a"], &mut files)?;
+            let source = String::from_utf8_lossy(alloc, source)?;
+            assert_eq!(rt; name_of(&wrote), "Wrote", "at {source}");
+            assert_eq!(rt; name_of(&ran), "Ran(Done)", "at {source}");
+            assert_eq!(rt; written.as_slice(), output, "at {source}");
+            assert!(rt; errors.is_empty(), "at {source}");
+        }
+        Ok(())
+    }
+
+    // Runs that end otherwise: where there is no `main`, and by the limits.
+    #[test]
+    fn runs_end_with_their_reports(rt: HostRuntime) -> Result<(), Fail> {
+        let alloc = rt.alloc();
+        let missing: &[u8] = b"Run-time error 117\nmissing main procedure\n";
+        let strings: &[u8] = b"Run-time error 306\ninadequate space in string region\n";
+        let cells: &[u8] = b"Run-time error 307\ninadequate space in block region\n";
+        let bound: &[u8] = b"turn bound reached\n";
+        let rows: [(&[u8], &[&str], &str, u8, &[u8], &[u8]); 9] = [
+            (
+                b"",
+                &["icont", "f.icn", "-x"],
+                "Ran(Errored)",
+                1,
+                b"",
+                missing,
+            ),
+            (b"\n", &["iconx", "f"], "Ran(Errored)", 1, b"", missing),
+            (
+                b"",
+                &["iconx", "-s", "0", "-b", "0", "f", "a"],
+                "Ran(Errored)",
+                1,
+                b"",
+                missing,
+            ),
+            (
+                TWO,
+                &["iconx", "-s", "2", "f", "abc"],
+                "Ran(Errored)",
+                1,
+                b"",
+                strings,
+            ),
+            (
+                TWO,
+                &["iconx", "-b", "0", "f"],
+                "Ran(Errored)",
+                1,
+                b"",
+                cells,
+            ),
+            (
+                TWO,
+                &["iconx", "-n", "0", "f"],
+                "Ran(AtBound)",
+                3,
+                b"",
+                bound,
+            ),
+            (
+                TWO,
+                &["iconx", "-n", "1", "f"],
+                "Ran(AtBound)",
+                3,
+                b"a\n",
+                bound,
+            ),
+            (
+                TWO,
+                &["iconx", "-n", "2", "f"],
+                "Ran(Done)",
+                0,
+                b"a\n2\n",
+                b"",
+            ),
+            (
+                b"procedure main()\nend\n",
+                &["iconx", "-n", "0", "f"],
+                "Ran(Done)",
+                0,
+                b"",
+                b"",
+            ),
+        ];
+        for (source, words, name, status, output, errors) in rows {
+            let mut files = files_of(alloc, source)?;
+            let (wrote, _, _) = command(alloc, &["icont", "f.icn"], &mut files)?;
+            let (answer, out, err) = command(alloc, words, &mut files)?;
+            assert_eq!(rt; name_of(&wrote), "Wrote", "at {words:?}");
+            assert_eq!(rt; name_of(&answer), name, "at {words:?}");
+            assert_eq!(rt; answer.code(), status, "at {words:?}");
+            assert_eq!(rt; out.as_slice(), output, "at {words:?}");
+            assert_eq!(rt; err.as_slice(), errors, "at {words:?}");
+        }
+        Ok(())
+    }
+
+    // 65535 strings and arguments of a call, and one more.
+    #[test]
+    fn programs_have_a_greatest_size(rt: HostRuntime) -> Result<(), Fail> {
+        let alloc = rt.alloc();
+        let large: &[u8] = b"f:0: K3 program too large\n";
+        for (arguments, errors) in [(65535, b"".as_slice()), (65536, large)] {
+            let mut source = b"procedure main()\nwrite(".to_vec(alloc)?;
+            let length = source.len() + arguments - 1;
+            source.resize(length, b',')?;
+            source.extend_from_slice(b")\nend\n")?;
+            let row = icont(alloc, &["icont", "f.icn"], &source, NONE)?;
+            assert_eq!(rt; row.errors.as_slice(), errors, "at {arguments}");
+            assert!(rt;
+                row.image == errors.is_empty() && row.untouched,
+                "at {arguments}"
+            );
+        }
+        for (strings, errors) in [(65533, b"".as_slice()), (65534, large)] {
+            let mut source = b"procedure main()\n".to_vec(alloc)?;
+            for number in 0..strings {
+                source.extend_from_slice(b"write(\"")?;
+                source.extend_from_slice(decimal(number).as_bytes())?;
+                source.extend_from_slice(b"\")\n")?;
+            }
+            source.extend_from_slice(b"end\n")?;
+            let row = icont(alloc, &["icont", "f.icn"], &source, NONE)?;
+            assert_eq!(rt; row.errors.as_slice(), errors, "at {strings}");
+            assert!(rt;
+                row.image == errors.is_empty() && row.untouched,
+                "at {strings}"
             );
         }
         Ok(())

@@ -1,11 +1,9 @@
-pub mod Building
-pub mod Calling
-pub mod Composing
-pub mod ContextRules
-pub mod Deciding
-pub mod Matching
-pub mod Reporting
-pub mod Running
-pub mod Sourcing
-pub mod Staging
-pub mod Working
+mod Building
+mod ContextRules
+mod Deciding
+mod Made
+mod Matching
+mod Named
+mod Sourcing
+mod Staging
+mod Topmost

@@ -1,7 +1,8 @@
 -- What is read of a named file.
-use Rattle.std.proofs.Common.{◌≡◌, ◌⊎◌, inl, inr, ℕ, ◌≤◌, List, Result, Ok, Err, refl, sym, arith}
+use Rattle.std.proofs.Common.{◌≡◌, ◌⊎◌, inl, inr, ℕ, ◌≤◌, true, false, List, Result, Ok, Err, refl, sym, ap, subst, ◌∙◌, arith}
 use Rattle.icn_tree.specs.declared.rule.Rule.{Rule}
-use Rattle.icn_tree.specs.declared.rule.Rule.TheVariants.{P6}
+use Rattle.icn_tree.specs.declared.rule.Rule.TheVariants.{P6, K3}
+use Rattle.icn_tree.specs.declared.tree.Place.{Place}
 use Rattle.icn_host.specs.FileMaps.{FileMap}
 use Rattle.icn_tree.specs.declared.lines.SourceLine.{SourceLine}
 use Rattle.icn_tree.specs.declared.token.Token.{Token}
@@ -15,11 +16,15 @@ use Rattle.icn_prep.specs.declared.fault.PrepFault.TheVariants as Prep
 use Rattle.icn_prep.specs.Answers.{IsTextFault}
 use Rattle.icn_prep.specs.SourceLines.{Source, source_lines}
 use Rattle.icn_prep.proofs.Faults.{fault_of_text}
-use Rattle.icont_top.specs.declared.answer.Answer.{Answer}
-use Rattle.icont_top.specs.declared.answer.Answer.TheVariants.{Refused, NoMemory}
-use Rattle.icont_top.specs.Answers.{IsFault}
-use Rattle.icont_top.specs.Job.{Job, IsTokensJob, not_parsed, out_of_context, not_built, ran, IsFileJob, no_tokens, of_tokens, IsJob, wrong_words, of_file}
-use Rattle.icont_top.specs.Sources.{Scan, refused_at, tokens_read, fault_answer, lines_read, IsAbsence}
+use Rattle.icn_form.specs.declared.tree.Program.{Program}
+use Rattle.icn_engine.specs.declared.answer.Answer.{Answer}
+use Rattle.icn_engine.specs.declared.answer.Answer.TheVariants.{Refused, Command, NoMemory}
+use Rattle.icn_engine.specs.Answers.{IsFault}
+use Rattle.icn_lines.proofs.Reports.{ran_no_fault, wrote_no_fault}
+use Rattle.icont_top.specs.Job.{Job, IsJob, wrong_words, refuses, writes, runs}
+use Rattle.icont_top.specs.Sources.{Scan, name_at, refused_at, tokens_read, fault_answer, lines_read, IsAbsence}
+use Rattle.icont_top.specs.Translating.{ComesTo, no_tokens, refused, too_large, translated}
+use Rattle.icont_top.specs.Words.{base_of}
 use Rattle.icont_top.proofs.Matching.{same_Err, ok-err}
 
 no_scan_rule : (rule : Rule) → IsScanRule rule → rule ≡ P6 → ⊥
@@ -40,11 +45,13 @@ are_scanned lines tokens within e =
 
 of_scan : (names : List (List ℕ)) (outcome : Outcome) (answer : Answer) → tokens_read names outcome ≡ Err answer → IsFault answer → ⊥
 of_scan names (Scanned tokens) answer e fault = ok-err (record { names = names; tokens = tokens }) answer e
-of_scan names (Fault rule file line) answer e fault = rw (sym (same_Err (refused_at names rule (record { line = line; file = file })) answer e)) at fault
+of_scan names (Fault rule file line) answer e fault =
+    let is : IsFault (refused_at names rule (record { line = line; file = file })) = subst IsFault (sym (same_Err (refused_at names rule (record { line = line; file = file })) answer e)) fault in
+    let both : false ≡ true = is in cc
 
 text_answer : (name : List ℕ) (fault : PrepFault) → IsTextFault fault → IsFault (fault_answer name fault) → ⊥
-text_answer name Prep.Missing text fault = fault
-text_answer name (Prep.Broken rule file line) text fault = fault
+text_answer name Prep.Missing text fault = let both : false ≡ true = fault in cc
+text_answer name (Prep.Broken rule file line) text fault = let both : false ≡ true = fault in cc
 text_answer name Prep.FileFault text fault = text
 text_answer name Prep.NoMemory text fault = text
 
@@ -52,16 +59,25 @@ of_lines : (files : FileMap) (name : List ℕ) (read : Result Source PrepFault) 
 of_lines files name (Ok source) answer is e fault = of_scan source.names (tokens_of source.lines) answer e fault
 of_lines files name (Err wrong) answer is e fault = text_answer name wrong (fault_of_text files name wrong is) (rw (sym (same_Err (fault_answer name wrong) answer e)) at fault)
 
-of_tokens_job : {scan : Scan} {files : FileMap} {left : List ℕ} (job : Job) → IsTokensJob scan files left job → IsFault job.answer → ⊥
-of_tokens_job _ (not_parsed outcome rule place is e) fault = fault
-of_tokens_job _ (out_of_context file broken is e) fault = fault
-of_tokens_job _ (not_built file place is e b) fault = fault
-of_tokens_job _ (ran program is) fault = fault
+not_refusal : (name : List ℕ) (line : ℕ) (rule : Rule) (answer : Answer) → ◌≡◌ {A = Result Program Answer} (Err (Refused name line rule)) (Err answer) → IsFault answer → ⊥
+not_refusal name line rule answer same fault = no_refusal (subst IsFault (sym (same_Err (Refused name line rule) answer same)) fault) where
+  no_refusal : IsFault (Refused name line rule) → ⊥
+  no_refusal is = let both : false ≡ true = is in cc
 
-of_file_job : {name : List ℕ} {files : FileMap} {left : List ℕ} (job : Job) → IsFileJob name files left job → IsFault job.answer → ⊥
-of_file_job {name} {files} _ (no_tokens answer e) fault = of_lines files name (source_lines files name) answer refl e fault
-of_file_job _ (of_tokens scan job e is) fault = of_tokens_job job is fault
+of_file : {files : FileMap} {name : List ℕ} (found : Result Program Answer) → ComesTo files name found → (answer : Answer) → found ≡ Err answer → IsFault answer → ⊥
+of_file {files} {name} _ (no_tokens given e) answer same fault = of_lines files name (source_lines files name) answer refl (e ∙ ap (λ a. Err a) (same_Err given answer same)) fault
+of_file _ (refused scan rule place e x) answer same fault = not_refusal (name_at scan.names place.file) place.line rule answer same fault
+of_file {name = name} _ (too_large scan program e x n) answer same fault = not_refusal (base_of name) 0 K3 answer same fault
+of_file _ (translated scan program e x n) answer same fault = ok-err program answer same
+
+-- no file comes to a fault
+pub no_file_fault : {files : FileMap} {name : List ℕ} (answer : Answer) → ComesTo files name (Err answer) → IsFault answer → ⊥
+no_file_fault answer is fault = of_file (Err answer) is answer refl fault
 
 pub no_fault : (words : List (List ℕ)) (files : FileMap) (left : List ℕ) (job : Job) → IsJob words files left job → IsFault job.answer → ⊥
-no_fault words files left _ (wrong_words e) fault = fault
-no_fault words files left _ (of_file name job e is) fault = of_file_job job is fault
+no_fault words files left _ (wrong_words e) fault = no_command fault where
+  no_command : IsFault (Command 1) → ⊥
+  no_command is = let both : false ≡ true = is in cc
+no_fault words files left _ (refuses name run answer e x) fault = no_file_fault answer x fault
+no_fault words files left _ (writes name program e x) fault = wrote_no_fault fault
+no_fault words files left _ (runs name arguments program observed e x h) fault = ran_no_fault observed.ending fault

@@ -1,17 +1,17 @@
 -- Which forms are built: the program that declarations are, or where the first form stands that is not built.
-use Rattle.std.specs.Prelude.{ℕ, Bool, false, List, [], ◌∷◌, codes, Option, Some, None, Result, Ok, Err, if◌then◌else◌, not, ◌&&◌}
+use Rattle.std.specs.Prelude.{ℕ, Bool, true, false, List, [], ◌∷◌, codes, Option, Some, None, Result, Ok, Err, if◌then◌else◌, not, ◌&&◌}
 use Rattle.std.specs.List.{list_any}
 use Rattle.std.specs.Str.{bytes_eq}
 use Rattle.icn_tree.specs.declared.tree.Literal.{Literal}
 use Rattle.icn_tree.specs.declared.tree.Literal.TheVariants as Literals
 use Rattle.icn_tree.specs.declared.tree.Name.{Name}
 use Rattle.icn_tree.specs.declared.tree.Place.{Place}
-use Rattle.icn_tree.specs.Trees.{Tree, Trees, NoTrees, More, Empty, Constant, Identifier, Keyword, Parentheses, Listing, Compound, Call, CoCall, Subscript, Section, Field, Prefix, Not, Binary, To, If, Case, Loop, Repeat, Create, Next, Fail, Break, Return, Suspend, Locals, Initial, NoInitial, Initially, Procedure, Declaration, Global, Link, Invocable, Record, ProcedureOf}
+use Rattle.icn_tree.specs.Trees.{Tree, Trees, NoTrees, More, Empty, Constant, Identifier, Keyword, Parentheses, Listing, Compound, Call, CoCall, Subscript, Section, Field, Prefix, Not, Binary, To, If, Case, Loop, Repeat, Create, Next, Fail, Break, Return, Suspend, Locals, Initial, NoInitial, Initially, elements_of, Procedure, Declaration, Global, Link, Invocable, Record, ProcedureOf}
 use Rattle.icn_form.specs.declared.tree.Argument.{Argument}
 use Rattle.icn_form.specs.declared.tree.Argument.TheVariants as Arguments
 use Rattle.icn_form.specs.declared.tree.Expr.{Expr}
 use Rattle.icn_form.specs.declared.tree.Expr.TheVariants as Exprs
-use Rattle.icn_form.specs.declared.tree.Procedure.{Procedure as Program}
+use Rattle.icn_form.specs.declared.tree.Program.{Program}
 
 -- a form, or where the first one stands in it that is not built
 abbrev pub Found : Type 0 → Type 0
@@ -22,7 +22,7 @@ abbrev pub ◌>>=◌ : {A B : Type 0} → Found A → (A → Found B) → Found 
 (Ok a) >>= next = next a
 (Err place) >>= next = Err place
 
--- line 0 of the named file, for what speaks of the whole of it
+-- line 0 of the named file, the place of what has no token
 abbrev pub whole_file : Place
 whole_file = record { line = 0; file = 0 }
 
@@ -84,11 +84,21 @@ names_write (Identifier name) = is_write name.text
 names_write tree = false
 
 abbrev pub call_with : Found (List Argument) → Found Expr
-call_with arguments = arguments >>= λ all. Ok (Exprs.Call (record { name = codes "write"; arguments = all }))
+call_with arguments = arguments >>= λ all. Ok (Exprs.Write all)
+
+-- an expression that is empty
+abbrev pub is_empty : Tree → Bool
+is_empty Empty = true
+is_empty tree = false
+
+-- a list that is one empty expression
+abbrev pub are_nothing : Trees → Bool
+are_nothing (More tree NoTrees) = is_empty tree
+are_nothing trees = false
 
 -- a call: of `write`, which the file may declare or not
 abbrev pub call_of : Bool → Place → Tree → Trees → Found Expr
-call_of is_declared place callee arguments = if names_write callee && not is_declared then call_with (arguments_of arguments) else Err place
+call_of is_declared place callee arguments = if names_write callee && not is_declared then call_with (arguments_of (elements_of arguments)) else Err place
 
 -- an expression of a body: a call, or nothing
 abbrev pub expr_of : Bool → Tree → Found Expr
@@ -122,7 +132,7 @@ before_body p = or_later (parameters_place p.parameters) (or_later (locals_place
 
 abbrev pub main_with : Option Place → Found (List Expr) → Found Program
 main_with (Some place) body = Err place
-main_with None body = body >>= λ exprs. Ok (record { name = codes "main"; body = exprs })
+main_with None body = body >>= λ exprs. Ok (record { main = Some exprs })
 
 -- the procedure `main`
 abbrev pub main_of : Bool → Procedure → Found Program
@@ -153,8 +163,8 @@ abbrev pub alone : List Declaration → Program → Found Program
 alone [] program = Ok program
 alone (declaration ∷ others) program = Err (declaration_place declaration)
 
--- The program that a file is, or where the first form of it stands that is not built: in the order of places, a file without
--- declarations as a whole.
+-- The program that a file is, or where the first form of it stands that is not built, in the order of places. A file without
+-- declarations is a program without `main`.
 abbrev pub program_of : List Declaration → Found Program
-program_of [] = Err whole_file
+program_of [] = Ok (record { main = None })
 program_of (declaration ∷ others) = declared_main (list_any declares_write (declaration ∷ others)) declaration >>= λ program. alone others program

@@ -1,59 +1,54 @@
 -- What the words, the files and the input ask for.
-use Rattle.std.specs.Prelude.{◌≡◌, ℕ, List, [], None, Some, Ok, Err}
-use Rattle.icn_host.specs.FileMaps.{FileMap}
-use Rattle.icn_tree.specs.declared.rule.Rule.{Rule}
-use Rattle.icn_tree.specs.declared.rule.Rule.TheVariants.{S4}
-use Rattle.icn_tree.specs.declared.tree.Place.{Place}
-use Rattle.icn_tree.specs.Trees.{Declaration}
-use Rattle.icn_parse.specs.Outcomes.{Outcome, IsTree, IsOutcome}
-use Rattle.icn_parse.specs.Views.{broken_by}
-use Rattle.icn_decls.specs.Contexts.{Fault}
-use Rattle.icn_decls.specs.Faults.{context_faults}
-use Rattle.icn_decls.specs.Views.{first_of}
-use Rattle.icn_form.specs.declared.tree.Procedure.{Procedure}
-use Rattle.icn_form.specs.Meaning.{meaning}
-use Rattle.icont_top.specs.declared.answer.Answer.{Answer}
-use Rattle.icont_top.specs.declared.answer.Answer.TheVariants.{Ran, Command}
-use Rattle.icont_top.specs.declared.answer.Ending.TheVariants.{Done}
-use Rattle.icont_top.specs.Answers.{line_of}
-use Rattle.icont_top.specs.Built.{program_of}
-use Rattle.icont_top.specs.Programs.{IsProgram}
-use Rattle.icont_top.specs.Sources.{Scan, refused_at, source_read}
-use Rattle.icont_top.specs.Words.{file_asked}
+use Rattle.std.specs.Prelude.{◌≡◌, ℕ, List, [], Option, None, Some, Ok, Err}
+use Rattle.icn_host.specs.FileMaps.{FileMap, Sets}
+use Rattle.icn_value.specs.Limited.{default_limits}
+use Rattle.icn_form.specs.declared.tree.Program.{Program}
+use Rattle.icn_run.specs.CodeRun.{Observed}
+use Rattle.icn_meaning.specs.Meaning.{Evaluation, Means}
+use Rattle.icn_engine.specs.declared.answer.Answer.{Answer}
+use Rattle.icn_engine.specs.declared.answer.Answer.TheVariants.{Wrote, Ran, Command}
+use Rattle.icn_lines.specs.Lines.{line_of}
+use Rattle.icont_top.specs.Translating.{ComesTo, image}
+use Rattle.icont_top.specs.Usage.{usage}
+use Rattle.icont_top.specs.Words.{Asks, Faulty, asked, base_of}
 
--- the answer, the files and the input left after it, and what is added to the output and to the error output
+-- a file that is written: its name, and what it holds then
+pub record Written : Type 0 where
+  pub name : List ℕ
+  pub bytes : List ℕ
+
+-- the answer, the file that is written, the input left after it, and what is added to the output and to the error output
 pub record Job : Type 0 where
   pub answer : Answer
-  pub files : FileMap
+  pub written : Option Written
   pub left : List ℕ
   pub output : List ℕ
   pub errors : List ℕ
 
 -- nothing is done but to put the answer's own line
-abbrev pub refusal : FileMap → List ℕ → Answer → Job
-refusal files left answer = record { answer = answer; files = files; left = left; output = []; errors = line_of answer }
+abbrev pub refusal : List ℕ → Answer → Job
+refusal left answer = record { answer = answer; written = None; left = left; output = []; errors = line_of usage [] answer }
 
--- a program ran to its end, and wrote this
-abbrev pub success : FileMap → List ℕ → List ℕ → Job
-success files left output = record { answer = Ran Done; files = files; left = left; output = output; errors = [] }
+-- the image of the program of this file, under the file's base name
+abbrev pub image_file : List ℕ → Program → Written
+image_file name program = record { name = base_of name; bytes = image program }
 
--- What the tokens of a file ask for, stage by stage: they have no tree or break a rule of trees; or their tree breaks a context
--- rule, and the first is told; or a form of it is not built; or it is a program.
-pub data IsTokensJob (scan : Scan) (files : FileMap) (left : List ℕ) : Job → Type 0 where
-  not_parsed : (outcome : Outcome) (rule : Rule) (place : Place) → IsOutcome scan.tokens outcome → broken_by outcome ≡ Some (rule, place)
-      → IsTokensJob scan files left (refusal files left (refused_at scan.names rule place))
-  out_of_context : (file : List Declaration) (fault : Fault) → IsOutcome scan.tokens (IsTree file) → first_of (context_faults file) ≡ Some fault
-      → IsTokensJob scan files left (refusal files left (refused_at scan.names fault.rule fault.place))
-  not_built : (file : List Declaration) (place : Place) → IsOutcome scan.tokens (IsTree file) → context_faults file ≡ [] → program_of file ≡ Err place
-      → IsTokensJob scan files left (refusal files left (refused_at scan.names S4 place))
-  ran : (program : Procedure) → IsProgram scan.tokens program → IsTokensJob scan files left (success files left (meaning program))
+-- the image was written
+abbrev pub writing : Written → List ℕ → Job
+writing written left = record { answer = Wrote; written = Some written; left = left; output = []; errors = [] }
 
--- what the file of this name asks for
-pub data IsFileJob (name : List ℕ) (files : FileMap) (left : List ℕ) : Job → Type 0 where
-  no_tokens : (answer : Answer) → source_read files name ≡ Err answer → IsFileJob name files left (refusal files left answer)
-  of_tokens : (scan : Scan) (job : Job) → source_read files name ≡ Ok scan → IsTokensJob scan files left job → IsFileJob name files left job
+-- the image was written, and then the program ran
+abbrev pub running : Written → Observed → Job
+running written observed = record { answer = Ran observed.ending; written = Some written; left = observed.outside.left; output = observed.outside.output; errors = observed.outside.errors }
+
+-- the evaluation of a program under the limits that stand where none are said
+abbrev pub evaluation : Program → List (List ℕ) → List ℕ → Evaluation
+evaluation program arguments left = record { program = program; words = arguments; bounds = default_limits; left = left }
 
 -- what the words, the files and the input ask for
 pub data IsJob (words : List (List ℕ)) (files : FileMap) (left : List ℕ) : Job → Type 0 where
-  wrong_words : file_asked words ≡ None → IsJob words files left (refusal files left (Command 1))
-  of_file : (name : List ℕ) (job : Job) → file_asked words ≡ Some name → IsFileJob name files left job → IsJob words files left job
+  wrong_words : asked words ≡ Faulty → IsJob words files left (refusal left (Command 1))
+  refuses : (name : List ℕ) (run : Option (List (List ℕ))) (answer : Answer) → asked words ≡ Asks name run → ComesTo files name (Err answer) → IsJob words files left (refusal left answer)
+  writes : (name : List ℕ) (program : Program) → asked words ≡ Asks name None → ComesTo files name (Ok program) → IsJob words files left (writing (image_file name program) left)
+  runs : (name : List ℕ) (arguments : List (List ℕ)) (program : Program) (observed : Observed) → asked words ≡ Asks name (Some arguments) → ComesTo files name (Ok program)
+      → Means (evaluation program arguments left) observed → IsJob words files left (running (image_file name program) observed)

@@ -1,91 +1,85 @@
--- What a call leaves of the job that it was asked for.
-use Rattle.std.specs.Prelude.{◌≡◌, ◌⊎◌, ◌≤◌, ℕ, List, [], Option, Some, Ok}
-use Rattle.icn_host.specs.Counts.{Rose}
-use Rattle.icn_host.specs.FileMaps.{FileMap}
-use Rattle.icn_host.specs.Sinks.{Gains, GainsPart}
-use Rattle.icn_tree.specs.declared.token.Token.{Token}
-use Rattle.icont_top.specs.declared.answer.Answer.{Answer}
-use Rattle.icont_top.specs.declared.answer.Answer.TheVariants.{Ran, WriteFault, NoMemory}
-use Rattle.icont_top.specs.declared.answer.Ending.TheVariants.{Done}
-use Rattle.icont_top.specs.Answers.{IsFault, line_of}
-use Rattle.icont_top.specs.Job.{Job}
-use Rattle.icont_top.specs.Sources.{source_read}
+-- What a call comes to, where the objects tell their content.
+use Rattle.std.specs.Prelude.{◌≡◌, ◌⊎◌, ◌≤◌, ℕ, List, Option, None, Some, Ok, length, true}
+use Rattle.icn_host.specs.FileMaps.{FileMap, Sets, SetsPart}
+use Rattle.icn_host.specs.Sinks.{Gains}
+use Rattle.icn_report.specs.Puts.{Sunk, Stops, Puts}
+use Rattle.icn_code.specs.Codes.{Tables}
+use Rattle.icn_image.specs.Reading.{image_read}
+use Rattle.icn_verify.specs.Faults.{IsVerified}
+use Rattle.icn_run.specs.Built.{is_built}
+use Rattle.icn_form.specs.declared.tree.Program.{Program}
+use Rattle.icn_meaning.specs.Breaking.{Breaks}
+use Rattle.icn_engine.specs.declared.answer.Answer.{Answer}
+use Rattle.icn_engine.specs.declared.answer.Answer.TheVariants.{Wrote, Ran}
+use Rattle.icn_engine.specs.Answers.{IsFault}
+use Rattle.icn_lines.specs.Lines.{fault_line}
+use Rattle.icn_lines.specs.Telling.{Told}
+use Rattle.icn_codegen.specs.Laws.{RunsAs}
+use Rattle.icont_top.specs.Job.{Written, Job, IsJob, evaluation, image_file}
+use Rattle.icont_top.specs.Translating.{ComesTo}
+use Rattle.icont_top.specs.Words.{Asks, asked, base_of}
 
--- a sink: what it tells that it holds, and how often it has failed and wanted memory
-pub record Sunk : Type 0 where
-  pub held : Option (List ℕ)
-  pub faults : ℕ
-  pub wants : ℕ
-
-abbrev pub sunk : Option (List ℕ) → ℕ → ℕ → Sunk
-sunk held faults wants = record { held = held; faults = faults; wants = wants }
-
--- a part of a line was put, since the sink failed, or since it wanted memory
-pub data Stops (before after : Sunk) (line : List ℕ) : Type 0 where
-  broken : Rose before.faults after.faults → before.wants ≤ after.wants → GainsPart before.held after.held line → Stops before after line
-  wanted : Rose before.wants after.wants → before.faults ≤ after.faults → GainsPart before.held after.held line → Stops before after line
-
--- how a line was put: all of it, or a part
-pub data Puts (before after : Sunk) (line : List ℕ) : Type 0 where
-  all : Gains before.held after.held line → Puts before after line
-  part : Stops before after line → Puts before after line
-
--- a line was not begun, or a part of it was put
-abbrev pub Leads : Sunk → Sunk → List ℕ → Type 0
-Leads before after line = (after ≡ before) ⊎ Stops before after line
-
--- what the objects tell: the files, the input left, the output and the error output so far
-pub record Told : Type 0 where
-  pub files : Option FileMap
-  pub left : Option (List ℕ)
-  pub output : Option (List ℕ)
-  pub errors : Sunk
-
-abbrev pub told : Option FileMap → Option (List ℕ) → Option (List ℕ) → Sunk → Told
-told files left output errors = record { files = files; left = left; output = output; errors = errors }
-
--- the store tells its files, and the file of this name has these tokens
-abbrev pub Gives : Option FileMap → List ℕ → List Token → Type 0
-Gives held name tokens = (files : FileMap) × (held ≡ Some files) × ((names : List (List ℕ)) × (source_read files name ≡ Ok (record { names = names; tokens = tokens })))
-
--- a program ran to its end, and wrote these bytes and no line
-pub record Runs (answer : Answer) (written : List ℕ) (out out' err err' : Option (List ℕ)) : Type 0 where
-  pub ended : answer ≡ Ran Done
-  pub output : Gains out out' written
-  pub errors : Gains err err' []
+-- the files are as they were, or this file was written and the others are as they were
+abbrev pub WithWritten : Option FileMap → Option FileMap → Option Written → Type 0
+WithWritten before after None = after ≡ before
+WithWritten before after (Some written) = Sets before after written.name written.bytes
 
 -- the job was done
 pub record Completes (job : Job) (answer : Answer) (before after : Told) : Type 0 where
   pub answered : answer ≡ job.answer
-  pub files : after.files ≡ Some job.files
+  pub files : WithWritten before.files after.files job.written
   pub left : after.left ≡ Some job.left
   pub output : Gains before.output after.output job.output
   pub errors : Gains before.errors.held after.errors.held job.errors
 
--- What a fault leaves of the job: the files and the input as they were, a part of its output, and a part of its error output
--- with the fault's own line behind it, as far as the error output took each.
-pub record Leaves (job : Job) (answer : Answer) (before after : Told) : Type 0 where
-  pub files : after.files ≡ before.files
-  pub left : after.left ≡ before.left
-  pub output : GainsPart before.output after.output job.output
-  pub between : Sunk
-  pub errors : Leads before.errors between job.errors
-  pub line : Puts between after.errors (line_of answer)
+-- the words name a file that is a program, and ask for a run with these arguments, or for none
+pub record IsAsked (words : List (List ℕ)) (files : FileMap) (name : List ℕ) (run : Option (List (List ℕ))) (program : Program) : Type 0 where
+  pub asks : asked words ≡ Asks name run
+  pub is : ComesTo files name (Ok program)
 
--- A call whose jobs are those of the predicate, but for the line of its answer: it did its job, or it answers a fault and left
--- a part of the job's output.
-pub data Does (IsJobOf : Job → Type 0) (answer : Answer) (out out' : Option (List ℕ)) : Type 0 where
-  did : (job : Job) → IsJobOf job → answer ≡ job.answer → job.errors ≡ line_of job.answer → Gains out out' job.output → Does IsJobOf answer out out'
-  failed : IsFault answer → ((job : Job) → IsJobOf job → GainsPart out out' job.output) → Does IsJobOf answer out out'
+-- the line of a job that writes no file was not begun, or a part of it was put
+abbrev pub Begins : (Job → Type 0) → Sunk → Sunk → Type 0
+Begins IsJobOf before between = (between ≡ before) ⊎ ((job : Job) × IsJobOf job × (job.written ≡ None) × Stops before between job.errors)
 
--- how the line of an answer was put, and which answer is given then
-pub data Reports (answer : Answer) (before after : Sunk) : Answer → Type 0 where
-  put : Gains before.held after.held (line_of answer) → Reports answer before after answer
-  own : IsFault answer → Puts before after (line_of answer) → Reports answer before after answer
-  write_fault : (IsFault answer → ⊥) → Leads before after (line_of answer) → Reports answer before after WriteFault
-  want : (IsFault answer → ⊥) → (between : Sunk) → Leads before between (line_of answer) → Puts between after (line_of NoMemory)
-      → Reports answer before after NoMemory
+-- What a fault leaves, with its own line behind, as far as the error output took it. Nothing was done but that a refusal's line may be
+-- begun; or the image could not be written whole, so that its name holds nothing, what it held or a first part of the image; or the
+-- image was written, and the evaluation stood somewhere: of what its next step puts some first part was put.
+pub data Faults (words : List (List ℕ)) (files : FileMap) (left : List ℕ) (answer : Answer) (before after : Told) : Type 0 where
+  idle : (between : Sunk) → after.files ≡ before.files → after.left ≡ before.left → after.output ≡ before.output → Begins (IsJob words files left) before.errors between → Puts between after.errors (fault_line answer)
+      → Faults words files left answer before after
+  torn : (name : List ℕ) (run : Option (List (List ℕ))) (program : Program) → IsAsked words files name run program → SetsPart before.files after.files (image_file name program).name (image_file name program).bytes
+      → after.left ≡ before.left → after.output ≡ before.output → Puts before.errors after.errors (fault_line answer) → Faults words files left answer before after
+  broke : (name : List ℕ) (arguments : List (List ℕ)) (program : Program) (between : Sunk) → IsAsked words files name (Some arguments) program → Sets before.files after.files (image_file name program).name (image_file name program).bytes
+      → before.errors.faults ≤ between.faults → before.errors.wants ≤ between.wants → Breaks (evaluation program arguments left) after.left before.output after.output before.errors.held between.held → Puts between after.errors (fault_line answer)
+      → Faults words files left answer before after
 
--- the line of some answer was put, and this answer is given then
-abbrev pub IsReported : Sunk → Sunk → Answer → Type 0
-IsReported before after given = (answer : Answer) × Reports answer before after given
+-- the job was done, or a fault is answered
+pub data Outcome (words : List (List ℕ)) (files : FileMap) (left : List ℕ) (answer : Answer) (before after : Told) : Type 0 where
+  done : (job : Job) → IsJob words files left job → Completes job answer before after → Outcome words files left answer before after
+  fault : IsFault answer → Faults words files left answer before after → Outcome words files left answer before after
+
+-- an answer that an image was written
+abbrev pub HasWritten : Answer → Type 0
+HasWritten Wrote = Unit {0}
+HasWritten (Ran ending) = Unit {0}
+HasWritten answer = ⊥
+
+-- These bytes are the image of a code that `iconx` reads, verifies and runs, and its run means, with all words, limits and inputs, what
+-- the program means.
+pub record IsImage (program : Program) (bytes : List ℕ) : Type 0 where
+  pub tables : Tables
+  pub within : length bytes ≤ 1073741824
+  pub read : image_read bytes ≡ Ok tables
+  pub verified : IsVerified tables
+  pub built : is_built tables ≡ true
+  pub runs : RunsAs program tables
+
+-- the words name a file that is a program, and its base name holds the program's image now
+pub record HoldsImage (words : List (List ℕ)) (files : FileMap) (after : Option FileMap) : Type 0 where
+  pub name : List ℕ
+  pub run : Option (List (List ℕ))
+  pub program : Program
+  pub is : IsAsked words files name run program
+  pub bytes : List ℕ
+  pub there : (held : FileMap) × (after ≡ Some held) × (held (base_of name) ≡ Some bytes)
+  pub image : IsImage program bytes

@@ -1,12 +1,13 @@
 // The program that a text is, where each of its forms is built.
 ghost use Rattle.std.specs.Prelude.{◌≡◌, map};
 ghost use Rattle.std.specs.List.{list_any};
+ghost use Rattle.icn_tree.specs.Trees.{elements_of};
 ghost use Rattle.icn_tree.specs.TreeOf.{tree_of, all_of, procedure_of, declaration_of, declarations_of};
-ghost use Rattle.icont_top.specs.Built.{expr_place, argument_of, arguments_of, literal_at, literal_of, is_write, names_write, call_of, expr_of, exprs_of, before_body, main_of, declaration_place, declares_write, program_of};
+ghost use Rattle.icont_top.specs.Built.{expr_place, are_nothing, is_empty, argument_of, arguments_of, literal_at, literal_of, is_write, names_write, call_of, expr_of, exprs_of, before_body, main_of, declaration_place, declares_write, program_of};
 ghost use Rattle.icont_top.specs.Stages.{Builds};
 
 use crate::unbuilt::Unbuilt;
-use icn_form::{Argument, Arguments, Call, Expr, Exprs, Procedure};
+use icn_form::{Argument, Arguments, Expr, Exprs, Program};
 use icn_tree::{Bytes, Decl, Expr as Tree, File, Literal, Name, Place, Procedure as Declared};
 use std::alloc::Global;
 
@@ -17,13 +18,12 @@ const WHOLE_FILE: Place = Place { line: 0, file: 0 };
 ///
 /// # Errors
 ///
-/// `At` with the place of the first form that is not built, which is line 0 of the named file where there is no declaration.
-/// `NoMemory` where memory ran out.
-pub fn program_of(alloc: Global, file: &File) -> Result<Procedure, Unbuilt>
+/// `At` with the place of the first form that is not built. `NoMemory` where memory ran out.
+pub fn program_of(alloc: Global, file: &File) -> Result<Program, Unbuilt>
     ensures { Builds (program_of (declarations_of file.now)) result }
 {
     let Some((first, others)) = file.decls.split_first() else {
-        return Err(Unbuilt::At(WHOLE_FILE));
+        return Ok(Program { main: None });
     };
     let Decl::Procedure(declared) = first else {
         return Err(Unbuilt::At(declaration_place(first)));
@@ -92,7 +92,7 @@ fn declaration_place(declaration: &Decl) -> Place
 }
 
 // The program that a procedure is.
-fn main_of(alloc: Global, declared: &Declared, declares_write: bool) -> Result<Procedure, Unbuilt>
+fn main_of(alloc: Global, declared: &Declared, declares_write: bool) -> Result<Program, Unbuilt>
     ensures { Builds (main_of declares_write (procedure_of declared.now)) result }
 {
     if declared.name.text.as_slice() != b"main".as_slice() {
@@ -102,8 +102,7 @@ fn main_of(alloc: Global, declared: &Declared, declares_write: bool) -> Result<P
         return Err(Unbuilt::At(place));
     }
     let body = exprs_of(alloc, &declared.body, declares_write)?;
-    let name = Bytes::from_slice(alloc, b"main")?;
-    Ok(Procedure { name, body })
+    Ok(Program { main: Some(body) })
 }
 
 // Where the first form stands before the body of a procedure.
@@ -161,9 +160,32 @@ fn call_of(
     if declares_write || !names_write(callee) {
         return Err(Unbuilt::At(place));
     }
-    let arguments = arguments_of(alloc, trees)?;
-    let name = Bytes::from_slice(alloc, b"write")?;
-    Ok(Expr::Call(Call { name, arguments }))
+    let arguments = arguments_of(alloc, elements_of(trees))?;
+    Ok(Expr::Write(arguments))
+}
+
+// The elements that a list gives to a call: none, where it is one empty expression.
+fn elements_of(trees: &[Tree]) -> &[Tree]
+    ensures { all_of result.now ≡ elements_of (all_of trees.now) }
+{
+    if are_nothing(trees) { &[] } else { trees }
+}
+
+// Whether a list is one empty expression.
+fn are_nothing(trees: &[Tree]) -> bool
+    ensures { result ≡ are_nothing (all_of trees.now) }
+{
+    match trees {
+        [tree] => is_empty(tree),
+        _ => false,
+    }
+}
+
+// Whether an expression is empty.
+fn is_empty(tree: &Tree) -> bool
+    ensures { result ≡ is_empty (tree_of tree.now) }
+{
+    matches!(tree, Tree::Empty)
 }
 
 // Whether an expression is the name `write`.

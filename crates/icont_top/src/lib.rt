@@ -1,20 +1,16 @@
 //! The top call of the program `icont`.
 #![tactic(auto)]
 
-mod answer;
 mod built;
 mod laws;
-mod machine;
+mod making;
 mod program;
 mod program_fault;
-mod report;
 mod source;
 mod top;
-mod translator;
 mod unbuilt;
 mod words;
-mod work;
 
-pub use answer::{Answer, Ending};
+pub use icn_engine::{Answer, Ending};
 pub use laws::{one_job, one_program};
 pub use top::icont_main;

@@ -7,7 +7,7 @@ ghost use Rattle.icont_top.specs.Stages.{Stops};
 use crate::built::program_of;
 use crate::program_fault::ProgramFault;
 use icn_decls::check;
-use icn_form::Procedure;
+use icn_form::Program;
 use icn_parse::parse;
 use icn_tree::Token;
 use std::alloc::Global;
@@ -17,7 +17,7 @@ use std::alloc::Global;
 /// # Errors
 ///
 /// `Broken` with the first rule that is broken, stage by stage. `NoMemory` where memory ran out.
-pub fn program(alloc: Global, name: &str, tokens: &[Token]) -> Result<Procedure, ProgramFault>
+pub fn program(alloc: Global, name: &str, tokens: &[Token]) -> Result<Program, ProgramFault>
     requires scanned { AreScanned tokens.now }
     ensures { MatchResult result (IsProgram tokens.now) (Stops tokens.now) }
 {

@@ -1,25 +1,44 @@
 // The top call.
-ghost use Rattle.std.specs.Prelude.{◌≡◌, ◌⊎◌, ◌≤◌, ℕ, List, [], Some, map, string_bytes, IfSome, MatchOption};
+ghost use Rattle.std.specs.Prelude.{◌≡◌, ◌⊎◌, ◌≤◌, ℕ, List, [], Ok, Some, map, string_bytes, IfSome, true};
 ghost use Rattle.icn_host.specs.Counts.{HasCause, Rose};
+ghost use Rattle.icn_host.specs.FileMaps.{FileMap};
 ghost use Rattle.icn_host.specs.Sinks.{Gains};
-ghost use Rattle.icn_tree.specs.declared.token.Token.{Token};
-ghost use Rattle.icn_form.specs.declared.tree.Procedure.{Procedure};
-ghost use Rattle.icn_form.specs.Meaning.{meaning};
-ghost use Rattle.icont_top.specs.Answers.{IsFault, IsRefusal, IsCommand, line_of};
-ghost use Rattle.icont_top.specs.Job.{Job, IsJob};
-ghost use Rattle.icont_top.specs.Outcomes.{told, sunk, Gives, Completes, Leaves, Runs, IsReported};
-ghost use Rattle.icont_top.specs.Programs.{IsProgram};
+ghost use Rattle.icn_report.specs.Puts.{Puts, sunk};
+ghost use Rattle.icn_code.specs.Seen.{tables_of};
+ghost use Rattle.icn_run.specs.Built.{is_built};
+ghost use Rattle.icn_form.specs.declared.tree.Program.{Program};
+ghost use Rattle.icn_engine.specs.Answers.{IsFault, IsRefusal};
+ghost use Rattle.icn_lines.specs.Faulting.{IsOfRun};
+ghost use Rattle.icn_lines.specs.Lines.{fault_line, put_by};
+ghost use Rattle.icn_lines.specs.Reporting.{Reports};
+ghost use Rattle.icont_top.specs.Answered.{IsAnswered, IsCommand, IsCommanded};
+ghost use Rattle.icont_top.specs.Asking.{asking};
+ghost use Rattle.icont_top.specs.Loading.{IsMade};
+ghost use Rattle.icn_lines.specs.Telling.{told};
+ghost use Rattle.icont_top.specs.Outcomes.{HasWritten, HoldsImage, Outcome};
+ghost use Rattle.icont_top.specs.Running.{IsRanOrBroken, run_by};
 ghost use Rattle.icont_top.specs.Sources.{IsAbsence};
-ghost use Rattle.icont_top.specs.Words.{file_asked};
+ghost use Rattle.icont_top.specs.Translating.{ComesTo};
+ghost use Rattle.icont_top.specs.Usage.{usage};
+ghost use Rattle.icont_top.specs.Words.{asked as read, is_source};
 
-use crate::answer::Answer;
-use crate::report::report;
-use crate::work::work;
-use icn_host::{Files, Sink, Source};
+use crate::making::{Made, make};
+use crate::words::{FileAsked, asked, base_name};
+use icn_codegen::code_runs_as_meant;
+use icn_engine::{Answer, run};
+use icn_host::{Fault, Files, Sink, Source};
+use icn_image::one_spelling;
+use icn_lines::{answer_of, own_line, refuse};
+use icn_value::Limits;
+use icn_verify::Verified;
 use std::alloc::Global;
 
-/// All that the program `icont` does: it reads the files that the words name from `files`, translates the program and runs it
-/// over `input` and `out`, and puts the line of its answer on `err`. The words begin with the program's name.
+const USAGE: &[u8] =
+    b"usage: icont [-c] [-o name] [-n turns] [-g number] file ... [-x argument ...]\n";
+
+/// All that the program `icont` does: it reads the files that the words name from `files`, writes the image of their program to
+/// `files` and, where the words ask for it, runs it over `input`, `out` and `err`. The line of an answer goes to `err` too. The
+/// words begin with the program's name.
 pub fn icont_main<F: Files, I: Source, O: Sink, E: Sink>(
     alloc: Global,
     words: &[String],
@@ -28,57 +47,175 @@ pub fn icont_main<F: Files, I: Source, O: Sink, E: Sink>(
     out: &mut O,
     err: &mut E,
 ) -> Answer
-    // Where the files and the input tell their content, the job was done, or a fault is answered.
-    ensures completeness { IfSome (F.held files.old) (λ held. IfSome (I.left input.old) (λ left. IsFault result
-        ⊎ ((job : Job) × IsJob (map string_bytes words.now) held left job × Completes job result
+    // Where the files and the input tell their content, the job was done, or a fault is answered and leaves a part of it.
+    ensures outcome { IfSome (F.held files.old) (λ held. IfSome (I.left input.old) (λ left. Outcome (map string_bytes words.now) held left result
         (told (F.held files.old) (I.left input.old) (O.held out.old) (sunk (E.held err.old) (E.faults err.old) (E.wants err.old)))
-        (told (F.held files.new) (I.left input.new) (O.held out.new) (sunk (E.held err.new) (E.faults err.new) (E.wants err.new)))))) }
+        (told (F.held files.new) (I.left input.new) (O.held out.new) (sunk (E.held err.new) (E.faults err.new) (E.wants err.new))))) }
 
     // Where no count of faults rose, no fault is answered but want of memory.
     ensures faultless { ¬ Rose (F.faults files.old) (F.faults files.new) → ¬ Rose (I.faults input.old) (I.faults input.new)
         → ¬ Rose (O.faults out.old) (O.faults out.new) → ¬ Rose (E.faults err.old) (E.faults err.new)
         → IsFault result → result ≡ Answer.NoMemory }
 
-    // After a fault a part of the job was done.
-    ensures leaves { IfSome (F.held files.old) (λ held. IfSome (I.left input.old) (λ left. (job : Job)
-        → IsJob (map string_bytes words.now) held left job → IsFault result → Leaves job result
-        (told (F.held files.old) (I.left input.old) (O.held out.old) (sunk (E.held err.old) (E.faults err.old) (E.wants err.old)))
-        (told (F.held files.new) (I.left input.new) (O.held out.new) (sunk (E.held err.new) (E.faults err.new) (E.wants err.new))))) }
-
-    // A file whose tokens are a program runs with the bytes of its meaning.
-    ensures headline { (name : List ℕ) (tokens : List Token) (program : Procedure) → file_asked (map string_bytes words.now) ≡ Some name
-        → Gives (F.held files.old) name tokens → IsProgram tokens program
-        → IsFault result ⊎ Runs result (meaning program) (O.held out.old) (O.held out.new) (E.held err.old) (E.held err.new) }
-
-    // The words are faulty exactly where they ask for no file.
-    ensures command { MatchOption (file_asked (map string_bytes words.now))
-        (IsFault result ⊎ (result ≡ Answer.Command 1)) (λ name. IsCommand result → ⊥) }
-
-    // A refusal leaves the output as it was.
-    ensures refused { IsRefusal result → O.held out.new ≡ O.held out.old }
+    // Where an image was written, the base name holds the image of a code that `iconx` takes, and whose runs mean what the
+    // source means.
+    ensures headline { HasWritten result → IfSome (F.held files.old) (λ held. HoldsImage (map string_bytes words.now) held (F.held files.new)) }
 
     // Every other answer's line was put, whatever the files and the input tell.
-    ensures line { IsFault result ⊎ Gains (E.held err.old) (E.held err.new) (line_of result) }
+    ensures line { IsFault result ⊎ Gains (E.held err.old) (E.held err.new) (put_by usage [] result) }
 
-    // A fault's own line was put too, behind what was put of another answer's line: less than the whole of it is there only
-    // where the error output failed or wanted memory in that put.
-    ensures fault_line { IsReported (sunk (E.held err.old) (E.faults err.old) (E.wants err.old))
+    // A fault's own line was put too, behind what was put of another answer's line: less than the whole of it is there only where
+    // the error output's count of faults, or of its wants of memory, rose in that put.
+    ensures fault_line { Reports usage [] (sunk (E.held err.old) (E.faults err.old) (E.wants err.old))
         (sunk (E.held err.new) (E.faults err.new) (E.wants err.new)) result }
+
+    // Where the files tell their content, the answer is the one that the words and the files ask for, or a fault.
+    ensures answered { IfSome (F.held files.old) (λ held. IsAnswered (map string_bytes words.now) held result) }
+
+    // The words are faulty exactly where they are not of the command's form.
+    ensures command { IsCommanded (read (map string_bytes words.now)) result }
+
+    // A refusal leaves the files, the output and the input as they were.
+    ensures untouched { IsRefusal result → F.held files.new ≡ F.held files.old }
+    ensures refused { IsRefusal result → O.held out.new ≡ O.held out.old }
+    ensures unread { IsRefusal result → I.left input.new ≡ I.left input.old }
 
     // A fault is answered only where the count of its object rose, and an absence (also of an included file) only where that
     // count did. No count falls.
     ensures file_fault { HasCause (F.faults files.old) (F.faults files.new) (result ≡ Answer.FileFault) }
     ensures absence { HasCause (F.absences files.old) (F.absences files.new) (IsAbsence result) }
-    ensures write_fault { result ≡ Answer.WriteFault
-        → Rose (O.faults out.old) (O.faults out.new) ⊎ Rose (E.faults err.old) (E.faults err.new) }
+    ensures read_fault { HasCause (I.faults input.old) (I.faults input.new) (result ≡ Answer.ReadFault) }
+    ensures write_fault { result ≡ Answer.WriteFault → Rose (O.faults out.old) (O.faults out.new) ⊎ Rose (E.faults err.old) (E.faults err.new) }
     ensures output_faults { O.faults out.old ≤ O.faults out.new }
     ensures error_faults { E.faults err.old ≤ E.faults err.new }
     ensures error_wants { E.wants err.old ≤ E.wants err.new }
-
-    // No program writes a file or reads input yet.
-    ensures files { F.held files.new ≡ F.held files.old }
-    ensures input { input.new ≡ input.old }
 {
-    let answer = work(alloc, words, files, out);
-    report(alloc, answer, err)
+    match asked(words) {
+        Some(asked) => file_answer(alloc, asked, files, input, out, err),
+        None => refuse(alloc, USAGE, "", Answer::Command(1), err),
+    }
+}
+
+// Does what the words ask for with a source file.
+fn file_answer<F: Files, I: Source, O: Sink, E: Sink>(
+    alloc: Global,
+    asked: FileAsked,
+    files: &mut F,
+    input: &mut I,
+    out: &mut O,
+    err: &mut E,
+) -> Answer
+    requires source { is_source asked.name.now ≡ true }
+    ensures outcome { (words : List (List ℕ)) → read words ≡ asking asked.entry → IfSome (F.held files.old) (λ held. IfSome (I.left input.old) (λ left. Outcome words held left result
+        (told (F.held files.old) (I.left input.old) (O.held out.old) (sunk (E.held err.old) (E.faults err.old) (E.wants err.old)))
+        (told (F.held files.new) (I.left input.new) (O.held out.new) (sunk (E.held err.new) (E.faults err.new) (E.wants err.new))))) }
+    ensures headline { (words : List (List ℕ)) → read words ≡ asking asked.entry → HasWritten result → IfSome (F.held files.old) (λ held. HoldsImage words held (F.held files.new)) }
+    ensures reported { Reports usage [] (sunk (E.held err.old) (E.faults err.old) (E.wants err.old))
+        (sunk (E.held err.new) (E.faults err.new) (E.wants err.new)) result }
+    ensures answered { (words : List (List ℕ)) → read words ≡ asking asked.entry → IfSome (F.held files.old) (λ held. IsAnswered words held result) }
+    ensures command { IsCommand result → ⊥ }
+    ensures untouched { IsRefusal result → F.held files.new ≡ F.held files.old }
+    ensures refused { IsRefusal result → O.held out.new ≡ O.held out.old }
+    ensures unread { IsRefusal result → I.left input.new ≡ I.left input.old }
+    ensures file_fault { HasCause (F.faults files.old) (F.faults files.new) (result ≡ Answer.FileFault) }
+    ensures absence { HasCause (F.absences files.old) (F.absences files.new) (IsAbsence result) }
+    ensures read_fault { HasCause (I.faults input.old) (I.faults input.new) (result ≡ Answer.ReadFault) }
+    ensures write_fault { result ≡ Answer.WriteFault → Rose (O.faults out.old) (O.faults out.new) ⊎ Rose (E.faults err.old) (E.faults err.new) }
+    ensures output_faults { O.faults out.old ≤ O.faults out.new }
+    ensures error_faults { E.faults err.old ≤ E.faults err.new }
+    ensures error_wants { E.wants err.old ≤ E.wants err.new }
+{
+    match make(alloc, asked.name, files) {
+        Ok(made) => image_answer(alloc, &made, asked, files, input, out, err),
+        Err(answer) => refuse(alloc, USAGE, "", answer, err),
+    }
+}
+
+// Writes the image of a program, and runs its code where the words ask for it.
+fn image_answer<F: Files, I: Source, O: Sink, E: Sink>(
+    alloc: Global,
+    made: &Made,
+    asked: FileAsked,
+    files: &mut F,
+    input: &mut I,
+    out: &mut O,
+    err: &mut E,
+) -> Answer
+    requires source { is_source asked.name.now ≡ true }
+    requires built { is_built (tables_of made.now.code.code) ≡ true }
+    ensures outcome { (words : List (List ℕ)) (held : FileMap) (program : Program) → read words ≡ asking asked.entry → ComesTo held asked.entry.name.now (Ok program) → IsMade program made.now
+        → IfSome (I.left input.old) (λ left. Outcome words held left result
+        (told (F.held files.old) (I.left input.old) (O.held out.old) (sunk (E.held err.old) (E.faults err.old) (E.wants err.old)))
+        (told (F.held files.new) (I.left input.new) (O.held out.new) (sunk (E.held err.new) (E.faults err.new) (E.wants err.new)))) }
+    ensures headline { (words : List (List ℕ)) (held : FileMap) (program : Program) → read words ≡ asking asked.entry → ComesTo held asked.entry.name.now (Ok program) → IsMade program made.now
+        → F.held files.old ≡ Some held → HasWritten result → HoldsImage words held (F.held files.new) }
+    ensures reported { Reports usage [] (sunk (E.held err.old) (E.faults err.old) (E.wants err.old))
+        (sunk (E.held err.new) (E.faults err.new) (E.wants err.new)) result }
+    ensures answered { (words : List (List ℕ)) (held : FileMap) (program : Program) → read words ≡ asking asked.entry → ComesTo held asked.entry.name.now (Ok program) → IsAnswered words held result }
+    ensures no_refusal { IsRefusal result → ⊥ }
+    ensures file_fault { HasCause (F.faults files.old) (F.faults files.new) (result ≡ Answer.FileFault) }
+    ensures absences { F.absences files.new ≡ F.absences files.old }
+    ensures read_fault { HasCause (I.faults input.old) (I.faults input.new) (result ≡ Answer.ReadFault) }
+    ensures write_fault { result ≡ Answer.WriteFault → Rose (O.faults out.old) (O.faults out.new) ⊎ Rose (E.faults err.old) (E.faults err.new) }
+    ensures output_faults { O.faults out.old ≤ O.faults out.new }
+    ensures error_faults { E.faults err.old ≤ E.faults err.new }
+    ensures error_wants { E.wants err.old ≤ E.wants err.new }
+{
+    one_spelling();
+    code_runs_as_meant();
+    match files.write(base_name(asked.name), &made.image) {
+        Ok(()) => match asked.run {
+            Some(words) => run_answer(alloc, &made.code, words, input, out, err),
+            None => Answer::Wrote,
+        },
+        Err(fault) => torn_answer(fault, err),
+    }
+}
+
+// The answer where the image could not be written.
+fn torn_answer<E: Sink>(fault: Fault, err: &mut E) -> Answer
+    ensures failed { result ≡ Answer.FileFault → fault ≡ Fault.Failed }
+    ensures others { (result ≡ Answer.FileFault) ⊎ (result ≡ Answer.NoMemory) }
+    ensures puts { Puts (sunk (E.held err.old) (E.faults err.old) (E.wants err.old))
+        (sunk (E.held err.new) (E.faults err.new) (E.wants err.new)) (fault_line result) }
+    ensures faults { E.faults err.old ≤ E.faults err.new }
+    ensures wants { E.wants err.old ≤ E.wants err.new }
+{
+    let answer = match fault {
+        Fault::Failed => Answer::FileFault,
+        Fault::NoMemory => Answer::NoMemory,
+    };
+    own_line(&answer, err);
+    answer
+}
+
+// Runs the code of a program, under the limits that stand where none are said.
+fn run_answer<I: Source, O: Sink, E: Sink>(
+    alloc: Global,
+    code: &Verified,
+    words: &[String],
+    input: &mut I,
+    out: &mut O,
+    err: &mut E,
+) -> Answer
+    requires built { is_built (tables_of code.now.code) ≡ true }
+    ensures ran { IfSome (I.left input.old) (λ left. IsRanOrBroken (run_by (tables_of code.now.code) (map string_bytes words.now) left) result (I.left input.new) (O.held out.old) (O.held out.new)
+        (sunk (E.held err.old) (E.faults err.old) (E.wants err.old)) (sunk (E.held err.new) (E.faults err.new) (E.wants err.new))) }
+    ensures reported { Reports usage [] (sunk (E.held err.old) (E.faults err.old) (E.wants err.old))
+        (sunk (E.held err.new) (E.faults err.new) (E.wants err.new)) result }
+    ensures others { IsOfRun result }
+    ensures read_fault { HasCause (I.faults input.old) (I.faults input.new) (result ≡ Answer.ReadFault) }
+    ensures write_fault { result ≡ Answer.WriteFault → Rose (O.faults out.old) (O.faults out.new) ⊎ Rose (E.faults err.old) (E.faults err.new) }
+    ensures output_faults { O.faults out.old ≤ O.faults out.new }
+    ensures error_faults { E.faults err.old ≤ E.faults err.new }
+    ensures error_wants { E.wants err.old ≤ E.wants err.new }
+{
+    match run(alloc, code, words, Limits::standard(), input, out, err) {
+        Ok(ending) => Answer::Ran(ending),
+        Err(fault) => {
+            let answer = answer_of(fault);
+            own_line(&answer, err);
+            answer
+        }
+    }
 }

@@ -1,20 +1,47 @@
 // The words of the command line.
-ghost use Rattle.std.specs.Prelude.{◌≡◌, map, string_bytes, option_copied};
-ghost use Rattle.icont_top.specs.Words.{asks, file_asked};
+ghost use Rattle.std.specs.Prelude.{◌≡◌, ◌-◌, length, map, take, string_bytes, true};
+ghost use Rattle.icont_top.specs.Asking.{reading_of};
+ghost use Rattle.icont_top.specs.Words.{asked, base_of, is_source};
 
-/// The file that the words ask to run.
-pub fn file_asked(words: &[String]) -> Option<&str>
-    ensures { option_copied result ≡ file_asked (map string_bytes words.now) }
+/// What the words ask for: the image of a source file, and a run of it with these arguments.
+#[derive(Clone, Copy)]
+pub struct FileAsked<'a> {
+    pub name: &'a str,
+    pub run: Option<&'a [String]>,
+}
+
+/// What the words ask for, where they are not faulty.
+pub fn asked(words: &[String]) -> Option<FileAsked<'_>>
+    ensures { reading_of result ≡ asked (map string_bytes words.now) }
 {
     match words {
-        [_, name, flag] if asks(name.as_str(), flag.as_str()) => Some(name.as_str()),
+        [_, name] if is_source(name.as_str()) => Some(FileAsked {
+            name: name.as_str(),
+            run: None,
+        }),
+        [_, name, flag, arguments @ ..] if is_source(name.as_str()) && flag.as_str() == "-x" => {
+            Some(FileAsked {
+                name: name.as_str(),
+                run: Some(arguments),
+            })
+        }
         _ => None,
     }
 }
 
-// Whether the words after the program's name ask to run a source file.
-fn asks(name: &str, flag: &str) -> bool
-    ensures { result ≡ asks name.now flag.now }
+fn is_source(name: &str) -> bool
+    ensures { result ≡ is_source name.now }
 {
-    name.as_bytes().ends_with(b".icn") && flag == "-x"
+    name.as_bytes().ends_with(b".icn")
+}
+
+/// The base name of a source file: what stands before `.icn`.
+pub fn base_name(name: &str) -> &str
+    requires { is_source name.now ≡ true }
+    ensures { result.now ≡ base_of name.now }
+{
+    match name.strip_suffix(".icn") {
+        Some(base) => base,
+        None => unreachable!(),
+    }
 }

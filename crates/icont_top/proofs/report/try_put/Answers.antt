@@ -1,5 +1,0 @@
-use Rattle.icont_top.proofs.Reporting.{stops_of, puts_of}
-use Rattle.icont_top.proofs.report.try_put.Goals as goal
-
-pub returns-clause-puts : goal.returns-clause-puts
-returns-clause-puts g c = puts_of _ _ _ c.put.result c.put.ensures.ok (stops_of _ _ _ c.put.result c.put.ensures.err c.put.ensures.cause c.put.ensures.want)

@@ -1,0 +1,41 @@
+use Rattle.std.proofs.Common.{map, ◌∙◌, ap, arith, Err}
+use Rattle.std.specs.Prelude.{string_bytes}
+use Rattle.std.specs.Option.{option_map}
+use Rattle.icn_lines.proofs.Reports.{reports_of}
+use Rattle.icont_top.proofs.Topmost.{absence_of, answer_put, asked_file, at_some, file_answered, file_fault_of, held_as, if_some, line_put, no_read_fault, not_command, not_written, refused}
+use Rattle.icont_top.proofs.top.file_answer.Goals as goal
+
+pub returns-in-Ok-clause-outcome : goal.returns-in-Ok-clause-outcome
+returns-in-Ok-clause-outcome g c words asks =
+    if_some (g.F.Files.held c.args.files.now) _ (λ held e. if_some (g.I.Source.left c.args.input.now) _ (λ left d.
+    let loaded = at_some _ (g.F.Files.held c.args.files.now) held e c.in-Ok.ensures.loaded in
+    held_as _ _ c.in-Ok.ensures.files (at_some _ (g.I.Source.left c.args.input.now) left d (c.image_answer.ensures.outcome words held loaded.0 asks loaded.1 loaded.2))))
+
+pub returns-in-Err-clause-outcome : goal.returns-in-Err-clause-outcome
+returns-in-Err-clause-outcome g c words asks =
+    if_some (g.F.Files.held c.args.files.now) _ (λ held e. if_some (g.I.Source.left c.args.input.now) _ (λ left d.
+    refused c.in-Err.answer c.refuse.result _ _ _ _ _ _
+    (asked_file left c.args.asked.name.now (option_map (λ words. map string_bytes words.now) c.args.asked.run) c.in-Err.answer asks (at_some _ (g.F.Files.held c.args.files.now) held e c.in-Err.ensures.loaded)) c.in-Err.ensures.files d c.refuse.ensures.line))
+
+pub returns-in-Err-clause-headline : goal.returns-in-Err-clause-headline
+returns-in-Err-clause-headline g c words asks written = absurd (not_written c.in-Err.answer c.refuse.result c.in-Err.ensures.others c.refuse.ensures.line written)
+
+pub returns-in-Err-clause-reported : goal.returns-in-Err-clause-reported
+returns-in-Err-clause-reported g c = reports_of (line_put c.in-Err.answer c.in-Err.ensures.others) c.refuse.ensures.line
+
+pub returns-in-Err-clause-answered : goal.returns-in-Err-clause-answered
+returns-in-Err-clause-answered g c words asks =
+    if_some (g.F.Files.held c.args.files.now) _ (λ held e. answer_put c.in-Err.answer c.refuse.result
+    (file_answered c.args.asked.name.now (option_map (λ words. map string_bytes words.now) c.args.asked.run) c.in-Err.answer asks (at_some _ (g.F.Files.held c.args.files.now) held e c.in-Err.ensures.loaded)) c.refuse.ensures.line)
+
+pub returns-in-Err-clause-command : goal.returns-in-Err-clause-command
+returns-in-Err-clause-command g c is = not_command c.in-Err.answer c.refuse.result c.in-Err.ensures.others c.refuse.ensures.line is
+
+pub returns-in-Err-clause-file_fault : goal.returns-in-Err-clause-file_fault
+returns-in-Err-clause-file_fault g c = record { later = c.in-Err.ensures.file_fault.later; rose = λ is. c.in-Err.ensures.file_fault.rose (ap (λ answer. Err answer) (file_fault_of c.in-Err.answer c.refuse.result c.refuse.ensures.line is)) }
+
+pub returns-in-Err-clause-absence : goal.returns-in-Err-clause-absence
+returns-in-Err-clause-absence g c = record { later = c.in-Err.ensures.absence.later; rose = λ is. c.in-Err.ensures.absence.rose (absence_of c.in-Err.answer c.refuse.result c.refuse.ensures.line is) }
+
+pub returns-in-Err-clause-read_fault : goal.returns-in-Err-clause-read_fault
+returns-in-Err-clause-read_fault g c = record { later = omega arith; rose = λ is. absurd (no_read_fault c.in-Err.answer c.refuse.result c.in-Err.ensures.others c.refuse.ensures.line is) }
