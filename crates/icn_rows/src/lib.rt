@@ -873,9 +873,9 @@ mod tests {
             files: &[1],
             ..NONE
         };
-        let rows: [(&str, &[u8], Failing, &str, &[u8], &[u8]); 14] = [
-            ("f.icn", HI, image, "FileFault", b"", b"file fault\n"),
-            ("f.icn", HI, image_and_line, "FileFault", b"", b""),
+        let rows: [(&str, &[u8], Failing, &str, &[u8], &[u8], bool); 14] = [
+            ("f.icn", HI, image, "FileFault", b"", b"file fault\n", false),
+            ("f.icn", HI, image_and_line, "FileFault", b"", b"", false),
             (
                 "f.icn",
                 b"$include g.icn",
@@ -883,28 +883,36 @@ mod tests {
                 "FileFault",
                 b"",
                 b"file fault\n",
+                false,
             ),
-            ("f.icn", TWO, second, "WriteFault", b"a\n", b""),
-            ("f.icn", HI, files, "FileFault", b"", b"file fault\n"),
-            ("no.icn", HI, files, "FileFault", b"", b"file fault\n"),
-            ("f.icn", HI, both, "FileFault", b"", b""),
-            ("f.icn", HI, output, "WriteFault", b"", b""),
-            ("f.icn", HI, errors, "Ran(Done)", b"hi\n", b""),
-            ("f.icn", b"end", errors, "WriteFault", b"", b""),
-            ("no.icn", HI, errors, "WriteFault", b"", b""),
-            ("f", HI, errors, "WriteFault", b"", b""),
-            ("f.icn", HI, later, "Ran(Done)", b"hi\n", b""),
-            ("f.icn", b"end", later, "Refused", b"", NO_PROGRAM),
+            ("f.icn", TWO, second, "WriteFault", b"a\n", b"", true),
+            ("f.icn", HI, files, "FileFault", b"", b"file fault\n", false),
+            (
+                "no.icn",
+                HI,
+                files,
+                "FileFault",
+                b"",
+                b"file fault\n",
+                false,
+            ),
+            ("f.icn", HI, both, "FileFault", b"", b"", false),
+            ("f.icn", HI, output, "WriteFault", b"", b"", true),
+            ("f.icn", HI, errors, "Ran(Done)", b"hi\n", b"", true),
+            ("f.icn", b"end", errors, "WriteFault", b"", b"", false),
+            ("no.icn", HI, errors, "WriteFault", b"", b"", false),
+            ("f", HI, errors, "WriteFault", b"", b"", false),
+            ("f.icn", HI, later, "Ran(Done)", b"hi\n", b"", true),
+            ("f.icn", b"end", later, "Refused", b"", NO_PROGRAM, false),
         ];
-        for (name, source, failing, answer, output, errors) in rows {
+        for (name, source, failing, answer, output, errors, written) in rows {
             let row = icont(alloc, &["icont", name, "-x"], source, failing)?;
             assert_eq!(rt; name_of(&row.answer), answer, "at {name}");
             assert_eq!(rt; row.output.as_slice(), output, "at {name}");
             assert_eq!(rt; row.errors.as_slice(), errors, "at {name}");
             assert!(rt; row.untouched, "at {name}");
             // the image is written before the run
-            let is_written = answer == "Ran(Done)" || answer == "WriteFault" && !output.is_empty();
-            assert!(rt; row.image || !is_written, "at {name}");
+            assert_eq!(rt; row.image, written, "at {name}");
         }
         Ok(())
     }
