@@ -1,8 +1,9 @@
 -- The run of a program's code is its evaluation: it is observed as the program means, and leaves the same where it is broken off.
-use Rattle.std.proofs.Common.{◌≡◌, ◌⊎◌, ℕ, zero, suc, ◌+◌, Bool, true, false, if◌then◌else◌, ◌==◌, List, [], ◌∷◌, ◌++◌, length, take, nat_lt, Option, None, Some, refl, sym, ap, subst, ◌∙◌, inl, inr, arith, append-nil}
+use Rattle.std.proofs.Common.{◌≡◌, ◌⊎◌, ℕ, zero, suc, ◌+◌, Bool, true, false, if◌then◌else◌, ◌==◌, List, [], ◌∷◌, ◌++◌, length, take, drop, nat_lt, Option, None, Some, refl, sym, ap, subst, ◌∙◌, inl, inr, arith, append-nil}
 use Rattle.std.specs.List.{sum_by}
 use Rattle.std.specs.Io.KnownBytes.{Appends}
 use Rattle.std.proofs.lemmas.List.{take_all, take-append-le}
+use Rattle.icn_host.specs.Sinks.{Gains}
 use Rattle.icn_form.specs.declared.tree.Expr.{Expr}
 use Rattle.icn_form.specs.declared.tree.Program.{Program}
 use Rattle.icn_value.specs.Limited.{Bounds}
@@ -14,8 +15,8 @@ use Rattle.icn_run.specs.CodeStep.{step}
 use Rattle.icn_run.specs.Reports.{report_of}
 use Rattle.icn_run.specs.States.{Config, Outside, Over, Stuck, outside_of}
 use Rattle.icn_run.proofs.RunsEnd.{runs_end}
-use Rattle.icn_engine.specs.Runs.{Breaks}
-use Rattle.icn_meaning.specs.Breaking.{Breaks as MeaningBreaks}
+use Rattle.icn_engine.specs.Runs.{Breaks, StandsReading}
+use Rattle.icn_meaning.specs.Breaking.{Breaks as MeaningBreaks, StandsReading as MeaningStandsReading}
 use Rattle.icn_meaning.specs.Calls.{line_of}
 use Rattle.icn_meaning.specs.Meaning.{Comes, Evaluates, Evaluation, Means, Stand, beginning as beginning_stand, begun, ended, outside_of as outside_of_stand, step as step_stand}
 use Rattle.icn_meaning.specs.Meaning.{Begins as BeginsStand, Over as OverStand}
@@ -167,8 +168,24 @@ breaks_meant evaluation left' out out' err err' breaks =
     breaks_by evaluation left' out out' err err' followed.stand breaks.at followed.comes (same_outside (linked evaluation.program) followed.stand breaks.at followed.follows)
     breaks.left breaks.output breaks.errors (follows_on evaluation followed.stand breaks.at followed.follows)
 
+reading_meant : (evaluation : Evaluation) (left' out out' err err' : Option (List ℕ)) → StandsReading (run_of evaluation) left' out out' err err' → MeaningStandsReading evaluation left' out out' err err'
+unfolding run_of
+reading_meant evaluation left' out out' err err' reading =
+    let followed = reached_followed evaluation reading.at reading.reached in
+    let here = same_outside (linked evaluation.program) followed.stand reading.at followed.follows in
+    record {
+      at = followed.stand;
+      comes = followed.comes;
+      taken = reading.taken;
+      left = reading.left ∙ ap (λ (o : Outside). Some (drop reading.taken o.left)) (sym here);
+      output = subst (λ (o : Outside). Gains out out' o.output) (sym here) reading.output;
+      errors = subst (λ (o : Outside). Gains err err' o.errors) (sym here) reading.errors;
+    }
+
 pub breaks_as_meant : BreakAsMeant
 breaks_as_meant program = record {
   breaks = λ run left' out out' err err' e breaks.
       breaks_meant (evaluation_of program run) left' out out' err err' (subst (λ r. Breaks r left' out out' err err') (same_run program run e) breaks);
+  reading = λ run left' out out' err err' e reading.
+      reading_meant (evaluation_of program run) left' out out' err err' (subst (λ r. StandsReading r left' out out' err err') (same_run program run e) reading);
 }

@@ -4,9 +4,9 @@ use Rattle.icn_code.specs.Codes.{Tables}
 use Rattle.icn_form.specs.declared.tree.Program.{Program}
 use Rattle.icn_run.specs.Built.{is_built}
 use Rattle.icn_run.specs.CodeRun.{Run, Observed, Observes}
-use Rattle.icn_engine.specs.Runs.{Breaks}
+use Rattle.icn_engine.specs.Runs.{Breaks, StandsReading}
 use Rattle.icn_verify.specs.Faults.{IsVerified}
-use Rattle.icn_meaning.specs.Breaking.{Breaks as MeaningBreaks}
+use Rattle.icn_meaning.specs.Breaking.{Breaks as MeaningBreaks, StandsReading as MeaningStandsReading}
 use Rattle.icn_meaning.specs.Meaning.{Evaluation, Means}
 use Rattle.icn_codegen.specs.Linked.{linked}
 use Rattle.icn_codegen.specs.Sizes.{is_too_large}
@@ -30,6 +30,8 @@ pub record RunsAs (program : Program) (tables : Tables) : Type 0 where
 pub record BreaksAs (program : Program) (tables : Tables) : Type 0 where
   pub breaks : (run : Run) (left' out out' err err' : Option (List ℕ)) → run.tables ≡ tables → Breaks run left' out out' err err'
       → MeaningBreaks (evaluation_of program run) left' out out' err err'
+  pub reading : (run : Run) (left' out out' err err' : Option (List ℕ)) → run.tables ≡ tables → StandsReading run left' out out' err err'
+      → MeaningStandsReading (evaluation_of program run) left' out out' err err'
 
 abbrev pub RunAsMeant : Type 0
 RunAsMeant = (program : Program) → RunsAs program (linked program)

@@ -1,5 +1,5 @@
 -- What a run leaves, with its report.
-use Rattle.std.proofs.Common.{◌≡◌, ℕ, List, [], ◌++◌, Option, None, Some, IfSome, refl, sym, ap, ◌∙◌, append-nil}
+use Rattle.std.proofs.Common.{◌≡◌, ℕ, List, [], ◌++◌, Option, None, Some, Result, Ok, Err, IfSome, IfErr, OnErr, IsErrOf, refl, sym, ap, ◌∙◌, append-nil}
 use Rattle.icn_host.specs.Sinks.{Gains, GainsPart}
 use Rattle.icn_host.proofs.SinkSteps.{gains_nothing}
 use Rattle.icn_run.specs.declared.ending.Ending.{Ending}
@@ -8,7 +8,9 @@ use Rattle.icn_run.specs.Reports.{report_of}
 use Rattle.icn_run.specs.States.{outside_of}
 use Rattle.icn_run.proofs.Runs.{goes_on}
 use Rattle.icn_engine.specs.Mains.{Broke, Ran}
-use Rattle.icn_engine.specs.Runs.{Breaks, Ends}
+use Rattle.icn_engine.specs.declared.fault.RunFault.{RunFault}
+use Rattle.icn_engine.specs.declared.fault.RunFault.TheVariants.{ReadFault, WriteFault, NoMemory}
+use Rattle.icn_engine.specs.Runs.{Breaks, Ends, Leaves}
 use Rattle.icn_engine.proofs.Standing.{between_part, between_whole}
 
 between_same : {a b : Option (List ℕ)} (xs ys first longer : List ℕ) → first ≡ xs → longer ≡ ys → GainsBetween a b xs ys → GainsBetween a b first longer
@@ -65,3 +67,11 @@ module _ (run : List ℕ → Run) (is : (left : List ℕ) → (run left).left �
 
   pub ends_told : (ending : Ending) → ((left : List ℕ) → Ran (run left) ending out out') → Gains err err' (report_of ending) → IfSome left' (λ left. Ends (run left) ending left' out out' err err')
   ends_told ending ran gained = if_some left' (λ left. Ends (run left) ending left' out out' err err') (λ left e. ends_of (run left) left' ending (told left e) (ran left) gained)
+
+-- a run that is broken off, where no reading failed
+pub leaves_of : (result : Result Ending RunFault) (told : Option (List ℕ)) (run : List ℕ → Run) (left' out out' err err' : Option (List ℕ)) → (IsErrOf result ReadFault → ⊥)
+    → OnErr result (IfSome told (λ left. Breaks (run left) left' out out' err err')) → IfErr result (λ fault. IfSome told (λ left. Leaves fault (run left) left' out out' err err'))
+leaves_of (Ok ending) told run left' out out' err err' unread broke = tt
+leaves_of (Err ReadFault) told run left' out out' err err' unread broke = absurd (unread refl)
+leaves_of (Err WriteFault) told run left' out out' err err' unread broke = broke
+leaves_of (Err NoMemory) told run left' out out' err err' unread broke = broke

@@ -1,5 +1,5 @@
 // The run of a code.
-ghost use Rattle.std.specs.Prelude.{◌≡◌, ◌≤◌, ◌⊎◌, Err, IfOk, IfSome, OnErr, IsErrOf, true};
+ghost use Rattle.std.specs.Prelude.{◌≡◌, ◌≤◌, ◌⊎◌, Err, IfErr, IfOk, IfSome, OnErr, IsErrOf, true};
 ghost use Rattle.icn_host.specs.Counts.{HasCause, Rose};
 ghost use Rattle.icn_host.specs.Sinks.{Gains};
 ghost use Rattle.icn_report.specs.Puts.{Leads, sunk};
@@ -8,7 +8,7 @@ ghost use Rattle.icn_verify.specs.Given.{HaveShapes};
 ghost use Rattle.icn_run.specs.Built.{is_built};
 ghost use Rattle.icn_run.specs.Reports.{report_of};
 ghost use Rattle.icn_engine.specs.Asked.{run_of};
-ghost use Rattle.icn_engine.specs.Runs.{Breaks, Ends};
+ghost use Rattle.icn_engine.specs.Runs.{Breaks, Ends, Leaves};
 
 use crate::fault::RunFault;
 use crate::report::report;
@@ -25,8 +25,8 @@ use std::alloc::Global;
 ///
 /// # Errors
 ///
-/// `WriteFault` where one of the outputs failed, `NoMemory` where memory ran out. The run is over then: of what its next step puts
-/// some first part was put.
+/// `ReadFault` where the input failed, `WriteFault` where one of the outputs did, `NoMemory` where memory ran out. The run is over
+/// then: of what its next step puts some first part was put, and nothing where the input failed.
 pub fn run<I: Source, O: Sink, E: Sink>(
     alloc: Global,
     code: &Verified,
@@ -39,8 +39,8 @@ pub fn run<I: Source, O: Sink, E: Sink>(
     requires built { is_built (tables_of code.now.code) ≡ true }
     ensures ok { IfOk result (λ ending. IfSome (I.left input.old) (λ left.
         Ends (run_of code.now.code words.now limits left) ending (I.left input.new) (O.held out.old) (O.held out.new) (E.held err.old) (E.held err.new))) }
-    ensures err { OnErr result (IfSome (I.left input.old) (λ left.
-        Breaks (run_of code.now.code words.now limits left) (I.left input.new) (O.held out.old) (O.held out.new) (E.held err.old) (E.held err.new))) }
+    ensures err { IfErr result (λ fault. IfSome (I.left input.old) (λ left.
+        Leaves fault (run_of code.now.code words.now limits left) (I.left input.new) (O.held out.old) (O.held out.new) (E.held err.old) (E.held err.new))) }
     // Whatever the input tells, the report was put, or of some report a first part.
     ensures reported { IfOk result (λ ending. Gains (E.held err.old) (E.held err.new) (report_of ending)) }
     ensures error_line { OnErr result ((ending : Ending) × Leads (sunk (E.held err.old) (E.faults err.old) (E.wants err.old))
@@ -78,6 +78,7 @@ fn run_shaped<I: Source, O: Sink, E: Sink>(
     ensures output_faults { O.faults out.old ≤ O.faults out.new }
     ensures error_faults { E.faults err.old ≤ E.faults err.new }
     ensures error_wants { E.wants err.old ≤ E.wants err.new }
+    ensures unread { IsErrOf result RunFault.ReadFault → ⊥ }
     ensures input { input.new ≡ input.old }
 {
     let ending = run_code(alloc, code, words, limits, out)?;

@@ -1,5 +1,5 @@
 -- How the line of an answer stands on the error output.
-use Rattle.std.proofs.Common.{◌≡◌, ◌⊎◌, inl, inr, ℕ, List, true, false, refl, sym, ◌∙◌}
+use Rattle.std.proofs.Common.{◌≡◌, ◌⊎◌, inl, inr, ℕ, List, Option, true, false, refl, sym, ◌∙◌}
 use Rattle.icn_host.specs.Sinks.{Gains}
 use Rattle.icn_host.proofs.SinkSteps.{gains_nothing}
 use Rattle.icn_report.specs.Puts.{Sunk, Puts, all, Leads}
@@ -10,7 +10,9 @@ use Rattle.icn_engine.specs.declared.answer.Answer.TheVariants.{Wrote, Ran, Refu
 use Rattle.icn_engine.specs.declared.fault.RunFault.{RunFault}
 use Rattle.icn_engine.specs.declared.fault.RunFault.TheVariants as Runs
 use Rattle.icn_engine.specs.Answers.{IsFault, is_fault}
-use Rattle.icn_lines.specs.Faulting.{of_run}
+use Rattle.icn_engine.specs.Runs.{Leaves}
+use Rattle.icn_run.specs.CodeRun.{Run}
+use Rattle.icn_lines.specs.Faulting.{of_run, LeavesBy}
 use Rattle.icn_lines.specs.Lines.{fault_line, line_of, put_by}
 use Rattle.icn_lines.specs.Refusing.{Refuses, put, own, write_fault, want}
 use Rattle.icn_lines.specs.Reporting.{Reports, put as put_whole, own as put_own}
@@ -70,3 +72,9 @@ fault_reports {between = between} fault leads puts = put_own (is_run_fault fault
 pub line_of_reports : {usage name : List ℕ} {before after : Sunk} {answer : Answer} → Reports usage name before after answer → IsFault answer ⊎ Gains before.held after.held (put_by usage name answer)
 line_of_reports (put_whole n gains) = inr gains
 line_of_reports (put_own f other n between leads puts) = inl f
+
+-- what the fault of a run leaves, by its answer
+pub leaves_by : (fault : RunFault) (run : Run) (left' out out' err err' : Option (List ℕ)) → Leaves fault run left' out out' err err' → LeavesBy (of_run fault) run left' out out' err err'
+leaves_by Runs.ReadFault run left' out out' err err' leaves = leaves
+leaves_by Runs.WriteFault run left' out out' err err' leaves = leaves
+leaves_by Runs.NoMemory run left' out out' err err' leaves = leaves

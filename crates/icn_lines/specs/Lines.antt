@@ -4,7 +4,7 @@ use Rattle.icn_tree.specs.declared.rule.Rule.{Rule}
 use Rattle.icn_tree.specs.Rules.{rule_text}
 use Rattle.icn_run.specs.Reports.{report_of}
 use Rattle.icn_engine.specs.declared.answer.Answer.{Answer}
-use Rattle.icn_engine.specs.declared.answer.Answer.TheVariants.{Wrote, Ran, Refused, Command, Missing, BadImage, FileFault, ReadFault, NoMemory}
+use Rattle.icn_engine.specs.declared.answer.Answer.TheVariants.{Ran, Refused, Command, Missing, BadImage, FileFault, ReadFault, NoMemory}
 
 -- the code of a rule
 abbrev pub rule_code : Rule → List ℕ

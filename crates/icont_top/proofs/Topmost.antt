@@ -23,7 +23,6 @@ use Rattle.icn_run.specs.declared.ending.Ending.{Ending}
 use Rattle.icn_run.specs.Built.{is_built}
 use Rattle.icn_run.specs.CodeRun.{Observed, Run}
 use Rattle.icn_form.specs.declared.tree.Program.{Program}
-use Rattle.icn_meaning.specs.Breaking.{Breaks as MeaningBreaks}
 use Rattle.icn_image.specs.Reading.{image_read}
 use Rattle.icn_image.specs.Spelling.{image_of}
 use Rattle.icn_codegen.specs.Laws.{RunsAs, BreaksAs, evaluation_of}
@@ -32,8 +31,8 @@ use Rattle.icn_codegen.specs.Sizes.{is_too_large}
 use Rattle.icn_engine.specs.declared.answer.Answer.{Answer}
 use Rattle.icn_engine.specs.declared.answer.Answer.TheVariants.{Wrote, Ran, Command, FileFault, ReadFault, WriteFault, NoMemory}
 use Rattle.icn_engine.specs.Answers.{IsFault}
-use Rattle.icn_engine.specs.Runs.{Breaks, Ends}
-use Rattle.icn_lines.specs.Faulting.{IsOfRun}
+use Rattle.icn_engine.specs.Runs.{Ends}
+use Rattle.icn_lines.specs.Faulting.{IsOfRun, LeavesBy}
 use Rattle.icn_lines.specs.Lines.{fault_line, line_of, put_by}
 use Rattle.icn_lines.proofs.Reports.{line_alone, ran_no_fault, wrote_no_fault}
 use Rattle.icn_lines.specs.Refusing.{Refuses, put, own, write_fault, want}
@@ -42,7 +41,7 @@ use Rattle.icont_top.specs.Answered.{IsAnswered, IsCommand, fault as answered_fa
 use Rattle.icont_top.specs.Job.{Job, refusal, writing, running, image_file, evaluation, IsJob, refuses, writes, runs}
 use Rattle.icont_top.specs.Loading.{IsMade}
 use Rattle.icn_lines.specs.Telling.{Told, told}
-use Rattle.icont_top.specs.Outcomes.{Begins, Outcome, done, fault, idle, torn, broke, HasWritten, HoldsImage, IsAsked, IsImage}
+use Rattle.icont_top.specs.Outcomes.{Begins, Outcome, done, fault, idle, torn, broke, HasWritten, HoldsImage, IsAsked, IsImage, LeavesBy as MeaningLeavesBy}
 use Rattle.icont_top.specs.Running.{IsRanOrBroken, ran, broken, run_by}
 use Rattle.icont_top.specs.Sources.{IsAbsence, IsOfRead}
 use Rattle.icont_top.specs.Translating.{ComesTo, translated, has_no_image, image}
@@ -154,6 +153,11 @@ pub torn_outcome : {words : List (List ℕ)} {files : FileMap} {held held' : Opt
 torn_outcome left name run program answer left' out before after e is sets (inl same) puts = fault (rw same refl) (torn name run program (record { asks = e; is = is }) sets refl refl puts)
 torn_outcome left name run program answer left' out before after e is sets (inr same) puts = fault (rw same refl) (torn name run program (record { asks = e; is = is }) sets refl refl puts)
 
+leaves_meant : {program : Program} {tables : Tables} → BreaksAs program tables → (answer : Answer) (run : Run) (left' out out' err err' : Option (List ℕ)) → run.tables ≡ tables
+    → LeavesBy answer run left' out out' err err' → MeaningLeavesBy answer (evaluation_of program run) left' out out' err err'
+leaves_meant breaks ReadFault run left' out out' err err' t leaves = breaks.reading run left' out out' err err' t leaves
+leaves_meant breaks _ run left' out out' err err' t leaves = breaks.breaks run left' out out' err err' t leaves
+
 pub ran_outcome : {words : List (List ℕ)} {files : FileMap} {held held' : Option FileMap} (left name : List ℕ) (arguments : List (List ℕ)) (program : Program) (tables : Tables) (answer : Answer) (left0 left' out out' : Option (List ℕ)) (before after : Sunk)
     → RunsAs program (linked program) → BreaksAs program (linked program) → tables ≡ linked program → asked words ≡ Asks name (Some arguments) → ComesTo files name (Ok program)
     → Sets held held' (image_file name program).name (image_file name program).bytes → IsRanOrBroken (run_by tables arguments left) answer left' out out' before after
@@ -164,7 +168,7 @@ ran_outcome left name arguments program tables answer left0 left' out out' befor
     (record { answered = same; files = sets; left = ends.left; output = ends.output; errors = ends.errors })
 ran_outcome left name arguments program tables answer left0 left' out out' before after means breaks t e is sets (broken between f faults wants stood puts) =
     fault f (broke name arguments program between (record { asks = e; is = is }) sets faults wants
-    (breaks.breaks (run_by tables arguments left) left' out out' before.held between.held t stood) puts)
+    (leaves_meant breaks answer (run_by tables arguments left) left' out out' before.held between.held t stood) puts)
 
 -- Runs
 
@@ -177,10 +181,10 @@ run_ended {left'} {out} {out'} {before} {after} tables words left bounds ending 
     ran ending refl (subst (λ run. Ends run ending left' out out' before.held after.held) (run_as tables words left bounds e) ends)
 
 pub run_broken : {left' out out' : Option (List ℕ)} {before between after : Sunk} (tables : Tables) (words : List (List ℕ)) (left : List ℕ) (bounds : Bounds) (answer : Answer) → bounds ≡ default_limits → IsFault answer
-    → before.faults ≤ between.faults → before.wants ≤ between.wants → Breaks (record { tables = tables; words = words; bounds = bounds; left = left }) left' out out' before.held between.held → Puts between after (fault_line answer)
+    → before.faults ≤ between.faults → before.wants ≤ between.wants → LeavesBy answer (record { tables = tables; words = words; bounds = bounds; left = left }) left' out out' before.held between.held → Puts between after (fault_line answer)
     → IsRanOrBroken (run_by tables words left) answer left' out out' before after
 run_broken {left'} {out} {out'} {before} {between} tables words left bounds answer e f faults wants stood puts =
-    broken between f faults wants (subst (λ run. Breaks run left' out out' before.held between.held) (run_as tables words left bounds e) stood) puts
+    broken between f faults wants (subst (λ run. LeavesBy answer run left' out out' before.held between.held) (run_as tables words left bounds e) stood) puts
 
 -- an answer that refuses a file writes no image
 pub not_written : {before after : Sunk} (answer given : Answer) → IsOfRead answer → Refuses usage [] answer before after given → HasWritten given → ⊥

@@ -8,9 +8,10 @@ use Rattle.icn_image.specs.Reading.{image_read}
 use Rattle.icn_verify.specs.Faults.{IsVerified}
 use Rattle.icn_run.specs.Built.{is_built}
 use Rattle.icn_form.specs.declared.tree.Program.{Program}
-use Rattle.icn_meaning.specs.Breaking.{Breaks}
+use Rattle.icn_meaning.specs.Breaking.{Breaks, StandsReading}
+use Rattle.icn_meaning.specs.Meaning.{Evaluation}
 use Rattle.icn_engine.specs.declared.answer.Answer.{Answer}
-use Rattle.icn_engine.specs.declared.answer.Answer.TheVariants.{Wrote, Ran}
+use Rattle.icn_engine.specs.declared.answer.Answer.TheVariants.{Wrote, Ran, ReadFault}
 use Rattle.icn_engine.specs.Answers.{IsFault}
 use Rattle.icn_lines.specs.Lines.{fault_line}
 use Rattle.icn_lines.specs.Telling.{Told}
@@ -41,16 +42,23 @@ pub record IsAsked (words : List (List ℕ)) (files : FileMap) (name : List ℕ)
 abbrev pub Begins : (Job → Type 0) → Sunk → Sunk → Type 0
 Begins IsJobOf before between = (between ≡ before) ⊎ ((job : Job) × IsJobOf job × (job.written ≡ None) × Stops before between job.errors)
 
+-- what an answer that is a fault leaves of an evaluation: a failed reading leaves what was put, and any other some first part of what
+-- comes next
+abbrev pub LeavesBy : Answer → Evaluation → Option (List ℕ) → Option (List ℕ) → Option (List ℕ) → Option (List ℕ) → Option (List ℕ) → Type 0
+LeavesBy ReadFault evaluation left' out out' err err' = StandsReading evaluation left' out out' err err'
+LeavesBy answer evaluation left' out out' err err' = Breaks evaluation left' out out' err err'
+
 -- What a fault leaves, with its own line behind, as far as the error output took it. Nothing was done but that a refusal's line may be
 -- begun; or the image could not be written whole, so that its name holds nothing, what it held or a first part of the image; or the
--- image was written, and the evaluation stood somewhere: of what its next step puts some first part was put.
+-- image was written, and the evaluation stood somewhere: of what its next step puts some first part was put, and nothing where it
+-- could not read.
 pub data Faults (words : List (List ℕ)) (files : FileMap) (left : List ℕ) (answer : Answer) (before after : Told) : Type 0 where
   idle : (between : Sunk) → after.files ≡ before.files → after.left ≡ before.left → after.output ≡ before.output → Begins (IsJob words files left) before.errors between → Puts between after.errors (fault_line answer)
       → Faults words files left answer before after
   torn : (name : List ℕ) (run : Option (List (List ℕ))) (program : Program) → IsAsked words files name run program → SetsPart before.files after.files (image_file name program).name (image_file name program).bytes
       → after.left ≡ before.left → after.output ≡ before.output → Puts before.errors after.errors (fault_line answer) → Faults words files left answer before after
   broke : (name : List ℕ) (arguments : List (List ℕ)) (program : Program) (between : Sunk) → IsAsked words files name (Some arguments) program → Sets before.files after.files (image_file name program).name (image_file name program).bytes
-      → before.errors.faults ≤ between.faults → before.errors.wants ≤ between.wants → Breaks (evaluation program arguments left) after.left before.output after.output before.errors.held between.held → Puts between after.errors (fault_line answer)
+      → before.errors.faults ≤ between.faults → before.errors.wants ≤ between.wants → LeavesBy answer (evaluation program arguments left) after.left before.output after.output before.errors.held between.held → Puts between after.errors (fault_line answer)
       → Faults words files left answer before after
 
 -- the job was done, or a fault is answered

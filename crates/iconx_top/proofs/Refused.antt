@@ -1,5 +1,5 @@
 -- What the words and the files ask for, and what became of it.
-use Rattle.std.proofs.Common.{◌≡◌, ◌⊎◌, inl, inr, ℕ, ◌≤◌, true, false, List, [], Option, None, Some, IfSome, Ok, Err, refl, sym, ◌∙◌, subst}
+use Rattle.std.proofs.Common.{◌≡◌, ◌⊎◌, inl, inr, ℕ, ◌≤◌, List, Option, None, Some, IfSome, Ok, Err, refl, sym, ◌∙◌, subst}
 use Rattle.icn_host.specs.FileMaps.{FileMap}
 use Rattle.icn_host.proofs.SinkSteps.{gains_nothing}
 use Rattle.icn_report.specs.Puts.{Sunk, Puts, all, Leads}
@@ -11,7 +11,8 @@ use Rattle.icn_verify.specs.declared.verified.Verified.{Verified}
 use Rattle.icn_engine.specs.declared.answer.Answer.{Answer}
 use Rattle.icn_engine.specs.declared.answer.Answer.TheVariants.{Ran, Missing, BadImage, FileFault, NoMemory}
 use Rattle.icn_engine.specs.Answers.{IsFault}
-use Rattle.icn_engine.specs.Runs.{Breaks, Ends}
+use Rattle.icn_engine.specs.Runs.{Ends}
+use Rattle.icn_lines.specs.Faulting.{LeavesBy}
 use Rattle.iconx_top.specs.Images.{IsJudged}
 use Rattle.iconx_top.specs.Job.{IsJob, IsRun, bad, missing, observation, ran, refusal}
 use Rattle.icn_lines.specs.Lines.{fault_line, line_of}
@@ -67,7 +68,7 @@ ran_outcome {files = files} run ending held' left0 is e ends =
     (record { answered = refl; files = e; left = ends.left; output = ends.output; errors = ends.errors })
 
 pub broke_outcome : {words : List (List ℕ)} {files : FileMap} {left : List ℕ} {left' out out' : Option (List ℕ)} {before between after : Sunk} (run : Run) (answer : Answer) (held' : Option FileMap) (left0 : Option (List ℕ)) → IsRun words files left run
-    → IsFault answer → before.faults ≤ between.faults → before.wants ≤ between.wants → Breaks run left' out out' before.held between.held → Puts between after (fault_line answer) → Outcome words files left answer (told held' left0 out before) (told held' left' out' after)
+    → IsFault answer → before.faults ≤ between.faults → before.wants ≤ between.wants → LeavesBy answer run left' out out' before.held between.held → Puts between after (fault_line answer) → Outcome words files left answer (told held' left0 out before) (told held' left' out' after)
 broke_outcome {between = between} run answer held' left0 is f faults wants breaks puts = fault f refl (broke between run is faults wants breaks puts)
 
 pub if_some : {T : Type 0} (o : Option T) (P : T → Type 0) → ((x : T) → o ≡ Some x → P x) → IfSome o P

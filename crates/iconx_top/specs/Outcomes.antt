@@ -1,12 +1,12 @@
 -- What a call comes to, where the objects tell their content.
-use Rattle.std.specs.Prelude.{◌≡◌, ◌⊎◌, ◌≤◌, ℕ, List, [], Option, Some}
+use Rattle.std.specs.Prelude.{◌≡◌, ◌⊎◌, ◌≤◌, ℕ, List, Some}
 use Rattle.icn_host.specs.FileMaps.{FileMap}
 use Rattle.icn_host.specs.Sinks.{Gains}
 use Rattle.icn_report.specs.Puts.{Sunk, Stops, Puts}
 use Rattle.icn_run.specs.CodeRun.{Run}
 use Rattle.icn_engine.specs.declared.answer.Answer.{Answer}
 use Rattle.icn_engine.specs.Answers.{IsFault}
-use Rattle.icn_engine.specs.Runs.{Breaks}
+use Rattle.icn_lines.specs.Faulting.{LeavesBy}
 use Rattle.iconx_top.specs.Job.{Job, IsJob, IsRun}
 use Rattle.icn_lines.specs.Lines.{fault_line}
 use Rattle.icn_lines.specs.Telling.{Told}
@@ -24,11 +24,11 @@ abbrev pub Begins : (Job → Type 0) → Sunk → Sunk → Type 0
 Begins IsJobOf before between = (between ≡ before) ⊎ ((job : Job) × IsJobOf job × Stops before between job.errors)
 
 -- A fault: nothing was done but that a refusal's line may be begun; or a run stood somewhere, and of what its next step puts some
--- first part was put. The fault's own line comes behind, as far as the error output took it.
+-- first part was put, and nothing where it could not read. The fault's own line comes behind, as far as the error output took it.
 pub data Faults (words : List (List ℕ)) (files : FileMap) (left : List ℕ) (answer : Answer) (before after : Told) : Type 0 where
   idle : (between : Sunk) → after.left ≡ before.left → after.output ≡ before.output → Begins (IsJob words files left) before.errors between → Puts between after.errors (fault_line answer)
       → Faults words files left answer before after
-  broke : (between : Sunk) (run : Run) → IsRun words files left run → before.errors.faults ≤ between.faults → before.errors.wants ≤ between.wants → Breaks run after.left before.output after.output before.errors.held between.held → Puts between after.errors (fault_line answer)
+  broke : (between : Sunk) (run : Run) → IsRun words files left run → before.errors.faults ≤ between.faults → before.errors.wants ≤ between.wants → LeavesBy answer run after.left before.output after.output before.errors.held between.held → Puts between after.errors (fault_line answer)
       → Faults words files left answer before after
 
 -- the job was done, or a fault is answered

@@ -1,7 +1,7 @@
 use Rattle.std.proofs.Common.{map}
 use Rattle.std.specs.Prelude.{string_bytes}
 use Rattle.icn_code.specs.Seen.{tables_of}
-use Rattle.icn_lines.proofs.Reports.{fault_reports, is_run_fault}
+use Rattle.icn_lines.proofs.Reports.{fault_reports, is_run_fault, leaves_by}
 use Rattle.icont_top.proofs.Topmost.{at_some, if_some, run_broken, run_ended}
 use Rattle.icont_top.proofs.top.run_answer.Goals as goal
 
@@ -14,7 +14,7 @@ pub returns-in-Err-clause-ran : goal.returns-in-Err-clause-ran
 returns-in-Err-clause-ran g c =
     if_some (g.I.Source.left c.args.input.now) _ (λ left d.
     rw c.answer_of-answer.ensures (run_broken (tables_of c.args.code.now.code) (map string_bytes c.args.words.now) left _ _ c.standard.ensures (is_run_fault c.in-Err.fault) c.in-Err.ensures.error_faults c.in-Err.ensures.error_wants
-    (at_some _ (g.I.Source.left c.args.input.now) left d c.in-Err.ensures.err) (rw c.answer_of-answer.ensures at c.own_line.ensures.puts)))
+    (leaves_by c.in-Err.fault _ _ _ _ _ _ (at_some _ (g.I.Source.left c.args.input.now) left d c.in-Err.ensures.err)) (rw c.answer_of-answer.ensures at c.own_line.ensures.puts)))
 
 pub returns-in-Err-clause-reported : goal.returns-in-Err-clause-reported
 returns-in-Err-clause-reported g c = rw c.answer_of-answer.ensures (fault_reports c.in-Err.fault c.in-Err.ensures.error_line (rw c.answer_of-answer.ensures at c.own_line.ensures.puts))
