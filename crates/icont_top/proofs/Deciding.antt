@@ -3,7 +3,7 @@ use Rattle.std.proofs.Common.{◌≡◌, ℕ, Bool, true, false, List, [], ◌�
 use Rattle.std.proofs.lemmas.Option.{none-some, same_Some}
 use Rattle.icn_host.specs.FileMaps.{FileMap}
 use Rattle.icn_tree.specs.declared.rule.Rule.{Rule}
-use Rattle.icn_tree.specs.declared.rule.Rule.TheVariants.{S1, S2, S3, S4, K3}
+use Rattle.icn_tree.specs.declared.rule.Rule.TheVariants.{S1, S2, S3, S4}
 use Rattle.icn_tree.specs.declared.token.Token.{Token}
 use Rattle.icn_tree.specs.declared.tree.Place.{Place}
 use Rattle.icn_tree.specs.Trees.{Declaration}
@@ -18,13 +18,12 @@ use Rattle.icn_run.specs.CodeRun.{Observed}
 use Rattle.icn_meaning.specs.Lines.{outcome_of}
 use Rattle.icn_meaning.specs.Meaning.{Evaluation, Means}
 use Rattle.icn_engine.specs.declared.answer.Answer.{Answer}
-use Rattle.icn_engine.specs.declared.answer.Answer.TheVariants.{Refused, Command}
 use Rattle.icont_top.specs.Built.{Found, program_of, whole_file}
 use Rattle.icont_top.specs.Job.{Job, refusal, writing, running, image_file, evaluation, IsJob, wrong_words, refuses, writes, runs}
 use Rattle.icont_top.specs.Programs.{IsProgram}
 use Rattle.icont_top.specs.Sources.{Scan, refused_at, source_read}
 use Rattle.icont_top.specs.Translating.{Become, not_parsed, out_of_context, not_built, is_program, ComesTo, no_tokens, refused, too_large, translated, has_no_image}
-use Rattle.icont_top.specs.Words.{Reading, Asks, Faulty as FaultyWords, asked, base_of}
+use Rattle.icont_top.specs.Words.{Reading, Asks, Faulty as FaultyWords, asked}
 use Rattle.icont_top.proofs.Matching.{same_Ok, same_Err, ok-err}
 
 abbrev Verdict : Type 0

@@ -1,5 +1,5 @@
 -- What is made of a file.
-use Rattle.std.proofs.Common.{◌≡◌, ◌⊎◌, inl, inr, ℕ, ◌<◌, ◌≤◌, Bool, true, false, ◌||◌, List, length, IfErr, IfSome, OnErr, IsErrOf, Result, Ok, Err, refl, sym, ap, ◌∙◌, subst, arith, true≢false}
+use Rattle.std.proofs.Common.{◌≡◌, ◌⊎◌, inl, inr, ℕ, ◌<◌, ◌≤◌, Bool, true, false, ◌||◌, List, length, IfErr, IsErrOf, Result, Ok, Err, refl, sym, ap, ◌∙◌, arith, true≢false}
 use Rattle.std.specs.Prelude.{nat_lt}
 use Rattle.std.proofs.lemmas.Bool.Decides.{nat_tests}
 use Rattle.icn_host.specs.FileMaps.{FileMap}
@@ -17,11 +17,10 @@ use Rattle.icn_engine.specs.declared.answer.Answer.{Answer}
 use Rattle.icn_engine.specs.declared.answer.Answer.TheVariants.{Refused, FileFault, NoMemory}
 use Rattle.icn_engine.specs.Answers.{IsFault}
 use Rattle.icont_top.specs.declared.making.Made.{Made}
-use Rattle.icont_top.specs.declared.source.SourceTokens.{SourceTokens}
-use Rattle.icont_top.specs.Loading.{IsLoaded, IsMade, Makes, MakesTokens}
+use Rattle.icont_top.specs.Loading.{IsLoaded, Makes, MakesTokens}
 use Rattle.icont_top.specs.Programs.{IsProgram}
-use Rattle.icont_top.specs.Sources.{Scan, refused_at, scan_of, source_read, IsAbsence, IsErrOfAbsence, IsOfRead, IsOfTokens, IsRead, IsTreeRule}
-use Rattle.icont_top.specs.Translating.{Become, is_program, ComesTo, no_tokens, refused, too_large, translated, has_no_image, image}
+use Rattle.icont_top.specs.Sources.{Scan, refused_at, source_read, IsErrOfAbsence, IsOfRead, IsOfTokens, IsTreeRule}
+use Rattle.icont_top.specs.Translating.{Become, is_program, ComesTo, no_tokens, refused, too_large, translated, image}
 use Rattle.icont_top.specs.Words.{base_of}
 
 -- Images

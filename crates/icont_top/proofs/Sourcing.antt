@@ -2,7 +2,6 @@
 use Rattle.std.proofs.Common.{◌≡◌, ◌⊎◌, inl, inr, ℕ, ◌≤◌, true, false, List, Result, Ok, Err, refl, sym, ap, subst, ◌∙◌, arith}
 use Rattle.icn_tree.specs.declared.rule.Rule.{Rule}
 use Rattle.icn_tree.specs.declared.rule.Rule.TheVariants.{P6, K3}
-use Rattle.icn_tree.specs.declared.tree.Place.{Place}
 use Rattle.icn_host.specs.FileMaps.{FileMap}
 use Rattle.icn_tree.specs.declared.lines.SourceLine.{SourceLine}
 use Rattle.icn_tree.specs.declared.token.Token.{Token}
@@ -22,7 +21,7 @@ use Rattle.icn_engine.specs.declared.answer.Answer.TheVariants.{Refused, Command
 use Rattle.icn_engine.specs.Answers.{IsFault}
 use Rattle.icn_lines.proofs.Reports.{ran_no_fault, wrote_no_fault}
 use Rattle.icont_top.specs.Job.{Job, IsJob, wrong_words, refuses, writes, runs}
-use Rattle.icont_top.specs.Sources.{Scan, name_at, refused_at, tokens_read, fault_answer, lines_read, IsAbsence}
+use Rattle.icont_top.specs.Sources.{name_at, refused_at, tokens_read, fault_answer, lines_read, IsAbsence}
 use Rattle.icont_top.specs.Translating.{ComesTo, no_tokens, refused, too_large, translated}
 use Rattle.icont_top.specs.Words.{base_of}
 use Rattle.icont_top.proofs.Matching.{same_Err, ok-err}

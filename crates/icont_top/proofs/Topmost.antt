@@ -1,11 +1,10 @@
 -- What the words, the files and the input ask for, and what became of it.
-use Rattle.std.proofs.Common.{◌≡◌, ◌⊎◌, inl, inr, ℕ, ◌≤◌, Bool, true, false, ◌||◌, List, [], length, map, Bor, Option, None, Some, IfSome, Result, Ok, Err, refl, sym, ap, ◌∙◌, subst, arith, true≢false}
+use Rattle.std.proofs.Common.{◌≡◌, ◌⊎◌, inl, inr, ℕ, ◌≤◌, Bool, true, false, ◌||◌, List, [], length, map, Bor, Option, None, Some, IfSome, Ok, Err, refl, sym, ap, ◌∙◌, subst, arith, true≢false}
 use Rattle.std.specs.Prelude.{nat_lt, String, string_bytes}
 use Rattle.std.specs.Option.{option_map}
 use Rattle.std.proofs.Common.{Global}
 use Rattle.icont_top.specs.declared.words.FileAsked.{FileAsked}
 use Rattle.icont_top.specs.Asking.{asking}
-use Rattle.std.specs.Map.{update}
 use Rattle.std.specs.Str.{bytes_eq}
 use Rattle.std.proofs.lemmas.Bool.{cond-true}
 use Rattle.std.proofs.lemmas.Slice.Eq.{bytes_eq-Decides}
@@ -16,7 +15,6 @@ use Rattle.icn_report.specs.Puts.{Sunk, Puts, all, Leads}
 use Rattle.icn_code.specs.Codes.{Tables}
 use Rattle.icn_code.specs.Rules.{keeps_rules}
 use Rattle.icn_code.specs.Seen.{tables_of}
-use Rattle.icn_code.specs.declared.code.Code.{Code}
 use Rattle.icn_value.specs.Limited.{Bounds, default_limits}
 use Rattle.icn_verify.specs.Faults.{IsVerified}
 use Rattle.icn_run.specs.declared.ending.Ending.{Ending}
@@ -37,14 +35,14 @@ use Rattle.icn_lines.specs.Lines.{fault_line, line_of, put_by}
 use Rattle.icn_lines.proofs.Reports.{line_alone, ran_no_fault, wrote_no_fault}
 use Rattle.icn_lines.specs.Refusing.{Refuses, put, own, write_fault, want}
 use Rattle.icont_top.specs.declared.making.Made.{Made}
-use Rattle.icont_top.specs.Answered.{IsAnswered, IsCommand, fault as answered_fault, wrong_words, refused as answered_refused, wrote, ran as answered_ran}
-use Rattle.icont_top.specs.Job.{Job, refusal, writing, running, image_file, evaluation, IsJob, refuses, writes, runs}
+use Rattle.icont_top.specs.Answered.{IsAnswered, IsCommand, fault as answered_fault, refused as answered_refused, ran as answered_ran}
+use Rattle.icont_top.specs.Job.{refusal, writing, running, image_file, IsJob, refuses, writes, runs}
 use Rattle.icont_top.specs.Loading.{IsMade}
 use Rattle.icn_lines.specs.Telling.{Told, told}
-use Rattle.icont_top.specs.Outcomes.{Begins, Outcome, done, fault, idle, torn, broke, HasWritten, HoldsImage, IsAsked, IsImage, LeavesBy as MeaningLeavesBy}
+use Rattle.icont_top.specs.Outcomes.{Begins, Outcome, done, fault, idle, torn, broke, HasWritten, HoldsImage, IsImage, LeavesBy as MeaningLeavesBy}
 use Rattle.icont_top.specs.Running.{IsRanOrBroken, ran, broken, run_by}
 use Rattle.icont_top.specs.Sources.{IsAbsence, IsOfRead}
-use Rattle.icont_top.specs.Translating.{ComesTo, translated, has_no_image, image}
+use Rattle.icont_top.specs.Translating.{ComesTo, image}
 use Rattle.icont_top.specs.Usage.{usage}
 use Rattle.icont_top.specs.Words.{Asks, asked, base_of}
 

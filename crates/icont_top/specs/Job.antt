@@ -1,6 +1,6 @@
 -- What the words, the files and the input ask for.
 use Rattle.std.specs.Prelude.{◌≡◌, ℕ, List, [], Option, None, Some, Ok, Err}
-use Rattle.icn_host.specs.FileMaps.{FileMap, Sets}
+use Rattle.icn_host.specs.FileMaps.{FileMap}
 use Rattle.icn_value.specs.Limited.{default_limits}
 use Rattle.icn_form.specs.declared.tree.Program.{Program}
 use Rattle.icn_run.specs.CodeRun.{Observed}

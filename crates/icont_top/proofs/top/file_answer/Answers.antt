@@ -1,4 +1,4 @@
-use Rattle.std.proofs.Common.{map, ◌∙◌, ap, arith, Err}
+use Rattle.std.proofs.Common.{map, ap, arith, Err}
 use Rattle.std.specs.Prelude.{string_bytes}
 use Rattle.std.specs.Option.{option_map}
 use Rattle.icn_lines.proofs.Reports.{reports_of}

@@ -1,4 +1,4 @@
-use Rattle.std.proofs.Common.{[], refl, sym, inr}
+use Rattle.std.proofs.Common.{refl, sym, inr}
 use Rattle.icn_engine.specs.declared.answer.Answer.TheVariants.{Command}
 use Rattle.icn_lines.proofs.Reports.{line_of_reports, reports_of}
 use Rattle.icont_top.specs.Job.{wrong_words}

@@ -1,7 +1,6 @@
-use Rattle.std.proofs.Common.{map, ◌∙◌, None, Some}
+use Rattle.std.proofs.Common.{map}
 use Rattle.std.specs.Prelude.{string_bytes}
 use Rattle.icn_code.specs.Seen.{tables_of}
-use Rattle.icn_engine.specs.declared.answer.Answer.TheVariants.{Wrote}
 use Rattle.icn_lines.proofs.Reports.{own_reports}
 use Rattle.icont_top.specs.Answered.{wrote}
 use Rattle.icont_top.proofs.Topmost.{asks_none, asks_some, at_some, if_some, is_torn, ran_outcome, run_answered, sets_image, sets_part, torn_answered, torn_outcome, wrote_outcome}
