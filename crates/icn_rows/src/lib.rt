@@ -912,7 +912,7 @@ mod tests {
             assert_eq!(rt; row.errors.as_slice(), errors, "at {name}");
             assert!(rt; row.untouched, "at {name}");
             // the image is written before the run
-            assert_eq!(rt; row.image, written, "at {name}");
+            assert_eq!(rt; row.image, written);
         }
         Ok(())
     }
