@@ -1,5 +1,5 @@
 -- The run of a program's code is its evaluation: it is observed as the program means, and leaves the same where it is broken off.
-use Rattle.std.proofs.Common.{◌≡◌, ◌⊎◌, ℕ, zero, suc, ◌+◌, Bool, true, false, if◌then◌else◌, ◌==◌, List, [], ◌∷◌, ◌++◌, length, take, drop, nat_lt, Option, None, Some, refl, sym, ap, subst, ◌∙◌, inl, inr, arith, append-nil}
+use Rattle.std.proofs.Common.{◌≡◌, ◌⊎◌, ℕ, zero, suc, ◌+◌, Bool, true, false, if◌then◌else◌, ◌==◌, List, [], ◌∷◌, ◌++◌, length, take, nat_lt, Option, None, Some, refl, sym, ap, subst, ◌∙◌, inl, inr, arith, append-nil}
 use Rattle.std.specs.List.{sum_by}
 use Rattle.std.specs.Io.KnownBytes.{Appends}
 use Rattle.std.proofs.lemmas.List.{take_all, take-append-le}
@@ -176,8 +176,7 @@ reading_meant evaluation left' out out' err err' reading =
     record {
       at = followed.stand;
       comes = followed.comes;
-      taken = reading.taken;
-      left = reading.left ∙ ap (λ (o : Outside). Some (drop reading.taken o.left)) (sym here);
+      left = reading.left ∙ ap (λ (o : Outside). Some o.left) (sym here);
       output = subst (λ (o : Outside). Gains out out' o.output) (sym here) reading.output;
       errors = subst (λ (o : Outside). Gains err err' o.errors) (sym here) reading.errors;
     }

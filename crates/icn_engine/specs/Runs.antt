@@ -1,5 +1,5 @@
 -- What a call leaves of the run that it was asked for, where the objects tell their content.
-use Rattle.std.specs.Prelude.{◌≡◌, ℕ, List, Option, Some, drop}
+use Rattle.std.specs.Prelude.{◌≡◌, ℕ, List, Option, Some}
 use Rattle.icn_host.specs.Sinks.{Gains}
 use Rattle.icn_run.specs.declared.ending.Ending.{Ending}
 use Rattle.icn_run.specs.CodeRun.{Run, Observes, Reaches, GainsBetween}
@@ -24,13 +24,12 @@ pub record Breaks (run : Run) (left' out out' err err' : Option (List ℕ)) : Ty
   pub output : GainsBetween out out' (outside_of at).output (outside_of (step run.tables run.words run.bounds at)).output
   pub errors : GainsBetween err err' (outside_of at).errors (outside_of (step run.tables run.words run.bounds at)).errors
 
--- The run stood somewhere, and its next step could not read: both outputs have what was put there and no more, and of the input left
--- there some first part was taken.
+-- The run stood somewhere, and its next step could not read: both outputs have what was put there and no more, and the input left is
+-- what was left there.
 pub record StandsReading (run : Run) (left' out out' err err' : Option (List ℕ)) : Type 0 where
   pub at : Config
   pub reached : Reaches run at
-  pub taken : ℕ
-  pub left : left' ≡ Some (drop taken (outside_of at).left)
+  pub left : left' ≡ Some (outside_of at).left
   pub output : Gains out out' (outside_of at).output
   pub errors : Gains err err' (outside_of at).errors
 
