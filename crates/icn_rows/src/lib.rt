@@ -830,24 +830,59 @@ mod tests {
         Ok(())
     }
 
-    // Each call of each object fails in turn.
+    // Each call of the file store fails in turn.
     #[test]
     fn faults_are_answered(rt: HostRuntime) -> Result<(), Fail> {
         let alloc = rt.alloc();
-        let files = Failing {
+        let first = Failing {
             files: &[0],
             ..NONE
         };
+        let first_and_line = Failing {
+            files: &[0],
+            errors: &[0],
+            ..NONE
+        };
+        let second = Failing {
+            files: &[1],
+            ..NONE
+        };
+        let second_and_line = Failing {
+            files: &[1],
+            errors: &[0],
+            ..NONE
+        };
+        let rows: [(&str, &[u8], Failing, &[u8]); 6] = [
+            ("f.icn", HI, second, b"file fault\n"),
+            ("f.icn", HI, second_and_line, b""),
+            ("f.icn", b"$include g.icn", second, b"file fault\n"),
+            ("f.icn", HI, first, b"file fault\n"),
+            ("no.icn", HI, first, b"file fault\n"),
+            ("f.icn", HI, first_and_line, b""),
+        ];
+        for (name, source, failing, errors) in rows {
+            let row = icont(alloc, &["icont", name, "-x"], source, failing)?;
+            assert_eq!(rt; name_of(&row.answer), "FileFault", "at {name}");
+            assert!(rt; row.output.is_empty());
+            assert_eq!(rt; row.errors.as_slice(), errors);
+            assert!(rt; row.untouched && !row.image);
+        }
+        Ok(())
+    }
+
+    // Each put fails in turn: the image is written before the run.
+    #[test]
+    fn failed_puts_are_answered(rt: HostRuntime) -> Result<(), Fail> {
+        let alloc = rt.alloc();
         let output = Failing {
             output: &[0],
             ..NONE
         };
-        let errors = Failing {
-            errors: &[0],
+        let second = Failing {
+            output: &[1],
             ..NONE
         };
-        let both = Failing {
-            files: &[0],
+        let errors = Failing {
             errors: &[0],
             ..NONE
         };
@@ -856,47 +891,8 @@ mod tests {
             output: &[1],
             errors: &[1],
         };
-        let image = Failing {
-            files: &[1],
-            ..NONE
-        };
-        let image_and_line = Failing {
-            files: &[1],
-            errors: &[0],
-            ..NONE
-        };
-        let second = Failing {
-            output: &[1],
-            ..NONE
-        };
-        let include = Failing {
-            files: &[1],
-            ..NONE
-        };
-        let rows: [(&str, &[u8], Failing, &str, &[u8], &[u8], bool); 14] = [
-            ("f.icn", HI, image, "FileFault", b"", b"file fault\n", false),
-            ("f.icn", HI, image_and_line, "FileFault", b"", b"", false),
-            (
-                "f.icn",
-                b"$include g.icn",
-                include,
-                "FileFault",
-                b"",
-                b"file fault\n",
-                false,
-            ),
+        let rows: [(&str, &[u8], Failing, &str, &[u8], &[u8], bool); 8] = [
             ("f.icn", TWO, second, "WriteFault", b"a\n", b"", true),
-            ("f.icn", HI, files, "FileFault", b"", b"file fault\n", false),
-            (
-                "no.icn",
-                HI,
-                files,
-                "FileFault",
-                b"",
-                b"file fault\n",
-                false,
-            ),
-            ("f.icn", HI, both, "FileFault", b"", b"", false),
             ("f.icn", HI, output, "WriteFault", b"", b"", true),
             ("f.icn", HI, errors, "Ran(Done)", b"hi\n", b"", true),
             ("f.icn", b"end", errors, "WriteFault", b"", b"", false),
@@ -908,10 +904,9 @@ mod tests {
         for (name, source, failing, answer, output, errors, written) in rows {
             let row = icont(alloc, &["icont", name, "-x"], source, failing)?;
             assert_eq!(rt; name_of(&row.answer), answer, "at {name}");
-            assert_eq!(rt; row.output.as_slice(), output, "at {name}");
-            assert_eq!(rt; row.errors.as_slice(), errors, "at {name}");
-            assert!(rt; row.untouched, "at {name}");
-            // the image is written before the run
+            assert_eq!(rt; row.output.as_slice(), output);
+            assert_eq!(rt; row.errors.as_slice(), errors);
+            assert!(rt; row.untouched);
             assert_eq!(rt; row.image, written);
         }
         Ok(())
