@@ -2,3 +2,4 @@ pub mod OpNumbers
 pub mod FuncNumbers
 pub mod KeywordNumbers
 pub mod Found
+pub mod Kept

@@ -1,12 +1,17 @@
 // Laws of the tables.
-ghost use Rattle.std.specs.Prelude.{◌≡◌, ℕ, Some};
+ghost use Rattle.std.specs.Prelude.{◌≡◌, ℕ, List, Some};
+ghost use Rattle.icn_defs.specs.Applying.{again, function_row, operation_row};
+ghost use Rattle.icn_defs.specs.Keeping.{KeepsIn};
 ghost use Rattle.icn_defs.specs.Numbers.{func_of, keyword_of, op_of};
+ghost use Rattle.icn_defs.specs.Rows.{Residual};
 ghost use Rattle.icn_text.specs.Funcs.{func_number};
 ghost use Rattle.icn_text.specs.Keywords.{keyword_number};
 ghost use Rattle.icn_text.specs.Ops.{op_number};
 ghost use Rattle.icn_text.specs.declared.func.Func.{Func};
 ghost use Rattle.icn_text.specs.declared.keyword.Keyword.{Keyword};
 ghost use Rattle.icn_text.specs.declared.op.Op.{Op};
+ghost use Rattle.icn_value.specs.Store.{Names, Setting};
+ghost use Rattle.icn_value.specs.Values.{Item};
 
 /// The number of an operation, a function or a keyword leads back to it, and what a number leads to has that number.
 pub fn numbers_lead_back()
@@ -16,4 +21,11 @@ pub fn numbers_lead_back()
     ensures op_numbers { (n : ℕ) (op : Op) → op_of n ≡ Some op → op_number op ≡ n }
     ensures func_numbers { (n : ℕ) (func : Func) → func_of n ≡ Some func → func_number func ≡ n }
     ensures keyword_numbers { (n : ℕ) (keyword : Keyword) → keyword_of n ≡ Some keyword → keyword_number keyword ≡ n }
+{}
+
+/// Where an operation, a function or a resumption goes on, the activation at hand has as many locals as before, and the limits are the same.
+pub fn rows_keep()
+    ensures operations { (op : Op) (items : List Item) (at : Setting) → KeepsIn at (operation_row op items at) }
+    ensures functions { (names : Names) (func : Func) (items : List Item) (at : Setting) → KeepsIn at (function_row names func items at) }
+    ensures resumed { (residual : Residual) (at : Setting) → KeepsIn at (again residual at) }
 {}

@@ -1,4 +1,4 @@
-//! The tables of operations, functions and keywords by their numbers.
+//! The tables of operations, functions and keywords by their numbers, and what each operation and function does, as definitions.
 #![tactic(auto)]
 
 mod arities;
@@ -6,5 +6,5 @@ mod laws;
 mod numbers;
 
 pub use arities::arity;
-pub use laws::numbers_lead_back;
+pub use laws::{numbers_lead_back, rows_keep};
 pub use numbers::{func_numbered, keyword_numbered, op_numbered};

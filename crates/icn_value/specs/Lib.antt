@@ -1,2 +1,4 @@
 pub mod Csets
 pub mod Limited
+pub mod Values
+pub mod Store

@@ -1,0 +1,164 @@
+-- The elements of texts and structures: one after the other, and at random.
+use Rattle.std.specs.Prelude.{◌+◌, ◌-◌, ◌*◌, ◌/◌, ◌%◌, ◌^◌, ℕ, ℤ, pos, ◌+ℤ◌, nat_lt, List, [], ◌∷◌, length, slice_get, slice_range, Option, None, Some, option_map}
+use Rattle.icn_structs.specs.Numbered.{Numbered}
+use Rattle.icn_value.specs.Values.{Value, Integer, Text, Element, Field, Key, Variable, Whole, Part, Item, Val, Var}
+use Rattle.icn_value.specs.Store.{list_at, set_at, table_at, record_at, having_random, value_at}
+use Rattle.icn_defs.specs.Conversions.{Group, Textual, Listed, Collected, Tabled, Recorded, Filed, Activated, Single, group_of, held_integer, held_text}
+use Rattle.icn_defs.specs.Rows.{Row, Finds, ◌>>=◌, ◌>>◌, TextBytes, VariableBytes, ListItems, SetMembers, TableValues, RecordFields, gives, gives_value, suspends, wrong, check, present, passing, found, here, changes, costs_text}
+use Rattle.icn_defs.specs.Reading.{the_value, reads}
+use Rattle.icn_defs.specs.Lines.{lines_row}
+
+-- Parts of texts and elements of structures
+
+-- a part of a variable, which may be a part itself
+abbrev pub part_of : Variable → ℕ → ℕ → Variable
+part_of (Whole root) place size = Part root place size
+part_of (Part root begin count) place size = Part root (begin + place - 1) size
+
+-- the variable that holds the text, if the item is one and holds a text
+abbrev pub text_variable : Item → Value → Option Variable
+text_variable (Val value) held = None
+text_variable (Var variable) held = option_map (λ text. variable) (held_text held)
+
+-- the part of a text at a place, as a variable where there is one that holds the text
+abbrev pub part_item : Option Variable → List ℕ → ℕ → ℕ → Item
+part_item None text place size = Val (Text (slice_range text (place - 1) (place - 1 + size)))
+part_item (Some variable) text place size = Var (part_of variable place size)
+
+-- the element of a list, the value of a table and the field of a record at a place, from 0 on
+abbrev pub element_item : ℕ → Numbered Value → ℕ → Item
+element_item id list place = Var (Whole (Element id (list.number +ℤ pos place)))
+
+abbrev pub field_item : ℕ → ℕ → Item
+field_item id place = Var (Whole (Field id place))
+
+abbrev pub key_item : ℕ → Value → Item
+key_item id key = Var (Whole (Key id key))
+
+-- Elements: each is given with the place behind it, and where no element stands there it fails
+
+abbrev pub text_bytes_from : List ℕ → ℕ → Row
+text_bytes_from text place = do
+  byte ← found (slice_get text place)
+  suspends (Val (Text (byte ∷ []))) (TextBytes text (place + 1))
+
+-- the bytes of the text that the variable holds now: 103 where it holds none
+abbrev pub variable_bytes_from : Variable → ℕ → Row
+variable_bytes_from variable place = do
+  value ← reads variable
+  text ← present (held_text value) 103 (Some value)
+  passing (nat_lt place (length text))
+  suspends (Var (part_of variable (place + 1) 1)) (VariableBytes variable (place + 1))
+
+abbrev pub list_items_from : ℕ → ℕ → Row
+list_items_from id place = do
+  setting ← here
+  let list = list_at setting.world.heap id
+  passing (nat_lt place (length list.items))
+  suspends (element_item id list place) (ListItems id (place + 1))
+
+abbrev pub set_members_from : ℕ → ℕ → Row
+set_members_from id place = do
+  setting ← here
+  member ← found (slice_get (set_at setting.world.heap id) place)
+  suspends (Val member) (SetMembers id (place + 1))
+
+abbrev pub table_values_from : ℕ → ℕ → Row
+table_values_from id place = do
+  setting ← here
+  pair ← found (slice_get (table_at setting.world.heap id).pairs place)
+  suspends (key_item id pair.0) (TableValues id (place + 1))
+
+abbrev pub record_fields_from : ℕ → ℕ → Row
+record_fields_from id place = do
+  setting ← here
+  passing (nat_lt place (length (record_at setting.world.heap id).fields))
+  suspends (field_item id place) (RecordFields id (place + 1))
+
+abbrev pub text_elements : Option Variable → Value → List ℕ → Row
+text_elements (Some variable) value text = variable_bytes_from variable 0
+text_elements None value text = do
+  costs_text value
+  text_bytes_from text 0
+
+abbrev pub elements_of : Item → Value → Group → Row
+elements_of x v (Textual text) = text_elements (text_variable x v) v text
+elements_of x v (Listed id) = list_items_from id 0
+elements_of x v (Collected id) = set_members_from id 0
+elements_of x v (Tabled id) = table_values_from id 0
+elements_of x v (Recorded id) = record_fields_from id 0
+elements_of x v (Filed file) = lines_row file
+elements_of x v (Activated id) = wrong 116 (Some v)
+elements_of x v Single = wrong 116 (Some v)
+
+-- `!x`
+abbrev pub elements_row : Item → Row
+elements_row x = do
+  v ← the_value x
+  elements_of x v (group_of v)
+
+-- At random
+
+abbrev pub random_step : ℕ → ℕ
+random_step state = (1103515245 * state + 453816694) % 2 ^ 31
+
+-- a place among so many, from 0 on
+abbrev pub picks : ℕ → Finds ℕ
+picks size next = do
+  setting ← here
+  let state = random_step setting.world.random
+  changes (having_random state)
+  next (state * size / 2 ^ 31)
+
+abbrev pub random_number : Value → ℤ → Row
+random_number v (pos n) = do
+  check (nat_lt 0 n) 205 (Some v)
+  place ← picks n
+  gives_value (Integer (pos (1 + place)))
+random_number v n = wrong 205 (Some v)
+
+-- it fails where there is nothing to pick
+abbrev pub random_of : Item → Value → Group → Row
+random_of x v (Textual text) = do
+  costs_text v
+  passing (nat_lt 0 (length text))
+  place ← picks (length text)
+  gives (part_item (text_variable x v) text (place + 1) 1)
+random_of x v (Listed id) = do
+  setting ← here
+  let list = list_at setting.world.heap id
+  passing (nat_lt 0 (length list.items))
+  place ← picks (length list.items)
+  gives (element_item id list place)
+random_of x v (Collected id) = do
+  setting ← here
+  let set = set_at setting.world.heap id
+  passing (nat_lt 0 (length set))
+  place ← picks (length set)
+  gives_value (value_at set place)
+random_of x v (Tabled id) = do
+  setting ← here
+  let pairs = (table_at setting.world.heap id).pairs
+  passing (nat_lt 0 (length pairs))
+  place ← picks (length pairs)
+  pair ← found (slice_get pairs place)
+  gives (key_item id pair.0)
+random_of x v (Recorded id) = do
+  setting ← here
+  let fields = (record_at setting.world.heap id).fields
+  passing (nat_lt 0 (length fields))
+  place ← picks (length fields)
+  gives (field_item id place)
+random_of x v (Filed file) = wrong 113 (Some v)
+random_of x v (Activated id) = wrong 113 (Some v)
+random_of x v Single = wrong 113 (Some v)
+
+abbrev pub random_by : Item → Value → Option ℤ → Row
+random_by x v (Some n) = random_number v n
+random_by x v None = random_of x v (group_of v)
+
+-- `?x`
+abbrev pub random_row : Item → Row
+random_row x = do
+  v ← the_value x
+  random_by x v (held_integer v)

@@ -1,0 +1,168 @@
+-- What holds of each setting, item and residual that a row is given, and of those that it leaves. Each fact is a test.
+use Rattle.std.specs.Prelude.{ℕ, pos, int_le, not, [], ◌∷◌, ◌+◌, ◌^◌, ◌&&◌, ◌+ℤ◌, nat_lt, nat_le, Bool, true, List, length, is_some, Option, None, Some}
+use Rattle.std.specs.List.{list_all}
+use Rattle.std.specs.Map.{keys_of}
+use Rattle.std.specs.Str.{bytes_eq}
+use Rattle.icn_structs.specs.Numbered.{Numbered}
+use Rattle.icn_value.specs.Values.{Value, Null, Integer, Text, Chars, Std, Procedure, ARecord, AList, ASet, ATable, ACoexp, KeywordVariable, Subject, Position, Random, Root, Global, Static, Local, Element, Field, Key, Keyword, Variable, Whole, Part, Item, Val, Var}
+use Rattle.icn_value.specs.Store.{Table, Record, Heap, World, Setting, Names, record_at}
+use Rattle.icn_defs.specs.Conversions.{has_value, fits, contains, members, held_text, held_integer}
+use Rattle.icn_defs.specs.Rows.{Residual, TextBytes, VariableBytes, ListItems, SetMembers, TableValues, TableKeys, RecordFields, InputLines, UndoAssign, UndoExchange, UndoPosition, Counting, Sequence, Balanced, Found, Among, Outcome, Fails, Gives, Suspends, Error, Ends}
+
+-- Values
+
+abbrev pub are_bytes : List ℕ → Bool
+are_bytes bytes = list_all (λ byte. nat_lt byte 256) bytes
+
+-- the bytes of a cset are ascending
+abbrev pub is_cset : List ℕ → Bool
+is_cset bytes = bytes_eq bytes (members (contains bytes))
+
+-- a procedure, a record constructor, or one of the 51 functions
+abbrev pub is_procedure : Names → ℕ → Bool
+is_procedure names number = nat_lt number (length names.procedures + length names.records + 51)
+
+-- an integer of 64 bits, a text of bytes, a cset in order, or a number of something that is there
+abbrev pub is_live : Names → Heap → Value → Bool
+is_live names heap Null = true
+is_live names heap (Integer n) = fits n
+is_live names heap (Text bytes) = are_bytes bytes
+is_live names heap (Chars bytes) = is_cset bytes
+is_live names heap (Std file) = true
+is_live names heap (Procedure number) = is_procedure names number
+is_live names heap (ARecord id) = nat_lt id (length heap.records)
+is_live names heap (AList id) = nat_lt id (length heap.lists)
+is_live names heap (ASet id) = nat_lt id (length heap.sets)
+is_live names heap (ATable id) = nat_lt id (length heap.tables)
+is_live names heap (ACoexp id) = nat_lt id (length heap.coexps)
+
+abbrev pub are_live : Names → Heap → List Value → Bool
+are_live names heap values = list_all (is_live names heap) values
+
+-- The heap and the world
+
+-- The numbers of the elements: each element that was ever pushed or put cost a cell, so that the first number is above 0 less the cells charged,
+-- and the one after the last at most 1 more than these.
+abbrev pub is_numbered : Heap → Numbered Value → Bool
+is_numbered heap list = int_le (pos 1) (list.number +ℤ pos heap.cells) && int_le (list.number +ℤ pos (length list.items)) (pos (1 + heap.cells))
+
+abbrev pub is_list : Names → Heap → Numbered Value → Bool
+is_list names heap list = is_numbered heap list && are_live names heap list.items
+
+-- no two values are the same
+abbrev pub differ : List Value → Bool
+differ [] = true
+differ (value ∷ values) = not (has_value values value) && differ values
+
+abbrev pub is_set : Names → Heap → List Value → Bool
+is_set names heap members = differ members && are_live names heap members
+
+abbrev pub is_pair : Names → Heap → Value × Value → Bool
+is_pair names heap pair = is_live names heap pair.0 && is_live names heap pair.1
+
+abbrev pub is_table : Names → Heap → Table → Bool
+is_table names heap table = differ (keys_of table.pairs) && (is_live names heap table.default && list_all (is_pair names heap) table.pairs)
+
+abbrev pub is_record : Names → Heap → Record → Bool
+is_record names heap structure = nat_lt structure.kind (length names.records) && are_live names heap structure.fields
+
+-- the sums are within the limits, and these in their ranges
+abbrev pub are_sums : Heap → Bool
+are_sums heap =
+    nat_le heap.strings heap.bounds.strings && (nat_le heap.cells heap.bounds.cells && (nat_le heap.bounds.strings (2 ^ 40) && nat_le heap.bounds.cells 4294967295))
+
+-- each structure cost a cell, and each co-expression but `&main`
+abbrev pub are_counted : Heap → Bool
+are_counted heap =
+    nat_le (length heap.lists + length heap.sets + length heap.tables + length heap.records + length heap.coexps) (heap.cells + 1)
+
+-- what stands in the structures is live
+abbrev pub is_heap : Names → Heap → Bool
+is_heap names heap =
+    are_sums heap && (are_counted heap && (list_all (is_list names heap) heap.lists && (list_all (is_set names heap) heap.sets
+    && (list_all (is_table names heap) heap.tables && (list_all (is_record names heap) heap.records && list_all (λ count. nat_lt count (2 ^ 63)) heap.coexps)))))
+
+-- the position is a place of the subject, and `&random` below 2 ^ 31
+abbrev pub is_world : Names → World → Bool
+is_world names world =
+    is_heap names world.heap && (are_bytes world.subject && (nat_le 1 world.position && (nat_le world.position (length world.subject + 1)
+    && (nat_lt world.random (2 ^ 31) && (are_live names world.heap world.globals && are_live names world.heap world.statics)))))
+
+abbrev pub is_setting : Names → Setting → Bool
+is_setting names setting = is_world names setting.world && are_live names setting.world.heap setting.locals
+
+-- Variables and items
+
+-- its place is in range; a list element may be gone, but its list is there
+abbrev pub is_root : Names → Setting → Root → Bool
+is_root names setting (Global place) = nat_lt place (length setting.world.globals)
+is_root names setting (Static place) = nat_lt place (length setting.world.statics)
+is_root names setting (Local place) = nat_lt place (length setting.locals)
+is_root names setting (Element list number) = nat_lt list (length setting.world.heap.lists) && fits number
+is_root names setting (Field structure place) = nat_lt structure (length setting.world.heap.records) && nat_lt place (length (record_at setting.world.heap structure).fields)
+is_root names setting (Key table key) = nat_lt table (length setting.world.heap.tables) && is_live names setting.world.heap key
+is_root names setting (Keyword word) = true
+
+abbrev pub is_variable : Names → Setting → Variable → Bool
+is_variable names setting (Whole root) = is_root names setting root
+is_variable names setting (Part root place size) = is_root names setting root && nat_le 1 place
+
+abbrev pub is_item : Names → Setting → Item → Bool
+is_item names setting (Val value) = is_live names setting.world.heap value
+is_item names setting (Var variable) = is_variable names setting variable
+
+-- a value that a variable can hold: a text for `&subject` and for a part, an integer for another keyword
+abbrev pub word_holds : KeywordVariable → Value → Bool
+word_holds Subject value = is_some (held_text value)
+word_holds Position value = is_some (held_integer value)
+word_holds Random value = is_some (held_integer value)
+
+abbrev pub root_holds : Root → Value → Bool
+root_holds (Global place) value = true
+root_holds (Static place) value = true
+root_holds (Local place) value = true
+root_holds (Element list number) value = true
+root_holds (Field structure place) value = true
+root_holds (Key table key) value = true
+root_holds (Keyword word) value = word_holds word value
+
+abbrev pub can_hold : Variable → Value → Bool
+can_hold (Whole root) value = root_holds root value
+can_hold (Part root place size) value = is_some (held_text value)
+
+-- an old value of a variable
+abbrev pub is_old : Names → Setting → Variable → Value → Bool
+is_old names setting variable value = is_variable names setting variable && (is_live names setting.world.heap value && can_hold variable value)
+
+-- Residuals
+
+abbrev pub is_residual : Names → Setting → Residual → Bool
+is_residual names setting (TextBytes text place) = are_bytes text
+is_residual names setting (VariableBytes variable place) = is_variable names setting variable
+is_residual names setting (ListItems id place) = nat_lt id (length setting.world.heap.lists)
+is_residual names setting (SetMembers id place) = nat_lt id (length setting.world.heap.sets)
+is_residual names setting (TableValues id place) = nat_lt id (length setting.world.heap.tables)
+is_residual names setting (TableKeys id place) = nat_lt id (length setting.world.heap.tables)
+is_residual names setting (RecordFields id place) = nat_lt id (length setting.world.heap.records)
+is_residual names setting InputLines = true
+is_residual names setting (UndoAssign variable old) = is_old names setting variable old
+is_residual names setting (UndoExchange mover x y old_x old_y) = is_old names setting x old_x && is_old names setting y old_y
+is_residual names setting (UndoPosition old) = nat_le 1 old
+is_residual names setting (Counting n last step) = fits n && (fits last && fits step)
+is_residual names setting (Sequence n step) = fits n && fits step
+is_residual names setting (Balanced wanted opening closing text place last) = are_bytes text && nat_le 1 place
+is_residual names setting (Found wanted text place last) = are_bytes text && nat_le 1 place
+is_residual names setting (Among bytes text place last) = are_bytes text && nat_le 1 place
+
+-- the value that an error is about, if any
+abbrev pub live_or_none : Names → Setting → Option Value → Bool
+live_or_none names setting None = true
+live_or_none names setting (Some value) = is_live names setting.world.heap value
+
+-- What an outcome leaves. A structure is never taken away, so that what was live stays so.
+abbrev pub is_outcome : Names → Outcome → Bool
+is_outcome names (Fails setting) = is_setting names setting
+is_outcome names (Gives item setting) = is_setting names setting && is_item names setting item
+is_outcome names (Suspends item rest setting) = is_setting names setting && (is_item names setting item && is_residual names setting rest)
+is_outcome names (Error number offending setting) = is_setting names setting && live_or_none names setting offending
+is_outcome names (Ends status setting) = is_setting names setting && nat_lt status 256

@@ -1,0 +1,238 @@
+-- Reading variables, assigning to them, exchanging them, and undoing an assignment.
+use Rattle.std.specs.Prelude.{◌==◌, ◌&&◌, ◌+◌, ◌-◌, ◌^◌, ◌%◌, ℕ, pos, Bool, true, false, not, nat_lt, nat_le, List, [], ◌∷◌, ◌++◌, length, take, drop, slice_set, slice_range, Option, None, Some, unwrap_or, is_some, if◌then◌else◌}
+use Rattle.std.specs.Int.{w64, cast_unsigned}
+use Rattle.icn_structs.specs.Numbered.{item_numbered, with_numbered}
+use Rattle.icn_structs.specs.PairLists.{value_of, stored}
+use Rattle.icn_value.specs.Values.{Value, Null, Integer, Text, Root, Global, Static, Local, Element, Field, Key, Keyword, KeywordVariable, Subject, Position, Random, Variable, Whole, Part, Item, Val, Var}
+use Rattle.icn_value.specs.Store.{Setting, Table, list_at, table_at, record_at, value_at, with_list, with_table, with_record, having_subject, having_position, having_random}
+use Rattle.icn_defs.specs.Conversions.{same, text_of, integer_of, held_text, place_of}
+use Rattle.icn_defs.specs.Rows.{Row, Finds, ◌>>=◌, ◌>>◌, Mover, Neither, Left, Right, fails, wrong, check, present, here, changes, changes_heap, costs_bytes, costs_cells, costs_text}
+
+-- Reading
+
+abbrev pub keyword_value : Setting → KeywordVariable → Value
+keyword_value setting Subject = Text setting.world.subject
+keyword_value setting Position = Integer (pos setting.world.position)
+keyword_value setting Random = Integer (pos setting.world.random)
+
+-- the value of a key that is there, else the default
+abbrev pub table_value : Table → Value → Value
+table_value table key = unwrap_or (value_of same table.pairs key) table.default
+
+-- What a whole variable holds. A list element is there where an element of its list has its number.
+abbrev pub root_value : Setting → Root → Option Value
+root_value setting (Global place) = Some (value_at setting.world.globals place)
+root_value setting (Static place) = Some (value_at setting.world.statics place)
+root_value setting (Local place) = Some (value_at setting.locals place)
+root_value setting (Element list number) = item_numbered (list_at setting.world.heap list) number
+root_value setting (Field structure place) = Some (value_at (record_at setting.world.heap structure).fields place)
+root_value setting (Key table key) = Some (table_value (table_at setting.world.heap table) key)
+root_value setting (Keyword word) = Some (keyword_value setting word)
+
+-- the value of a whole variable: 205 where the list element is gone
+abbrev pub reads_root : Root → Finds Value
+reads_root root next = do
+  setting ← here
+  value ← present (root_value setting root) 205 None
+  next value
+
+-- the text that a part is of: 103 with what its variable holds where that is no text, 205 where that is too short
+abbrev pub reads_text : Root → ℕ → ℕ → Finds (List ℕ)
+reads_text root place size next = do
+  value ← reads_root root
+  text ← present (held_text value) 103 (Some value)
+  check (nat_le (place - 1 + size) (length text)) 205 None
+  next text
+
+-- the value of a variable
+abbrev pub reads : Variable → Finds Value
+reads (Whole root) next = reads_root root next
+reads (Part root place size) next = do
+  text ← reads_text root place size
+  next (Text (slice_range text (place - 1) (place - 1 + size)))
+
+-- the value of an item
+abbrev pub the_value : Item → Finds Value
+the_value (Val value) next = next value
+the_value (Var variable) next = reads variable next
+
+-- the values of items, from the first on
+abbrev pub the_values : List Item → Finds (List Value)
+the_values [] next = next []
+the_values (item ∷ items) next = do
+  value ← the_value item
+  values ← the_values items
+  next (value ∷ values)
+
+-- an item that is a variable: else 111
+abbrev pub the_variable : Item → Finds Variable
+the_variable (Val value) next = wrong 111 (Some value)
+the_variable (Var variable) next = next variable
+
+-- Assigning. Where `&pos` would be out of range it goes on as is said first, which is to fail, and in an undo error 205.
+
+abbrev pub assigns_keyword : Row → KeywordVariable → Value → Row → Row
+assigns_keyword refused Subject value next = do
+  text ← present (text_of value) 103 (Some value)
+  costs_text value
+  changes (having_subject text)
+  next
+assigns_keyword refused Position value next = do
+  n ← present (integer_of value) 101 (Some value)
+  setting ← here
+  moves_to refused (place_of n (length setting.world.subject)) next
+  where
+    moves_to : Row → Option ℕ → Row → Row
+    moves_to refused None next = refused
+    moves_to refused (Some place) next = changes (having_position place) next
+assigns_keyword refused Random value next = do
+  n ← present (integer_of value) 101 (Some value)
+  changes (having_random (cast_unsigned w64 n % 2 ^ 31))
+  next
+
+-- what is new costs a cell
+abbrev pub costs_unless : Bool → Row → Row
+costs_unless true next = next
+costs_unless false next = costs_cells 1 next
+
+-- the table has this value at the key
+abbrev pub stores : ℕ → Value → Value → Row → Row
+stores id key value next = do
+  setting ← here
+  let table = table_at setting.world.heap id
+  costs_unless (is_some (value_of same table.pairs key))
+  changes_heap (with_table id (record table { pairs = stored same table.pairs key value }))
+  next
+
+abbrev pub assigns_root : Row → Root → Value → Row → Row
+assigns_root refused (Global place) value next =
+    changes (λ setting. record setting { world = record setting.world { globals = slice_set setting.world.globals place value } }) next
+assigns_root refused (Static place) value next =
+    changes (λ setting. record setting { world = record setting.world { statics = slice_set setting.world.statics place value } }) next
+assigns_root refused (Local place) value next = changes (λ setting. record setting { locals = slice_set setting.locals place value }) next
+assigns_root refused (Element id number) value next = do
+  setting ← here
+  let list = list_at setting.world.heap id
+  check (is_some (item_numbered list number)) 205 None
+  changes_heap (with_list id (with_numbered list number value))
+  next
+assigns_root refused (Field id place) value next = do
+  setting ← here
+  let structure = record_at setting.world.heap id
+  changes_heap (with_record id (record structure { fields = slice_set structure.fields place value }))
+  next
+assigns_root refused (Key table key) value next = stores table key value next
+assigns_root refused (Keyword word) value next = assigns_keyword refused word value next
+
+-- A text with another text in the place of a part of it
+abbrev pub replaced : List ℕ → ℕ → ℕ → List ℕ → List ℕ
+replaced text place size new = take (place - 1) text ++ (new ++ drop (place - 1 + size) text)
+
+-- The variable afterwards is the same, but that a part covers the text that it got. A part wants a text, 103, and its variable one that is long
+-- enough; the whole text is built and assigned.
+abbrev pub assigns_or : Row → Variable → Value → Finds Variable
+assigns_or refused (Whole root) value next = assigns_root refused root value (next (Whole root))
+assigns_or refused (Part root place size) value next = do
+  new ← present (text_of value) 103 (Some value)
+  text ← reads_text root place size
+  costs_text value
+  costs_bytes (length (replaced text place size new))
+  assigns_root refused root (Text (replaced text place size new))
+  next (Part root place (length new))
+
+abbrev pub assigns : Variable → Value → Finds Variable
+assigns variable value = assigns_or fails variable value
+
+-- the variable gets its old value back
+abbrev pub undoes : Variable → Value → Row → Row
+undoes variable old next = assigns_or (wrong 205 None) variable old (λ now. next)
+
+-- Exchanging
+
+-- the type of a root, and what tells the roots of a type apart
+abbrev pub root_number : Root → ℕ
+root_number (Global place) = 0
+root_number (Static place) = 1
+root_number (Local place) = 2
+root_number (Element list number) = 3
+root_number (Field structure place) = 4
+root_number (Key table key) = 5
+root_number (Keyword word) = 6
+
+abbrev pub word_number : KeywordVariable → ℕ
+word_number Subject = 0
+word_number Position = 1
+word_number Random = 2
+
+abbrev pub root_place : Root → ℕ
+root_place (Global place) = place
+root_place (Static place) = place
+root_place (Local place) = place
+root_place (Element list number) = list
+root_place (Field structure place) = structure
+root_place (Key table key) = table
+root_place (Keyword word) = word_number word
+
+abbrev pub root_key : Root → Value
+root_key (Global place) = Null
+root_key (Static place) = Null
+root_key (Local place) = Null
+root_key (Element list number) = Integer number
+root_key (Field structure place) = Integer (pos place)
+root_key (Key table key) = key
+root_key (Keyword word) = Null
+
+abbrev pub same_root : Root → Root → Bool
+same_root a b = root_number a == root_number b && (root_place a == root_place b && same (root_key a) (root_key b))
+
+-- the side with the smaller place, where both are parts of one variable
+abbrev pub mover_of : Variable → Variable → Mover
+mover_of (Whole root) y = Neither
+mover_of (Part root place size) (Whole other) = Neither
+mover_of (Part root place size) (Part other begin count) =
+    if not (same_root root other) then Neither else (if nat_lt place begin then Left else (if nat_lt begin place then Right else Neither))
+
+abbrev pub part_length : Variable → ℕ
+part_length (Whole root) = 0
+part_length (Part root place size) = size
+
+-- a part moves by the change of length of another one: 205 where its place would be below 1
+abbrev pub moved : ℕ → ℕ → Variable → Finds Variable
+moved old new (Whole root) next = next (Whole root)
+moved old new (Part root place size) next = do
+  check (nat_lt old (place + new)) 205 None
+  next (Part root (place + new - old) size)
+
+abbrev pub moved_by_left : Mover → ℕ → ℕ → Variable → Finds Variable
+moved_by_left Neither old new y next = next y
+moved_by_left Left old new y next = moved old new y next
+moved_by_left Right old new y next = next y
+
+abbrev pub moved_by_right : Mover → ℕ → ℕ → Variable → Finds Variable
+moved_by_right Neither old new x next = next x
+moved_by_right Left old new x next = next x
+moved_by_right Right old new x next = moved old new x next
+
+-- The left side is assigned its new value, then the right side. The assignment of the mover moves the other side.
+abbrev pub assigns_both : Row → Mover → Variable → Variable → Value → Value → Finds (Variable × Variable)
+assigns_both refused mover x y to_x to_y next = do
+  x_now ← assigns_or refused x to_x
+  y_moved ← moved_by_left mover (part_length x) (part_length x_now) y
+  y_now ← assigns_or refused y_moved to_y
+  x_moved ← moved_by_right mover (part_length y_moved) (part_length y_now) x_now
+  next (x_moved, y_now)
+
+-- the two are exchanged, when these are their values
+abbrev pub exchanges : Variable → Variable → Value → Value → Finds (Variable × Variable)
+exchanges x y value_of_x value_of_y = assigns_both fails (mover_of x y) x y value_of_y value_of_x
+
+-- the two are read and exchanged
+abbrev pub exchanges_both : Variable → Variable → Finds (Variable × Variable)
+exchanges_both x y next = do
+  v ← reads x
+  w ← reads y
+  exchanges x y v w next
+
+-- both get their old values back
+abbrev pub undoes_exchange : Mover → Variable → Variable → Value → Value → Row → Row
+undoes_exchange mover x y old_x old_y next = assigns_both (wrong 205 None) mover x y old_x old_y (λ now. next)

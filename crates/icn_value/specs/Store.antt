@@ -1,0 +1,122 @@
+-- What a heap stands for, the world round it, and the outside.
+use Rattle.std.specs.Prelude.{ℕ, List, [], ◌∷◌, length, slice_get, slice_set, slice_index, unwrap_or, pos}
+use Rattle.icn_structs.specs.Numbered.{Numbered}
+use Rattle.icn_value.specs.Limited.{Bounds}
+use Rattle.icn_value.specs.Values.{Value, Null}
+
+-- the value of keys that are not there, and the pairs in the order in which their keys came
+pub record Table : Type 0 where
+  pub default : Value
+  pub pairs : List (Value × Value)
+
+-- the number of its constructor among all constructors, and the values of its fields
+pub record Record : Type 0 where
+  pub kind : ℕ
+  pub fields : List Value
+
+-- The structures, each in the list of its type at its number; of each co-expression, `&main` first, how many results it gave; the sums of
+-- the string bytes and of the cells that were charged; and the limits.
+pub record Heap : Type 0 where
+  pub lists : List (Numbered Value)
+  pub sets : List (List Value)
+  pub tables : List Table
+  pub records : List Record
+  pub coexps : List ℕ
+  pub strings : ℕ
+  pub cells : ℕ
+  pub bounds : Bounds
+
+pub record World : Type 0 where
+  pub heap : Heap
+  pub subject : List ℕ
+  pub position : ℕ
+  pub random : ℕ
+  pub globals : List Value
+  pub statics : List Value
+
+-- what a reading asks for: a line, or so many bytes
+pub data Asked : Type 0 where
+  ALine : Asked
+  SomeBytes : ℕ → Asked
+
+-- a reading: what it asks for, the input that is left before it, and how much stands on the output and on the error output by then
+pub record Reading : Type 0 where
+  pub asked : Asked
+  pub left : List ℕ
+  pub output : ℕ
+  pub errors : ℕ
+
+-- the input left, what was put on the output and on the error output, and the readings that were made, the last one first
+pub record Outside : Type 0 where
+  pub left : List ℕ
+  pub output : List ℕ
+  pub errors : List ℕ
+  pub readings : List Reading
+
+-- a program begins with its input, before anything is put or read
+abbrev pub outside_of : List ℕ → Outside
+outside_of input = record { left = input; output = []; errors = []; readings = [] }
+
+-- a reading is made: the history keeps it, whatever it finds
+abbrev pub with_reading : Asked → Outside → Outside
+with_reading asked outside = record outside { readings = record { asked = asked; left = outside.left; output = length outside.output; errors = length outside.errors } ∷ outside.readings }
+
+-- what an operation is applied in: the world, the locals of the activation at hand, and the outside
+pub record Setting : Type 0 where
+  pub world : World
+  pub locals : List Value
+  pub outside : Outside
+
+-- the names of the procedures and those of the record constructors, by their numbers
+pub record Names : Type 0 where
+  pub procedures : List (List ℕ)
+  pub records : List (List ℕ)
+
+-- Structures by their numbers. Each number of a value is that of a structure; elsewhere these give something empty.
+
+abbrev pub new_list : List Value → Numbered Value
+new_list items = record { items = items; number = pos 1 }
+
+abbrev pub list_at : Heap → ℕ → Numbered Value
+list_at heap id = unwrap_or (slice_get heap.lists id) (new_list [])
+
+abbrev pub set_at : Heap → ℕ → List Value
+set_at heap id = unwrap_or (slice_get heap.sets id) []
+
+abbrev pub table_at : Heap → ℕ → Table
+table_at heap id = unwrap_or (slice_get heap.tables id) (record { default = Null; pairs = [] })
+
+abbrev pub record_at : Heap → ℕ → Record
+record_at heap id = unwrap_or (slice_get heap.records id) (record { kind = 0; fields = [] })
+
+abbrev pub count_at : Heap → ℕ → ℕ
+count_at heap id = slice_index heap.coexps id
+
+abbrev pub value_at : List Value → ℕ → Value
+value_at values place = unwrap_or (slice_get values place) Null
+
+-- Changes
+
+abbrev pub with_list : ℕ → Numbered Value → Heap → Heap
+with_list id list heap = record heap { lists = slice_set heap.lists id list }
+
+abbrev pub with_set : ℕ → List Value → Heap → Heap
+with_set id members heap = record heap { sets = slice_set heap.sets id members }
+
+abbrev pub with_table : ℕ → Table → Heap → Heap
+with_table id table heap = record heap { tables = slice_set heap.tables id table }
+
+abbrev pub with_record : ℕ → Record → Heap → Heap
+with_record id structure heap = record heap { records = slice_set heap.records id structure }
+
+abbrev pub having_heap : (Heap → Heap) → Setting → Setting
+having_heap change setting = record setting { world = record setting.world { heap = change setting.world.heap } }
+
+abbrev pub having_subject : List ℕ → Setting → Setting
+having_subject text setting = record setting { world = record setting.world { subject = text; position = 1 } }
+
+abbrev pub having_position : ℕ → Setting → Setting
+having_position place setting = record setting { world = record setting.world { position = place } }
+
+abbrev pub having_random : ℕ → Setting → Setting
+having_random state setting = record setting { world = record setting.world { random = state } }
