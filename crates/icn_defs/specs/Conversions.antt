@@ -1,14 +1,14 @@
 -- What values convert to, and what tells them apart.
-use Rattle.std.specs.Prelude.{ℕ, zero, suc, ℤ, pos, negsuc, ◌+◌, ◌-◌, ◌==◌, ◌&&◌, Bool, true, false, nat_lt, nat_le, int_le, List, [], ◌∷◌, length, filter, Option, None, Some, option_and_then, if◌then◌else◌}
-use Rattle.std.specs.List.{list_any, range_with_len}
+use Rattle.std.specs.Prelude.{ℕ, zero, suc, ℤ, pos, negsuc, ◌+◌, ◌-◌, ◌&&◌, Bool, true, false, nat_lt, nat_le, int_le, List, [], ◌∷◌, Option, None, Some, option_and_then, if◌then◌else◌}
 use Rattle.std.specs.Fmt.{signed_decimal}
 use Rattle.std.specs.declared.cmp.Ordering.{Ordering}
-use Rattle.std.specs.Ordering.{ordering_then, nat_cmp, int_cmp, is_eq, is_lt}
-use Rattle.std.specs.Cmp.Lexicographic.{slice_cmp}
+use Rattle.std.specs.Ordering.{is_lt}
 use Rattle.icn_text.specs.Integers.{signed}
 use Rattle.icn_text.specs.Reading.{integer_read}
-use Rattle.icn_value.specs.Values.{Value, Null, Integer, Text, Chars, Std, Procedure, ARecord, AList, ASet, ATable, ACoexp, File, Input, Output, Errout}
-use Rattle.icn_value.specs.Store.{Heap, list_at, set_at, table_at, record_at, count_at}
+use Rattle.icn_value.specs.Values.{Value, Null, Integer, Text, Chars}
+pub use Rattle.icn_value.specs.Members.{contains, members}
+pub use Rattle.icn_value.specs.Sameness.{Shape, file_rank, shape_of, shape_cmp, same, has_value, with_member}
+pub use Rattle.icn_value.specs.Sizes.{Group, Textual, Listed, Collected, Tabled, Recorded, Filed, Activated, Single, group_of, size_in, size_of}
 
 -- Integers, texts and csets
 
@@ -22,14 +22,6 @@ fitting n = if fits n then Some n else None
 -- the integer of 64 bits that a text writes
 abbrev pub written_integer : List ℕ → Option ℤ
 written_integer text = option_and_then (λ found. fitting (signed found.0 found.1)) (integer_read text)
-
--- whether a byte stands in a text, or is a member of a cset
-abbrev pub contains : List ℕ → ℕ → Bool
-contains bytes byte = list_any (λ other. other == byte) bytes
-
--- the cset of the bytes that pass, ascending
-abbrev pub members : (ℕ → Bool) → List ℕ
-members test = filter test (range_with_len 0 256)
 
 -- what is an integer, a text or a cset, and what else there is
 pub data Form : Type 0 where
@@ -92,44 +84,6 @@ abbrev pub is_null : Value → Bool
 is_null Null = true
 is_null value = false
 
--- Values by what their elements are: bytes, or those of a structure
-pub data Group : Type 0 where
-  Textual : List ℕ → Group
-  Listed : ℕ → Group
-  Collected : ℕ → Group
-  Tabled : ℕ → Group
-  Recorded : ℕ → Group
-  Filed : File → Group
-  Activated : ℕ → Group
-  Single : Group
-
-abbrev pub group_of : Value → Group
-group_of Null = Single
-group_of (Integer n) = Textual (signed_decimal n)
-group_of (Text bytes) = Textual bytes
-group_of (Chars bytes) = Textual bytes
-group_of (Std file) = Filed file
-group_of (Procedure number) = Single
-group_of (ARecord id) = Recorded id
-group_of (AList id) = Listed id
-group_of (ASet id) = Collected id
-group_of (ATable id) = Tabled id
-group_of (ACoexp id) = Activated id
-
-abbrev pub size_in : Heap → Group → Option ℕ
-size_in heap (Textual bytes) = Some (length bytes)
-size_in heap (Listed id) = Some (length ((list_at heap id).items))
-size_in heap (Collected id) = Some (length (set_at heap id))
-size_in heap (Tabled id) = Some (length ((table_at heap id).pairs))
-size_in heap (Recorded id) = Some (length ((record_at heap id).fields))
-size_in heap (Filed file) = None
-size_in heap (Activated id) = Some (count_at heap id)
-size_in heap Single = None
-
--- the size of a string, cset, structure or co-expression, and of an integer the length of its text
-abbrev pub size_of : Heap → Value → Option ℕ
-size_of heap value = size_in heap (group_of value)
-
 -- Positions
 
 -- The place that a position means in a text of so many bytes: places stand before the first byte, from 1 on, and one behind the last.
@@ -139,42 +93,7 @@ place_of (pos zero) size = Some (size + 1)
 place_of (pos (suc n)) size = if nat_le n size then Some (suc n) else None
 place_of (negsuc n) size = if nat_lt n size then Some (size - n) else None
 
--- Equality, and the order of sort
-
--- what tells the values of a type apart: a text or a number; and the type's rank in sorted lists
-pub record Shape : Type 0 where
-  pub rank : ℕ
-  pub text : List ℕ
-  pub number : ℤ
-
-abbrev pub file_rank : File → ℕ
-file_rank Errout = 0
-file_rank Input = 1
-file_rank Output = 2
-
-abbrev pub shape_of : Value → Shape
-shape_of Null = record { rank = 0; text = []; number = pos 0 }
-shape_of (Integer n) = record { rank = 1; text = []; number = n }
-shape_of (Text bytes) = record { rank = 2; text = bytes; number = pos 0 }
-shape_of (Chars bytes) = record { rank = 3; text = bytes; number = pos 0 }
-shape_of (Std file) = record { rank = 4; text = []; number = pos (file_rank file) }
-shape_of (ACoexp id) = record { rank = 5; text = []; number = pos id }
-shape_of (Procedure id) = record { rank = 6; text = []; number = pos id }
-shape_of (AList id) = record { rank = 7; text = []; number = pos id }
-shape_of (ASet id) = record { rank = 8; text = []; number = pos id }
-shape_of (ATable id) = record { rank = 9; text = []; number = pos id }
-shape_of (ARecord id) = record { rank = 10; text = []; number = pos id }
-
--- by the rank, then by the text, then by the number
-abbrev pub shape_cmp : Shape → Shape → Ordering
-shape_cmp a b = ordering_then (nat_cmp a.rank b.rank) (ordering_then (slice_cmp nat_cmp a.text b.text) (int_cmp a.number b.number))
-
--- `===`: the same type and the same value, structures by their identity
-abbrev pub same : Value → Value → Bool
-same a b = is_eq (shape_cmp (shape_of a) (shape_of b))
-
-abbrev pub has_value : List Value → Value → Bool
-has_value values value = list_any (same value) values
+-- The order of sort
 
 -- an item goes in front of the first one that it is less than
 abbrev pub sorted_in : {A : Type 0} → (A → A → Ordering) → A → List A → List A

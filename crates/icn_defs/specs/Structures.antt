@@ -6,7 +6,7 @@ use Rattle.icn_structs.specs.Numbered.{Numbered, leftmost, rightmost, without_le
 use Rattle.icn_structs.specs.PairLists.{value_of, without}
 use Rattle.icn_value.specs.Values.{Value, Null, Integer, AList, ATable, ARecord, Val}
 use Rattle.icn_value.specs.Store.{Heap, Table, Record, Names, list_at, set_at, table_at, record_at, with_list, with_set, with_table}
-use Rattle.icn_defs.specs.Conversions.{Group, Textual, Listed, Collected, Tabled, Recorded, Filed, Activated, Single, group_of, same, has_value, sorted, is_null}
+use Rattle.icn_defs.specs.Conversions.{Group, Textual, Listed, Collected, Tabled, Recorded, Filed, Activated, Single, group_of, same, has_value, with_member, sorted, is_null}
 use Rattle.icn_defs.specs.Rows.{Row, Finds, ◌>>=◌, ◌>>◌, TableKeys, gives_value, suspends, wrong, check, passing, found, natural, here, changes_heap, costs_cells, new_list_of, gives_list}
 use Rattle.icn_defs.specs.Reading.{costs_unless, stores}
 use Rattle.icn_defs.specs.Operations.{new_set_of}
@@ -104,9 +104,6 @@ list_row args = do
   gives_list (replicate count (arg args 1))
 
 -- Sets and tables
-
-abbrev pub with_member : List Value → Value → List Value
-with_member members value = if has_value members value then members else members ++ value ∷ []
 
 abbrev pub new_set_by : Value → Option ℕ → Row
 new_set_by value (Some id) = do
