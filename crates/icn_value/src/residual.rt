@@ -14,63 +14,137 @@ pub enum Mover {
     Right,
 }
 
-/// What is kept of an operation or a function that may be resumed: from where it goes on, or what it takes back. A place in a structure counts
-/// from 0 and is that of the next element; a place in a text counts from 1, and in a search it is that of the last result.
+/// What is kept of an operation or a function that may be resumed: from where it goes on, or what it takes back. A walk keeps the place
+/// of the next element, from 0 on; a search keeps the place that it gave last, from 1 on.
 #[derive(Clone, Copy, Debug, PartialEq, Eq)]
 pub enum Residual {
     /// `!s` of a value.
-    TextBytes { text: Span, place: u64 },
+    TextBytes {
+        /// The text.
+        text: Span,
+        /// The place of the next byte, from 0 on.
+        place: u64,
+    },
     /// `!s` of a variable.
-    VariableBytes { variable: VarRef, place: u64 },
+    VariableBytes {
+        /// What holds the text.
+        variable: VarRef,
+        /// The place of the next byte, from 0 on.
+        place: u64,
+    },
     /// `!L`
-    ListItems { list: u32, place: u64 },
+    ListItems {
+        /// The list.
+        list: u32,
+        /// The place of the next element.
+        place: u64,
+    },
     /// `!S`
-    SetMembers { set: u32, place: u64 },
+    SetMembers {
+        /// The set.
+        set: u32,
+        /// The place of the next member.
+        place: u64,
+    },
     /// `!T`
-    TableValues { table: u32, place: u64 },
+    TableValues {
+        /// The table.
+        table: u32,
+        /// The place of the next pair.
+        place: u64,
+    },
     /// `key(T)`
-    TableKeys { table: u32, place: u64 },
+    TableKeys {
+        /// The table.
+        table: u32,
+        /// The place of the next pair.
+        place: u64,
+    },
     /// `!R`
-    RecordFields { rec: u32, place: u64 },
+    RecordFields {
+        /// The record.
+        rec: u32,
+        /// The place of the next field.
+        place: u64,
+    },
     /// `!f`
     InputLines,
     /// `x <- y`
-    UndoAssign { variable: VarRef, old: Val },
+    UndoAssign {
+        /// What was assigned to.
+        variable: VarRef,
+        /// What it held before.
+        old: Val,
+    },
     /// `x <-> y`
     UndoExchange {
+        /// The side whose assignment moved the other, and will move it back.
         mover: Mover,
+        /// The left side, as it is after the exchange.
         left: VarRef,
+        /// The right side, as it is after the exchange.
         right: VarRef,
+        /// What the left side held before.
         old_left: Val,
+        /// What the right side held before.
         old_right: Val,
     },
     /// `tab`, `move` and `=s`
-    UndoPosition { old: u64 },
+    UndoPosition {
+        /// Where `&pos` stood before.
+        old: u64,
+    },
     /// `i to j by k`
-    Counting { next: i64, last: i64, step: i64 },
+    Counting {
+        /// The integer given last.
+        given: i64,
+        /// The end, which is not passed.
+        last: i64,
+        /// What is added each time; it is not 0.
+        step: i64,
+    },
     /// `seq(i, j)`
-    Sequence { next: i64, step: i64 },
+    Sequence {
+        /// The integer given last.
+        given: i64,
+        /// What is added each time; it is not 0.
+        step: i64,
+    },
     /// `bal`
     Balanced {
+        /// The bytes to stand before.
         wanted: Cset,
+        /// The bytes that open.
         opening: Cset,
+        /// The bytes that close.
         closing: Cset,
+        /// What is searched.
         text: Span,
+        /// The place given last.
         place: u64,
+        /// The place at which the search ends.
         last: u64,
     },
     /// `find`
     Found {
+        /// The text to find.
         wanted: Span,
+        /// What is searched.
         text: Span,
+        /// The place given last.
         place: u64,
+        /// The place at which the search ends.
         last: u64,
     },
     /// `upto`
     Among {
+        /// The bytes to stand before.
         wanted: Cset,
+        /// What is searched.
         text: Span,
+        /// The place given last.
         place: u64,
+        /// The place at which the search ends.
         last: u64,
     },
 }
