@@ -19,9 +19,9 @@ use Rattle.icn_run.specs.CodeStep.{begun, by_turn, called, controlled, ended, en
 use Rattle.icn_run.specs.States.{Begins, Config, OpenMark, Outside, Over, Running, State, Stuck, outside_of}
 use Rattle.icn_run.specs.Values.{Function, Operand, Variable, both, join, text_of, texts_of, values_of}
 use Rattle.icn_run.proofs.RunsEnd.{instrs_in}
-use Rattle.icn_meaning.specs.Calls.{calls_of, line_of, text_of as text_of_argument}
-use Rattle.icn_meaning.specs.Meaning.{Evaluation, Stand, Evaluates, begun as begun_stand, called as called_stand, ended as ended_stand, entered as entered_stand, outside_of as outside_of_stand, step as step_stand}
-use Rattle.icn_meaning.specs.Meaning.{Begins as BeginsStand, Over as OverStand}
+use Rattle.icn_meaning.specs.WriteCalls.{calls_of, line_of, text_of as text_of_argument}
+use Rattle.icn_meaning.specs.WriteMeaning.{Evaluation, Stand, Evaluates, begun as begun_stand, called as called_stand, ended as ended_stand, entered as entered_stand, outside_of as outside_of_stand, step as step_stand}
+use Rattle.icn_meaning.specs.WriteMeaning.{Begins as BeginsStand, Over as OverStand}
 use Rattle.icn_codegen.specs.Linked.{code_from, linked, size_of, tables_of_calls, tables_of_main}
 use Rattle.icn_codegen.proofs.Constants.{ArePushed, HaveAll, Writes, constant_in, main_found, operand_in, tables_have, value_in}
 

@@ -4,7 +4,7 @@ use Rattle.std.specs.List.{sum_by}
 use Rattle.icn_form.specs.declared.tree.Argument.{Argument}
 use Rattle.icn_form.specs.declared.tree.Expr.{Expr}
 use Rattle.icn_form.specs.declared.tree.Expr.TheVariants.{Write}
-use Rattle.icn_meaning.specs.Calls.{calls_of}
+use Rattle.icn_meaning.specs.WriteCalls.{calls_of}
 use Rattle.icn_codegen.specs.Linked.{size_of}
 
 -- the instructions of a call are among those of the rest

@@ -17,9 +17,9 @@ use Rattle.icn_run.specs.States.{Config, Outside, Over, Stuck, outside_of}
 use Rattle.icn_run.proofs.RunsEnd.{runs_end}
 use Rattle.icn_engine.specs.Runs.{Breaks, StandsReading}
 use Rattle.icn_meaning.specs.Breaking.{Breaks as MeaningBreaks, StandsReading as MeaningStandsReading}
-use Rattle.icn_meaning.specs.Calls.{line_of}
-use Rattle.icn_meaning.specs.Meaning.{Comes, Evaluates, Evaluation, Means, Stand, beginning as beginning_stand, begun, ended, outside_of as outside_of_stand, step as step_stand}
-use Rattle.icn_meaning.specs.Meaning.{Begins as BeginsStand, Over as OverStand}
+use Rattle.icn_meaning.specs.WriteCalls.{line_of}
+use Rattle.icn_meaning.specs.WriteMeaning.{Comes, Evaluates, Evaluation, Means, Stand, beginning as beginning_stand, begun, ended, outside_of as outside_of_stand, step as step_stand}
+use Rattle.icn_meaning.specs.WriteMeaning.{Begins as BeginsStand, Over as OverStand}
 use Rattle.icn_meaning.proofs.Evaluations.{begins, goes_on, one_meaning}
 use Rattle.icn_codegen.specs.Laws.{BreakAsMeant, RunAsMeant, evaluation_of}
 use Rattle.icn_codegen.specs.Linked.{linked}

@@ -4,7 +4,7 @@ use Rattle.std.specs.List.{flat_map}
 use Rattle.icn_form.specs.declared.tree.Argument.{Argument}
 use Rattle.icn_form.specs.declared.tree.Expr.{Expr}
 use Rattle.icn_form.specs.declared.tree.Expr.TheVariants.{Write}
-use Rattle.icn_meaning.specs.Calls.{calls_of}
+use Rattle.icn_meaning.specs.WriteCalls.{calls_of}
 use Rattle.icn_codegen.specs.Linked.{integers_in, texts_in, with_integer, with_integers, with_text, with_texts}
 use Rattle.icn_codegen.specs.Mentions.{integers_of_calls, texts_of_calls}
 

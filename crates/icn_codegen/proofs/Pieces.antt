@@ -11,7 +11,7 @@ use Rattle.icn_code.specs.Codes.{Tables}
 use Rattle.icn_run.specs.declared.awaited.Awaited.{Awaited}
 use Rattle.icn_run.specs.declared.awaited.Awaited.TheVariants as Awaiteds
 use Rattle.icn_run.specs.Built.{argument_behind, comes_to_end, if_so, is_built, names_write}
-use Rattle.icn_meaning.specs.Calls.{calls_of}
+use Rattle.icn_meaning.specs.WriteCalls.{calls_of}
 use Rattle.icn_codegen.specs.Laws.{AreBuilt}
 use Rattle.icn_codegen.specs.Linked.{code_from, constant, size_of, tables_of_calls, tables_of_main}
 use Rattle.icn_codegen.specs.Sizes.{is_main_too_large, is_over}

@@ -16,7 +16,7 @@ use Rattle.icn_verify.specs.Shapes.{PlainShape, empty_level, look_of, start_shap
 use Rattle.icn_verify.specs.Rows.{back, forward, lacks, meets, next, row_of, strays}
 use Rattle.icn_verify.specs.Reaching.{Carries, Reaches, starts, goes}
 use Rattle.icn_verify.specs.Faults.{AreSound, IsMet, IsSound}
-use Rattle.icn_meaning.specs.Calls.{calls_of}
+use Rattle.icn_meaning.specs.WriteCalls.{calls_of}
 use Rattle.icn_codegen.specs.Laws.{AreVerified}
 use Rattle.icn_codegen.specs.Linked.{call_code, code_from, constant, size_of, tables_of_main}
 

@@ -7,7 +7,7 @@ use Rattle.icn_run.specs.CodeRun.{Run, Observed, Observes}
 use Rattle.icn_engine.specs.Runs.{Breaks, StandsReading}
 use Rattle.icn_verify.specs.Faults.{IsVerified}
 use Rattle.icn_meaning.specs.Breaking.{Breaks as MeaningBreaks, StandsReading as MeaningStandsReading}
-use Rattle.icn_meaning.specs.Meaning.{Evaluation, Means}
+use Rattle.icn_meaning.specs.WriteMeaning.{Evaluation, Means}
 use Rattle.icn_codegen.specs.Linked.{linked}
 use Rattle.icn_codegen.specs.Sizes.{is_too_large}
 

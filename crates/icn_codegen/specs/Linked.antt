@@ -13,7 +13,7 @@ use Rattle.icn_form.specs.declared.tree.Argument.{Argument}
 use Rattle.icn_form.specs.declared.tree.Argument.TheVariants.{Nothing, Integer, Text}
 use Rattle.icn_form.specs.declared.tree.Expr.{Expr}
 use Rattle.icn_form.specs.declared.tree.Program.{Program}
-use Rattle.icn_meaning.specs.Calls.{calls_of}
+use Rattle.icn_meaning.specs.WriteCalls.{calls_of}
 
 -- Tables
 

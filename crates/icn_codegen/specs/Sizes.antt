@@ -4,7 +4,7 @@ use Rattle.std.specs.List.{list_any, sum_by}
 use Rattle.icn_form.specs.declared.tree.Argument.{Argument}
 use Rattle.icn_form.specs.declared.tree.Expr.{Expr}
 use Rattle.icn_form.specs.declared.tree.Program.{Program}
-use Rattle.icn_meaning.specs.Calls.{calls_of}
+use Rattle.icn_meaning.specs.WriteCalls.{calls_of}
 use Rattle.icn_codegen.specs.Linked.{strings_of, integers_of, size_of}
 
 -- more than a table has room for

@@ -2,7 +2,7 @@
 ghost use Rattle.std.specs.Prelude.{◌≡◌, ◌≤◌, ◌+◌, ◌∷◌, ◌++◌, List, length, map, IfOk, OnOk};
 ghost use Rattle.std.specs.List.{sum_by};
 ghost use Rattle.icn_form.specs.declared.tree.Expr.{Expr};
-ghost use Rattle.icn_meaning.specs.Calls.{calls_of};
+ghost use Rattle.icn_meaning.specs.WriteCalls.{calls_of};
 ghost use Rattle.icn_codegen.specs.Linked.{call_code, code_from, constant, integer_place, size_of, text_place};
 
 use icn_code::Instr;

@@ -5,7 +5,7 @@ ghost use Rattle.icn_form.specs.declared.tree.Argument.{Argument};
 ghost use Rattle.icn_code.specs.Codes.{procs_of};
 ghost use Rattle.icn_code.specs.Rules.{is_byte, is_integer};
 ghost use Rattle.icn_code.specs.Seen.{tables_of};
-ghost use Rattle.icn_meaning.specs.Calls.{calls_of};
+ghost use Rattle.icn_meaning.specs.WriteCalls.{calls_of};
 ghost use Rattle.icn_codegen.specs.Linked.{globals_of, integers_of, linked, main_of, no_tables, strings_of, tables_of_calls};
 ghost use Rattle.icn_codegen.specs.Mentions.{are_some};
 ghost use Rattle.icn_codegen.specs.Sizes.{are_too_large, is_too_large};

@@ -3,7 +3,7 @@ ghost use Rattle.std.specs.Prelude.{◌≡◌, ◌∷◌, ◌++◌, [], List, ma
 ghost use Rattle.std.specs.List.{flat_map};
 ghost use Rattle.icn_form.specs.declared.tree.Argument.{Argument};
 ghost use Rattle.icn_form.specs.declared.tree.Expr.{Expr};
-ghost use Rattle.icn_meaning.specs.Calls.{calls_of};
+ghost use Rattle.icn_meaning.specs.WriteCalls.{calls_of};
 ghost use Rattle.icn_codegen.specs.Linked.{function_names, integers_in, integers_of, strings_of, texts_in, with_integer, with_integers, with_text, with_texts};
 ghost use Rattle.icn_codegen.specs.Mentions.{are_some, integers_of_calls, texts_of_calls};
 

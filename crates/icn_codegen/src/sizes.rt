@@ -2,7 +2,7 @@
 ghost use Rattle.std.specs.Prelude.{◌≡◌, ◌+◌, ◌∷◌, ◌||◌, List, length, map, nat_lt};
 ghost use Rattle.std.specs.List.{list_any, sum_by};
 ghost use Rattle.icn_form.specs.declared.tree.Expr.{Expr};
-ghost use Rattle.icn_meaning.specs.Calls.{calls_of};
+ghost use Rattle.icn_meaning.specs.WriteCalls.{calls_of};
 ghost use Rattle.icn_codegen.specs.Linked.{size_of};
 ghost use Rattle.icn_codegen.specs.Sizes.{is_over};
 

@@ -20,3 +20,5 @@ pub mod Calls
 pub mod Keywords
 pub mod Errors
 pub mod Keeping
+pub mod StepRows
+pub mod Running

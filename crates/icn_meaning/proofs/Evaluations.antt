@@ -9,9 +9,9 @@ use Rattle.icn_run.specs.declared.ending.Ending.{Ending}
 use Rattle.icn_run.specs.declared.ending.Ending.TheVariants.{Done, Errored, AtBound}
 use Rattle.icn_run.specs.CodeRun.{Observed}
 use Rattle.icn_run.specs.States.{Outside}
-use Rattle.icn_meaning.specs.Calls.{line_of, calls_of}
+use Rattle.icn_meaning.specs.WriteCalls.{line_of, calls_of}
 use Rattle.icn_meaning.specs.Lines.{observed, lines_under, begun_with, outcome_of}
-use Rattle.icn_meaning.specs.Meaning.{Evaluation, Stand, Begins, Evaluates, Over, called, entered, begun, step, steps, beginning, Comes, Means}
+use Rattle.icn_meaning.specs.WriteMeaning.{Evaluation, Stand, Begins, Evaluates, Over, called, entered, begun, step, steps, beginning, Comes, Means}
 
 -- One outcome at most
 

@@ -2,7 +2,7 @@
 use Rattle.std.specs.Prelude.{◌≡◌, ℕ, List, Option, Some}
 use Rattle.icn_host.specs.Sinks.{Gains}
 use Rattle.icn_run.specs.CodeRun.{GainsBetween}
-use Rattle.icn_meaning.specs.Meaning.{Evaluation, Stand, Comes, outside_of, step}
+use Rattle.icn_meaning.specs.WriteMeaning.{Evaluation, Stand, Comes, outside_of, step}
 
 -- The evaluation stood somewhere: the input left is the one of that stand. Of what its next step puts on each output some first part
 -- was put.

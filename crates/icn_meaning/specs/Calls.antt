@@ -1,24 +1,139 @@
--- What the calls of a program are, and what they write.
-use Rattle.std.specs.Prelude.{ℕ, List, [], ◌∷◌, ◌++◌, Option, None, Some}
-use Rattle.std.specs.Fmt.{signed_decimal}
-use Rattle.std.specs.List.{flat_map}
-use Rattle.icn_form.specs.declared.tree.Argument.{Argument}
-use Rattle.icn_form.specs.declared.tree.Argument.TheVariants.{Nothing, Integer, Text}
-use Rattle.icn_form.specs.declared.tree.Expr.{Expr}
-use Rattle.icn_form.specs.declared.tree.Expr.TheVariants.{Empty, Write}
+-- What is applied to operands, and how procedures are called and left.
+use Rattle.std.specs.Prelude.{ℕ, zero, suc, ◌-◌, nat_le, Bool, true, false, List, [], ◌∷◌, ◌++◌, length, drop, reverse, replicate, Option, Some, None, slice_get, slice_index_or, slice_set, ℤ}
+use Rattle.icn_text.specs.declared.op.Op.TheVariants.{Refresh}
+use Rattle.icn_tree.specs.Trees.{Trees, MaybeTree, NoTrees, More, Initial, Initially}
+use Rattle.icn_value.specs.Values.{Value, Null, Integer, Text, Procedure, ARecord, AList, Item, Val, Var, Whole, Field}
+use Rattle.icn_value.specs.Store.{list_at, record_at}
+use Rattle.icn_defs.specs.Conversions.{integer_of, place_of as position_of}
+use Rattle.icn_defs.specs.Running.{number_of}
+use Rattle.icn_defs.specs.StepRows.{Operation, Function, apply, list_row, record_row}
+use Rattle.icn_meaning.specs.Program.{Program, Routine, Kind, Callee, IsRoutine, IsKind, IsFunction, IsNothing, callee_of, place_of}
+use Rattle.icn_meaning.specs.Contexts.{Form, Operating, Calling, Spreading, Collecting, Taking, Activating, frame_of, activation_of, Works, ◌and_then◌, Choices, ◌or_else◌, Args, Back, Surroundings, InCall, InScan, InLoop, Store, State, eval, succeed, fail}
+use Rattle.icn_meaning.specs.Turns.{turn, errs, within, answer, made, value, values, outgoing}
+use Rattle.icn_meaning.specs.Scanning.{restored, exchanged_oldest}
+use Rattle.icn_meaning.specs.Actions.{rest}
+use Rattle.icn_meaning.specs.Coexpressions.{refreshed, activate}
 
--- the text of an argument: none where nothing stands, and an integer in decimal
-abbrev pub text_of : Argument → List ℕ
-text_of Nothing = []
-text_of (Integer n) = signed_decimal n
-text_of (Text bytes) = bytes
+-- so many values: surplus ones are left out, and missing ones are null
+abbrev pub fitted : ℕ → List Value → List Value
+fitted zero vs = []
+fitted (suc n) [] = Null ∷ fitted n []
+fitted (suc n) (v ∷ vs) = v ∷ fitted n vs
 
--- a call of `write` with these arguments writes their texts and a newline
-abbrev pub line_of : List Argument → List ℕ
-line_of arguments = flat_map text_of arguments ++ 10 ∷ []
+-- Where `initial` is due it is the first expression of the body.
+abbrev pub begun_if : Bool → ℕ → Initial → Trees → Surroundings → Choices → Store → State
+begun_if false n (Initially place e) body s r st = rest (More e body) s r (record st { begun = slice_set st.begun n true })
+begun_if done n _ body s r st = rest body s r st
 
--- the calls of a body, by their arguments; an empty expression does nothing
-abbrev pub calls_of : List Expr → List (List Argument)
-calls_of [] = []
-calls_of (Empty ∷ exprs) = calls_of exprs
-calls_of (Write arguments ∷ exprs) = arguments ∷ calls_of exprs
+abbrev pub begin : ℕ → Routine → Surroundings → Choices → Store → State
+begin n routine s r st = begun_if (slice_index_or st.begun n true) n routine.initial routine.body s r st
+
+-- the body, with these parameters, in a new activation
+abbrev pub enter : ℕ → Routine → List Value → ℕ → Works → Choices → Store → State
+enter n routine parameters level k r st =
+    begin n routine (InCall (record { activation = length st.activations; procedure = n; level = level }) k r) r
+    (record st { activations = st.activations ++ (parameters ++ replicate (length routine.locals - routine.parameters) Null) ∷ [] })
+
+-- A last parameter that collects gets a list of the arguments that are left. It is made in the caller's activation, a.
+abbrev pub collect : Bool → ℕ → Routine → List Value → ℕ → ℕ → Works → Choices → Store → State
+collect false n routine vs level a k r st = enter n routine (fitted routine.parameters vs) level k r st
+collect true n routine vs level a k r st = let plain = routine.parameters - 1 in made (list_row (drop plain vs) (within a st)) a r st (λ list st.
+    enter n routine (fitted plain vs ++ list ∷ []) level k r st)
+
+abbrev pub call_if : Bool → ℕ → Routine → List Value → ℕ → ℕ → Works → Choices → Store → State
+call_if true n routine vs level a k r st = collect routine.collects n routine vs level a k r st
+call_if false n routine vs level a k r st = errs 301 None r st
+
+-- a procedure is called with these values, at this level, from this activation
+abbrev pub call : ℕ → Routine → List Value → ℕ → ℕ → Works → Choices → Store → State
+call n routine vs level a k r st = call_if (nat_le level st.world.heap.bounds.levels) n routine vs level a k r st
+
+-- a constructor makes a record of its fields
+abbrev pub construct : ℕ → Kind → List Value → ℕ → Works → Choices → Store → State
+construct number kind vs a k r st = made (record_row number (fitted (length kind.fields) vs) (within a st)) a r st (λ v st. succeed (Val v) k r st)
+
+abbrev pub invoke_callee : Callee → ℕ → List Item → Surroundings → Works → Choices → Store → State
+invoke_callee (IsRoutine routine) n xs s k r st = values xs (activation_of s) r st (λ vs. call n routine vs (suc (frame_of s).level) (activation_of s) k r st)
+invoke_callee (IsKind number kind) n xs s k r st = values xs (activation_of s) r st (λ vs. construct number kind vs (activation_of s) k r st)
+invoke_callee (IsFunction f) n xs s k r st = answer (apply st.names (Function f) xs (within (activation_of s) st)) (activation_of s) k r st
+invoke_callee IsNothing n xs s k r st = errs 106 (Some (Procedure n)) r st
+
+abbrev pub chosen : Option Item → Works → Choices → Store → State
+chosen (Some x) k r st = succeed x k r st
+chosen None k r st = fail r st
+
+abbrev pub argument_at : Option ℕ → List Item → Option Item
+argument_at (Some (suc p)) xs = slice_get xs p
+argument_at _ xs = None
+
+-- an integer gives the argument of that number, undereferenced
+abbrev pub choose : Option ℤ → Value → List Item → Works → Choices → Store → State
+choose (Some i) v xs k r st = chosen (argument_at (position_of i (length xs)) xs) k r st
+choose None v xs k r st = errs 106 (Some v) r st
+
+-- an integer, or a string that converts to one, calls an argument by its number; a cset does not
+-- a value is called with arguments
+abbrev pub invoke : Program → Value → List Item → Surroundings → Works → Choices → Store → State
+invoke program (Procedure n) xs s k r st = invoke_callee (callee_of program n) n xs s k r st
+invoke program v xs s k r st = choose (number_of v) v xs k r st
+
+abbrev pub items : List Value → List Item
+items [] = []
+items (v ∷ vs) = Val v ∷ items vs
+
+-- `p ! L`
+abbrev pub spread : Program → Value → Value → Surroundings → Works → Choices → Store → State
+spread program p (AList l) s k r st = invoke program p (items (list_at st.world.heap l).items) s k r st
+spread program p (ARecord n) s k r st = invoke program p (items (record_at st.world.heap n).fields) s k r st
+spread program p v s k r st = errs 126 (Some v) r st
+
+abbrev pub field_at : Option ℕ → ℕ → Works → Choices → Store → State
+field_at (Some n) x k r st = succeed (Var (Whole (Field x n))) k r st
+field_at None x k r st = errs 207 (Some (ARecord x)) r st
+
+abbrev pub fields_in : Option Kind → List (List ℕ)
+fields_in (Some kind) = kind.fields
+fields_in None = []
+
+-- `x.name`
+abbrev pub take_field : Program → List ℕ → Value → Works → Choices → Store → State
+take_field program name (ARecord x) k r st = field_at (place_of name (fields_in (slice_get program.kinds (record_at st.world.heap x).kind))) x k r st
+take_field program name v k r st = errs 107 (Some v) r st
+
+-- `[ ]`
+abbrev pub listed : List Value → ℕ → Works → Choices → Store → State
+listed vs a k r st = made (list_row vs (within a st)) a r st (λ v st. succeed (Val v) k r st)
+
+-- what is applied, to these items, in its turn
+abbrev pub applied : Program → Form → List Item → Surroundings → Works → Choices → Store → State
+applied program (Operating Refresh) (x ∷ xs) s k r st = value x (activation_of s) r st (λ v. refreshed v (activation_of s) k r st)
+applied program (Operating o) xs s k r st = answer (apply st.names (Operation o) xs (within (activation_of s) st)) (activation_of s) k r st
+applied program Calling (x ∷ xs) s k r st = value x (activation_of s) r st (λ v. invoke program v xs s k r st)
+applied program Spreading (x ∷ y ∷ xs) s k r st = value x (activation_of s) r st (λ p. value y (activation_of s) r st (λ v. spread program p v s k r st))
+applied program Collecting xs s k r st = values xs (activation_of s) r st (λ vs. listed vs (activation_of s) k r st)
+applied program (Taking name) (x ∷ xs) s k r st = value x (activation_of s) r st (λ v. take_field program name v k r st)
+applied program Activating (x ∷ y ∷ xs) s k r st = value x (activation_of s) r st (λ v. value y (activation_of s) r st (λ c. activate v c k r st))
+applied program form xs s k r st = fail r st
+
+-- the next operand; or, where none is left, what is applied is applied to the items, which stand with the newest first
+abbrev pub operands : Program → Form → List Item → Trees → Surroundings → Works → Choices → Store → State
+operands program form xs (More e es) s k r st = eval e s (Args form xs es s and_then k) r st
+operands program form xs NoTrees s k r st = turn st (λ st. applied program form (reverse xs) s k r st)
+
+-- the call gives this result and is over: all its scans are left
+abbrev pub returned : Item → Surroundings → Store → State
+returned x (InCall frame k r) st = succeed x k r st
+returned x (InScan p s) st = returned x s (restored p st)
+returned x (InLoop s k r a rn) st = returned x s st
+
+abbrev pub return : Item → Surroundings → Choices → Store → State
+return x s r st = outgoing x (activation_of s) r st (λ x. returned x s st)
+
+-- the call gives this result, and goes on where that is resumed
+abbrev pub suspended : Item → MaybeTree → Surroundings → Surroundings → Choices → Store → State
+suspended x b s (InCall frame k r0) r st = succeed x k (Back b s or_else r) st
+suspended x b s (InScan p around) r st = suspended x b s around r st
+suspended x b s (InLoop around k r0 a rn) r st = suspended x b s around r st
+
+abbrev pub suspend : Item → MaybeTree → Surroundings → Choices → Store → State
+suspend x b s r st = outgoing x (activation_of s) r st (λ x. suspended x b s s r (exchanged_oldest s st))

@@ -8,8 +8,8 @@ use Rattle.icn_run.specs.declared.ending.Ending.{Ending}
 use Rattle.icn_run.specs.declared.ending.Ending.TheVariants.{Done, Errored, AtBound}
 use Rattle.icn_run.specs.CodeRun.{Observed}
 use Rattle.icn_run.specs.Reports.{report_of}
-use Rattle.icn_meaning.specs.Calls.{calls_of, line_of}
-use Rattle.icn_meaning.specs.Meaning.{Evaluation}
+use Rattle.icn_meaning.specs.WriteCalls.{calls_of, line_of}
+use Rattle.icn_meaning.specs.WriteMeaning.{Evaluation}
 
 -- an ending with what was put on the output, and its report on the error output
 abbrev pub observed : List ℕ → List ℕ → Ending → Observed

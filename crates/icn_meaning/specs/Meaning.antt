@@ -1,74 +1,71 @@
--- The meaning of a program: the steps of its evaluation, from the begin on, and what is observed of it.
-use Rattle.std.specs.Prelude.{◌≡◌, ℕ, zero, suc, ◌==◌, ◌+◌, List, [], ◌∷◌, ◌++◌, length, nat_lt, Option, None, Some, if◌then◌else◌}
+-- The meaning of a program: the steps of its evaluation from the start on, and what is observed where it ends.
+use Rattle.std.specs.Prelude.{◌≡◌, ℕ, zero, suc, false, List, [], ◌∷◌, length, replicate, Option, Some, None, codes, slice_get}
 use Rattle.std.specs.List.{sum_by}
 use Rattle.icn_value.specs.Limited.{Bounds}
-use Rattle.icn_form.specs.declared.tree.Argument.{Argument}
-use Rattle.icn_form.specs.declared.tree.Expr.{Expr}
-use Rattle.icn_form.specs.declared.tree.Program.{Program}
-use Rattle.icn_run.specs.declared.ending.Ending.{Ending}
-use Rattle.icn_run.specs.declared.ending.Ending.TheVariants.{Done, Errored, AtBound}
-use Rattle.icn_run.specs.CodeRun.{Observed}
-use Rattle.icn_run.specs.Reports.{report_of}
-use Rattle.icn_run.specs.States.{Outside}
-use Rattle.icn_meaning.specs.Calls.{calls_of, line_of}
+use Rattle.icn_tree.specs.Trees.{Declaration, Empty}
+use Rattle.icn_value.specs.Values.{Value, Null, Text}
+use Rattle.icn_value.specs.Store.{Outside, outside_of}
+pub use Rattle.icn_defs.specs.Running.{Observed}
+use Rattle.icn_defs.specs.Running.{first_world, words_row}
+use Rattle.icn_meaning.specs.Program.{Program, Routine, program, routine_names, place_of, names_of}
+use Rattle.icn_meaning.specs.Contexts.{Nothing, NoChoice, Active, Store, State, eval, succeed, fail, hop, over, lost, Ending}
+use Rattle.icn_meaning.specs.Turns.{errs, within, made}
+use Rattle.icn_meaning.specs.Coexpressions.{hopped}
+use Rattle.icn_meaning.specs.Calls.{call}
+use Rattle.icn_meaning.specs.Evaluate.{on_eval}
+use Rattle.icn_meaning.specs.Succeed.{on_succeed}
+use Rattle.icn_meaning.specs.Fail.{on_fail}
 
--- a program with the words, the limits and the input of its evaluation
-pub record Evaluation : Type 0 where
-  pub program : Program
-  pub words : List (List ℕ)
-  pub bounds : Bounds
-  pub left : List ℕ
+-- One step. An end is left as it is.
+abbrev pub step : Program → State → State
+step program (eval e s k r st) = on_eval program e s k r st
+step program (succeed x k r st) = on_succeed program x k r st
+step program (fail r st) = on_fail r st
+step program (hop c st) = hopped c st
+step program (over ending st) = over ending st
+step program lost = lost
 
--- where an evaluation stands: it is to begin; these calls are still to be made, and so many turns were made; or it is over
-pub data Stand : Type 0 where
-  Begins : Outside → Stand
-  Evaluates : List (List Argument) → ℕ → Outside → Stand
-  Over : Ending → Outside → Stand
+abbrev pub steps : Program → ℕ → State → State
+steps program zero state = state
+steps program (suc n) state = steps program n (step program state)
 
-abbrev pub outside_of : Stand → Outside
-outside_of (Begins outside) = outside
-outside_of (Evaluates calls turns outside) = outside
-outside_of (Over ending outside) = outside
+-- before anything is done: co-expression 0 is active, which is `&main`
+abbrev pub first_store : Program → Bounds → List ℕ → Store
+first_store program bounds input = record {
+  world = first_world bounds program.starts program.statics;
+  outside = outside_of input;
+  activations = [];
+  begun = replicate (length program.routines) false;
+  flags = [];
+  limits = [];
+  saved = [];
+  coexpressions = record { status = Active; activator = zero; body = Empty; procedure = zero; values = [] } ∷ [];
+  active = zero;
+  turns = zero;
+  names = names_of program;
+}
 
--- an evaluation ends, and puts its report
-abbrev pub ended : Ending → Outside → Stand
-ended ending outside = Over ending (record outside { errors = outside.errors ++ report_of ending })
+-- `main` is called with that list; there is no activation yet
+abbrev pub main_called : ℕ → Routine → List (List ℕ) → Store → State
+main_called n routine words st = made (words_row words (within zero st)) zero NoChoice st (λ list st. call n routine (list ∷ []) 1 zero Nothing NoChoice st)
 
--- A call is a turn. It is counted before anything of it is done, and one past the bound ends the evaluation.
-abbrev pub called : Bounds → List Argument → List (List Argument) → ℕ → Outside → Stand
-called bounds arguments calls turns outside =
-    if turns == bounds.turns then ended AtBound outside else Evaluates calls (turns + 1) (record outside { output = outside.output ++ line_of arguments })
+abbrev pub main_in : Option Routine → ℕ → List (List ℕ) → Store → State
+main_in (Some routine) n words st = main_called n routine words st
+main_in None n words st = errs 117 None NoChoice st
 
--- `main` is called with a list of the argument words: their bytes are charged first, and then the cells of the list
-abbrev pub entered : Bounds → List (List ℕ) → Outside → List (List Argument) → Stand
-entered bounds words outside calls =
-    if nat_lt bounds.strings (sum_by length words) then ended (Errored 306) outside
-    else (if nat_lt bounds.cells (1 + length words) then ended (Errored 307) outside else Evaluates calls 0 outside)
+abbrev pub main_at : Program → Option ℕ → List (List ℕ) → Store → State
+main_at program (Some n) words st = main_in (slice_get program.routines n) n words st
+main_at program None words st = errs 117 None NoChoice st
 
--- a program without `main` has nothing to begin with
-abbrev pub begun : Bounds → List (List ℕ) → Outside → Option (List Expr) → Stand
-begun bounds words outside None = ended (Errored 117) outside
-begun bounds words outside (Some body) = entered bounds words outside (calls_of body)
+-- where the evaluation starts: a program without a procedure `main` is error 117
+abbrev pub start : Program → List (List ℕ) → Bounds → List ℕ → State
+start program words bounds input = main_at program (place_of (codes "main") (routine_names program.routines)) words (first_store program bounds input)
 
--- the body's calls are made in their order, and where none is left `main` fails, which ends the program
-abbrev pub step : Evaluation → Stand → Stand
-step evaluation (Begins outside) = begun evaluation.bounds evaluation.words outside evaluation.program.main
-step evaluation (Evaluates [] turns outside) = ended Done outside
-step evaluation (Evaluates (arguments ∷ calls) turns outside) = called evaluation.bounds arguments calls turns outside
-step evaluation (Over ending outside) = Over ending outside
+abbrev pub observed : State → Option Observed
+observed (over ending st) = Some (record { ending = ending; outside = st.outside })
+observed state = None
 
-unfoldable pub steps : Evaluation → ℕ → Stand → Stand
-steps evaluation zero stand = stand
-steps evaluation (suc n) stand = steps evaluation n (step evaluation stand)
-
-abbrev pub beginning : Evaluation → Stand
-beginning evaluation = Begins (record { left = evaluation.left; output = []; errors = [] })
-
--- the evaluation comes to this
-pub record Comes (evaluation : Evaluation) (stand : Stand) : Type 0 where
+-- The meaning of the program of these files, with these argument words, limits and input: its steps reach an end at which this is observed.
+pub record Means (files : List (List Declaration)) (words : List (List ℕ)) (bounds : Bounds) (input : List ℕ) (seen : Observed) : Type 0 where
   pub count : ℕ
-  pub is : steps evaluation count (beginning evaluation) ≡ stand
-
--- the evaluation ends so: the meaning of the program, with these words, limits and input
-abbrev pub Means : Evaluation → Observed → Type 0
-Means evaluation observed = Comes evaluation (Over observed.ending observed.outside)
+  pub is : observed (steps (program files) count (start (program files) words bounds input)) ≡ Some seen

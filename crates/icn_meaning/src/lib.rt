@@ -3,4 +3,4 @@
 
 mod laws;
 
-pub use laws::one_meaning;
+pub use laws::{one_meaning, one_observation};

@@ -5,3 +5,10 @@ pub mod CodeRun
 pub mod Built
 pub mod Pieces
 pub mod Reports
+pub mod Rows
+pub mod Calls
+pub mod Chains
+pub mod Stacks
+pub mod Step
+pub mod FlatStep
+pub mod LinkedStep

@@ -16,7 +16,7 @@ use Rattle.icn_decls.specs.Views.{first_of}
 use Rattle.icn_form.specs.declared.tree.Program.{Program}
 use Rattle.icn_run.specs.CodeRun.{Observed}
 use Rattle.icn_meaning.specs.Lines.{outcome_of}
-use Rattle.icn_meaning.specs.Meaning.{Evaluation, Means}
+use Rattle.icn_meaning.specs.WriteMeaning.{Evaluation, Means}
 use Rattle.icn_engine.specs.declared.answer.Answer.{Answer}
 use Rattle.icont_top.specs.Built.{Found, program_of, whole_file}
 use Rattle.icont_top.specs.Job.{Job, refusal, writing, running, image_file, evaluation, IsJob, wrong_words, refuses, writes, runs}

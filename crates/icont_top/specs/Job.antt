@@ -4,7 +4,7 @@ use Rattle.icn_host.specs.FileMaps.{FileMap}
 use Rattle.icn_value.specs.Limited.{default_limits}
 use Rattle.icn_form.specs.declared.tree.Program.{Program}
 use Rattle.icn_run.specs.CodeRun.{Observed}
-use Rattle.icn_meaning.specs.Meaning.{Evaluation, Means}
+use Rattle.icn_meaning.specs.WriteMeaning.{Evaluation, Means}
 use Rattle.icn_engine.specs.declared.answer.Answer.{Answer}
 use Rattle.icn_engine.specs.declared.answer.Answer.TheVariants.{Wrote, Ran, Command}
 use Rattle.icn_lines.specs.Lines.{line_of}

@@ -9,7 +9,7 @@ use Rattle.icn_verify.specs.Faults.{IsVerified}
 use Rattle.icn_run.specs.Built.{is_built}
 use Rattle.icn_form.specs.declared.tree.Program.{Program}
 use Rattle.icn_meaning.specs.Breaking.{Breaks, StandsReading}
-use Rattle.icn_meaning.specs.Meaning.{Evaluation}
+use Rattle.icn_meaning.specs.WriteMeaning.{Evaluation}
 use Rattle.icn_engine.specs.declared.answer.Answer.{Answer}
 use Rattle.icn_engine.specs.declared.answer.Answer.TheVariants.{Wrote, Ran, ReadFault}
 use Rattle.icn_engine.specs.Answers.{IsFault}

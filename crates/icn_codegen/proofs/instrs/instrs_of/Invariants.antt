@@ -1,6 +1,6 @@
 use Rattle.std.proofs.Common.{◌≡◌, ◌≤◌, ◌+◌, ◌++◌, ℕ, length, map, drop}
 use Rattle.std.specs.List.{sum_by}
-use Rattle.icn_meaning.specs.Calls.{calls_of}
+use Rattle.icn_meaning.specs.WriteCalls.{calls_of}
 use Rattle.icn_codegen.specs.Linked.{code_from, size_of}
 use Rattle.icn_codegen.proofs.instrs.instrs_of.Given as goal
 

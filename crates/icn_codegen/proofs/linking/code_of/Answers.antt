@@ -1,4 +1,4 @@
-use Rattle.icn_meaning.specs.Calls.{calls_of}
+use Rattle.icn_meaning.specs.WriteCalls.{calls_of}
 use Rattle.icn_codegen.proofs.Limits.{fits, too_large}
 use Rattle.icn_codegen.proofs.linking.code_of.Goals as goal
 

@@ -1,5 +1,5 @@
 use Rattle.std.proofs.Common.{◌≡◌, ap, ◌∙◌, map}
-use Rattle.icn_meaning.specs.Calls.{calls_of}
+use Rattle.icn_meaning.specs.WriteCalls.{calls_of}
 use Rattle.icn_codegen.proofs.Standing.{calls_kept, calls_made, instrs_made}
 use Rattle.icn_codegen.proofs.linking.main_code.Goals as goal
 

@@ -1,5 +1,5 @@
 use Rattle.std.proofs.Common.{◌≡◌, drop, []}
-use Rattle.icn_meaning.specs.Calls.{calls_of}
+use Rattle.icn_meaning.specs.WriteCalls.{calls_of}
 use Rattle.icn_codegen.specs.Linked.{with_integers}
 use Rattle.icn_codegen.specs.Mentions.{integers_of_calls}
 use Rattle.icn_codegen.proofs.mentions.integers_of.Given as goal

@@ -1,5 +1,5 @@
 use Rattle.std.proofs.Common.{◌≡◌, drop, map}
-use Rattle.icn_meaning.specs.Calls.{calls_of}
+use Rattle.icn_meaning.specs.WriteCalls.{calls_of}
 use Rattle.icn_codegen.specs.Linked.{with_texts}
 use Rattle.icn_codegen.specs.Mentions.{texts_of_calls}
 use Rattle.icn_codegen.proofs.mentions.strings_of.Given as goal

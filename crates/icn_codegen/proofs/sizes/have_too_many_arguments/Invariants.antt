@@ -2,7 +2,7 @@ use Rattle.std.proofs.Common.{◌≡◌, drop, length}
 use Rattle.std.specs.Prelude.{List}
 use Rattle.std.specs.List.{list_any}
 use Rattle.icn_form.specs.declared.tree.Argument.{Argument}
-use Rattle.icn_meaning.specs.Calls.{calls_of}
+use Rattle.icn_meaning.specs.WriteCalls.{calls_of}
 use Rattle.icn_codegen.specs.Sizes.{is_over}
 use Rattle.icn_codegen.proofs.sizes.have_too_many_arguments.Given as goal
 

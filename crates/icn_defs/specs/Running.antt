@@ -1,0 +1,57 @@
+-- How a run starts and what is observed of it, whether it is the evaluation of a program or the run of its code.
+use Rattle.std.specs.Prelude.{ℕ, ℤ, zero, List, [], ◌∷◌, length, replicate, Option, None, Some}
+use Rattle.std.specs.List.{sum_by}
+use Rattle.icn_value.specs.Limited.{Bounds}
+use Rattle.icn_value.specs.Values.{Value, Null, Integer, Text}
+use Rattle.icn_value.specs.Store.{Heap, World, Outside}
+use Rattle.icn_defs.specs.Conversions.{integer_of}
+use Rattle.icn_defs.specs.Rows.{Row, ◌>>◌, costs_bytes}
+use Rattle.icn_defs.specs.StepRows.{list_row}
+
+-- a scanning pair, as an open scan saves the one around it
+pub record Pair : Type 0 where
+  pub subject : List ℕ
+  pub position : ℕ
+
+-- How a run ends: `main` returned or failed; it was ended with a status; by a run-time error; or one turn more would be past the bound.
+pub data Ending : Type 0 where
+  Done : Ending
+  Exit : ℕ → Ending
+  Errored : ℕ → Ending
+  AtBound : Ending
+
+-- how a run ended, the input left, and what was put on both outputs, with the report of an error or of the bound
+pub record Observed : Type 0 where
+  pub ending : Ending
+  pub outside : Outside
+
+-- The heap before anything is made. Co-expression 0 is `&main`, whose results are counted like those of the others.
+abbrev pub first_heap : Bounds → Heap
+first_heap bounds = record { lists = []; sets = []; tables = []; records = []; coexps = zero ∷ []; strings = zero; cells = zero; bounds = bounds }
+
+-- the world before anything is done, with these globals and so many statics
+abbrev pub first_world : Bounds → List Value → ℕ → World
+first_world bounds globals statics = record {
+  heap = first_heap bounds;
+  subject = [];
+  position = 1;
+  random = zero;
+  globals = globals;
+  statics = replicate statics Null;
+}
+
+abbrev pub text_values : List (List ℕ) → List Value
+text_values [] = []
+text_values (word ∷ words) = Text word ∷ text_values words
+
+-- the list of the argument words: their bytes are charged first, and then its cells
+abbrev pub words_row : List (List ℕ) → Row
+words_row words = do
+  costs_bytes (sum_by length words)
+  list_row (text_values words)
+
+-- The number by which a value is called, where it is called by number: an integer, or a text that converts to one.
+abbrev pub number_of : Value → Option ℤ
+number_of (Integer n) = Some n
+number_of (Text bytes) = integer_of (Text bytes)
+number_of value = None

@@ -1,0 +1,113 @@
+-- Co-expressions: how they are made, entered and left.
+use Rattle.std.specs.Prelude.{ℕ, zero, suc, ◌==◌, Bool, true, false, List, [], ◌∷◌, ◌++◌, length, Option, Some, None, slice_get, slice_index_or, slice_set}
+use Rattle.icn_tree.specs.Trees.{Tree, Empty}
+use Rattle.icn_value.specs.Values.{Value, ACoexp, Item, Val}
+use Rattle.icn_defs.specs.StepRows.{coexpression_row}
+use Rattle.icn_meaning.specs.Contexts.{frame_of, activation_of, Works, Nothing, ◌and_then◌, Choices, NoChoice, ◌or_else◌, Result, Exhaust, Surroundings, InCall, Status, Fresh, Active, Waiting, AfterResult, Exhausted, Coexpression, Store, State, eval, succeed, fail, hop, lost}
+use Rattle.icn_meaning.specs.Turns.{turn, errs, locals_of, within, made, value}
+
+abbrev pub coexpression_of : ℕ → Store → Coexpression
+coexpression_of c st = slice_index_or st.coexpressions c (record { status = Exhausted; activator = zero; body = Empty; procedure = zero; values = [] })
+
+abbrev pub status_of : ℕ → Store → Status
+status_of c st = (coexpression_of c st).status
+
+abbrev pub activator_of : ℕ → Store → ℕ
+activator_of c st = (coexpression_of c st).activator
+
+abbrev pub with_coexpression : ℕ → Coexpression → Store → Store
+with_coexpression c co st = record st { coexpressions = slice_set st.coexpressions c co }
+
+abbrev pub with_status : ℕ → Status → Store → Store
+with_status c status st = let co = coexpression_of c st in with_coexpression c (record co { status = status }) st
+
+abbrev pub with_activator : ℕ → ℕ → Store → Store
+with_activator c activator st = let co = coexpression_of c st in with_coexpression c (record co { activator = activator }) st
+
+-- this one becomes the active one
+abbrev pub activated : ℕ → Store → Store
+activated c st = with_status c Active (record st { active = c })
+
+-- one more result of a co-expression is counted
+abbrev pub counted : ℕ → Store → Store
+counted c st = let counts = st.world.heap.coexps in
+    record st { world = record st.world { heap = record st.world.heap { coexps = slice_set counts c (suc (slice_index_or counts c zero)) } } }
+
+abbrev pub with_fresh : Tree → ℕ → List Value → Store → Store
+with_fresh e procedure locals st = let co : Coexpression = record { status = Fresh; activator = zero; body = e; procedure = procedure; values = locals } in
+    record st { coexpressions = st.coexpressions ++ co ∷ [] }
+
+-- a fresh one is made in an activation: its expression, the procedure that it stands in, and the values of the locals
+abbrev pub fresh : Tree → ℕ → List Value → ℕ → Works → Choices → Store → State
+fresh e procedure locals a k r st = made (coexpression_row (length locals) (within a st)) a r st (λ v st. succeed (Val v) k r (with_fresh e procedure locals st))
+
+-- `create e`, with the present values of the locals
+abbrev pub create : Tree → Surroundings → Works → Choices → Store → State
+create e s k r st = turn st (λ st. fresh e (frame_of s).procedure (locals_of (activation_of s) st) (activation_of s) k r st)
+
+abbrev pub refreshed_from : Option Coexpression → ℕ → Works → Choices → Store → State
+refreshed_from (Some co) a k r st = fresh co.body co.procedure co.values a k r st
+refreshed_from None a k r st = lost
+
+-- `^C`, with the values of its creation
+abbrev pub refreshed : Value → ℕ → Works → Choices → Store → State
+refreshed (ACoexp zero) a k r st = errs 215 (Some (ACoexp zero)) r st
+refreshed (ACoexp (suc n)) a k r st = refreshed_from (slice_get st.coexpressions (suc n)) a k r st
+refreshed v a k r st = errs 118 (Some v) r st
+
+-- a fresh one begins in an activation of its own, where so many activations were made
+abbrev pub begins : Coexpression → ℕ → Store → State
+begins co a st = eval co.body
+    (InCall (record { activation = a; procedure = co.procedure; level = 1 }) (Result a and_then Nothing) (Exhaust or_else NoChoice))
+    (Result a and_then Nothing) (Exhaust or_else NoChoice) (record st { activations = st.activations ++ co.values ∷ [] })
+
+-- one that was in this status is entered with a value
+abbrev pub entered_in : Status → ℕ → Value → Store → State
+entered_in Fresh c v st = begins (coexpression_of c st) (length st.activations) (activated c st)
+entered_in (Waiting k r) c v st = succeed (Val v) k r (activated c st)
+entered_in (AfterResult r) c v st = fail r (activated c st)
+entered_in Exhausted c v st = hop c (record st { active = c })
+entered_in Active c v st = lost
+
+abbrev pub entered : ℕ → Value → Store → State
+entered c v st = entered_in (status_of c st) c v st
+
+-- one that was in this status is entered with failure
+abbrev pub failed_in : Status → ℕ → Store → State
+failed_in (Waiting k r) c st = fail r (activated c st)
+failed_in (AfterResult r) c st = fail r (activated c st)
+failed_in Exhausted c st = hop c (record st { active = c })
+failed_in Fresh c st = lost
+failed_in Active c st = lost
+
+abbrev pub failed : ℕ → Store → State
+failed c st = failed_in (status_of c st) c st
+
+-- the active one waits, and is the activator of the one that is entered
+abbrev pub sent : Value → ℕ → Works → Choices → Store → State
+sent v c k r st = entered c v (with_activator c st.active (with_status st.active (Waiting k r) st))
+
+abbrev pub sent_if : Bool → Status → Value → ℕ → Works → Choices → Store → State
+sent_if is_active Exhausted v c k r st = fail r st
+sent_if true status v c k r st = succeed (Val v) k r st
+sent_if false status v c k r st = sent v c k r st
+
+-- `v @ C`
+abbrev pub activate : Value → Value → Works → Choices → Store → State
+activate v (ACoexp c) k r st = sent_if (c == st.active) (status_of c st) v c k r st
+activate v other k r st = errs 118 (Some other) r st
+
+-- the active one gives a result to its activator
+abbrev pub gives : Value → Choices → Store → State
+gives v r st = entered (activator_of st.active st) v (counted st.active (with_status st.active (AfterResult r) st))
+
+abbrev pub result : Item → ℕ → Choices → Store → State
+result x a r st = turn st (λ st. value x a r st (λ v. gives v r st))
+
+-- the active one is exhausted, and its activator is entered with failure
+abbrev pub exhaust : Store → State
+exhaust st = turn st (λ st. failed (activator_of st.active st) (with_status st.active Exhausted st))
+
+-- an exhausted one passes failure on to its activator
+abbrev pub hopped : ℕ → Store → State
+hopped c st = turn st (λ st. failed (activator_of c st) st)

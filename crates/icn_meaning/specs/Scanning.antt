@@ -1,0 +1,43 @@
+-- Scanning: a cell of the store keeps the pair that an open scan saved.
+use Rattle.std.specs.Prelude.{ℕ, List, [], ◌∷◌, ◌++◌, length, slice_index_or, slice_set}
+use Rattle.icn_meaning.specs.Contexts.{Surroundings, InCall, InScan, InLoop, Pair, Store}
+
+abbrev pub present : Store → Pair
+present st = record { subject = st.world.subject; position = st.world.position }
+
+abbrev pub saved_in : ℕ → Store → Pair
+saved_in p st = slice_index_or st.saved p (record { subject = []; position = 1 })
+
+abbrev pub with_pair : Pair → Store → Store
+with_pair pair st = record st { world = record st.world { subject = pair.subject; position = pair.position } }
+
+-- the cell that the next scan saves its pair in
+abbrev pub new_cell : Store → ℕ
+new_cell st = length st.saved
+
+-- the present pair is saved in a new cell, and the text is scanned from its start on
+abbrev pub entered : List ℕ → Store → Store
+entered text st = with_pair (record { subject = text; position = 1 }) (record st { saved = st.saved ++ present st ∷ [] })
+
+-- the pair of the cell becomes the present one
+abbrev pub restored : ℕ → Store → Store
+restored p st = with_pair (saved_in p st) st
+
+-- the present pair and that of the cell change places
+abbrev pub exchanged : ℕ → Store → Store
+exchanged p st = with_pair (saved_in p st) (record st { saved = slice_set st.saved p (present st) })
+
+abbrev pub exchanged_if : List ℕ → Store → Store
+exchanged_if [] st = st
+exchanged_if (p ∷ []) st = exchanged p st
+exchanged_if (p ∷ q ∷ cells) st = exchanged_if (q ∷ cells) st
+
+-- the open scans, the newest first
+abbrev pub scans_of : Surroundings → List ℕ
+scans_of (InCall frame k r) = []
+scans_of (InScan p s) = p ∷ scans_of s
+scans_of (InLoop s k r a rn) = scans_of s
+
+-- the present pair changes places with that of the oldest open scan, if there is one
+abbrev pub exchanged_oldest : Surroundings → Store → Store
+exchanged_oldest s st = exchanged_if (scans_of s) st

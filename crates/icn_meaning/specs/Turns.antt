@@ -1,0 +1,70 @@
+-- How a run ends early, what is a turn, and how a row sees the store.
+use Rattle.std.specs.Prelude.{ℕ, suc, nat_lt, Bool, true, false, List, [], ◌∷◌, ◌++◌, Option, slice_index_or, slice_set, codes}
+use Rattle.icn_value.specs.Values.{Value, Local, Whole, Part, Item, Val, Var}
+use Rattle.icn_value.specs.Store.{Setting}
+use Rattle.icn_defs.specs.Rows.{Outcome, Fails, Gives, Suspends, Error, Ends}
+use Rattle.icn_defs.specs.StepRows.{value_row}
+use Rattle.icn_defs.specs.Errors.{error_report}
+use Rattle.icn_meaning.specs.Contexts.{Works, Choices, ◌or_else◌, Resume, Store, State, succeed, fail, over, Ending, Exit, Errored, AtBound}
+
+-- the run ends, and this is put on the error output
+abbrev pub ended : Ending → List ℕ → Store → State
+ended ending text st = over ending (record st { outside = record st.outside { errors = st.outside.errors ++ text } })
+
+-- An error ends the run. This is the one place where errors come to, with the choices that stand there, so that an error can become failure here.
+abbrev pub errs : ℕ → Option Value → Choices → Store → State
+errs n offending r st = ended (Errored n) (error_report st.names st.world.heap n offending) st
+
+abbrev pub turn_if : Bool → Store → (Store → State) → State
+turn_if true st go = go (record st { turns = suc st.turns })
+turn_if false st go = ended AtBound (codes "turn bound reached\n") st
+
+-- A turn is counted before anything of it is done; where as many as the bound were made, the run stands there.
+abbrev pub turn : Store → (Store → State) → State
+turn st go = turn_if (nat_lt st.turns st.world.heap.bounds.turns) st go
+
+abbrev pub locals_of : ℕ → Store → List Value
+locals_of a st = slice_index_or st.activations a []
+
+-- what a row sees in an activation
+abbrev pub within : ℕ → Store → Setting
+within a st = record { world = st.world; locals = locals_of a st; outside = st.outside }
+
+-- the store after it
+abbrev pub after : ℕ → Setting → Store → Store
+after a setting st = record st { world = setting.world; outside = setting.outside; activations = slice_set st.activations a setting.locals }
+
+-- what an operation answers in an activation goes on as this
+abbrev pub answer : Outcome → ℕ → Works → Choices → Store → State
+answer (Fails setting) a k r st = fail r (after a setting st)
+answer (Gives x setting) a k r st = succeed x k r (after a setting st)
+answer (Suspends x m setting) a k r st = succeed x k (Resume a m k or_else r) (after a setting st)
+answer (Error n v setting) a k r st = errs n v r (after a setting st)
+answer (Ends n setting) a k r st = over (Exit n) (after a setting st)
+
+-- A row gives a value, and it goes on with that; or it is an error. What such a row never answers counts as failure.
+abbrev pub valued : Outcome → Choices → Store → (Value → State) → State
+valued (Gives (Val v) setting) r st go = go v
+valued (Error n v setting) r st go = errs n v r st
+valued _ r st go = fail r st
+
+-- the same where the row changes the store
+abbrev pub made : Outcome → ℕ → Choices → Store → (Value → Store → State) → State
+made (Gives (Val v) setting) a r st go = go v (after a setting st)
+made (Error n v setting) a r st go = errs n v r (after a setting st)
+made _ a r st go = fail r st
+
+-- the value of an item, dereferenced in an activation
+abbrev pub value : Item → ℕ → Choices → Store → (Value → State) → State
+value x a r st go = valued (value_row x (within a st)) r st go
+
+-- the values of items, dereferenced from left to right
+abbrev pub values : List Item → ℕ → Choices → Store → (List Value → State) → State
+values [] a r st go = go []
+values (x ∷ xs) a r st go = value x a r st (λ v. values xs a r st (λ vs. go (v ∷ vs)))
+
+-- what leaves an activation: a local of it, or a substring of one, is dereferenced; another variable stays one
+abbrev pub outgoing : Item → ℕ → Choices → Store → (Item → State) → State
+outgoing (Var (Whole (Local n))) a r st go = value (Var (Whole (Local n))) a r st (λ v. go (Val v))
+outgoing (Var (Part (Local n) place size)) a r st go = value (Var (Part (Local n) place size)) a r st (λ v. go (Val v))
+outgoing x a r st go = go x

@@ -1,0 +1,354 @@
+-- Linked marks: a mark has its operands, its newest suspension and the mark outside, and a suspension keeps all of it as it was. What changes between a
+-- result and its resumption is a numbered cell.
+use Rattle.std.specs.Prelude.{ℕ, zero, suc, pred, ◌==◌, Bool, true, false, List, [], ◌∷◌, ◌++◌, length, slice_get, slice_index_or, slice_set, Option, Some, None, if◌then◌else◌}
+use Rattle.std.specs.Option.{option_map}
+use Rattle.icn_run.specs.Rows.{Value, Item}
+use Rattle.icn_run.specs.Calls.{Pair, Why, Alt, Scan, Escan, Proc, Dropped, NoMark, Goes, Repeats, Outside, Calls}
+
+-- a label, if there is one; or one with the cell that says whether it was changed, and the place of the mark, so that a repeated alternation begins again
+-- with its cell
+pub data Label : Type 0 where
+  fixed : Option ℕ → Label
+  flagged : Option ℕ → ℕ → ℕ → Label
+
+-- why, without what changes: a scan has the number of its saved pair
+pub data Reason : Type 0 where
+  because : Why → Reason
+  scanning : ℕ → Reason
+
+mutual
+  -- operands with the newest first, the newest suspension, the saved pairs of the procedure's open scans with the newest first, and what is outside
+  pub data Chain : Type 0 where
+    chain : List Item → Suspensions → List ℕ → Outer → Chain
+
+  -- a suspension with its place
+  pub data Suspensions : Type 0 where
+    none : Suspensions
+    suspension : Reason → ℕ → Chain → Suspensions
+
+  -- a frame has its procedure and the cell of its locals, and that of a call besides its level and the place in the caller
+  pub data Outer : Type 0 where
+    base : (proc activation : ℕ) → Outer
+    call : (proc activation level place : ℕ) → Chain → Outer
+    mark : Label → Chain → Outer
+    limit : ℕ → Chain → Outer
+
+pub record Parked : Type 0 where
+  pub chain : Chain
+  pub place : ℕ
+
+-- The chain that runs with its place; and what changes, each in the list of its type at its number: the locals of each activation; of each repeated
+-- alternation whether it had a result; other labels that marks got; the results that each limit leaves; and saved pairs.
+pub record Linked : Type 0 where
+  pub chain : Chain
+  pub place : ℕ
+  pub activations : List (List Value)
+  pub flags : List Bool
+  pub relabels : List (ℕ × ℕ)
+  pub limits : List ℕ
+  pub saved : List Pair
+
+-- the frame of the procedure that runs
+pub data Frame : Type 0 where
+  at_base : (proc activation : ℕ) → Frame
+  in_call : (proc activation level place : ℕ) → Chain → Frame
+
+abbrev pub frame_of : Outer → Frame
+frame_of (base proc activation) = at_base proc activation
+frame_of (call proc activation level place caller) = in_call proc activation level place caller
+frame_of (mark label (chain items s scans outer)) = frame_of outer
+frame_of (limit count (chain items s scans outer)) = frame_of outer
+
+abbrev pub outer_of : Chain → Outer
+outer_of (chain items s scans outer) = outer
+
+abbrev pub scans_of : Chain → List ℕ
+scans_of (chain items s scans outer) = scans
+
+abbrev pub frame : Linked → Frame
+frame m = frame_of (outer_of m.chain)
+
+abbrev pub with_chain : Chain → Linked → Linked
+with_chain new m = record m { chain = new }
+
+abbrev pub with_saved : ℕ → Pair → Linked → Linked
+with_saved n pair m = record m { saved = slice_set m.saved n pair }
+
+abbrev pub begin : ℕ → List Value → ℕ → Linked → Linked
+begin proc values place m = record m { chain = chain [] none [] (base proc (length m.activations)); place = place; activations = m.activations ++ values ∷ [] }
+
+abbrev pub proc_of : Frame → ℕ
+proc_of (at_base proc activation) = proc
+proc_of (in_call proc activation level place caller) = proc
+
+abbrev pub level_of : Frame → ℕ
+level_of (at_base proc activation) = 1
+level_of (in_call proc activation level place caller) = level
+
+abbrev pub activation_of : Frame → ℕ
+activation_of (at_base proc activation) = activation
+activation_of (in_call proc activation level place caller) = activation
+
+abbrev pub is_base_frame : Frame → Bool
+is_base_frame (at_base proc activation) = true
+is_base_frame (in_call proc activation level place caller) = false
+
+abbrev pub locals : Linked → List Value
+locals m = slice_index_or m.activations (activation_of (frame m)) []
+
+abbrev pub set_locals : List Value → Linked → Linked
+set_locals values m = record m { activations = slice_set m.activations (activation_of (frame m)) values }
+
+abbrev pub pushed : Item → Chain → Chain
+pushed item (chain items s scans outer) = chain (item ∷ items) s scans outer
+
+abbrev pub push : Item → Linked → Linked
+push item m = with_chain (pushed item m.chain) m
+
+abbrev pub popped : Linked → Chain → Option (Item × Linked)
+popped m (chain [] s scans outer) = None
+popped m (chain (item ∷ items) s scans outer) = Some (item, with_chain (chain items s scans outer) m)
+
+abbrev pub pop : Linked → Option (Item × Linked)
+pop m = popped m m.chain
+
+abbrev pub taken : ℕ → List Item → List Item → Option (List Item × List Item)
+taken zero items found = Some (found, items)
+taken (suc n) [] found = None
+taken (suc n) (item ∷ items) found = taken n items (item ∷ found)
+
+abbrev pub take_from : ℕ → Linked → Chain → Option (List Item × Linked)
+take_from n m (chain items s scans outer) = option_map (λ parts. (parts.0, with_chain (chain parts.1 s scans outer) m)) (taken n items [])
+
+abbrev pub take_items : ℕ → Linked → Option (List Item × Linked)
+take_items n m = take_from n m m.chain
+
+abbrev pub first_of_chain : Chain → Option Item
+first_of_chain (chain [] s scans outer) = None
+first_of_chain (chain (item ∷ items) s scans outer) = Some item
+
+abbrev pub below_outer : Outer → Option Item
+below_outer (base proc activation) = None
+below_outer (call proc activation level place caller) = first_of_chain caller
+below_outer (mark label outside) = first_of_chain outside
+below_outer (limit count outside) = first_of_chain outside
+
+abbrev pub below : Linked → Option Item
+below m = below_outer (outer_of m.chain)
+
+-- Marks. One whose label may change, which the place of its instruction tells, has a cell.
+
+abbrev pub opened : Label → Linked → Linked
+opened label m = with_chain (chain [] none (scans_of m.chain) (mark label m.chain)) m
+
+abbrev pub open_mark : (ℕ → ℕ → Bool) → Option ℕ → Linked → Linked
+open_mark repeats label m = if repeats (proc_of (frame m)) (pred m.place)
+    then record (opened (flagged label (length m.flags) (pred m.place)) m) { flags = m.flags ++ false ∷ [] }
+    else opened (fixed label) m
+
+abbrev pub open_limit : ℕ → Linked → Linked
+open_limit count m = record m { chain = chain [] none (scans_of m.chain) (limit (length m.limits) m.chain); limits = m.limits ++ count ∷ [] }
+
+-- the other labels but that of this cell; and that of a cell
+abbrev pub forgotten : ℕ → List (ℕ × ℕ) → List (ℕ × ℕ)
+forgotten flag [] = []
+forgotten flag (entry ∷ others) = if entry.0 == flag then forgotten flag others else (entry ∷ forgotten flag others)
+
+abbrev pub label_of : ℕ → List (ℕ × ℕ) → Option ℕ
+label_of flag [] = None
+label_of flag (entry ∷ others) = if entry.0 == flag then Some entry.1 else label_of flag others
+
+-- the place of the mark itself raises its flag; another label is kept apart
+abbrev pub relabelled_if : Bool → ℕ → ℕ → Linked → Linked
+relabelled_if true label flag m = record m { flags = slice_set m.flags flag true; relabels = forgotten flag m.relabels }
+relabelled_if false label flag m = record m { flags = slice_set m.flags flag false; relabels = (flag, label) ∷ forgotten flag m.relabels }
+
+abbrev pub relabelled : ℕ → Linked → Outer → Option Linked
+relabelled label m (mark (flagged old flag place) outside) = Some (relabelled_if (label == place) label flag m)
+relabelled label m outer = None
+
+abbrev pub relabel : ℕ → Linked → Option Linked
+relabel label m = relabelled label m (outer_of m.chain)
+
+abbrev pub remaining : ℕ → Linked → ℕ
+remaining n m = pred (slice_index_or m.limits n 0)
+
+abbrev pub count_in : Linked → Outer → Option (ℕ × Linked)
+count_in m (limit n outside) = Some (remaining n m, record m { limits = slice_set m.limits n (remaining n m) })
+count_in m outer = None
+
+abbrev pub count_down : Linked → Option (ℕ × Linked)
+count_down m = count_in m (outer_of m.chain)
+
+-- Open scans
+
+abbrev pub saved_at : Linked → ℕ → Pair
+saved_at m n = slice_index_or m.saved n (record { subject = []; position = 1 })
+
+abbrev pub pair_at : Linked → Option ℕ → Option Pair
+pair_at m scan = option_map (saved_at m) scan
+
+abbrev pub first_scan : List ℕ → Option ℕ
+first_scan [] = None
+first_scan (n ∷ scans) = Some n
+
+abbrev pub is_same : Option ℕ → Option ℕ → Bool
+is_same None None = true
+is_same (Some m) (Some n) = m == n
+is_same m n = false
+
+-- from an open scan through older ones to the last before a given one
+abbrev pub oldest_from : Option ℕ → List ℕ → Option ℕ
+oldest_from until [] = None
+oldest_from until (n ∷ scans) = if is_same (first_scan scans) until then Some n else oldest_from until scans
+
+-- the oldest scan that is open and was opened after a given one
+abbrev pub oldest : Option ℕ → List ℕ → Option ℕ
+oldest until scans = if is_same (first_scan scans) until then None else oldest_from until scans
+
+abbrev pub swap_at : Pair → Linked → Option ℕ → Option (Pair × Linked)
+swap_at pair m None = None
+swap_at pair m (Some n) = Some (saved_at m n, with_saved n pair m)
+
+abbrev pub swap_newest : Pair → Linked → Option (Pair × Linked)
+swap_newest pair m = swap_at pair m (slice_get (scans_of m.chain) 0)
+
+abbrev pub swap_oldest : Pair → Linked → Option (Pair × Linked)
+swap_oldest pair m = swap_at pair m (oldest None (scans_of m.chain))
+
+-- Dropping a mark
+
+abbrev pub unmarked : Linked → Chain → Option (Linked × Option Pair)
+unmarked m outside = Some (with_chain outside m, pair_at m (oldest (first_scan (scans_of outside)) (scans_of m.chain)))
+
+abbrev pub unmark_from : Linked → Outer → Option (Linked × Option Pair)
+unmark_from m (mark label outside) = unmarked m outside
+unmark_from m (limit n outside) = unmarked m outside
+unmark_from m outer = None
+
+abbrev pub unmark : Linked → Option (Linked × Option Pair)
+unmark m = unmark_from m (outer_of m.chain)
+
+-- to the label, or to what fails next outside
+abbrev pub dropped_to : Linked → Chain → Option ℕ → Dropped Linked
+dropped_to m outside (Some label) = Goes (record m { chain = outside; place = label })
+dropped_to m outside None = Outside (with_chain outside m)
+
+-- one that got another label is gone to it
+abbrev pub dropped_by : Linked → Chain → Option ℕ → Option ℕ → Dropped Linked
+dropped_by m outside label (Some other) = Repeats (record m { chain = outside; place = other })
+dropped_by m outside label None = dropped_to m outside label
+
+-- where the flag is up it is put down, and the repeated alternation begins again behind its mark
+abbrev pub repeated : Option ℕ → ℕ → ℕ → Chain → Linked → Bool → Dropped Linked
+repeated label flag place outside m true =
+    Repeats (record m { chain = chain [] none (scans_of outside) (mark (flagged label flag place) outside); place = suc place; flags = slice_set m.flags flag false })
+repeated label flag place outside m false = dropped_by m outside label (label_of flag m.relabels)
+
+abbrev pub dropped : Linked → Outer → Dropped Linked
+dropped m (mark (fixed label) outside) = dropped_to m outside label
+dropped m (mark (flagged label flag place) outside) = repeated label flag place outside m (slice_index_or m.flags flag false)
+dropped m (limit n outside) = Outside (with_chain outside m)
+dropped m outer = NoMark
+
+abbrev pub drop_mark : Linked → Dropped Linked
+drop_mark m = dropped m (outer_of m.chain)
+
+-- Suspending
+
+abbrev pub suspended : Suspensions → Chain → Chain
+suspended s (chain items old scans outer) = chain items s scans outer
+
+-- the newest open scan is left
+abbrev pub without_scan : Chain → Chain
+without_scan (chain items s [] outer) = chain items s [] outer
+without_scan (chain items s (n ∷ scans) outer) = chain items s scans outer
+
+abbrev pub with_scan : ℕ → Chain → Chain
+with_scan n (chain items s scans outer) = chain items s (n ∷ scans) outer
+
+abbrev pub suspend : Why → Linked → Linked
+suspend (Scan pair) m = let n = length m.saved in
+    record m { chain = with_scan n (suspended (suspension (scanning n) m.place m.chain) m.chain); saved = m.saved ++ pair ∷ [] }
+suspend Escan m = with_chain (without_scan (suspended (suspension (because Escan) m.place m.chain) m.chain)) m
+suspend why m = with_chain (suspended (suspension (because why) m.place m.chain) m.chain) m
+
+abbrev pub suspend_outer : Linked → Outer → Option Linked
+suspend_outer m (mark label outside) = Some (with_chain (suspended (suspension (because Alt) m.place m.chain) outside) m)
+suspend_outer m (limit n outside) = Some (with_chain (suspended (suspension (because Alt) m.place m.chain) outside) m)
+suspend_outer m outer = None
+
+abbrev pub suspend_mark : Linked → Option Linked
+suspend_mark m = suspend_outer m (outer_of m.chain)
+
+abbrev pub suspend_frame : Linked → Frame → Option Linked
+suspend_frame m (at_base proc activation) = None
+suspend_frame m (in_call proc activation level place caller) = Some (record m { chain = suspended (suspension (because Proc) m.place m.chain) caller; place = place })
+
+abbrev pub suspend_proc : Linked → Option Linked
+suspend_proc m = suspend_frame m (frame m)
+
+abbrev pub why_of : Reason → Linked → Why
+why_of (because why) m = why
+why_of (scanning n) m = Scan (saved_at m n)
+
+abbrev pub resume_from : Linked → Chain → Option (Why × Linked)
+resume_from m (chain items none scans outer) = None
+resume_from m (chain items (suspension reason place inside) scans outer) = Some (why_of reason m, record m { chain = inside; place = place })
+
+abbrev pub resume : Linked → Option (Why × Linked)
+resume m = resume_from m m.chain
+
+-- Calls
+
+abbrev pub enter : ℕ → List Value → Linked → Linked
+enter proc values m = record m {
+  chain = chain [] none [] (call proc (length m.activations) (suc (level_of (frame m))) m.place m.chain);
+  place = 0;
+  activations = m.activations ++ values ∷ [];
+}
+
+abbrev pub leave_frame : Linked → Frame → Option Linked
+leave_frame m (at_base proc activation) = None
+leave_frame m (in_call proc activation level place caller) = Some (record m { chain = caller; place = place })
+
+abbrev pub leave : Linked → Option Linked
+leave m = leave_frame m (frame m)
+
+-- no stack yet
+abbrev pub empty : Linked
+empty = record { chain = chain [] none [] (base 0 0); place = 0; activations = []; flags = []; relabels = []; limits = []; saved = [] }
+
+-- The calls, where it is told at which places of each procedure marks are opened whose labels may change. For translated code these are the places where
+-- repeated alternations begin, and then the cells are those of the meaning; where it is said of all places, no code lacks a cell.
+abbrev pub linked : (ℕ → ℕ → Bool) → Calls Parked Linked
+linked repeats = record {
+  kept = λ m. record { chain = m.chain; place = m.place };
+  taken_up = λ k m. record m { chain = k.chain; place = k.place };
+  begin = begin;
+  proc = λ m. proc_of (frame m);
+  level = λ m. level_of (frame m);
+  is_base = λ m. is_base_frame (frame m);
+  locals = locals;
+  set_locals = set_locals;
+  place = λ m. m.place;
+  go = λ place m. record m { place = place };
+  push = push;
+  pop = pop;
+  take = take_items;
+  below = below;
+  mark = open_mark repeats;
+  limit = open_limit;
+  relabel = relabel;
+  count_down = count_down;
+  unmark = unmark;
+  drop_mark = drop_mark;
+  suspend = suspend;
+  suspend_mark = suspend_mark;
+  suspend_proc = suspend_proc;
+  resume = resume;
+  swap_newest = swap_newest;
+  swap_oldest = swap_oldest;
+  enter = enter;
+  leave = leave;
+}

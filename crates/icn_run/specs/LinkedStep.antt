@@ -1,0 +1,34 @@
+-- The run of a code on linked marks.
+use Rattle.std.specs.Prelude.{◌==◌, ℕ, Bool, true, false, List}
+use Rattle.std.specs.List.{list_any}
+use Rattle.icn_code.specs.declared.instr.Instr.{Instr}
+use Rattle.icn_code.specs.declared.instr.Instr.TheVariants.{Chfail}
+use Rattle.icn_code.specs.Codes.{Tables}
+use Rattle.icn_run.specs.Chains.{Parked, Linked, linked, empty}
+use Rattle.icn_run.specs.Step as Step
+use Rattle.icn_run.specs.Step.{Program, Observed, instrs_of}
+
+abbrev pub State : Type 0
+State = Step.State Parked Linked
+
+-- The places at which marks are opened whose labels may change are told by `repeats`.
+abbrev pub step : (ℕ → ℕ → Bool) → Program → State → State
+step repeats P state = Step.step (linked repeats) P state
+
+abbrev pub steps : (ℕ → ℕ → Bool) → Program → ℕ → State → State
+steps repeats P n state = Step.steps (linked repeats) P n state
+
+abbrev pub start : (ℕ → ℕ → Bool) → Program → List (List ℕ) → List ℕ → State
+start repeats P words input = Step.start (linked repeats) empty P words input
+
+-- a label of a `chfail` stands there
+abbrev pub is_chfail_to : ℕ → Instr → Bool
+is_chfail_to place (Chfail label) = label == place
+is_chfail_to place instr = false
+
+-- marks may have their labels changed wherever they are opened
+abbrev pub repeats_anywhere : ℕ → ℕ → Bool
+repeats_anywhere proc place = true
+
+abbrev pub repeats_of : Tables → ℕ → ℕ → Bool
+repeats_of tables proc place = list_any (is_chfail_to place) (instrs_of tables proc)

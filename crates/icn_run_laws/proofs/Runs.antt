@@ -1,0 +1,20 @@
+-- Every run of a code whose labels go forward ends by its bound.
+use Rattle.std.proofs.Common.{ℕ, List, Bool}
+use Rattle.icn_run.specs.Stacks.{flat, empty}
+use Rattle.icn_run.specs.Chains.{linked}
+use Rattle.icn_run.specs.Step.{Program}
+use Rattle.icn_run.specs.FlatStep as Flat
+use Rattle.icn_run.specs.LinkedStep as Linked
+use Rattle.icn_run_laws.specs.Measure.{Forward, EndsFrom}
+use Rattle.icn_run.specs.Chains.{empty as no_chain}
+use Rattle.icn_run_laws.proofs.Ends.{ends}
+use Rattle.icn_run_laws.proofs.FlatEnds.{flat_weighs}
+use Rattle.icn_run_laws.proofs.LinkedEnds.{linked_weighs}
+
+-- on flat stacks
+pub flat_ends : (N : ℕ) (P : Program) → Forward N P → (words : List (List ℕ)) (input : List ℕ) → EndsFrom flat P (Flat.start P words input)
+flat_ends N P code words input = ends flat N (flat_weighs N) P code empty words input
+
+-- on linked marks
+pub linked_ends : (repeats : ℕ → ℕ → Bool) (N : ℕ) (P : Program) → Forward N P → (words : List (List ℕ)) (input : List ℕ) → EndsFrom (linked repeats) P (Linked.start repeats P words input)
+linked_ends repeats N P code words input = ends (linked repeats) N (linked_weighs repeats N) P code no_chain words input

@@ -1,0 +1,49 @@
+-- States of the run on linked marks that a run on flat stacks follows: all that a run comes to.
+use Rattle.std.proofs.Common.{ℕ, suc, List, Bool}
+use Rattle.icn_value.specs.Limited.{Bounds}
+use Rattle.icn_code.specs.Codes.{Tables}
+use Rattle.icn_run.specs.Stacks.{Frames, flat}
+use Rattle.icn_run.specs.Chains.{Parked, Linked, linked}
+use Rattle.icn_run.specs.Step.{Program, State, Store, running, step, steps}
+use Rattle.icn_run.specs.LinkedStep as L
+use Rattle.icn_run.specs.FlatStep as F
+use Rattle.icn_run_laws.specs.SameStates.{Opens, same_running, same_failing, same_hopping, same_over, same_stuck, lost}
+use Rattle.icn_run_laws.proofs.RowsKeep.{rows_keep}
+use Rattle.icn_run_laws.proofs.ScansApart.{ScansApart}
+use Rattle.icn_run_laws.proofs.OnLinked.{linked_agrees, now_apart}
+use Rattle.icn_run_laws.proofs.OnSteps.{Sm, same_step}
+use Rattle.icn_run_laws.proofs.OnMarks.{Lacks}
+use Rattle.icn_run_laws.proofs.SecondLaw.{starts}
+
+module _ (repeats : ℕ → ℕ → Bool) (tables : Tables) (bounds : Bounds) where
+  abbrev Q : Program
+  Q = record { tables = tables; bounds = bounds }
+
+  abbrev Sames : State Parked Linked → State Frames Frames → Type 0
+  Sames l f = Sm (linked repeats) flat Q (Lacks repeats (Opens Q)) (linked_agrees repeats (Opens Q)) rows_keep l f
+
+  pub record Shadowed (l : State Parked Linked) : Type 0 where
+    pub shadow : State Frames Frames
+    pub same : Sames l shadow
+
+  pub shadowed_start : (words : List (List ℕ)) (input : List ℕ) → Shadowed (L.start repeats Q words input)
+  shadowed_start words input = record { shadow = F.start Q words input; same = starts rows_keep repeats tables words input bounds }
+
+  pub shadowed_step : (l : State Parked Linked) → Shadowed l → Shadowed (step (linked repeats) Q l)
+  shadowed_step l g = let s = same_step (linked repeats) flat Q (Lacks repeats (Opens Q)) (linked_agrees repeats (Opens Q)) rows_keep g.same in record { shadow = steps flat Q (suc s.0) g.shadow; same = s.1 }
+
+  abbrev ApartAt : State Parked Linked → Type 0
+  ApartAt (running m st) = ScansApart m
+  ApartAt l = Unit {0}
+
+  apart_at : {l : State Parked Linked} {f : State Frames Frames} → Sames l f → ApartAt l
+  apart_at (same_running {m'} {m} st ks' h) = now_apart repeats (Opens Q) h.world st.active m' m h.here
+  apart_at (same_failing st ks' h) = tt
+  apart_at (same_hopping st ks' h) = tt
+  apart_at same_over = tt
+  apart_at same_stuck = tt
+  apart_at (lost x) = tt
+
+  -- where it runs, its open scans are another each
+  pub shadowed_apart : (m : Linked) (st : Store Parked) → Shadowed (running m st) → ScansApart m
+  shadowed_apart m st g = apart_at g.same

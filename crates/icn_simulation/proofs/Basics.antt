@@ -1,0 +1,189 @@
+-- The words that the steps of the first law are proved with: what the code comes to, turns, and what outcomes of rows become.
+use Rattle.std.proofs.Common.{◌≡◌, ℕ, suc, ◌+◌, Bool, true, false, ◌<◌, ◌≤◌, ◌⊎◌, inl, inr, List, [], ◌∷◌, ◌++◌, length, Option, Some, None, refl, sym, ap, ◌∙◌, subst, arith}
+use Rattle.std.specs.Prelude.{nat_lt, if◌then◌else◌}
+use Rattle.icn_code.specs.declared.instr.Instr.{Instr}
+use Rattle.icn_code.specs.declared.instr.Instr.TheVariants as I
+use Rattle.icn_tree.specs.Trees as T
+use Rattle.icn_tree.specs.Trees.{Tree, Trees, MaybeTree, Clauses, Absent, Present, NoTrees, More}
+use Rattle.icn_value.specs.Values.{Value, Integer, Text, Chars, Item, Val, Var, Whole, Static}
+use Rattle.icn_value.specs.Store.{Setting}
+use Rattle.icn_defs.specs.Errors.{error_report}
+use Rattle.icn_defs.specs.Rows.{Outcome, Fails, Gives, Suspends, Error, Ends}
+use Rattle.icn_defs.specs.StepRows.{value_row}
+use Rattle.icn_meaning.specs.Contexts as M
+use Rattle.icn_meaning.specs.Contexts.{Works, Nothing, ◌and_then◌, Choices, NoChoice, ◌or_else◌, Surroundings}
+use Rattle.icn_meaning.specs.Turns as MT
+use Rattle.icn_run.specs.Chains.{outer_of, proc_of, frame_of, fixed, flagged, Chain, chain, Suspensions, none, Outer, mark, Parked, Linked, opened}
+use Rattle.icn_run.specs.Step as S
+use Rattle.icn_simulation.specs.Linkage.{Here, Loads, l_null, l_integer, l_string, l_cset, l_local, l_static, l_global, Opens, o_mark, o_mark0}
+use Rattle.icn_simulation.specs.Relation.{proc_in, activation_in, OfWorks, OfChoices, OfAll, linked_of, store_of, Rel, at_succeed, at_fail, at_over, r_resume}
+use Rattle.icn_simulation.specs.Ground.{Ground, code_of, machine}
+
+abbrev pub LState : Type 0
+LState = S.State Parked Linked
+
+abbrev pub l_step : Ground → LState → LState
+l_step G l = S.step (machine G) (code_of G) l
+
+abbrev pub l_steps : Ground → ℕ → LState → LState
+l_steps G n l = S.steps (machine G) (code_of G) n l
+
+-- how much is left to do without an instruction
+abbrev mutual
+  pub weigh : Tree → ℕ
+  weigh (T.Parentheses place es) = suc (total es)
+  weigh (T.Compound place es) = suc (total es)
+  weigh (T.Listing place es) = suc (total es)
+  weigh (T.Call place f es) = suc (weigh f)
+  weigh (T.CoCall place f es) = suc (weigh f)
+  weigh (T.Subscript place x is) = weigh x + counted is
+  weigh (T.Section place kind x i j) = suc (weigh x)
+  weigh (T.Field place x name) = suc (weigh x)
+  weigh (T.Prefix place o e) = suc (weigh e)
+  weigh (T.Binary place o a b) = suc (weigh a + weigh b)
+  weigh (T.To place a b by) = suc (weigh a)
+  weigh e = 0
+
+  pub total : Trees → ℕ
+  total NoTrees = 0
+  total (More e es) = suc (weigh e + total es)
+
+  pub counted : Trees → ℕ
+  counted NoTrees = 0
+  counted (More e es) = suc (counted es)
+
+abbrev pub first_weight : Trees → ℕ
+first_weight NoTrees = 0
+first_weight (More e es) = suc (weigh e)
+
+abbrev pub weight : M.State → ℕ
+weight (M.eval e v k r st) = weigh e
+weight (M.succeed x (M.Args form xs es v and_then k) r st) = first_weight es
+weight (M.succeed x (M.Update o y v and_then k) r st) = suc (weigh y)
+weight state = 0
+
+-- from l the code comes to a state that corresponds to s
+pub record Reach (G : Ground) (s : M.State) (l : LState) : Type 0 where
+  pub turns : ℕ
+  pub to : LState
+  pub comes : l_steps G turns l ≡ to
+  pub rel : Rel G.L s to
+
+-- one step of the code
+pub record To (G : Ground) (l l' : LState) : Type 0 where
+  pub by : l_step G l ≡ l'
+
+pub record Goes (G : Ground) (w : ℕ) (s : M.State) (l : LState) : Type 0 where
+  pub reach : Reach G s l
+  pub less : (1 ≤ reach.turns) ⊎ (weight s < w)
+
+-- the running machine at a chain and a place; and the failing one
+abbrev pub run : Chain → ℕ → M.Store → List (S.Coexp Parked) → LState
+run m p st ls = S.running (linked_of m p st) (store_of st ls)
+
+abbrev pub fails : Chain → ℕ → M.Store → List (S.Coexp Parked) → LState
+fails m p st ls = S.failing (linked_of m p st) (store_of st ls)
+
+abbrev pub ran : Linked → S.Store Parked → LState
+ran m st = S.running m st
+
+-- which co-expression runs, and how all of them correspond
+abbrev pub Live : Ground → Bool → ℕ → List M.Coexpression → List (S.Coexp Parked) → Type 0
+Live G first active cos ls = (first ≡ (S.is_main active)) × OfAll G.L cos ls
+
+module _ (G : Ground) where
+  pub stay : {s : M.State} {l : LState} → Rel G.L s l → Reach G s l
+  stay {s} {l} h = record { turns = 0; to = l; comes = refl; rel = h }
+
+  pub silent : {s : M.State} {l : LState} (w : ℕ) → Rel G.L s l → weight s < w → Goes G w s l
+  silent w h lt = record { reach = stay h; less = inr lt }
+
+  pub goes : {s : M.State} {l l' : LState} (w : ℕ) → To G l l' → Reach G s l' → Goes G w s l
+  goes w e g = record { reach = record { turns = suc g.turns; to = g.to; comes = ap (l_steps G g.turns) e.by ∙ g.comes; rel = g.rel }; less = inl (omega arith) }
+
+  pub then_reach : {s : M.State} {l l' : LState} → To G l l' → Reach G s l' → Reach G s l
+  then_reach e g = (goes 0 e g).reach
+
+  pub stepped : {i : Instr} (p : ℕ) (m : Chain) (st : M.Store) (ls : List (S.Coexp Parked)) → Here G.L (proc_of (frame_of (outer_of m))) p i → l_step G (run m p st ls) ≡ S.instruction (machine G) (code_of G) i (linked_of m (suc p) st) (store_of st ls)
+  stepped p m st ls h = ap (λ i. S.with_found i (λ i. S.instruction (machine G) (code_of G) i (linked_of m (suc p) st) (store_of st ls))) h
+
+  pub at_step : {i : Instr} (p : ℕ) (m : Chain) (st : M.Store) (ls : List (S.Coexp Parked)) → Here G.L (proc_of (frame_of (outer_of m))) p i → To G (run m p st ls) (S.instruction (machine G) (code_of G) i (linked_of m (suc p) st) (store_of st ls))
+  at_step p m st ls h = record { by = stepped p m st ls h }
+
+  -- a mark is opened
+  open_if : (b : Bool) (label : Option ℕ) (m : Chain) (p : ℕ) (st : M.Store) (ls : List (S.Coexp Parked)) → b ≡ false → ran (if b then record (opened (flagged label (length st.flags) p) (linked_of m (suc p) st)) { flags = st.flags ++ false ∷ [] } else opened (fixed label) (linked_of m (suc p) st)) (store_of st ls) ≡ ran (opened (fixed label) (linked_of m (suc p) st)) (store_of st ls)
+  open_if b label m p st ls e = ap (λ (b : Bool). ran (if b then record (opened (flagged label (length st.flags) p) (linked_of m (suc p) st)) { flags = st.flags ++ false ∷ [] } else opened (fixed label) (linked_of m (suc p) st)) (store_of st ls)) e
+
+  pub opens : {xs : List Item} {s : Suspensions} {z : List ℕ} {o : Outer} {label : Option ℕ} (p : ℕ) (st : M.Store) (ls : List (S.Coexp Parked)) → Opens G.L (proc_in o) p label → To G (run (chain xs s z o) p st ls) (run (chain [] none z (mark (fixed label) (chain xs s z o))) (suc p) st ls)
+  opens {xs} {s} {z} {o} p st ls (o_mark {l = l} h e) = record { by = stepped p (chain xs s z o) st ls h ∙ open_if (G.L.repeats (proc_in o) p) (Some l) (chain xs s z o) p st ls e }
+  opens {xs} {s} {z} {o} p st ls (o_mark0 h e) = record { by = stepped p (chain xs s z o) st ls h ∙ open_if (G.L.repeats (proc_in o) p) None (chain xs s z o) p st ls e }
+
+  pub opens_flagged : {xs : List Item} {s : Suspensions} {z : List ℕ} {o : Outer} (p : ℕ) (st : M.Store) (ls : List (S.Coexp Parked)) → Here G.L (proc_in o) p I.Mark0 → G.L.repeats (proc_in o) p ≡ true →
+      To G (run (chain xs s z o) p st ls) (run (chain [] none z (mark (flagged None (length st.flags) p) (chain xs s z o))) (suc p) (record st { flags = st.flags ++ false ∷ [] }) ls)
+  opens_flagged {xs} {s} {z} {o} p st ls h e = let m = chain xs s z o in record { by = stepped p m st ls h ∙ ap (λ (b : Bool). ran (if b then record (opened (flagged None (length st.flags) p) (linked_of m (suc p) st)) { flags = st.flags ++ false ∷ [] } else opened (fixed None) (linked_of m (suc p) st)) (store_of st ls)) e }
+
+  -- an item is pushed
+  loaded : {j : ℕ} {i : Instr} {x : Item} {xs : List Item} {s : Suspensions} {z : List ℕ} {o : Outer} (p : ℕ) (st : M.Store) (ls : List (S.Coexp Parked)) → j ≡ proc_in o → Loads G.L j i x → S.instruction (machine G) (code_of G) i (linked_of (chain xs s z o) p st) (store_of st ls) ≡ run (chain (x ∷ xs) s z o) p st ls
+  loaded p st ls e l_null = refl
+  loaded {xs = xs} {s = s} {z = z} {o = o} p st ls e (l_integer h) = ap (λ n. S.with_found n (λ n. S.pushed (machine G) (Val (Integer n)) (linked_of (chain xs s z o) p st) (store_of st ls))) h
+  loaded {xs = xs} {s = s} {z = z} {o = o} p st ls e (l_string h) = ap (λ n. S.with_found n (λ n. S.pushed (machine G) (Val (Text n)) (linked_of (chain xs s z o) p st) (store_of st ls))) h
+  loaded {xs = xs} {s = s} {z = z} {o = o} p st ls e (l_cset h) = ap (λ n. S.with_found n (λ n. S.pushed (machine G) (Val (Chars (S.members_of n))) (linked_of (chain xs s z o) p st) (store_of st ls))) h
+  loaded p st ls e l_local = refl
+  loaded {xs = xs} {s = s} {z = z} {o = o} p st ls e (l_static {k = k}) = ap (λ j. S.pushed (machine G) (Var (Whole (Static (S.statics_before G.L.tables j + k)))) (linked_of (chain xs s z o) p st) (store_of st ls)) (sym e)
+  loaded p st ls e l_global = refl
+
+  pub loads : {i : Instr} {x : Item} {xs : List Item} {s : Suspensions} {z : List ℕ} {o : Outer} (p : ℕ) (st : M.Store) (ls : List (S.Coexp Parked)) → Here G.L (proc_in o) p i → Loads G.L (proc_in o) i x → To G (run (chain xs s z o) p st ls) (run (chain (x ∷ xs) s z o) (suc p) st ls)
+  loads {xs = xs} {s = s} {z = z} {o = o} p st ls h l = record { by = stepped p (chain xs s z o) st ls h ∙ loaded (suc p) st ls refl l }
+
+  -- A turn
+
+  turn_by : (b : Bool) (st : M.Store) (ls : List (S.Coexp Parked)) (f : M.Store → M.State) (g : S.Store Parked → LState) → Reach G (f (record st { turns = suc st.turns })) (g (store_of (record st { turns = suc st.turns }) ls)) → Reach G (MT.turn_if b st f) (S.turn_if b (store_of st ls) g)
+  turn_by true st ls f g h = h
+  turn_by false st ls f g h = stay at_over
+
+  pub on_turn : (st : M.Store) (ls : List (S.Coexp Parked)) (f : M.Store → M.State) (g : S.Store Parked → LState) → Reach G (f (record st { turns = suc st.turns })) (g (store_of (record st { turns = suc st.turns }) ls)) → Reach G (MT.turn st f) (S.turn (code_of G) (store_of st ls) g)
+  on_turn st ls f g h = turn_by (nat_lt st.turns st.world.heap.bounds.turns) st ls f g h
+
+  -- What an outcome becomes
+
+  pub errored : (r : Choices) (n : ℕ) (v : Option Value) (st : M.Store) (ls : List (S.Coexp Parked)) → Reach G (MT.errs n v r st) (S.errs n v (store_of st ls))
+  errored r n v st ls = let rel : Rel G.L (MT.errs n v r st) (S.errs n v (store_of st ls)) = at_over {ending = M.Errored n} {st = record st { outside = record st.outside { errors = st.outside.errors ++ error_report st.names st.world.heap n v } }} in stay rel
+
+  pub on_answer : {first : Bool} {k : Works} {r : Choices} {p : ℕ} {xs : List Item} {s : Suspensions} {z : List ℕ} {o : Outer} (out : Outcome) (st : M.Store) (ls : List (S.Coexp Parked)) → Live G first st.active st.coexpressions ls → OfWorks G.L first k p xs z o → OfChoices G.L first r s z o → Reach G (MT.answer out (activation_in o) k r st) (S.outcome (machine G) out (linked_of (chain xs s z o) p st) (store_of st ls))
+  on_answer (Fails seen) st ls a k r = stay (at_fail a.0 a.1 r)
+  on_answer (Gives x seen) st ls a k r = stay (at_succeed a.0 a.1 k r)
+  on_answer (Suspends x m seen) st ls a k r = stay (at_succeed a.0 a.1 k (r_resume k r))
+  on_answer (Error n v seen) st ls a k r = stay at_over
+  on_answer (Ends n seen) st ls a k r = stay at_over
+
+  pub on_valued : {first : Bool} {r : Choices} {s : Suspensions} {z : List ℕ} {o : Outer} (p : ℕ) (xs : List Item) (out : Outcome) (st : M.Store) (ls : List (S.Coexp Parked)) (f : Value → M.State) (g : Value → LState) → Live G first st.active st.coexpressions ls → OfChoices G.L first r s z o → ((v : Value) → Reach G (f v) (g v)) → Reach G (MT.valued out r st f) (S.valued out (linked_of (chain xs s z o) p st) (store_of st ls) g)
+  on_valued p xs (Fails seen) st ls f g a r h = stay (at_fail a.0 a.1 r)
+  on_valued p xs (Gives (Val v) seen) st ls f g a r h = h v
+  on_valued p xs (Gives (Var x) seen) st ls f g a r h = stay (at_fail a.0 a.1 r)
+  on_valued p xs (Suspends x m seen) st ls f g a r h = stay (at_fail a.0 a.1 r)
+  on_valued {r = r} p xs (Error n v seen) st ls f g a r1 h = errored r n v st ls
+  on_valued p xs (Ends n seen) st ls f g a r h = stay (at_fail a.0 a.1 r)
+
+  -- an item is dereferenced in the activation that runs
+  pub on_value : {first : Bool} {r : Choices} {a : ℕ} {s : Suspensions} {z : List ℕ} {o : Outer} (p : ℕ) (xs : List Item) (x : Item) (st : M.Store) (ls : List (S.Coexp Parked)) (f : Value → M.State) (g : Value → LState) → a ≡ activation_in o → Live G first st.active st.coexpressions ls → OfChoices G.L first r s z o → ((v : Value) → Reach G (f v) (g v)) → Reach G (MT.value x a r st f) (S.with_value (machine G) x (linked_of (chain xs s z o) p st) (store_of st ls) g)
+  on_value {r = r} {a = a} {s = s} {z = z} {o = o} p xs x st ls f g e live r' h =
+      subst (λ a. Reach G (MT.value x a r st f) (S.with_value (machine G) x (linked_of (chain xs s z o) p st) (store_of st ls) g)) (sym e) (on_valued p xs (value_row x (MT.within (activation_in o) st)) st ls f g live r' h)
+
+  pub on_values : {first : Bool} {r : Choices} {a : ℕ} {s : Suspensions} {z : List ℕ} {o : Outer} (p : ℕ) (xs : List Item) (items : List Item) (st : M.Store) (ls : List (S.Coexp Parked)) (f : List Value → M.State) (g : List Value → LState) → a ≡ activation_in o → Live G first st.active st.coexpressions ls → OfChoices G.L first r s z o → ((vs : List Value) → Reach G (f vs) (g vs)) → Reach G (MT.values items a r st f) (S.with_values (machine G) items (linked_of (chain xs s z o) p st) (store_of st ls) g)
+  on_values p xs [] st ls f g e live r h = h []
+  on_values {r = r'} {a = a} {s = s} {z = z} {o = o} p xs (x ∷ items) st ls f g e live r h = on_value p xs x st ls (λ v. MT.values items a r' st (λ vs. f (v ∷ vs))) (λ v. S.with_values (machine G) items (linked_of (chain xs s z o) p st) (store_of st ls) (λ vs. g (v ∷ vs))) e live r
+      (λ v. on_values p xs items st ls (λ vs. f (v ∷ vs)) (λ vs. g (v ∷ vs)) e live r (λ vs. h (v ∷ vs)))
+
+  -- something is made in the activation that runs
+  made_by : {first : Bool} {r : Choices} {s : Suspensions} {z : List ℕ} {o : Outer} (p : ℕ) (xs : List Item) (out : Outcome) (st : M.Store) (ls : List (S.Coexp Parked)) (f : Value → M.Store → M.State) (g : Value → Linked → S.Store Parked → LState) → Live G first st.active st.coexpressions ls → OfChoices G.L first r s z o → ((v : Value) (seen : Setting) → Reach G (f v (MT.after (activation_in o) seen st)) (g v (linked_of (chain xs s z o) p (MT.after (activation_in o) seen st)) (store_of (MT.after (activation_in o) seen st) ls))) → Reach G (MT.made out (activation_in o) r st f) (S.made (machine G) out (linked_of (chain xs s z o) p st) (store_of st ls) g)
+  made_by p xs (Fails seen) st ls f g a r h = stay (at_fail a.0 a.1 r)
+  made_by p xs (Gives (Val v) seen) st ls f g a r h = h v seen
+  made_by p xs (Gives (Var x) seen) st ls f g a r h = stay (at_fail a.0 a.1 r)
+  made_by p xs (Suspends x m seen) st ls f g a r h = stay (at_fail a.0 a.1 r)
+  made_by {r = r} {o = o} p xs (Error n v seen) st ls f g a r1 h = errored r n v (MT.after (activation_in o) seen st) ls
+  made_by p xs (Ends n seen) st ls f g a r h = stay (at_fail a.0 a.1 r)
+
+  pub on_made : {first : Bool} {r : Choices} {a : ℕ} {s : Suspensions} {z : List ℕ} {o : Outer} (p : ℕ) (xs : List Item) (row : Setting → Outcome) (st : M.Store) (ls : List (S.Coexp Parked)) (f : Value → M.Store → M.State) (g : Value → Linked → S.Store Parked → LState) → a ≡ activation_in o → Live G first st.active st.coexpressions ls → OfChoices G.L first r s z o → ((v : Value) (seen : Setting) → Reach G (f v (MT.after a seen st)) (g v (linked_of (chain xs s z o) p (MT.after a seen st)) (store_of (MT.after a seen st) ls))) → Reach G (MT.made (row (MT.within a st)) a r st f) (S.made (machine G) (row (S.here (machine G) (linked_of (chain xs s z o) p st) (store_of st ls))) (linked_of (chain xs s z o) p st) (store_of st ls) g)
+  on_made {r = r} {a = a} {s = s} {z = z} {o = o} p xs row st ls f g e live r' h =
+      let P : ℕ → Type 0 = λ a. ((v : Value) (seen : Setting) → Reach G (f v (MT.after a seen st)) (g v (linked_of (chain xs s z o) p (MT.after a seen st)) (store_of (MT.after a seen st) ls))) → Reach G (MT.made (row (MT.within a st)) a r st f) (S.made (machine G) (row (S.here (machine G) (linked_of (chain xs s z o) p st) (store_of st ls))) (linked_of (chain xs s z o) p st) (store_of st ls) g) in
+      subst P (sym e) (λ h. made_by p xs (row (MT.within (activation_in o) st)) st ls f g live r' h) h

@@ -1,0 +1,5 @@
+use Rattle.icn_simulation.proofs.Composed.{means_flat}
+use Rattle.icn_simulation.proofs.laws.means_then_flat.Goals as goal
+
+pub returns : goal.returns
+returns c = means_flat

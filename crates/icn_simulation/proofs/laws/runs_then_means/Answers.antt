@@ -1,0 +1,5 @@
+use Rattle.icn_simulation.proofs.Routines.{first_law}
+use Rattle.icn_simulation.proofs.laws.runs_then_means.Goals as goal
+
+pub returns : goal.returns
+returns c = λ program tables bounds words input seen t b m. (first_law program tables bounds words input seen t b).1 m

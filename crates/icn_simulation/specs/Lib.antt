@@ -1,0 +1,10 @@
+pub mod Linkage
+pub mod Standing
+pub mod Relation
+pub mod Ground
+pub mod Law
+pub mod Translatable
+pub mod Translated
+pub mod Flat
+pub mod Translation
+pub mod Naming
