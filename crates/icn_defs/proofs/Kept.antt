@@ -1,4 +1,4 @@
--- Every row keeps the number of locals, and the limits.
+-- Every row keeps the numbers of locals, globals and statics, and the limits.
 use Rattle.std.proofs.Common.{◌≡◌, ℕ, zero, suc, refl, ◌∙◌, Bool, true, false, List, [], ◌∷◌, length, Option, Some, None}
 use Rattle.std.specs.Prelude.{slice_set, ℤ, pos, negsuc, Result, Ok, Err}
 use Rattle.std.proofs.lemmas.List.{length-set}
@@ -40,12 +40,12 @@ k_suspends b i r s k = record { is = k }
 pub k_fails : (b : Setting) (s : Setting) → Keeps b s → KI b (Fails s)
 k_fails b s k = record { is = k }
 
-pub keeps : (b s : Setting) → length s.locals ≡ length b.locals → s.world.heap.bounds ≡ b.world.heap.bounds → Keeps b s
-keeps b s e f = record { locals = e; bounds = f }
+pub keeps : (b s : Setting) → length s.locals ≡ length b.locals → length s.world.globals ≡ length b.world.globals → length s.world.statics ≡ length b.world.statics → s.world.heap.bounds ≡ b.world.heap.bounds → Keeps b s
+keeps b s e g h f = record { locals = e; globals = g; statics = h; bounds = f }
 
--- a setting with as many locals and the same limits
-pub follows : (b s a : Setting) → Keeps b a → length s.locals ≡ length a.locals → s.world.heap.bounds ≡ a.world.heap.bounds → Keeps b s
-follows b s a k e f = record { locals = e ∙ k.locals; bounds = f ∙ k.bounds }
+-- a setting with as many locals, globals and statics, and the same limits
+pub follows : (b s a : Setting) → Keeps b a → length s.locals ≡ length a.locals → length s.world.globals ≡ length a.world.globals → length s.world.statics ≡ length a.world.statics → s.world.heap.bounds ≡ a.world.heap.bounds → Keeps b s
+follows b s a k e g h f = record { locals = e ∙ k.locals; globals = g ∙ k.globals; statics = h ∙ k.statics; bounds = f ∙ k.bounds }
 
 -- Words
 
@@ -109,7 +109,7 @@ k_keyword b refused Position value next a k r f = by_number (integer_of value) r
   where
     by_place : (n : ℤ) → integer_of value ≡ Some n → (o : Option ℕ) → place_of n (length a.world.subject) ≡ o → KI b (assigns_keyword refused Position value next a)
     by_place n e None g = rw e (rw g (r a k))
-    by_place n e (Some place) g = rw e (rw g (f (having_position place a) (record { locals = k.locals; bounds = k.bounds })))
+    by_place n e (Some place) g = rw e (rw g (f (having_position place a) (record { locals = k.locals; globals = k.globals; statics = k.statics; bounds = k.bounds })))
 
     by_number : (o : Option ℤ) → integer_of value ≡ o → KI b (assigns_keyword refused Position value next a)
     by_number None e = rw e (record { is = tt })
@@ -117,11 +117,17 @@ k_keyword b refused Position value next a k r f = by_number (integer_of value) r
 k_keyword b refused Random value next a k r f = search (words, f)
 
 local_set : (a b : Setting) (place : ℕ) (value : Value) → Keeps b a → Keeps b (record a { locals = slice_set a.locals place value })
-local_set a b place value k = record { locals = length-set a.locals place value ∙ k.locals; bounds = k.bounds }
+local_set a b place value k = record { locals = length-set a.locals place value ∙ k.locals; globals = k.globals; statics = k.statics; bounds = k.bounds }
+
+global_set : (a b : Setting) (place : ℕ) (value : Value) → Keeps b a → Keeps b (record a { world = record a.world { globals = slice_set a.world.globals place value } })
+global_set a b place value k = record { locals = k.locals; globals = length-set a.world.globals place value ∙ k.globals; statics = k.statics; bounds = k.bounds }
+
+static_set : (a b : Setting) (place : ℕ) (value : Value) → Keeps b a → Keeps b (record a { world = record a.world { statics = slice_set a.world.statics place value } })
+static_set a b place value k = record { locals = k.locals; globals = k.globals; statics = length-set a.world.statics place value ∙ k.statics; bounds = k.bounds }
 
 k_root : (b : Setting) (refused : Row) (root : Root) (value : Value) (next : Row) (a : Setting) → Keeps b a → ((s : Setting) → Keeps b s → KI b (refused s)) → ((s : Setting) → Keeps b s → KI b (next s)) → KI b (assigns_root refused root value next a)
-k_root b refused (Global place) value next a k r f = search (words, f)
-k_root b refused (Static place) value next a k r f = search (words, f)
+k_root b refused (Global place) value next a k r f = f (record a { world = record a.world { globals = slice_set a.world.globals place value } }) (global_set a b place value k)
+k_root b refused (Static place) value next a k r f = f (record a { world = record a.world { statics = slice_set a.world.statics place value } }) (static_set a b place value k)
 k_root b refused (Local place) value next a k r f = f (record a { locals = slice_set a.locals place value }) (local_set a b place value k)
 k_root b refused (Element id number) value next a k r f = search (words, f)
 k_root b refused (Field id place) value next a k r f = search (words, f)
@@ -165,13 +171,13 @@ k_text_elements b None v text a k = search words
 
 k_elements : (b : Setting) (x : Item) (v : Value) (g : Group) (a : Setting) → Keeps b a → KI b (elements_of x v g a)
 k_elements b x v (Textual text) a k = search (k_text_elements, words) depth 12
-k_elements b x v (Listed id) a k = search (k_text_elements, words) depth 12
-k_elements b x v (Collected id) a k = search (k_text_elements, words) depth 12
-k_elements b x v (Tabled id) a k = search (k_text_elements, words) depth 12
-k_elements b x v (Recorded id) a k = search (k_text_elements, words) depth 12
-k_elements b x v (Filed file) a k = search (k_text_elements, words) depth 12
-k_elements b x v (Activated id) a k = search (k_text_elements, words) depth 12
-k_elements b x v Single a k = search (k_text_elements, words) depth 12
+k_elements b x v (Listed id) a k = search words depth 12
+k_elements b x v (Collected id) a k = search words depth 12
+k_elements b x v (Tabled id) a k = search words depth 12
+k_elements b x v (Recorded id) a k = search words depth 12
+k_elements b x v (Filed file) a k = search words depth 12
+k_elements b x v (Activated id) a k = search words depth 12
+k_elements b x v Single a k = search words depth 12
 
 k_random_of : (b : Setting) (x : Item) (v : Value) (g : Group) (a : Setting) → Keeps b a → KI b (random_of x v g a)
 k_random_of b x v (Textual text) a k = search (words) depth 12
@@ -234,7 +240,7 @@ bounds_without (SetKeeper id) x h = refl
 bounds_without (TableKeeper id) x h = refl
 
 k_without : (b a : Setting) (c : Keeper) (x : Value) → Keeps b a → Keeps b (having_heap (without_key c x) a)
-k_without b a c x k = record { locals = k.locals; bounds = bounds_without c x a.world.heap ∙ k.bounds }
+k_without b a c x k = record { locals = k.locals; globals = k.globals; statics = k.statics; bounds = bounds_without c x a.world.heap ∙ k.bounds }
 
 k_pairs : (b : Setting) (xs : List (Value × Value)) (next : List Value → Row) (a : Setting) → Keeps b a → ((vs : List Value) (s : Setting) → Keeps b s → KI b (next vs s)) → KI b (pair_lists xs next a)
 k_pairs b [] next a k f = f [] a k
@@ -248,14 +254,14 @@ k_table_sorted b names h xs (pos (suc (suc (suc (suc zero))))) v a k = search (w
 k_table_sorted b names h xs n v a k = record { is = tt }
 
 k_sorted : (b : Setting) (names : Names) (v : Value) (n : ℤ) (w : Value) (g : Group) (a : Setting) → Keeps b a → KI b (sorted_of names v n w g a)
-k_sorted b names v n w (Textual text) a k = search (k_table_sorted, words) depth 12
-k_sorted b names v n w (Listed id) a k = search (k_table_sorted, words) depth 12
-k_sorted b names v n w (Collected id) a k = search (k_table_sorted, words) depth 12
+k_sorted b names v n w (Textual text) a k = search words depth 12
+k_sorted b names v n w (Listed id) a k = search words depth 12
+k_sorted b names v n w (Collected id) a k = search words depth 12
 k_sorted b names v n w (Tabled id) a k = search (k_table_sorted, words) depth 12
-k_sorted b names v n w (Recorded id) a k = search (k_table_sorted, words) depth 12
-k_sorted b names v n w (Filed file) a k = search (k_table_sorted, words) depth 12
-k_sorted b names v n w (Activated id) a k = search (k_table_sorted, words) depth 12
-k_sorted b names v n w Single a k = search (k_table_sorted, words) depth 12
+k_sorted b names v n w (Recorded id) a k = search words depth 12
+k_sorted b names v n w (Filed file) a k = search words depth 12
+k_sorted b names v n w (Activated id) a k = search words depth 12
+k_sorted b names v n w Single a k = search words depth 12
 
 k_pieces : (b : Setting) (vs : List Value) (next : List Piece → Row) (a : Setting) → ((ps : List Piece) → KI b (next ps a)) → KI b (pieces vs next a)
 k_pieces b [] next a f = f []
@@ -384,7 +390,7 @@ k_again b (Found text1 text place last) a k = search rows depth 16
 k_again b (Among bytes text place last) a k = search rows depth 16
 
 self : (a : Setting) → Keeps a a
-self a = record { locals = refl; bounds = refl }
+self a = record { locals = refl; globals = refl; statics = refl; bounds = refl }
 
 -- an operation, a function and what is resumed keep them
 pub operation_keeps : (op : Op) (xs : List Item) (a : Setting) → KeepsIn a (operation_row op xs a)

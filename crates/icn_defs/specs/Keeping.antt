@@ -1,10 +1,12 @@
--- What every row keeps: the number of locals, and the limits.
+-- What every row keeps: how many locals, globals and statics there are, and the limits.
 use Rattle.std.specs.Prelude.{◌≡◌, length}
 use Rattle.icn_value.specs.Store.{Setting}
 use Rattle.icn_defs.specs.Rows.{Row, Outcome, Fails, Gives, Suspends, Error, Ends}
 
 pub record Keeps (before after : Setting) : Type 0 where
   pub locals : length after.locals ≡ length before.locals
+  pub globals : length after.world.globals ≡ length before.world.globals
+  pub statics : length after.world.statics ≡ length before.world.statics
   pub bounds : after.world.heap.bounds ≡ before.world.heap.bounds
 
 -- where a row goes on, its setting keeps them

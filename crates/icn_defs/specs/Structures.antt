@@ -1,5 +1,5 @@
 -- The functions over lists, sets, tables and records.
-use Rattle.std.specs.Prelude.{◌+◌, ℕ, zero, suc, ℤ, pos, Bool, not, List, [], ◌∷◌, ◌++◌, length, filter, drop, fold, replicate, slice_get, flat_map, Option, None, Some, is_some, if◌then◌else◌}
+use Rattle.std.specs.Prelude.{◌+◌, ℕ, zero, suc, ℤ, pos, Bool, not, List, [], ◌∷◌, ◌++◌, length, filter, drop, fold, replicate, slice_get, flat_map, Option, None, Some, is_some}
 use Rattle.std.specs.Ordering.{ordering_then}
 use Rattle.std.specs.declared.cmp.Ordering.{Ordering}
 use Rattle.icn_structs.specs.Numbered.{Numbered, leftmost, rightmost, without_left, without_right, with_left, with_right}

@@ -23,7 +23,8 @@ pub fn numbers_lead_back()
     ensures keyword_numbers { (n : ℕ) (keyword : Keyword) → keyword_of n ≡ Some keyword → keyword_number keyword ≡ n }
 {}
 
-/// Where an operation, a function or a resumption goes on, the activation at hand has as many locals as before, and the limits are the same.
+/// Where an operation, a function or a resumption goes on, there are as many locals of the activation at hand, globals and statics as before,
+/// and the limits are the same.
 pub fn rows_keep()
     ensures operations { (op : Op) (items : List Item) (at : Setting) → KeepsIn at (operation_row op items at) }
     ensures functions { (names : Names) (func : Func) (items : List Item) (at : Setting) → KeepsIn at (function_row names func items at) }

@@ -10,7 +10,8 @@ use Rattle.std.proofs.lemmas.List.Elements.{filter-append}
 use Rattle.std.proofs.lemmas.Bool.{cases_lt, eq-eqb, ne_eqb}
 use Rattle.std.proofs.lemmas.Bool.Decides.{eqb_tells}
 use Rattle.icn_value.specs.declared.cset.Cset.{Cset}
-use Rattle.icn_value.specs.Csets.{has, members, members_below, HasMembers}
+use Rattle.icn_value.specs.Csets.{has, members_below, HasMembers}
+use Rattle.icn_value.specs.Members.{members, members_of}
 
 -- Tests of a bit
 
@@ -136,6 +137,14 @@ filtered a b from (suc n) same = step (same from (omega arith) (omega arith)) (f
     step : a from ≡ b from → filter a (range_with_len (from + 1) n) ≡ filter b (range_with_len (from + 1) n) → filter a (from ∷ range_with_len (from + 1) n) ≡ filter b (from ∷ range_with_len (from + 1) n)
     step here rest = rw here (rw rest refl)
 
-pub members_by : (cset : Cset) (test : ℕ → Bool) → HasMembers cset test → members cset ≡ filter test (range_with_len 0 256)
-unfolding members_below
+-- all 256 bytes are below 256
+all_below : (cset : Cset) → members_below cset 256 ≡ members_of cset
+unfolding members_below members_of
+all_below cset = refl
+
+pub counted : (cset : Cset) (count byte : ℕ) → count ≡ length (members_below cset byte) → 256 ≤ byte → byte ≤ 256 → count ≡ length (members_of cset)
+counted cset count byte is low high = let last : byte ≡ 256 = omega arith in is ∙ (ap (λ n. length (members_below cset n)) last ∙ ap length (all_below cset))
+
+pub members_by : (cset : Cset) (test : ℕ → Bool) → HasMembers cset test → members_of cset ≡ members test
+unfolding members_of
 members_by cset test has_them = filtered (has cset) test 0 256 (λ k low high. has_them.is k (omega arith))

@@ -1,4 +1,4 @@
--- Sets of bytes as truth values, and the csets that they stand for.
+-- Sets of bytes as truth values.
 use Rattle.std.specs.Prelude.{◌≡◌, ◌<◌, ◌==◌, ℕ, ◌/◌, ◌%◌, Bool, List, filter, slice_index}
 use Rattle.std.specs.Int.{bit_at}
 use Rattle.std.specs.List.{range_with_len}
@@ -11,10 +11,6 @@ has cset byte = bit_at (slice_index cset.bits (byte / 8)) (byte % 8) == 1
 -- the members below a number, ascending
 unfoldable pub members_below : Cset → ℕ → List ℕ
 members_below cset n = filter (has cset) (range_with_len 0 n)
-
--- the cset that the truth values stand for: its member bytes, ascending
-abbrev pub members : Cset → List ℕ
-members cset = members_below cset 256
 
 -- of the 256 bytes, the members are those that pass
 pub record HasMembers (cset : Cset) (test : ℕ → Bool) : Type 0 where

@@ -9,7 +9,8 @@ pub struct Cset {
 }
 
 impl Cset {
-    ghost use Rattle.icn_value.specs.Csets.{has, members, HasMembers};
+    ghost use Rattle.icn_value.specs.Csets.{has, HasMembers};
+    ghost use Rattle.icn_value.specs.Members.{members_of};
 
     /// The cset without members.
     pub fn empty() -> Cset
@@ -76,7 +77,7 @@ impl Cset {
 
     /// How many members there are.
     pub fn size(&self) -> u16
-        ensures { result ≡ length (members self.now) }
+        ensures { result ≡ length (members_of self.now) }
     {
         let mut count = 0;
         for byte in 0..256u16 {
