@@ -5,3 +5,4 @@ pub mod Store
 pub mod Members
 pub mod Sameness
 pub mod Sizes
+pub mod Changes

@@ -2,12 +2,14 @@
 #![tactic(auto)]
 
 mod cset;
+mod full;
 mod item;
 mod limits;
 mod residual;
 mod val;
 
 pub use cset::Cset;
+pub use full::Full;
 pub use item::{Item, KeywordVariable, Pair, Root, VarRef};
 pub use limits::Limits;
 pub use residual::{Mover, Residual};
