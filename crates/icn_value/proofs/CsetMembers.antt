@@ -72,17 +72,17 @@ byte_alike : (a b : Cset) → members_of a ≡ members_of b → (k : ℕ) → k 
     → slice_index a.bits k ≡ slice_index b.bits k
 byte_alike a b same k few fits fits' =
     same_from_bits_below 8 _ _ fits fits' (λ i below.
-      let place : (k * 8 + i) / 8 ≡ k = omega arith in
-      let bit : (k * 8 + i) % 8 ≡ i = omega arith in
-      let alike : has a (k * 8 + i) ≡ has b (k * 8 + i) = has_alike a b same (k * 8 + i) (omega arith) in
-      bit_by (bit_at (slice_index a.bits k) i) (bit_at (slice_index b.bits k) i) (bit_at-lt _ _) (bit_at-lt _ _) (rw (place, bit) at alike))
+    let place : (k * 8 + i) / 8 ≡ k = omega arith in
+    let bit : (k * 8 + i) % 8 ≡ i = omega arith in
+    let alike : has a (k * 8 + i) ≡ has b (k * 8 + i) = has_alike a b same (k * 8 + i) (omega arith) in
+    bit_by (bit_at (slice_index a.bits k) i) (bit_at (slice_index b.bits k) i) (bit_at-lt _ _) (bit_at-lt _ _) (rw (place, bit) at alike))
 
 -- the bytes of two sets are the same where they have the same members
 pub bits_alike : (a b : Cset) → length a.bits ≡ 32 → length b.bits ≡ 32 → All (λ byte. byte < 256) a.bits → All (λ byte. byte < 256) b.bits
     → members_of a ≡ members_of b → a.bits ≡ b.bits
 bits_alike a b size size' bytes bytes' same =
     same_lists a.bits b.bits (size ∙ sym size') (λ k d few.
-      let few' : k < length b.bits = omega arith in
-      get_or_default_zero a.bits k d few
-      ∙ byte_alike a b same k (omega arith) (bytes k 0 few) (bytes' k 0 few')
-      ∙ sym (get_or_default_zero b.bits k d few'))
+    let few' : k < length b.bits = omega arith in
+    get_or_default_zero a.bits k d few
+    ∙ byte_alike a b same k (omega arith) (bytes k 0 few) (bytes' k 0 few')
+    ∙ sym (get_or_default_zero b.bits k d few'))
