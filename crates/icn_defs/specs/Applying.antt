@@ -148,6 +148,7 @@ again (UndoExchange mover x y old_x old_y) = undo_exchange_again mover x y old_x
 again (UndoPosition old) = undo_position_again old
 again (Counting n last step) = counting_again n last step
 again (Sequence n step) = sequence_again n step
-again (Balanced wanted opening closing text place last) = balanced_again wanted opening closing text place last
+again (Balanced wanted opening closing text place last) =
+    balanced_again wanted opening closing text place last
 again (Found wanted text place last) = found_from wanted text (place + 1) last
 again (Among bytes text place last) = among_from bytes text (place + 1) last

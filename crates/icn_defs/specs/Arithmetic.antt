@@ -18,7 +18,8 @@ quotient m n = if int_eq n (pos 0) then Err 201 else within_64_bits (int_div m n
 abbrev pub remainder : ℤ → ℤ → Result ℤ ℕ
 remainder m n = if int_eq n (pos 0) then Err 202 else within_64_bits (int_rem m n)
 
--- to an exponent below 0, which is -(e + 1): 1 gives 1, -1 gives 1 or -1 by its parity, 0 divides by zero, and others give 0
+-- to an exponent below 0, which is -(e + 1): 1 gives 1, -1 gives 1 or -1 by its parity, 0 divides by zero,
+-- and others give 0
 abbrev pub inverse_power : ℤ → ℕ → Result ℤ ℕ
 inverse_power m e =
     if int_eq m (pos 0) then Err 201

@@ -1,4 +1,5 @@
--- How a contract says what a call did that stands for a part of a row: it speaks of all that may follow in the row.
+-- How a contract says what a call did that stands for a part of a row: it speaks of all that may follow in
+-- the row.
 use Rattle.std.specs.Prelude.{◌≡◌}
 use Rattle.icn_value.specs.Store.{Setting}
 use Rattle.icn_defs.specs.Rows.{Row, Finds, Outcome}

@@ -86,8 +86,8 @@ is_null value = false
 
 -- Positions
 
--- The place that a position means in a text of so many bytes: places stand before the first byte, from 1 on, and one behind the last.
--- At or below 0 a position counts from the end.
+-- The place that a position means in a text of so many bytes: places stand before the first byte, from 1
+-- on, and one behind the last. At or below 0 a position counts from the end.
 abbrev pub place_of : ℤ → ℕ → Option ℕ
 place_of (pos zero) size = Some (size + 1)
 place_of (pos (suc n)) size = if nat_le n size then Some (suc n) else None
@@ -98,7 +98,8 @@ place_of (negsuc n) size = if nat_lt n size then Some (size - n) else None
 -- an item goes in front of the first one that it is less than
 abbrev pub sorted_in : {A : Type 0} → (A → A → Ordering) → A → List A → List A
 sorted_in cmp item [] = item ∷ []
-sorted_in cmp item (other ∷ others) = if is_lt (cmp item other) then item ∷ (other ∷ others) else other ∷ sorted_in cmp item others
+sorted_in cmp item (other ∷ others) =
+    if is_lt (cmp item other) then item ∷ (other ∷ others) else other ∷ sorted_in cmp item others
 
 abbrev pub sorted_onto : {A : Type 0} → (A → A → Ordering) → List A → List A → List A
 sorted_onto cmp placed [] = placed

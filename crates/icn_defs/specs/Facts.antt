@@ -1,4 +1,5 @@
--- What holds of each setting, item and residual that a row is given, and of those that it leaves. Each fact is a test.
+-- What holds of each setting, item and residual that a row is given, and of those that it leaves. Each fact
+-- is a test.
 use Rattle.std.specs.Prelude.{ℕ, pos, int_le, not, [], ◌∷◌, ◌+◌, ◌^◌, ◌&&◌, ◌+ℤ◌, nat_lt, nat_le, Bool, true, List, length, is_some, Option, None, Some}
 use Rattle.std.specs.List.{list_all}
 use Rattle.std.specs.Map.{keys_of}
@@ -41,10 +42,12 @@ are_live names heap values = list_all (is_live names heap) values
 
 -- The heap and the world
 
--- The numbers of the elements: each element that was ever pushed or put cost a cell, so that the first number is above 0 less the cells charged,
--- and the one after the last at most 1 more than these.
+-- The numbers of the elements: each element that was ever pushed or put cost a cell, so that the first
+-- number is above 0 less the cells charged, and the one after the last at most 1 more than these.
 abbrev pub is_numbered : Heap → Numbered Value → Bool
-is_numbered heap list = int_le (pos 1) (list.number +ℤ pos heap.cells) && int_le (list.number +ℤ pos (length list.items)) (pos (1 + heap.cells))
+is_numbered heap list =
+    int_le (pos 1) (list.number +ℤ pos heap.cells)
+    && int_le (list.number +ℤ pos (length list.items)) (pos (1 + heap.cells))
 
 abbrev pub is_list : Names → Heap → Numbered Value → Bool
 is_list names heap list = is_numbered heap list && are_live names heap list.items
@@ -61,15 +64,19 @@ abbrev pub is_pair : Names → Heap → Value × Value → Bool
 is_pair names heap pair = is_live names heap pair.0 && is_live names heap pair.1
 
 abbrev pub is_table : Names → Heap → Table → Bool
-is_table names heap table = differ (keys_of table.pairs) && (is_live names heap table.default && list_all (is_pair names heap) table.pairs)
+is_table names heap table =
+    differ (keys_of table.pairs) && (is_live names heap table.default
+    && list_all (is_pair names heap) table.pairs)
 
 abbrev pub is_record : Names → Heap → Record → Bool
-is_record names heap structure = nat_lt structure.kind (length names.records) && are_live names heap structure.fields
+is_record names heap structure =
+    nat_lt structure.kind (length names.records) && are_live names heap structure.fields
 
 -- the sums are within the limits, and these in their ranges
 abbrev pub are_sums : Heap → Bool
 are_sums heap =
-    nat_le heap.strings heap.bounds.strings && (nat_le heap.cells heap.bounds.cells && (nat_le heap.bounds.strings (2 ^ 40) && nat_le heap.bounds.cells 4294967295))
+    nat_le heap.strings heap.bounds.strings && (nat_le heap.cells heap.bounds.cells
+    && (nat_le heap.bounds.strings (2 ^ 40) && nat_le heap.bounds.cells 4294967295))
 
 -- each structure cost a cell, and each co-expression but `&main`
 abbrev pub are_counted : Heap → Bool
@@ -79,14 +86,18 @@ are_counted heap =
 -- what stands in the structures is live
 abbrev pub is_heap : Names → Heap → Bool
 is_heap names heap =
-    are_sums heap && (are_counted heap && (list_all (is_list names heap) heap.lists && (list_all (is_set names heap) heap.sets
-    && (list_all (is_table names heap) heap.tables && (list_all (is_record names heap) heap.records && list_all (λ count. nat_lt count (2 ^ 63)) heap.coexps)))))
+    are_sums heap && (are_counted heap && (list_all (is_list names heap) heap.lists
+    && (list_all (is_set names heap) heap.sets
+    && (list_all (is_table names heap) heap.tables && (list_all (is_record names heap) heap.records
+    && list_all (λ count. nat_lt count (2 ^ 63)) heap.coexps)))))
 
 -- the position is a place of the subject, and `&random` below 2 ^ 31
 abbrev pub is_world : Names → World → Bool
 is_world names world =
-    is_heap names world.heap && (are_bytes world.subject && (nat_le 1 world.position && (nat_le world.position (length world.subject + 1)
-    && (nat_lt world.random (2 ^ 31) && (are_live names world.heap world.globals && are_live names world.heap world.statics)))))
+    is_heap names world.heap && (are_bytes world.subject && (nat_le 1 world.position
+    && (nat_le world.position (length world.subject + 1)
+    && (nat_lt world.random (2 ^ 31) && (are_live names world.heap world.globals
+    && are_live names world.heap world.statics)))))
 
 abbrev pub is_setting : Names → Setting → Bool
 is_setting names setting = is_world names setting.world && are_live names setting.world.heap setting.locals
@@ -99,8 +110,11 @@ is_root names setting (Global place) = nat_lt place (length setting.world.global
 is_root names setting (Static place) = nat_lt place (length setting.world.statics)
 is_root names setting (Local place) = nat_lt place (length setting.locals)
 is_root names setting (Element list number) = nat_lt list (length setting.world.heap.lists) && fits number
-is_root names setting (Field structure place) = nat_lt structure (length setting.world.heap.records) && nat_lt place (length (record_at setting.world.heap structure).fields)
-is_root names setting (Key table key) = nat_lt table (length setting.world.heap.tables) && is_live names setting.world.heap key
+is_root names setting (Field structure place) =
+    nat_lt structure (length setting.world.heap.records)
+    && nat_lt place (length (record_at setting.world.heap structure).fields)
+is_root names setting (Key table key) =
+    nat_lt table (length setting.world.heap.tables) && is_live names setting.world.heap key
 is_root names setting (Keyword word) = true
 
 abbrev pub is_variable : Names → Setting → Variable → Bool
@@ -132,7 +146,9 @@ can_hold (Part root place size) value = is_some (held_text value)
 
 -- an old value of a variable
 abbrev pub is_old : Names → Setting → Variable → Value → Bool
-is_old names setting variable value = is_variable names setting variable && (is_live names setting.world.heap value && can_hold variable value)
+is_old names setting variable value =
+    is_variable names setting variable && (is_live names setting.world.heap value
+    && can_hold variable value)
 
 -- Residuals
 
@@ -146,7 +162,8 @@ is_residual names setting (TableKeys id place) = nat_lt id (length setting.world
 is_residual names setting (RecordFields id place) = nat_lt id (length setting.world.heap.records)
 is_residual names setting InputLines = true
 is_residual names setting (UndoAssign variable old) = is_old names setting variable old
-is_residual names setting (UndoExchange mover x y old_x old_y) = is_old names setting x old_x && is_old names setting y old_y
+is_residual names setting (UndoExchange mover x y old_x old_y) =
+    is_old names setting x old_x && is_old names setting y old_y
 is_residual names setting (UndoPosition old) = nat_le 1 old
 is_residual names setting (Counting n last step) = fits n && (fits last && fits step)
 is_residual names setting (Sequence n step) = fits n && fits step
@@ -163,6 +180,8 @@ live_or_none names setting (Some value) = is_live names setting.world.heap value
 abbrev pub is_outcome : Names → Outcome → Bool
 is_outcome names (Fails setting) = is_setting names setting
 is_outcome names (Gives item setting) = is_setting names setting && is_item names setting item
-is_outcome names (Suspends item rest setting) = is_setting names setting && (is_item names setting item && is_residual names setting rest)
-is_outcome names (Error number offending setting) = is_setting names setting && live_or_none names setting offending
+is_outcome names (Suspends item rest setting) =
+    is_setting names setting && (is_item names setting item && is_residual names setting rest)
+is_outcome names (Error number offending setting) =
+    is_setting names setting && live_or_none names setting offending
 is_outcome names (Ends status setting) = is_setting names setting && nat_lt status 256

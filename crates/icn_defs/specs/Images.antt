@@ -17,13 +17,16 @@ use Rattle.icn_defs.specs.Conversions.{Shape, shape_of, shape_cmp, size_of}
 
 abbrev pub functions : List Func
 functions =
-    Abs ∷ Any ∷ Bal ∷ Center ∷ Char ∷ Copy ∷ Cset ∷ Delete ∷ Exit ∷ Find ∷ Get ∷ Iand ∷ Icom ∷ Image ∷ Insert ∷ IntegerF ∷ Ior ∷ Ishift ∷ Ixor
-    ∷ Key ∷ Left ∷ ListF ∷ Many ∷ Map ∷ Match ∷ Member ∷ Move ∷ Numeric ∷ Ord ∷ Pop ∷ Pos ∷ Pull ∷ Push ∷ Put ∷ Read ∷ Reads ∷ Repl ∷ Reverse ∷ Right
+    Abs ∷ Any ∷ Bal ∷ Center ∷ Char ∷ Copy ∷ Cset ∷ Delete ∷ Exit ∷ Find ∷ Get ∷ Iand ∷ Icom ∷ Image
+    ∷ Insert ∷ IntegerF ∷ Ior ∷ Ishift ∷ Ixor ∷ Key ∷ Left ∷ ListF ∷ Many ∷ Map ∷ Match ∷ Member ∷ Move
+    ∷ Numeric ∷ Ord ∷ Pop ∷ Pos ∷ Pull ∷ Push ∷ Put ∷ Read ∷ Reads ∷ Repl ∷ Reverse ∷ Right
     ∷ Seq ∷ Set ∷ Sort ∷ Stop ∷ String ∷ Tab ∷ Table ∷ Trim ∷ TypeOf ∷ Upto ∷ Write ∷ Writes ∷ []
 
--- the name of a procedure, record constructor or function by its number, and that of a record by its constructor's number among the constructors
+-- the name of a procedure, record constructor or function by its number, and that of a record by its
+-- constructor's number among the constructors
 abbrev pub procedure_name : Names → ℕ → List ℕ
-procedure_name names number = unwrap_or (slice_get (names.procedures ++ (names.records ++ map func_name functions)) number) []
+procedure_name names number =
+    unwrap_or (slice_get (names.procedures ++ (names.records ++ map func_name functions)) number) []
 
 abbrev pub record_name : Names → Heap → ℕ → List ℕ
 record_name names heap id = unwrap_or (slice_get names.records (record_at heap id).kind) []
@@ -52,14 +55,19 @@ type_name names heap (ACoexp id) = codes "co-expression"
 -- the letter that a byte is written by behind a backslash
 abbrev pub letter_of : ℕ → Option ℕ
 letter_of byte =
-    lookup (λ other. other == byte) ((8, 98) ∷ (127, 100) ∷ (27, 101) ∷ (12, 102) ∷ (10, 110) ∷ (13, 114) ∷ (9, 116) ∷ (11, 118) ∷ (92, 92) ∷ [])
+    lookup (λ other. other == byte) ((8, 98) ∷ (127, 100) ∷ (27, 101) ∷ (12, 102) ∷ (10, 110) ∷ (13, 114)
+    ∷ (9, 116) ∷ (11, 118) ∷ (92, 92) ∷ [])
 
 abbrev pub plain_or_hex : ℕ → List ℕ
-plain_or_hex byte = if nat_le 32 byte && nat_le byte 126 then byte ∷ [] else 92 ∷ 120 ∷ digit_glyph false (byte / 16) ∷ digit_glyph false (byte % 16) ∷ []
+plain_or_hex byte =
+    if nat_le 32 byte && nat_le byte 126 then byte ∷ []
+    else 92 ∷ 120 ∷ digit_glyph false (byte / 16) ∷ digit_glyph false (byte % 16) ∷ []
 
 -- a byte between such quotes
 abbrev pub escaped : ℕ → ℕ → List ℕ
-escaped quote byte = if byte == quote then 92 ∷ quote ∷ [] else option_map_or (λ letter. 92 ∷ letter ∷ []) (letter_of byte) (plain_or_hex byte)
+escaped quote byte =
+    if byte == quote then 92 ∷ quote ∷ []
+    else option_map_or (λ letter. 92 ∷ letter ∷ []) (letter_of byte) (plain_or_hex byte)
 
 abbrev pub quoted : ℕ → List ℕ → List ℕ
 quoted quote text = quote ∷ (flat_map (escaped quote) text ++ quote ∷ [])
@@ -79,7 +87,8 @@ digit_bytes = range_with_len 48 10
 
 abbrev pub keyword_csets : List (List ℕ × List ℕ)
 keyword_csets =
-    (range_with_len 0 128, codes "&ascii") ∷ (range_with_len 0 256, codes "&cset") ∷ (digit_bytes, codes "&digits") ∷ (lcase, codes "&lcase")
+    (range_with_len 0 128, codes "&ascii") ∷ (range_with_len 0 256, codes "&cset")
+    ∷ (digit_bytes, codes "&digits") ∷ (lcase, codes "&lcase")
     ∷ (letters, codes "&letters") ∷ (ucase, codes "&ucase") ∷ []
 
 abbrev pub cset_image : List ℕ → List ℕ
@@ -90,17 +99,21 @@ cset_image bytes = unwrap_or (lookup (bytes_eq bytes) keyword_csets) (quoted 39 
 abbrev pub procedure_image : Names → ℕ → List ℕ
 procedure_image names number =
     if nat_lt number (length names.procedures) then codes "procedure " ++ procedure_name names number
-    else (if nat_lt number (length names.procedures + length names.records) then codes "record constructor " ++ procedure_name names number
+    else (if nat_lt number (length names.procedures + length names.records)
+    then codes "record constructor " ++ procedure_name names number
     else codes "function " ++ procedure_name names number)
 
 -- the number of a record among those of its name, from 1 on
 abbrev pub record_number : Names → Heap → ℕ → ℕ
 record_number names heap id =
-    1 + count_by (λ (other : Record). bytes_eq (unwrap_or (slice_get names.records other.kind) []) (record_name names heap id)) (take id heap.records)
+    1 + count_by
+    (λ (other : Record). bytes_eq (unwrap_or (slice_get names.records other.kind) []) (record_name names heap id))
+    (take id heap.records)
 
 -- a structure, by its type or name, its number and its size
 abbrev pub numbered_image : List ℕ → ℕ → Option ℕ → List ℕ
-numbered_image name number size = name ++ (codes "_" ++ (decimal number ++ (codes "(" ++ (decimal (unwrap_or size 0) ++ codes ")"))))
+numbered_image name number size =
+    name ++ (codes "_" ++ (decimal number ++ (codes "(" ++ (decimal (unwrap_or size 0) ++ codes ")"))))
 
 abbrev pub image : Names → Heap → Value → List ℕ
 image names heap Null = codes "&null"
@@ -109,7 +122,9 @@ image names heap (Text bytes) = quoted 34 bytes
 image names heap (Chars bytes) = cset_image bytes
 image names heap (Std file) = file_name file
 image names heap (Procedure number) = procedure_image names number
-image names heap (ARecord id) = numbered_image (codes "record " ++ record_name names heap id) (record_number names heap id) (size_of heap (ARecord id))
+image names heap (ARecord id) =
+    numbered_image (codes "record " ++ record_name names heap id) (record_number names heap id)
+    (size_of heap (ARecord id))
 image names heap (AList id) = numbered_image (codes "list") (id + 1) (size_of heap (AList id))
 image names heap (ASet id) = numbered_image (codes "set") (id + 1) (size_of heap (ASet id))
 image names heap (ATable id) = numbered_image (codes "table") (id + 1) (size_of heap (ATable id))
@@ -121,7 +136,8 @@ abbrev pub named_shape : Shape → List ℕ → Shape
 named_shape shape name = record { rank = shape.rank; text = name; number = shape.number }
 
 abbrev pub sorted_shape : Names → Heap → Value → Shape
-sorted_shape names heap (Procedure number) = named_shape (shape_of (Procedure number)) (procedure_name names number)
+sorted_shape names heap (Procedure number) =
+    named_shape (shape_of (Procedure number)) (procedure_name names number)
 sorted_shape names heap (ARecord id) = named_shape (shape_of (ARecord id)) (record_name names heap id)
 sorted_shape names heap value = shape_of value
 

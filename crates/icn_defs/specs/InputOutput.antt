@@ -72,11 +72,14 @@ pieces (value ∷ values) next = do
   others ← pieces values
   next (piece ∷ others)
 
--- Where the next piece goes, and the outside. Where lines end, one that selects is put behind a newline, unless it is the first argument.
+-- Where the next piece goes, and the outside. Where lines end, one that selects is put behind a newline,
+-- unless it is the first argument.
 abbrev pub put_pieces : List ℕ → Bool → List Piece → File → Outside → File × Outside
 put_pieces newline is_first [] file outside = (file, outside)
-put_pieces newline is_first (Puts text ∷ others) file outside = put_pieces newline false others file (put_on file text outside)
-put_pieces newline is_first (Selects other ∷ others) file outside = put_pieces newline false others other (put_on file (if is_first then [] else newline) outside)
+put_pieces newline is_first (Puts text ∷ others) file outside =
+    put_pieces newline false others file (put_on file text outside)
+put_pieces newline is_first (Selects other ∷ others) file outside =
+    put_pieces newline false others other (put_on file (if is_first then [] else newline) outside)
 
 -- the pieces are put, and then a newline where lines end
 abbrev pub puts_line : List ℕ → File → List Piece → Row → Row

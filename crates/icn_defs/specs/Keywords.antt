@@ -6,7 +6,8 @@ use Rattle.icn_text.specs.declared.keyword.Keyword.TheVariants as Keywords
 use Rattle.icn_value.specs.Values.{Value, Null, Integer, Chars, Std, ACoexp, Input, Output, Errout, KeywordVariable, Subject, Position, Random, Keyword, Whole, Item, Val, Var}
 use Rattle.icn_defs.specs.Images.{ucase, lcase, letters, digit_bytes}
 
--- the level of the procedure at hand, the co-expression that is active, and its activator; `&main` is number 0
+-- the level of the procedure at hand, the co-expression that is active, and its activator; `&main` is
+-- number 0
 pub record Standing : Type 0 where
   pub level : ℕ
   pub current : ℕ

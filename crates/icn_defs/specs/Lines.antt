@@ -1,7 +1,7 @@
 -- The lines of the input.
 use Rattle.std.specs.Prelude.{◌==◌, ◌+◌, ℕ, Bool, true, false, not, List, length, drop, take, take_while, nat_lt, Some}
 use Rattle.icn_value.specs.Values.{Text, Std, File, Input, Output, Errout, Val}
-use Rattle.icn_value.specs.Store.{Asked, ALine, SomeBytes, with_reading}
+use Rattle.icn_value.specs.Store.{Asked, ALine, SomeBytes, with_reading, having_left}
 use Rattle.icn_defs.specs.Rows.{Row, Finds, ◌>>=◌, ◌>>◌, InputLines, suspends, check, passing, here, changes, costs_bytes}
 
 abbrev pub is_input : File → Bool
@@ -11,13 +11,16 @@ is_input Errout = false
 
 -- the input has so many bytes less
 abbrev pub takes_input : ℕ → Row → Row
-takes_input count next = changes (λ setting. record setting { outside = record setting.outside { left = drop count setting.outside.left } }) next
+takes_input count next =
+    changes (λ setting. having_left (drop count setting.outside.left) setting) next
 
 -- the input is read: the history of readings keeps what is asked
 abbrev pub reads_input : Asked → Row → Row
-reads_input asked next = changes (λ setting. record setting { outside = with_reading asked setting.outside }) next
+reads_input asked next =
+    changes (λ setting. record setting { outside = with_reading asked setting.outside }) next
 
--- The bytes before the next newline, or all that are left. They are taken, with the newline, and then charged. It fails at the end.
+-- The bytes before the next newline, or all that are left. They are taken, with the newline, and then
+-- charged. It fails at the end.
 abbrev pub next_line : Finds (List ℕ)
 next_line next = do
   reads_input ALine
@@ -29,7 +32,8 @@ next_line next = do
   costs_bytes (length line)
   next line
 
--- So many bytes, or all that are left if these are fewer. They are taken and then charged. It fails at the end.
+-- So many bytes, or all that are left if these are fewer. They are taken and then charged. It fails at the
+-- end.
 abbrev pub next_bytes : ℕ → Finds (List ℕ)
 next_bytes count next = do
   reads_input (SomeBytes count)

@@ -125,7 +125,8 @@ new_set_of items next = do
   next (ASet (length sets))
 
 -- two sets give a new set, of the members of the first and then of the second; others give a cset, 120
-abbrev pub sets_or_csets : (List Value → List Value → List Value) → (Bool → Bool → Bool) → Value → Value → Option (ℕ × ℕ) → Row
+abbrev pub sets_or_csets : (List Value → List Value → List Value) → (Bool → Bool → Bool) → Value → Value
+    → Option (ℕ × ℕ) → Row
 sets_or_csets on_sets on_bytes v w (Some ids) = do
   setting ← here
   result ← new_set_of (on_sets (set_at setting.world.heap ids.0) (set_at setting.world.heap ids.1))

@@ -4,7 +4,7 @@ use Rattle.std.specs.Int.{w64, cast_unsigned}
 use Rattle.icn_structs.specs.Numbered.{item_numbered, with_numbered}
 use Rattle.icn_structs.specs.PairLists.{value_of, stored}
 use Rattle.icn_value.specs.Values.{Value, Null, Integer, Text, Root, Global, Static, Local, Element, Field, Key, Keyword, KeywordVariable, Subject, Position, Random, Variable, Whole, Part, Item, Val, Var}
-use Rattle.icn_value.specs.Store.{Setting, Table, list_at, table_at, record_at, value_at, with_list, with_table, with_record, having_subject, having_position, having_random}
+use Rattle.icn_value.specs.Store.{Setting, Table, list_at, table_at, record_at, value_at, with_list, with_table, with_record, having_globals, having_statics, having_subject, having_position, having_random}
 use Rattle.icn_defs.specs.Conversions.{same, text_of, integer_of, held_text, place_of}
 use Rattle.icn_defs.specs.Rows.{Row, Finds, ◌>>=◌, ◌>>◌, Mover, Neither, Left, Right, fails, wrong, check, present, here, changes, changes_heap, costs_bytes, costs_cells, costs_text}
 
@@ -25,7 +25,8 @@ root_value setting (Global place) = Some (value_at setting.world.globals place)
 root_value setting (Static place) = Some (value_at setting.world.statics place)
 root_value setting (Local place) = Some (value_at setting.locals place)
 root_value setting (Element list number) = item_numbered (list_at setting.world.heap list) number
-root_value setting (Field structure place) = Some (value_at (record_at setting.world.heap structure).fields place)
+root_value setting (Field structure place) =
+    Some (value_at (record_at setting.world.heap structure).fields place)
 root_value setting (Key table key) = Some (table_value (table_at setting.world.heap table) key)
 root_value setting (Keyword word) = Some (keyword_value setting word)
 
@@ -36,7 +37,8 @@ reads_root root next = do
   value ← present (root_value setting root) 205 None
   next value
 
--- the text that a part is of: 103 with what its variable holds where that is no text, 205 where that is too short
+-- the text that a part is of: 103 with what its variable holds where that is no text, 205 where that is too
+-- short
 abbrev pub reads_text : Root → ℕ → ℕ → Finds (List ℕ)
 reads_text root place size next = do
   value ← reads_root root
@@ -69,7 +71,8 @@ abbrev pub the_variable : Item → Finds Variable
 the_variable (Val value) next = wrong 111 (Some value)
 the_variable (Var variable) next = next variable
 
--- Assigning. Where `&pos` would be out of range it goes on as is said first, which is to fail, and in an undo error 205.
+-- Assigning. Where `&pos` would be out of range it goes on as is said first, which is to fail, and in an
+-- undo error 205.
 
 abbrev pub assigns_keyword : Row → KeywordVariable → Value → Row → Row
 assigns_keyword refused Subject value next = do
@@ -106,10 +109,11 @@ stores id key value next = do
 
 abbrev pub assigns_root : Row → Root → Value → Row → Row
 assigns_root refused (Global place) value next =
-    changes (λ setting. record setting { world = record setting.world { globals = slice_set setting.world.globals place value } }) next
+    changes (λ setting. having_globals (slice_set setting.world.globals place value) setting) next
 assigns_root refused (Static place) value next =
-    changes (λ setting. record setting { world = record setting.world { statics = slice_set setting.world.statics place value } }) next
-assigns_root refused (Local place) value next = changes (λ setting. record setting { locals = slice_set setting.locals place value }) next
+    changes (λ setting. having_statics (slice_set setting.world.statics place value) setting) next
+assigns_root refused (Local place) value next =
+    changes (λ setting. record setting { locals = slice_set setting.locals place value }) next
 assigns_root refused (Element id number) value next = do
   setting ← here
   let list = list_at setting.world.heap id
@@ -128,8 +132,8 @@ assigns_root refused (Keyword word) value next = assigns_keyword refused word va
 abbrev pub replaced : List ℕ → ℕ → ℕ → List ℕ → List ℕ
 replaced text place size new = take (place - 1) text ++ (new ++ drop (place - 1 + size) text)
 
--- The variable afterwards is the same, but that a part covers the text that it got. A part wants a text, 103, and its variable one that is long
--- enough; the whole text is built and assigned.
+-- The variable afterwards is the same, but that a part covers the text that it got. A part wants a text,
+-- 103, and its variable one that is long enough; the whole text is built and assigned.
 abbrev pub assigns_or : Row → Variable → Value → Finds Variable
 assigns_or refused (Whole root) value next = assigns_root refused root value (next (Whole root))
 assigns_or refused (Part root place size) value next = do
@@ -183,14 +187,16 @@ root_key (Key table key) = key
 root_key (Keyword word) = Null
 
 abbrev pub same_root : Root → Root → Bool
-same_root a b = root_number a == root_number b && (root_place a == root_place b && same (root_key a) (root_key b))
+same_root a b =
+    root_number a == root_number b && (root_place a == root_place b && same (root_key a) (root_key b))
 
 -- the side with the smaller place, where both are parts of one variable
 abbrev pub mover_of : Variable → Variable → Mover
 mover_of (Whole root) y = Neither
 mover_of (Part root place size) (Whole other) = Neither
 mover_of (Part root place size) (Part other begin count) =
-    if not (same_root root other) then Neither else (if nat_lt place begin then Left else (if nat_lt begin place then Right else Neither))
+    if not (same_root root other) then Neither
+    else (if nat_lt place begin then Left else (if nat_lt begin place then Right else Neither))
 
 abbrev pub part_length : Variable → ℕ
 part_length (Whole root) = 0
@@ -213,7 +219,8 @@ moved_by_right Neither old new x next = next x
 moved_by_right Left old new x next = next x
 moved_by_right Right old new x next = moved old new x next
 
--- The left side is assigned its new value, then the right side. The assignment of the mover moves the other side.
+-- The left side is assigned its new value, then the right side. The assignment of the mover moves the other
+-- side.
 abbrev pub assigns_both : Row → Mover → Variable → Variable → Value → Value → Finds (Variable × Variable)
 assigns_both refused mover x y to_x to_y next = do
   x_now ← assigns_or refused x to_x

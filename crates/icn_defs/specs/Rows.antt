@@ -4,7 +4,8 @@ use Rattle.icn_value.specs.Values.{Value, Text, AList, Variable, Item, Val}
 use Rattle.icn_value.specs.Store.{Setting, Heap, having_heap, new_list}
 use Rattle.icn_defs.specs.Conversions.{form_of, text_made}
 
--- which assignment of an exchange moves the place of the other side, where both sides are parts of one variable
+-- which assignment of an exchange moves the place of the other side, where both sides are parts of one
+-- variable
 pub data Mover : Type 0 where
   Neither : Mover
   Left : Mover
@@ -29,8 +30,8 @@ pub data Residual : Type 0 where
   Found : List ℕ → List ℕ → ℕ → ℕ → Residual
   Among : List ℕ → List ℕ → ℕ → ℕ → Residual
 
--- It fails; gives an item; gives one and may be resumed; is an error with its number and perhaps a value that it is about; or ends the program
--- with a status. Each is with the setting after it.
+-- It fails; gives an item; gives one and may be resumed; is an error with its number and perhaps a value
+-- that it is about; or ends the program with a status. Each is with the setting after it.
 pub data Outcome : Type 0 where
   Fails : Setting → Outcome
   Gives : Item → Setting → Outcome

@@ -24,8 +24,8 @@ byte_behind text place = slice_index text (place - 1)
 abbrev pub between : List ℕ → ℕ → ℕ → List ℕ
 between text a b = slice_range text (a - 1) (b - 1)
 
--- The arguments from this one on: a text, and two positions. The text is `&subject` where it is null, and then the first position is `&pos`
--- where that is null; else 1. The second is 0 where it is null.
+-- The arguments from this one on: a text, and two positions. The text is `&subject` where it is null, and
+-- then the first position is `&pos` where that is null; else 1. The second is 0 where it is null.
 abbrev pub region_from : List Value → ℕ → Finds Region
 region_from args n next = do
   setting ← here
@@ -67,7 +67,8 @@ many_row args = do
 
 -- whether a text stands behind a place and ends by another one
 abbrev pub stands : List ℕ → List ℕ → ℕ → ℕ → Bool
-stands wanted text place last = nat_le (place + length wanted) last && bytes_eq wanted (between text place (place + length wanted))
+stands wanted text place last =
+    nat_le (place + length wanted) last && bytes_eq wanted (between text place (place + length wanted))
 
 -- `match(s1, s, i, j)`
 abbrev pub match_row : List Value → Row
@@ -97,7 +98,8 @@ find_row args = do
 
 abbrev pub among_from : List ℕ → List ℕ → ℕ → ℕ → Row
 among_from bytes text place last = do
-  place ← found (find (λ place. contains bytes (byte_behind text place)) (range_with_len place (last - place)))
+  let places = range_with_len place (last - place)
+  place ← found (find (λ place. contains bytes (byte_behind text place)) places)
   suspends (Val (Integer (pos place))) (Among bytes text place last)
 
 -- `upto(c, s, i, j)`
@@ -115,14 +117,18 @@ closed zero = None
 closed (suc count) = Some count
 
 abbrev pub count_behind : List ℕ → List ℕ → ℕ → ℕ → Option ℕ
-count_behind opening closing byte count = if contains opening byte then Some (count + 1) else (if contains closing byte then closed count else Some count)
+count_behind opening closing byte count =
+    if contains opening byte then Some (count + 1)
+    else (if contains closing byte then closed count else Some count)
 
--- the first place at which the count is 0 and a byte of the cset stands; these are the bytes behind the place that is said
+-- the first place at which the count is 0 and a byte of the cset stands; these are the bytes behind the
+-- place that is said
 abbrev pub balanced_place : List ℕ → List ℕ → List ℕ → List ℕ → ℕ → ℕ → Option ℕ
 balanced_place wanted opening closing [] place count = None
 balanced_place wanted opening closing (byte ∷ bytes) place count =
     if (count == 0) && contains wanted byte then Some place
-    else option_and_then (λ later. balanced_place wanted opening closing bytes (place + 1) later) (count_behind opening closing byte count)
+    else option_and_then (λ later. balanced_place wanted opening closing bytes (place + 1) later)
+    (count_behind opening closing byte count)
 
 abbrev pub balanced_from : List ℕ → List ℕ → List ℕ → List ℕ → ℕ → ℕ → ℕ → Row
 balanced_from wanted opening closing text place last count = do

@@ -51,7 +51,8 @@ icom_row args = do
 -- to the left, or to the right with zeros; 0 from 64 on
 abbrev pub shifted : ℤ → ℤ → ℤ
 shifted m (pos k) = if nat_lt k 64 then cast_signed w64 (cast_unsigned w64 m * 2 ^ k % 2 ^ 64) else pos 0
-shifted m (negsuc k) = if nat_lt (k + 1) 64 then cast_signed w64 (cast_unsigned w64 m / 2 ^ (k + 1)) else pos 0
+shifted m (negsuc k) =
+    if nat_lt (k + 1) 64 then cast_signed w64 (cast_unsigned w64 m / 2 ^ (k + 1)) else pos 0
 
 -- `ishift(i, j)`
 abbrev pub ishift_row : List Value → Row
@@ -127,7 +128,8 @@ type_row names args = do
 
 -- Texts
 
--- so many bytes of a text put again and again, aligned at its left end and at its right end; an empty text counts as a blank
+-- so many bytes of a text put again and again, aligned at its left end and at its right end; an empty text
+-- counts as a blank
 abbrev pub filling : List ℕ → List ℕ
 filling [] = 32 ∷ []
 filling (byte ∷ bytes) = byte ∷ bytes
@@ -136,7 +138,8 @@ abbrev pub filled_left : List ℕ → ℕ → List ℕ
 filled_left fill count = take count (concat (replicate count (filling fill)))
 
 abbrev pub filled_right : List ℕ → ℕ → List ℕ
-filled_right fill count = let text = concat (replicate count (filling fill)) in drop (length text - count) text
+filled_right fill count =
+    let text = concat (replicate count (filling fill)) in drop (length text - count) text
 
 -- a text in a field of so many bytes, at its left end, at its right end and in its middle
 abbrev pub left_text : List ℕ → ℕ → List ℕ → List ℕ
@@ -148,7 +151,8 @@ right_text text width fill = filled_left fill (width - length text) ++ drop (len
 abbrev pub center_text : List ℕ → ℕ → List ℕ → List ℕ
 center_text text width fill =
     let missing = width - length text in
-    filled_left fill (missing / 2) ++ (take width (drop ((length text - width + 1) / 2) text) ++ filled_right fill (missing - missing / 2))
+    filled_left fill (missing / 2) ++ (take width (drop ((length text - width + 1) / 2) text)
+    ++ filled_right fill (missing - missing / 2))
 
 abbrev pub field_row : (List ℕ → ℕ → List ℕ → List ℕ) → List Value → Row
 field_row laid_out args = do
@@ -169,7 +173,8 @@ right_row args = field_row right_text args
 abbrev pub center_row : List Value → Row
 center_row args = field_row center_text args
 
--- the byte that stands at the last place of a byte in the first text, in the second; itself where it is not there
+-- the byte that stands at the last place of a byte in the first text, in the second; itself where it is not
+-- there
 abbrev pub mapped : List ℕ → List ℕ → ℕ → ℕ
 mapped from to byte = fold (λ result pair. if pair.0 == byte then pair.1 else result) byte (zip from to)
 

@@ -142,8 +142,11 @@ insert_row args = do
   gives_value (arg args 0)
 
 abbrev pub without_key : Keeper → Value → Heap → Heap
-without_key (SetKeeper id) key heap = with_set id (filter (λ member. not (same key member)) (set_at heap id)) heap
-without_key (TableKeeper id) key heap = with_table id (record { default = (table_at heap id).default; pairs = without same (table_at heap id).pairs key }) heap
+without_key (SetKeeper id) key heap =
+    with_set id (filter (λ member. not (same key member)) (set_at heap id)) heap
+without_key (TableKeeper id) key heap =
+    let table = table_at heap id in
+    with_table id (record { default = table.default; pairs = without same table.pairs key }) heap
 
 -- `delete(X, x)`
 abbrev pub delete_row : List Value → Row
@@ -205,9 +208,12 @@ gives_pairs pairs = gives_list (flat_map (λ (pair : Value × Value). pair.0 ∷
 -- how a table is sorted: by key or by value, to lists of two or in turn
 abbrev pub table_sorted : Names → Heap → List (Value × Value) → ℤ → Value → Row
 table_sorted names heap pairs (pos (suc zero)) chosen = gives_pair_lists (sorted (key_cmp names heap) pairs)
-table_sorted names heap pairs (pos (suc (suc zero))) chosen = gives_pair_lists (sorted (entry_cmp names heap) pairs)
-table_sorted names heap pairs (pos (suc (suc (suc zero)))) chosen = gives_pairs (sorted (key_cmp names heap) pairs)
-table_sorted names heap pairs (pos (suc (suc (suc (suc zero))))) chosen = gives_pairs (sorted (entry_cmp names heap) pairs)
+table_sorted names heap pairs (pos (suc (suc zero))) chosen =
+    gives_pair_lists (sorted (entry_cmp names heap) pairs)
+table_sorted names heap pairs (pos (suc (suc (suc zero)))) chosen =
+    gives_pairs (sorted (key_cmp names heap) pairs)
+table_sorted names heap pairs (pos (suc (suc (suc (suc zero))))) chosen =
+    gives_pairs (sorted (entry_cmp names heap) pairs)
 table_sorted names heap pairs n chosen = wrong 205 (Some chosen)
 
 abbrev pub sorted_of : Names → Value → ℤ → Value → Group → Row

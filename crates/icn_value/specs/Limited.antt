@@ -9,7 +9,8 @@ pub record Bounds : Type 0 where
   pub levels : ℕ
 
 abbrev pub limits_of : Limits → Bounds
-limits_of limits = record { turns = limits.turns; strings = limits.strings; cells = limits.cells; levels = limits.levels }
+limits_of limits =
+    record { turns = limits.turns; strings = limits.strings; cells = limits.cells; levels = limits.levels }
 
 -- the ranges of the limits
 pub record AreLimits (bounds : Bounds) : Type 0 where
@@ -20,4 +21,5 @@ pub record AreLimits (bounds : Bounds) : Type 0 where
   pub levels : bounds.levels ≤ 4294967295
 
 abbrev pub default_limits : Bounds
-default_limits = record { turns = 18446744073709551615; strings = 268435456; cells = 16777216; levels = 20000 }
+default_limits =
+    record { turns = 18446744073709551615; strings = 268435456; cells = 16777216; levels = 20000 }

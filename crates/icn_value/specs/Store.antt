@@ -14,8 +14,8 @@ pub record Record : Type 0 where
   pub kind : ℕ
   pub fields : List Value
 
--- The structures, each in the list of its type at its number; of each co-expression, `&main` first, how many results it gave; the sums of
--- the string bytes and of the cells that were charged; and the limits.
+-- The structures, each in the list of its type at its number; of each co-expression, `&main` first, how
+-- many results it gave; the sums of the string bytes and of the cells that were charged; and the limits.
 pub record Heap : Type 0 where
   pub lists : List (Numbered Value)
   pub sets : List (List Value)
@@ -39,14 +39,16 @@ pub data Asked : Type 0 where
   ALine : Asked
   SomeBytes : ℕ → Asked
 
--- a reading: what it asks for, the input that is left before it, and how much stands on the output and on the error output by then
+-- a reading: what it asks for, the input that is left before it, and how much stands on the output and on
+-- the error output by then
 pub record Reading : Type 0 where
   pub asked : Asked
   pub left : List ℕ
   pub output : ℕ
   pub errors : ℕ
 
--- the input left, what was put on the output and on the error output, and the readings that were made, the last one first
+-- the input left, what was put on the output and on the error output, and the readings that were made, the
+-- last one first
 pub record Outside : Type 0 where
   pub left : List ℕ
   pub output : List ℕ
@@ -59,7 +61,10 @@ outside_of input = record { left = input; output = []; errors = []; readings = [
 
 -- a reading is made: the history keeps it, whatever it finds
 abbrev pub with_reading : Asked → Outside → Outside
-with_reading asked outside = record outside { readings = record { asked = asked; left = outside.left; output = length outside.output; errors = length outside.errors } ∷ outside.readings }
+with_reading asked outside =
+    let seen : Reading =
+      record { asked = asked; left = outside.left; output = length outside.output; errors = length outside.errors } in
+    record outside { readings = seen ∷ outside.readings }
 
 -- what an operation is applied in: the world, the locals of the activation at hand, and the outside
 pub record Setting : Type 0 where
@@ -72,7 +77,8 @@ pub record Names : Type 0 where
   pub procedures : List (List ℕ)
   pub records : List (List ℕ)
 
--- Structures by their numbers. Each number of a value is that of a structure; elsewhere these give something empty.
+-- Structures by their numbers. Each number of a value is that of a structure; elsewhere these give
+-- something empty.
 
 abbrev pub new_list : List Value → Numbered Value
 new_list items = record { items = items; number = pos 1 }
@@ -110,7 +116,14 @@ abbrev pub with_record : ℕ → Record → Heap → Heap
 with_record id structure heap = record heap { records = slice_set heap.records id structure }
 
 abbrev pub having_heap : (Heap → Heap) → Setting → Setting
-having_heap change setting = record setting { world = record setting.world { heap = change setting.world.heap } }
+having_heap change setting =
+    record setting { world = record setting.world { heap = change setting.world.heap } }
+
+abbrev pub having_globals : List Value → Setting → Setting
+having_globals values setting = record setting { world = record setting.world { globals = values } }
+
+abbrev pub having_statics : List Value → Setting → Setting
+having_statics values setting = record setting { world = record setting.world { statics = values } }
 
 abbrev pub having_subject : List ℕ → Setting → Setting
 having_subject text setting = record setting { world = record setting.world { subject = text; position = 1 } }
@@ -120,3 +133,6 @@ having_position place setting = record setting { world = record setting.world { 
 
 abbrev pub having_random : ℕ → Setting → Setting
 having_random state setting = record setting { world = record setting.world { random = state } }
+
+abbrev pub having_left : List ℕ → Setting → Setting
+having_left bytes setting = record setting { outside = record setting.outside { left = bytes } }
