@@ -2,6 +2,7 @@
 use Rattle.std.proofs.Common.{◌≡◌, ℕ, zero, suc, refl, ◌∙◌, Bool, true, false, List, [], ◌∷◌, length, Option, Some, None}
 use Rattle.std.specs.Prelude.{slice_set, ℤ, pos, negsuc, Result, Ok, Err}
 use Rattle.std.proofs.lemmas.List.{length-set}
+use Rattle.icn_text.specs.declared.arithmetic.Arith.{Arith}
 use Rattle.icn_text.specs.declared.op.Op.{Op}
 use Rattle.icn_text.specs.declared.op.Op.TheVariants as Ops
 use Rattle.icn_text.specs.declared.func.Func.{Func}
@@ -57,9 +58,9 @@ pub k_present : {A : Type 0} (b : Setting) (o : Option A) (n : ℕ) (v : Option 
 k_present b (Some x) n v next a f = f x
 k_present b None n v next a f = record { is = tt }
 
-pub k_computed : {A : Type 0} (b : Setting) (o : Result A ℕ) (next : A → Row) (a : Setting) → ((x : A) → KI b (next x a)) → KI b (computed o next a)
+pub k_computed : (b : Setting) (o : Result ℤ Arith) (next : ℤ → Row) (a : Setting) → ((x : ℤ) → KI b (next x a)) → KI b (computed o next a)
 k_computed b (Ok x) next a f = f x
-k_computed b (Err n) next a f = record { is = tt }
+k_computed b (Err why) next a f = record { is = tt }
 
 pub k_passing : (b : Setting) (t : Bool) (next : Row) (a : Setting) → Keeps b a → KI b (next a) → KI b (passing t next a)
 k_passing b true next a k f = f
@@ -207,7 +208,7 @@ k_subscript b x v w (Filed file) a k = search (words) depth 12
 k_subscript b x v w (Activated id) a k = search (words) depth 12
 k_subscript b x v w Single a k = search (words) depth 12
 
-k_section : (b : Setting) (f : ℤ → ℤ → Result ℤ ℕ) (x : Item) (v : Value) (u : Value) (w : Value) (g : Group) (a : Setting) → Keeps b a → KI b (section_of f x v u w g a)
+k_section : (b : Setting) (f : ℤ → ℤ → Result ℤ Arith) (x : Item) (v : Value) (u : Value) (w : Value) (g : Group) (a : Setting) → Keeps b a → KI b (section_of f x v u w g a)
 k_section b f x v u w (Textual text) a k = search (words) depth 12
 k_section b f x v u w (Listed id) a k = search (words) depth 12
 k_section b f x v u w (Collected id) a k = search (words) depth 12

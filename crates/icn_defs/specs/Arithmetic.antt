@@ -1,34 +1,13 @@
 -- Arithmetic, comparisons of numbers, and counting.
-use Rattle.std.specs.Prelude.{ℕ, ℤ, pos, negsuc, ◌+◌, ◌+ℤ◌, ◌-ℤ◌, ◌*ℤ◌, neg_ℤ, int_le, int_div, int_rem, Bool, not, Option, None, Some, Result, Ok, Err, ok_or, if◌then◌else◌}
-use Rattle.std.specs.Int.{int_pow, is_positive}
+use Rattle.std.specs.Prelude.{ℤ, pos, ◌+ℤ◌, neg_ℤ, int_le, Bool, not, Option, None, Some, Result, if◌then◌else◌}
+use Rattle.std.specs.Int.{is_positive}
 use Rattle.std.specs.Ordering.{int_cmp, int_eq, is_lt, is_le, is_eq, is_ge, is_gt, is_ne}
+use Rattle.icn_text.specs.declared.arithmetic.Arith.{Arith}
+use Rattle.icn_text.specs.IntegerArithmetic.{fitting, within_64_bits, sum, difference, product, quotient, remainder, power}
 use Rattle.icn_value.specs.Values.{Integer, Item, Val}
-use Rattle.icn_defs.specs.Conversions.{fitting}
 use Rattle.icn_defs.specs.Rows.{Row, ◌>>=◌, ◌>>◌, Counting, fails, gives_value, suspends, check, computed, passing}
 use Rattle.icn_defs.specs.Reading.{the_value}
 use Rattle.icn_defs.specs.Arguments.{number, integer}
-
--- an integer of 64 bits, else error 203
-abbrev pub within_64_bits : ℤ → Result ℤ ℕ
-within_64_bits n = ok_or (fitting n) 203
-
-abbrev pub quotient : ℤ → ℤ → Result ℤ ℕ
-quotient m n = if int_eq n (pos 0) then Err 201 else within_64_bits (int_div m n)
-
-abbrev pub remainder : ℤ → ℤ → Result ℤ ℕ
-remainder m n = if int_eq n (pos 0) then Err 202 else within_64_bits (int_rem m n)
-
--- to an exponent below 0, which is -(e + 1): 1 gives 1, -1 gives 1 or -1 by its parity, 0 divides by zero,
--- and others give 0
-abbrev pub inverse_power : ℤ → ℕ → Result ℤ ℕ
-inverse_power m e =
-    if int_eq m (pos 0) then Err 201
-    else (if int_eq m (pos 1) then Ok (pos 1)
-    else (if int_eq m (negsuc 0) then Ok (int_pow m (e + 1)) else Ok (pos 0)))
-
-abbrev pub power : ℤ → ℤ → Result ℤ ℕ
-power m (pos e) = within_64_bits (int_pow m e)
-power m (negsuc e) = inverse_power m e
 
 -- `+n`, `-n`
 abbrev pub number_row : Item → Row
@@ -45,7 +24,7 @@ negate_row x = do
   gives_value (Integer result)
 
 -- `x + y` and the like
-abbrev pub arithmetic_row : (ℤ → ℤ → Result ℤ ℕ) → Item → Item → Row
+abbrev pub arithmetic_row : (ℤ → ℤ → Result ℤ Arith) → Item → Item → Row
 arithmetic_row operation x y = do
   v ← the_value x
   w ← the_value y
@@ -55,13 +34,13 @@ arithmetic_row operation x y = do
   gives_value (Integer result)
 
 abbrev pub add_row : Item → Item → Row
-add_row x y = arithmetic_row (λ m n. within_64_bits (m +ℤ n)) x y
+add_row x y = arithmetic_row sum x y
 
 abbrev pub subtract_row : Item → Item → Row
-subtract_row x y = arithmetic_row (λ m n. within_64_bits (m -ℤ n)) x y
+subtract_row x y = arithmetic_row difference x y
 
 abbrev pub multiply_row : Item → Item → Row
-multiply_row x y = arithmetic_row (λ m n. within_64_bits (m *ℤ n)) x y
+multiply_row x y = arithmetic_row product x y
 
 abbrev pub divide_row : Item → Item → Row
 divide_row x y = arithmetic_row quotient x y

@@ -1,27 +1,16 @@
 -- What values convert to, and what tells them apart.
-use Rattle.std.specs.Prelude.{ℕ, zero, suc, ℤ, pos, negsuc, ◌+◌, ◌-◌, ◌&&◌, Bool, true, false, nat_lt, nat_le, int_le, List, [], ◌∷◌, Option, None, Some, option_and_then, if◌then◌else◌}
+use Rattle.std.specs.Prelude.{ℕ, zero, suc, ℤ, pos, negsuc, ◌+◌, ◌-◌, Bool, true, false, nat_lt, nat_le, List, [], ◌∷◌, Option, None, Some, if◌then◌else◌}
 use Rattle.std.specs.Fmt.{signed_decimal}
 use Rattle.std.specs.declared.cmp.Ordering.{Ordering}
 use Rattle.std.specs.Ordering.{is_lt}
-use Rattle.icn_text.specs.Integers.{signed}
-use Rattle.icn_text.specs.Reading.{integer_read}
+pub use Rattle.icn_text.specs.IntegerArithmetic.{fits, fitting}
+pub use Rattle.icn_text.specs.Reading.{written_integer}
 use Rattle.icn_value.specs.Values.{Value, Null, Integer, Text, Chars}
 pub use Rattle.icn_value.specs.Members.{contains, members}
 pub use Rattle.icn_value.specs.Sameness.{Shape, file_rank, shape_of, shape_cmp, same, has_value, with_member}
 pub use Rattle.icn_value.specs.Sizes.{Group, Textual, Listed, Collected, Tabled, Recorded, Filed, Activated, Single, group_of, size_in, size_of}
 
 -- Integers, texts and csets
-
--- whether 64 bits hold it
-abbrev pub fits : ℤ → Bool
-fits n = int_le (negsuc 9223372036854775807) n && int_le n (pos 9223372036854775807)
-
-abbrev pub fitting : ℤ → Option ℤ
-fitting n = if fits n then Some n else None
-
--- the integer of 64 bits that a text writes
-abbrev pub written_integer : List ℕ → Option ℤ
-written_integer text = option_and_then (λ found. fitting (signed found.0 found.1)) (integer_read text)
 
 -- what is an integer, a text or a cset, and what else there is
 pub data Form : Type 0 where

@@ -1,5 +1,6 @@
 -- The elements of texts and structures: one after the other, and at random.
-use Rattle.std.specs.Prelude.{◌+◌, ◌-◌, ◌*◌, ◌/◌, ◌%◌, ◌^◌, ℕ, ℤ, pos, ◌+ℤ◌, nat_lt, List, [], ◌∷◌, length, slice_get, slice_range, Option, None, Some, option_map}
+use Rattle.std.specs.Prelude.{◌+◌, ◌-◌, ℕ, ℤ, pos, ◌+ℤ◌, nat_lt, List, [], ◌∷◌, length, slice_get, slice_range, Option, None, Some, option_map}
+use Rattle.icn_text.specs.RandomNumbers.{random_step, picked}
 use Rattle.icn_structs.specs.Numbered.{Numbered}
 use Rattle.icn_value.specs.Values.{Value, Integer, Text, Element, Field, Key, Variable, Whole, Part, Item, Val, Var}
 use Rattle.icn_value.specs.Store.{list_at, set_at, table_at, record_at, having_random, value_at}
@@ -99,16 +100,13 @@ elements_row x = do
 
 -- At random
 
-abbrev pub random_step : ℕ → ℕ
-random_step state = (1103515245 * state + 453816694) % 2 ^ 31
-
 -- a place among so many, from 0 on
 abbrev pub picks : ℕ → Finds ℕ
 picks size next = do
   setting ← here
   let state = random_step setting.world.random
   changes (having_random state)
-  next (state * size / 2 ^ 31)
+  next (picked state size)
 
 abbrev pub random_number : Value → ℤ → Row
 random_number v (pos n) = do

@@ -1,5 +1,7 @@
 -- What applying an operation or a function comes to, and the words that their rows are written in.
 use Rattle.std.specs.Prelude.{ℕ, ℤ, pos, negsuc, ◌+◌, Bool, true, false, nat_le, List, [], ◌∷◌, ◌++◌, length, Option, None, Some, Result, Ok, Err}
+use Rattle.icn_text.specs.declared.arithmetic.Arith.{Arith}
+use Rattle.icn_text.specs.declared.arithmetic.Arith.TheVariants.{Overflow, DivideByZero, RemainderByZero}
 use Rattle.icn_value.specs.Values.{Value, Text, AList, Variable, Item, Val}
 use Rattle.icn_value.specs.Store.{Setting, Heap, having_heap, new_list}
 use Rattle.icn_defs.specs.Conversions.{form_of, text_made}
@@ -86,10 +88,16 @@ abbrev pub present : {A : Type 0} → Option A → ℕ → Option Value → Find
 present (Some thing) number offending next setting = next thing setting
 present None number offending next setting = Error number offending setting
 
--- a number that is found, else the error of this number
-abbrev pub computed : {A : Type 0} → Result A ℕ → Finds A
-computed (Ok thing) next setting = next thing setting
-computed (Err number) next setting = Error number None setting
+-- the error that an operation on integers without a result is
+abbrev pub arithmetic_error : Arith → ℕ
+arithmetic_error DivideByZero = 201
+arithmetic_error RemainderByZero = 202
+arithmetic_error Overflow = 203
+
+-- a number that is computed, else the error of its operation
+abbrev pub computed : Result ℤ Arith → Finds ℤ
+computed (Ok n) next setting = next n setting
+computed (Err why) next setting = Error (arithmetic_error why) None setting
 
 -- a test that is met, else the row fails
 abbrev pub passing : Bool → Row → Row

@@ -1,14 +1,14 @@
 -- The functions over integers, texts and csets.
-use Rattle.std.specs.Prelude.{◌==◌, ◌+◌, ◌-◌, ◌*◌, ◌/◌, ◌%◌, ◌^◌, ℕ, ℤ, pos, negsuc, ◌+ℤ◌, unsigned_abs, not, nat_lt, List, [], ◌∷◌, ◌++◌, length, map, reverse, take, drop, replicate, fold, zip, slice_index, codes, None, Some, if◌then◌else◌}
+use Rattle.std.specs.Prelude.{◌==◌, ◌+◌, ◌-◌, ◌*◌, ◌/◌, ◌%◌, ◌^◌, ℕ, ℤ, pos, negsuc, unsigned_abs, not, nat_lt, List, [], ◌∷◌, ◌++◌, length, map, reverse, take, drop, replicate, fold, zip, slice_index, codes, None, Some, if◌then◌else◌}
 use Rattle.std.specs.Int.{w64, cast_unsigned, cast_signed, int_bit_and, int_bit_or, int_bit_xor, int_bit_not}
 use Rattle.std.specs.List.{concat, suffix_len}
 use Rattle.std.specs.Ordering.{int_eq}
+use Rattle.icn_text.specs.IntegerArithmetic.{sum, within_64_bits}
 use Rattle.icn_value.specs.Values.{Value, Integer, Text, Chars, Val}
 use Rattle.icn_value.specs.Store.{Names}
 use Rattle.icn_defs.specs.Conversions.{contains, integer_of, text_of, cset_of}
 use Rattle.icn_defs.specs.Rows.{Row, ◌>>=◌, ◌>>◌, Sequence, gives_value, suspends, check, computed, found, natural, here, costs_text, costs_texts, builds}
 use Rattle.icn_defs.specs.Arguments.{arg, arg_or, number, integer, string, cset}
-use Rattle.icn_defs.specs.Arithmetic.{within_64_bits}
 use Rattle.icn_defs.specs.Images.{image, type_name, ucase, lcase}
 
 abbrev pub gives_integer : ℤ → Row
@@ -74,7 +74,7 @@ seq_row args = do
 
 abbrev pub sequence_again : ℤ → ℤ → Row
 sequence_again n step = do
-  later ← computed (within_64_bits (n +ℤ step))
+  later ← computed (sum n step)
   sequence_from later step
 
 -- Conversions

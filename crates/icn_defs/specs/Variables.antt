@@ -1,12 +1,13 @@
 -- The operations that take or give variables.
-use Rattle.std.specs.Prelude.{◌-◌, ℕ, ℤ, ◌+ℤ◌, ◌-ℤ◌, nat_le, length, slice_range, Some, Result, Ok, if◌then◌else◌}
+use Rattle.std.specs.Prelude.{◌-◌, ℕ, ℤ, nat_le, length, slice_range, Some, Result, Ok, if◌then◌else◌}
+use Rattle.icn_text.specs.declared.arithmetic.Arith.{Arith}
+use Rattle.icn_text.specs.IntegerArithmetic.{sum, difference}
 use Rattle.icn_value.specs.Values.{Value, Variable, Item, Var}
 use Rattle.icn_value.specs.Store.{list_at, record_at}
 use Rattle.icn_defs.specs.Conversions.{Group, Textual, Listed, Collected, Tabled, Recorded, Filed, Activated, Single, group_of, place_of}
 use Rattle.icn_defs.specs.Rows.{Row, Finds, Mover, ◌>>=◌, ◌>>◌, UndoAssign, UndoExchange, fails, gives, suspends, wrong, computed, passing, found, here, costs_text, gives_list}
 use Rattle.icn_defs.specs.Reading.{the_value, the_variable, assigns, undoes, exchanges, undoes_exchange, mover_of}
 use Rattle.icn_defs.specs.Arguments.{integer}
-use Rattle.icn_defs.specs.Arithmetic.{within_64_bits}
 use Rattle.icn_defs.specs.Elements.{part_item, text_variable, element_item, field_item, key_item}
 
 -- Assigning
@@ -111,14 +112,14 @@ places m n size next = do
   next (in_order a b)
 
 -- two positions, of which the second is made of the two integers
-abbrev pub positions : (ℤ → ℤ → Result ℤ ℕ) → Value → Value → Finds (ℤ × ℤ)
+abbrev pub positions : (ℤ → ℤ → Result ℤ Arith) → Value → Value → Finds (ℤ × ℤ)
 positions second u w next = do
   m ← integer u
   n ← integer w
   end ← computed (second m n)
   next (m, end)
 
-abbrev pub section_of : (ℤ → ℤ → Result ℤ ℕ) → Item → Value → Value → Value → Group → Row
+abbrev pub section_of : (ℤ → ℤ → Result ℤ Arith) → Item → Value → Value → Value → Group → Row
 section_of second x v u w (Textual text) = do
   range ← positions second u w
   costs_text v
@@ -138,7 +139,7 @@ section_of second x v u w (Activated id) = wrong 110 (Some v)
 section_of second x v u w Single = wrong 110 (Some v)
 
 -- `x[i:j]`, `x[i+:j]`, `x[i-:j]`
-abbrev pub section_by : (ℤ → ℤ → Result ℤ ℕ) → Item → Item → Item → Row
+abbrev pub section_by : (ℤ → ℤ → Result ℤ Arith) → Item → Item → Item → Row
 section_by second x y z = do
   v ← the_value x
   u ← the_value y
@@ -149,7 +150,7 @@ abbrev pub section_row : Item → Item → Item → Row
 section_row x y z = section_by (λ m n. Ok n) x y z
 
 abbrev pub section_plus_row : Item → Item → Item → Row
-section_plus_row x y z = section_by (λ m n. within_64_bits (m +ℤ n)) x y z
+section_plus_row x y z = section_by sum x y z
 
 abbrev pub section_minus_row : Item → Item → Item → Row
-section_minus_row x y z = section_by (λ m n. within_64_bits (m -ℤ n)) x y z
+section_minus_row x y z = section_by difference x y z

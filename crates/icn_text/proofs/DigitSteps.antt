@@ -19,14 +19,14 @@ grows radix n (digit ∷ digits) h =
     let later : n * radix + digit_value digit ≤ digits_value_after radix (n * radix + digit_value digit) digits = grows radix (n * radix + digit_value digit) digits h in
     le_trans (omega (arith, more)) later
 
-held_not : (n : ℕ) → 2 ^ 64 ≤ n → held n ≡ None
+pub held_not : (n : ℕ) → 2 ^ 64 ≤ n → held n ≡ None
 held_not n h = ap (λ b. cond b (Some n) None) (le-ltb n (2 ^ 64) h)
 
 by_test : (n : ℕ) (b : Bool) → nat_lt n (2 ^ 64) ≡ b → cond b (Some n) None ≡ None → 2 ^ 64 ≤ n
 by_test n true is h = absurd (none-some n (sym h))
 by_test n false is h = ltb-false n (2 ^ 64) is
 
-none_above : (n : ℕ) → held n ≡ None → 2 ^ 64 ≤ n
+pub none_above : (n : ℕ) → held n ≡ None → 2 ^ 64 ≤ n
 none_above n h = by_test n (nat_lt n (2 ^ 64)) refl h
 
 some_test : (n m : ℕ) (b : Bool) → nat_lt n (2 ^ 64) ≡ b → Some m ≡ cond b (Some n) None → (m ≡ n) × (m < 2 ^ 64)

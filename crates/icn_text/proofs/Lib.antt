@@ -5,3 +5,6 @@ mod Numerals
 mod Completing
 mod Sounding
 mod Deciding
+mod Powers
+mod Fitting
+mod Written

@@ -1,9 +1,10 @@
 -- What the functions that read an integer find, step by step.
-use Rattle.std.specs.Prelude.{◌==◌, ◌^◌, ◌&&◌, nat_lt, nat_le, ℕ, Bool, true, false, List, [], ◌∷◌, take, drop, Option, Some, None, if◌then◌else◌}
+use Rattle.std.specs.Prelude.{◌==◌, ◌^◌, ◌&&◌, nat_lt, nat_le, ℕ, Bool, true, false, List, [], ◌∷◌, take, drop, ℤ, Option, Some, None, option_and_then, if◌then◌else◌}
 use Rattle.std.specs.List.{list_all, prefix_len}
 use Rattle.std.specs.Option.{option_map}
 use Rattle.std.specs.Str.Parse.{digits_value}
-use Rattle.icn_text.specs.Integers.{is_space, is_digit_of, is_radix_mark}
+use Rattle.icn_text.specs.IntegerArithmetic.{fitting}
+use Rattle.icn_text.specs.Integers.{is_space, is_digit_of, is_radix_mark, signed}
 
 -- a number that 64 bits hold
 abbrev pub held : ℕ → Option ℕ
@@ -38,3 +39,7 @@ integer_read text = signed_read (drop (prefix_len is_space text) text)
 
 abbrev pub pair_held : Bool × ℕ → Option (Bool × ℕ)
 pair_held found = option_map (λ n. (found.0, n)) (held found.1)
+
+-- the integer of 64 bits that a text writes
+abbrev pub written_integer : List ℕ → Option ℤ
+written_integer text = option_and_then (λ found. fitting (signed found.0 found.1)) (integer_read text)

@@ -1,13 +1,13 @@
 // The integer that a text writes.
 ghost use Rattle.std.specs.Prelude.{◌≡◌, ◌≤◌, ◌+◌, ◌*◌, ℤ, FitsSigned, IfOk, OnErr, length, true};
-ghost use Rattle.std.specs.Result.{OkIff};
+ghost use Rattle.std.specs.Result.{OkIff, result_ok};
 ghost use Rattle.std.specs.Char.{digit_value};
 ghost use Rattle.std.specs.Int.{w64};
 ghost use Rattle.std.specs.List.{prefix_len, list_all};
 ghost use Rattle.std.specs.Option.{option_and_then};
 ghost use Rattle.std.specs.Str.Parse.{digits_value};
 ghost use Rattle.icn_text.specs.Integers.{is_space, is_digit_of, is_radix_mark, signed, WritesInteger};
-ghost use Rattle.icn_text.specs.Reading.{held, pair_held, digits_read, radix_read, numeral_read, signed_read, integer_read};
+ghost use Rattle.icn_text.specs.Reading.{held, pair_held, digits_read, radix_read, numeral_read, signed_read, integer_read, written_integer};
 
 /// A text writes no integer of 64 bits.
 #[derive(Clone, Copy, Debug, PartialEq, Eq)]
@@ -18,6 +18,7 @@ pub struct NotInteger;
 pub fn read_integer(text: &[u8]) -> Result<i64, NotInteger>
     ensures read { IfOk result (WritesInteger text.now) }
     ensures refused { OnErr result ((n : ℤ) → WritesInteger text.now n → ⊥) }
+    ensures found { result_ok result ≡ written_integer text.now }
 {
     match integer(text) {
         Some((is_negative, magnitude)) => signed(is_negative, magnitude),
@@ -26,7 +27,7 @@ pub fn read_integer(text: &[u8]) -> Result<i64, NotInteger>
 }
 
 // The integer of this sign and magnitude.
-fn signed(is_negative: bool, magnitude: u64) -> Result<i64, NotInteger>
+pub(crate) fn signed(is_negative: bool, magnitude: u64) -> Result<i64, NotInteger>
     ensures { OkIff result (FitsSigned w64 (signed is_negative magnitude)) (signed is_negative magnitude) }
 {
     let magnitude = i128::from(magnitude);

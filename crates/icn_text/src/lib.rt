@@ -1,16 +1,20 @@
 //! Text and numbers, tied both ways, and the tables of operations, functions and keywords.
 #![tactic(auto)]
 
+mod arithmetic;
 mod digits;
 mod func;
 mod integer;
 mod keyword;
 mod laws;
 mod op;
+mod random;
 
+pub use arithmetic::{Arith, add, div, mul, power, rem, sub};
 pub use digits::{Digits, decimal};
 pub use func::{Func, func_named};
 pub use integer::{NotInteger, read_integer};
 pub use keyword::{Keyword, keyword_named};
-pub use laws::{names_differ, one_integer};
+pub use laws::{decimal_read_back, found_integer, names_differ, one_integer};
 pub use op::Op;
+pub use random::{pick, random_step};
