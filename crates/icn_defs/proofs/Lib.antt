@@ -3,3 +3,4 @@ pub mod FuncNumbers
 pub mod KeywordNumbers
 pub mod Found
 pub mod Kept
+pub mod Observing

@@ -1,9 +1,9 @@
--- How a run starts and what is observed of it, whether it is the evaluation of a program or the run of its code.
-use Rattle.std.specs.Prelude.{ℕ, ℤ, zero, List, [], ◌∷◌, length, replicate, Option, None, Some}
+-- How a run starts, what is put as it ends early, and what is observed of it, whether it is the evaluation of a program or the run of its code.
+use Rattle.std.specs.Prelude.{◌≡◌, ℕ, ℤ, zero, suc, List, [], ◌∷◌, ◌++◌, length, replicate, Option, None, Some, codes}
 use Rattle.std.specs.List.{sum_by}
 use Rattle.icn_value.specs.Limited.{Bounds}
 use Rattle.icn_value.specs.Values.{Value, Null, Integer, Text}
-use Rattle.icn_value.specs.Store.{Heap, World, Outside}
+use Rattle.icn_value.specs.Store.{Heap, World, Outside, outside_of}
 use Rattle.icn_defs.specs.Conversions.{integer_of}
 use Rattle.icn_defs.specs.Rows.{Row, ◌>>◌, costs_bytes}
 use Rattle.icn_defs.specs.StepRows.{list_row}
@@ -24,6 +24,34 @@ pub data Ending : Type 0 where
 pub record Observed : Type 0 where
   pub ending : Ending
   pub outside : Outside
+
+-- What a run is begun with: the argument words, the limits, and the outside as it is before.
+pub record Launch : Type 0 where
+  pub words : List (List ℕ)
+  pub bounds : Bounds
+  pub outside : Outside
+
+-- a program is begun with its input, before anything is put or read
+abbrev pub launch_of : List (List ℕ) → Bounds → List ℕ → Launch
+launch_of words bounds input = record { words = words; bounds = bounds; outside = outside_of input }
+
+-- the state after so many steps
+abbrev pub after_steps : {S : Type 0} → (S → S) → ℕ → S → S
+after_steps step zero state = state
+after_steps step (suc n) state = after_steps step n (step state)
+
+-- The run that takes these steps from this start on comes to an end, of which this is observed.
+pub record Observes {S : Type 0} (step : S → S) (observed : S → Option Observed) (start : S) (seen : Observed) : Type 0 where
+  pub count : ℕ
+  pub is : observed (after_steps step count start) ≡ Some seen
+
+-- what is put on the error output where the bound of turns ends a run
+abbrev pub bound_report : List ℕ
+bound_report = codes "turn bound reached\n"
+
+-- the outside with a text put on its error output
+abbrev pub with_errors : List ℕ → Outside → Outside
+with_errors text outside = record outside { errors = outside.errors ++ text }
 
 -- The heap before anything is made. Co-expression 0 is `&main`, whose results are counted like those of the others.
 abbrev pub first_heap : Bounds → Heap

@@ -1,13 +1,9 @@
 -- The meaning of a program: the steps of its evaluation from the start on, and what is observed where it ends.
-use Rattle.std.specs.Prelude.{◌≡◌, ℕ, zero, suc, false, List, [], ◌∷◌, length, replicate, Option, Some, None, codes, slice_get}
-use Rattle.std.specs.List.{sum_by}
-use Rattle.icn_value.specs.Limited.{Bounds}
-use Rattle.icn_tree.specs.Trees.{Declaration, Empty}
-use Rattle.icn_value.specs.Values.{Value, Null, Text}
-use Rattle.icn_value.specs.Store.{Outside, outside_of}
+use Rattle.std.specs.Prelude.{ℕ, zero, false, List, [], ◌∷◌, length, replicate, Option, Some, None, codes, slice_get}
+use Rattle.icn_tree.specs.Trees.{Empty}
 pub use Rattle.icn_defs.specs.Running.{Observed}
-use Rattle.icn_defs.specs.Running.{first_world, words_row}
-use Rattle.icn_meaning.specs.Program.{Program, Routine, program, routine_names, place_of, names_of}
+use Rattle.icn_defs.specs.Running.{Launch, first_world, words_row, after_steps, Observes}
+use Rattle.icn_meaning.specs.Program.{Program, Routine, routine_names, place_of, names_of}
 use Rattle.icn_meaning.specs.Contexts.{Nothing, NoChoice, Active, Store, State, eval, succeed, fail, hop, over, lost, Ending}
 use Rattle.icn_meaning.specs.Turns.{errs, within, made}
 use Rattle.icn_meaning.specs.Coexpressions.{hopped}
@@ -26,14 +22,13 @@ step program (over ending st) = over ending st
 step program lost = lost
 
 abbrev pub steps : Program → ℕ → State → State
-steps program zero state = state
-steps program (suc n) state = steps program n (step program state)
+steps program n state = after_steps (step program) n state
 
 -- before anything is done: co-expression 0 is active, which is `&main`
-abbrev pub first_store : Program → Bounds → List ℕ → Store
-first_store program bounds input = record {
-  world = first_world bounds program.starts program.statics;
-  outside = outside_of input;
+abbrev pub first_store : Program → Launch → Store
+first_store program launch = record {
+  world = first_world launch.bounds program.starts program.statics;
+  outside = launch.outside;
   activations = [];
   begun = replicate (length program.routines) false;
   flags = [];
@@ -58,14 +53,13 @@ main_at program (Some n) words st = main_in (slice_get program.routines n) n wor
 main_at program None words st = errs 117 None NoChoice st
 
 -- where the evaluation starts: a program without a procedure `main` is error 117
-abbrev pub start : Program → List (List ℕ) → Bounds → List ℕ → State
-start program words bounds input = main_at program (place_of (codes "main") (routine_names program.routines)) words (first_store program bounds input)
+abbrev pub start : Program → Launch → State
+start program launch = main_at program (place_of (codes "main") (routine_names program.routines)) launch.words (first_store program launch)
 
 abbrev pub observed : State → Option Observed
 observed (over ending st) = Some (record { ending = ending; outside = st.outside })
 observed state = None
 
--- The meaning of the program of these files, with these argument words, limits and input: its steps reach an end at which this is observed.
-pub record Means (files : List (List Declaration)) (words : List (List ℕ)) (bounds : Bounds) (input : List ℕ) (seen : Observed) : Type 0 where
-  pub count : ℕ
-  pub is : observed (steps (program files) count (start (program files) words bounds input)) ≡ Some seen
+-- the meaning of a program that is begun so: the steps of its evaluation come to an end of which this is observed
+abbrev pub Means : Program → Launch → Observed → Type 0
+Means program launch seen = Observes (step program) observed (start program launch) seen

@@ -1,15 +1,16 @@
 -- How a run ends early, what is a turn, and how a row sees the store.
-use Rattle.std.specs.Prelude.{ℕ, suc, nat_lt, Bool, true, false, List, [], ◌∷◌, ◌++◌, Option, slice_index_or, slice_set, codes}
+use Rattle.std.specs.Prelude.{ℕ, suc, nat_lt, Bool, true, false, List, [], ◌∷◌, Option, slice_index_or, slice_set}
 use Rattle.icn_value.specs.Values.{Value, Local, Whole, Part, Item, Val, Var}
 use Rattle.icn_value.specs.Store.{Setting}
 use Rattle.icn_defs.specs.Rows.{Outcome, Fails, Gives, Suspends, Error, Ends}
 use Rattle.icn_defs.specs.StepRows.{value_row}
 use Rattle.icn_defs.specs.Errors.{error_report}
+use Rattle.icn_defs.specs.Running.{bound_report, with_errors}
 use Rattle.icn_meaning.specs.Contexts.{Works, Choices, ◌or_else◌, Resume, Store, State, succeed, fail, over, Ending, Exit, Errored, AtBound}
 
 -- the run ends, and this is put on the error output
 abbrev pub ended : Ending → List ℕ → Store → State
-ended ending text st = over ending (record st { outside = record st.outside { errors = st.outside.errors ++ text } })
+ended ending text st = over ending (record st { outside = with_errors text st.outside })
 
 -- An error ends the run. This is the one place where errors come to, with the choices that stand there, so that an error can become failure here.
 abbrev pub errs : ℕ → Option Value → Choices → Store → State
@@ -17,7 +18,7 @@ errs n offending r st = ended (Errored n) (error_report st.names st.world.heap n
 
 abbrev pub turn_if : Bool → Store → (Store → State) → State
 turn_if true st go = go (record st { turns = suc st.turns })
-turn_if false st go = ended AtBound (codes "turn bound reached\n") st
+turn_if false st go = ended AtBound bound_report st
 
 -- A turn is counted before anything of it is done; where as many as the bound were made, the run stands there.
 abbrev pub turn : Store → (Store → State) → State

@@ -1,10 +1,9 @@
 // Laws of the meaning.
-ghost use Rattle.std.specs.Prelude.{◌≡◌, ℕ, List};
-ghost use Rattle.icn_tree.specs.Trees.{Declaration};
-ghost use Rattle.icn_value.specs.Limited.{Bounds};
+ghost use Rattle.std.specs.Prelude.{◌≡◌};
 ghost use Rattle.icn_run.specs.CodeRun.{Observed as ObservedRun};
-ghost use Rattle.icn_defs.specs.Running.{Observed};
+ghost use Rattle.icn_defs.specs.Running.{Launch, Observed};
 ghost use Rattle.icn_meaning.specs.Meaning as Whole;
+ghost use Rattle.icn_meaning.specs.Program.{Program};
 ghost use Rattle.icn_meaning.specs.Lines.{outcome_of};
 ghost use Rattle.icn_meaning.specs.WriteMeaning.{Evaluation, Means};
 
@@ -15,8 +14,7 @@ pub fn one_meaning()
     ensures one { (evaluation : Evaluation) (a b : ObservedRun) → Means evaluation a → Means evaluation b → a ≡ b }
 {}
 
-/// The program of some files has, with its words, limits and input, at most one observation.
+/// A program has, with its words, its limits and the outside before it, at most one observation.
 pub fn one_observation()
-    ensures { (files : List (List Declaration)) (words : List (List ℕ)) (bounds : Bounds) (input : List ℕ) (a b : Observed) →
-        Whole.Means files words bounds input a → Whole.Means files words bounds input b → a ≡ b }
+    ensures { (program : Program) (launch : Launch) (a b : Observed) → Whole.Means program launch a → Whole.Means program launch b → a ≡ b }
 {}

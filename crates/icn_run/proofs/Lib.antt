@@ -2,3 +2,4 @@ pub mod Runs
 pub mod Putting
 pub mod Piecewise
 pub mod RunsEnd
+pub mod Observing

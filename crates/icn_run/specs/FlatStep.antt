@@ -1,10 +1,10 @@
 -- The run of a code on flat stacks.
-use Rattle.std.specs.Prelude.{◌≡◌, ℕ, List}
-use Rattle.icn_value.specs.Limited.{Bounds}
+use Rattle.std.specs.Prelude.{ℕ}
+use Rattle.icn_defs.specs.Running.{Observes}
 use Rattle.icn_code.specs.Codes.{Tables}
 use Rattle.icn_run.specs.Stacks.{Frames, flat, empty}
 use Rattle.icn_run.specs.Step as Step
-use Rattle.icn_run.specs.Step.{Program, Observed, over}
+use Rattle.icn_run.specs.Step.{Program, Observed, Launch}
 
 abbrev pub State : Type 0
 State = Step.State Frames Frames
@@ -15,10 +15,9 @@ step P state = Step.step flat P state
 abbrev pub steps : Program → ℕ → State → State
 steps P n state = Step.steps flat P n state
 
-abbrev pub start : Program → List (List ℕ) → List ℕ → State
-start P words input = Step.start flat empty P words input
+abbrev pub start : Program → Launch → State
+start P launch = Step.start flat empty P launch
 
--- the run of a code with these words, this input and these limits is seen so
-pub record Runs (tables : Tables) (words : List (List ℕ)) (input : List ℕ) (bounds : Bounds) (observed : Observed) : Type 0 where
-  pub count : ℕ
-  pub is : steps (record { tables = tables; bounds = bounds }) count (start (record { tables = tables; bounds = bounds }) words input) ≡ over observed.ending observed.outside
+-- the run of a code that is begun so comes to an end of which this is observed
+abbrev pub Runs : Tables → Launch → Observed → Type 0
+Runs tables launch seen = Observes (step tables) Step.observed (start tables launch) seen

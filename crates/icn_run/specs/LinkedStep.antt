@@ -1,12 +1,13 @@
 -- The run of a code on linked marks.
-use Rattle.std.specs.Prelude.{◌==◌, ℕ, Bool, true, false, List}
+use Rattle.std.specs.Prelude.{◌==◌, ℕ, Bool, true, false}
 use Rattle.std.specs.List.{list_any}
 use Rattle.icn_code.specs.declared.instr.Instr.{Instr}
 use Rattle.icn_code.specs.declared.instr.Instr.TheVariants.{Chfail}
 use Rattle.icn_code.specs.Codes.{Tables}
+use Rattle.icn_defs.specs.Running.{Observes}
 use Rattle.icn_run.specs.Chains.{Parked, Linked, linked, empty}
 use Rattle.icn_run.specs.Step as Step
-use Rattle.icn_run.specs.Step.{Program, Observed, instrs_of}
+use Rattle.icn_run.specs.Step.{Program, Observed, Launch, instrs_of}
 
 abbrev pub State : Type 0
 State = Step.State Parked Linked
@@ -18,8 +19,12 @@ step repeats P state = Step.step (linked repeats) P state
 abbrev pub steps : (ℕ → ℕ → Bool) → Program → ℕ → State → State
 steps repeats P n state = Step.steps (linked repeats) P n state
 
-abbrev pub start : (ℕ → ℕ → Bool) → Program → List (List ℕ) → List ℕ → State
-start repeats P words input = Step.start (linked repeats) empty P words input
+abbrev pub start : (ℕ → ℕ → Bool) → Program → Launch → State
+start repeats P launch = Step.start (linked repeats) empty P launch
+
+-- the same of the run on linked marks
+abbrev pub Runs : (ℕ → ℕ → Bool) → Tables → Launch → Observed → Type 0
+Runs repeats tables launch seen = Observes (step repeats tables) Step.observed (start repeats tables launch) seen
 
 -- a label of a `chfail` stands there
 abbrev pub is_chfail_to : ℕ → Instr → Bool

@@ -9,7 +9,6 @@ use Rattle.icn_text.specs.declared.func.Func.{Func}
 use Rattle.icn_text.specs.declared.op.Op.{Op}
 use Rattle.icn_text.specs.declared.op.Op.TheVariants as Ops
 use Rattle.icn_value.specs.declared.cset.Cset.{Cset}
-use Rattle.icn_value.specs.Limited.{Bounds}
 use Rattle.icn_defs.specs.Arities.{arity}
 use Rattle.icn_defs.specs.Numbers.{func_of}
 use Rattle.icn_code.specs.declared.instr.Instr.{Instr}
@@ -20,16 +19,15 @@ use Rattle.icn_code.specs.declared.code.Start.TheVariants as Starts
 use Rattle.icn_code.specs.Codes.{Tables, Proc as Procedure, RecordType}
 use Rattle.icn_code.specs.Rules.{name_of}
 use Rattle.icn_run.specs.Rows.{Value, Null, Integer, Text, Chars, Procedure as ProcedureValue, ARecord, AList, ACoexp, Global, Static, Local, Field, Whole, Part, Item, Val, Var, World, Outside, Setting, Names, list_at, record_at, Outcome, Fails, Gives, Suspends, Error, Ends, error_report, integer_of, place_of, again, Standing, keyword_item, Operation, Function, apply, value_row, list_row, text_row, record_row, coexpression_row, first_world, words_row, Ending, Done, Exit, Errored, AtBound, number_of}
-pub use Rattle.icn_defs.specs.Running.{Observed}
-use Rattle.icn_value.specs.Store.{outside_of}
+pub use Rattle.icn_defs.specs.Running.{Observed, Launch}
+use Rattle.icn_defs.specs.Running.{after_steps, bound_report, with_errors}
 use Rattle.icn_run.specs.Calls.{Pair, Why, Alt, Op as Operation, Scan, Escan, Proc, Dropped, NoMark, Goes, Repeats, Outside as WithoutLabel, Calls}
 
 -- The states
 
--- the tables of a code, and the limits of its run
-pub record Program : Type 0 where
-  pub tables : Tables
-  pub bounds : Bounds
+-- what runs: the tables of a code
+abbrev pub Program : Type 0
+Program = Tables
 
 -- a co-expression has not begun, is active, waits to be entered again with its stack, or is exhausted
 pub data Status (K : Type 0) : Type 0 where
@@ -75,14 +73,11 @@ parted next pair = next pair.0 pair.1
 
 -- Ends and turns
 
-abbrev pub with_errors : List ℕ → Outside → Outside
-with_errors text outside = record outside { errors = outside.errors ++ text }
-
 abbrev pub errs : {K M : Type 0} → ℕ → Option Value → Store K → State K M
 errs n value st = over (Errored n) (with_errors (error_report st.names st.world.heap n value) st.outside)
 
 abbrev pub at_bound : {K M : Type 0} → Store K → State K M
-at_bound st = over AtBound (with_errors (codes "turn bound reached\n") st.outside)
+at_bound st = over AtBound (with_errors bound_report st.outside)
 
 -- a turn is counted before anything of its event is done, and one past the bound ends the run
 abbrev pub turn_if : {K M : Type 0} → Bool → Store K → (Store K → State K M) → State K M
@@ -359,7 +354,7 @@ callee_called C (IsFunc func) n items m st = outcome C (apply st.names (Function
 callee_called C IsNothing n items m st = errs 106 (Some (ProcedureValue n)) st
 
 abbrev pub invoked : {K M : Type 0} → Calls K M → Program → Value → List Item → M → Store K → State K M
-invoked C P (ProcedureValue n) items m st = callee_called C (callee_of P.tables n) n items m st
+invoked C P (ProcedureValue n) items m st = callee_called C (callee_of P n) n items m st
 invoked C P callee items m st = integer_called C callee (number_of callee) items m st
 
 -- what is called stands below its arguments
@@ -388,7 +383,7 @@ field_taken C (Some place) n m st = pushed C (Var (Whole (Field n place))) m st
 field_taken C None n m st = errs 207 (Some (ARecord n)) st
 
 abbrev pub field_of : {K M : Type 0} → Calls K M → Program → ℕ → Value → M → Store K → State K M
-field_of C P field (ARecord n) m st = field_taken C (field_place P.tables field (record_at st.world.heap n).kind) n m st
+field_of C P field (ARecord n) m st = field_taken C (field_place P field (record_at st.world.heap n).kind) n m st
 field_of C P field value m st = errs 107 (Some value) st
 
 -- a result that is a local, or a part of one, is its value
@@ -497,11 +492,11 @@ coexp_result C P m st = if is_create_body C m st
 -- the place is that of the next instruction
 abbrev pub instruction : {K M : Type 0} → Calls K M → Program → Instr → M → Store K → State K M
 instruction C P Instrs.Pnull m st = pushed C (Val Null) m st
-instruction C P (Instrs.Int k) m st = with_found (slice_get P.tables.integers k) (λ n. pushed C (Val (Integer n)) m st)
-instruction C P (Instrs.Str k) m st = with_found (slice_get P.tables.strings k) (λ bytes. pushed C (Val (Text bytes)) m st)
-instruction C P (Instrs.Cset k) m st = with_found (slice_get P.tables.csets k) (λ set. pushed C (Val (Chars (members_of set))) m st)
+instruction C P (Instrs.Int k) m st = with_found (slice_get P.integers k) (λ n. pushed C (Val (Integer n)) m st)
+instruction C P (Instrs.Str k) m st = with_found (slice_get P.strings k) (λ bytes. pushed C (Val (Text bytes)) m st)
+instruction C P (Instrs.Cset k) m st = with_found (slice_get P.csets k) (λ set. pushed C (Val (Chars (members_of set))) m st)
 instruction C P (Instrs.Local k) m st = pushed C (Var (Whole (Local k))) m st
-instruction C P (Instrs.Static k) m st = pushed C (Var (Whole (Static (statics_before P.tables (C.proc m) + k)))) m st
+instruction C P (Instrs.Static k) m st = pushed C (Var (Whole (Static (statics_before P (C.proc m) + k)))) m st
 instruction C P (Instrs.Global k) m st = pushed C (Var (Whole (Global k))) m st
 instruction C P (Instrs.Keywd keyword) m st = pushed_or_fails C (keyword_item (standing C m st) keyword) m st
 instruction C P Instrs.Pop m st = with_popped C m (λ item m. running m st)
@@ -536,7 +531,7 @@ instruction C P Instrs.Coret m st = coexp_result C P m st
 instruction C P Instrs.Cofail m st = if is_create_body C m st then exhausted C P m st else stuck
 
 abbrev pub instruction_at : {K M : Type 0} → Calls K M → Program → M → Option Instr
-instruction_at C P m = slice_get (instrs_of P.tables (C.proc m)) (C.place m)
+instruction_at C P m = slice_get (instrs_of P (C.proc m)) (C.place m)
 
 -- Steps
 
@@ -548,8 +543,12 @@ step C P (over ending outside) = over ending outside
 step C P stuck = stuck
 
 abbrev pub steps : {K M : Type 0} → Calls K M → Program → ℕ → State K M → State K M
-steps C P zero state = state
-steps C P (suc n) state = steps C P n (step C P state)
+steps C P n state = after_steps (step C P) n state
+
+-- what is observed of a run that is over
+abbrev pub observed : {K M : Type 0} → State K M → Option Observed
+observed (over ending outside) = Some (record { ending = ending; outside = outside })
+observed state = None
 
 -- The start
 
@@ -579,15 +578,15 @@ record_name tables entry = slice_index_or tables.strings entry.name []
 abbrev pub all_names : Tables → Names
 all_names tables = record { procedures = map (proc_name tables) tables.procs; records = map (record_name tables) tables.records }
 
-abbrev pub first_store : {K : Type 0} → Program → List ℕ → Store K
-first_store P input = record {
-  world = first_world P.bounds (first_globals P.tables) (static_count P.tables);
-  outside = outside_of input;
+abbrev pub first_store : {K : Type 0} → Program → Launch → Store K
+first_store P launch = record {
+  world = first_world launch.bounds (first_globals P) (static_count P);
+  outside = launch.outside;
   turns = 0;
-  begun = replicate (length P.tables.procs) false;
+  begun = replicate (length P.procs) false;
   coexps = record { status = Active; activator = zero; values = []; proc = zero; place = zero } ∷ [];
   active = 0;
-  names = all_names P.tables;
+  names = all_names P;
 }
 
 -- the procedure that a global begins with
@@ -605,8 +604,8 @@ begun_if C false n entry arguments m st = errs 301 None st
 
 abbrev pub start_of : {K M : Type 0} → Calls K M → Program → List (List ℕ) → M → Store K → Option ℕ → State K M
 start_of C P words m st None = errs 117 None st
-start_of C P words m st (Some main) = with_found (slice_get P.tables.procs main) (λ (entry : Procedure).
+start_of C P words m st (Some main) = with_found (slice_get P.procs main) (λ (entry : Procedure).
     made C (words_row words (here C m st)) m st (λ list m st. begun_if C (nat_le 1 st.world.heap.bounds.levels) main entry (list ∷ []) m st))
 
-abbrev pub start : {K M : Type 0} → Calls K M → M → Program → List (List ℕ) → List ℕ → State K M
-start C m P words input = start_of C P words m (first_store P input) (main_of P.tables)
+abbrev pub start : {K M : Type 0} → Calls K M → M → Program → Launch → State K M
+start C m P launch = start_of C P launch.words m (first_store P launch) (main_of P)

@@ -8,7 +8,7 @@ use Rattle.icn_run.specs.Rows.{Value, Outcome, Fails, Gives, Suspends, Error, En
 use Rattle.icn_code.specs.Codes.{Proc as Procedure}
 use Rattle.icn_run.specs.Calls.{Calls}
 use Rattle.icn_run_laws.specs.SameStates.{IsMade}
-use Rattle.icn_run.specs.Step.{Program, Store, State, running, failing, hopping, over, stuck, with_found, passed_failure, activator_of, instruction, instruction_at, instrs_of, step, start, start_of, first_store, main_of, made, here, with_at, begun_if, collected, filled}
+use Rattle.icn_run.specs.Step.{Program, Launch, Store, State, running, failing, hopping, over, stuck, with_found, passed_failure, activator_of, instruction, instruction_at, instrs_of, step, start, start_of, first_store, main_of, made, here, with_at, begun_if, collected, filled}
 use Rattle.icn_run_laws.specs.Measure.{worth, Weighs, Fits, Held, IsForward, Forward, Falls, Later, Sound, EndsFrom}
 use Rattle.icn_run_laws.proofs.RowsKeep.{rows_keep}
 use Rattle.icn_run_laws.proofs.Falls.{IsForward', worth_next, when_found, Allows, there, turned, TurnOf, l_instruction, f_fails, a_to_activator}
@@ -19,10 +19,7 @@ behind p next e (I.Goto l) h = omega arith
 behind p next e (I.Init l) h = omega arith
 behind p next e _ h = tt
 
-module _ {K M : Type 0} (C : Calls K M) (N : ℕ) (W : Weighs C N) (P : Program) (code : Forward N P) where
-  abbrev B : ℕ
-  B = P.bounds.turns
-
+module _ {K M : Type 0} (C : Calls K M) (N : ℕ) (W : Weighs C N) (P : Program) (B : ℕ) (code : Forward N P) where
   -- what is left in a state, and the turns that it made
   abbrev left : (s : State K M) → Sound C N B W s → ℕ
   left (running m st) h = worth N (C.place m) + h.0.0
@@ -37,21 +34,21 @@ module _ {K M : Type 0} (C : Calls K M) (N : ℕ) (W : Weighs C N) (P : Program)
   turns_of (hopping m st) = st.turns
   turns_of _ = 0
 
-  at_instruction : (m : M) (st : Store K) (o : Option Instr) → slice_get (instrs_of P.tables (C.proc m)) (C.place m) ≡ o → (f : Fits C N B W m) → Held C N B W st → (few : st.turns ≤ B)
+  at_instruction : (m : M) (st : Store K) (o : Option Instr) → slice_get (instrs_of P (C.proc m)) (C.place m) ≡ o → (f : Fits C N B W m) → Held C N B W st → (few : st.turns ≤ B)
       → Later C N B W st.turns (worth N (C.place m) + f.0) (with_found o (λ instr. instruction C P instr (C.go (suc (C.place m)) m) st))
   at_instruction m st None q f g few = tt
   at_instruction m st (Some i) q f g few =
       let p = C.place m in let stands = W.go_stands (suc p) m in
       let e : worth N (C.place (C.go (suc p) m)) ≡ worth N (suc p) = ap (worth N) stands in
       let y = worth_next N p (code.within (C.proc m) p i q) in
-      l_instruction C N W P st.turns (worth N p + f.0) few (C.go (suc p) m) (f.0, W.go (suc p) m f.0 f.1) (omega arith) i st
+      l_instruction C N W P B st.turns (worth N p + f.0) few (C.go (suc p) m) (f.0, W.go (suc p) m f.0 f.1) (omega arith) i st
       (behind p (C.place (C.go (suc p) m)) stands i (code.forward (C.proc m) p i q)) (record { fit = g; turns = refl })
 
   -- a step is a turn, or what is left becomes less
   pub falls : (s : State K M) (h : Sound C N B W s) → Later C N B W (turns_of s) (left s h) (step C P s)
   falls (running m st) h = at_instruction m st (instruction_at C P m) refl h.0 h.1 h.2
-  falls (failing m st) h = f_fails C N W P st.turns h.0.0 h.2 m h.0 (omega arith) st (record { fit = h.1; turns = refl })
-  falls (hopping m st) h = turned C N W P st.turns 0 h.1 st (λ st. passed_failure C (activator_of st.active st) m st) (record { fit = h.0; turns = refl }) (a_to_activator C N W P st.turns m (TurnOf C N W P st.turns 0 h.1 st) (h.0, omega arith))
+  falls (failing m st) h = f_fails C N W P B st.turns h.0.0 h.2 m h.0 (omega arith) st (record { fit = h.1; turns = refl })
+  falls (hopping m st) h = turned C N W P B st.turns 0 h.1 st (λ st. passed_failure C (activator_of st.active st) m st) (record { fit = h.0; turns = refl }) (a_to_activator C N W P B st.turns m (TurnOf C N W P B st.turns 0 h.1 st) (h.0, omega arith))
   falls (over ending outside) h = tt
   falls stuck h = tt
 
@@ -124,10 +121,10 @@ module _ {K M : Type 0} (C : Calls K M) (N : ℕ) (W : Weighs C N) (P : Program)
 
   s_start : (words : List (List ℕ)) (m : M) (st : Store K) (o : Option ℕ) → Starts st → Sound C N B W (start_of C P words m st o)
   s_start words m st None h = tt
-  s_start words m st (Some main) h = when_found (Sound C N B W) s_allowed (λ x. Unit {0}) (slice_get P.tables.procs main) _ (there _) (λ entry _.
+  s_start words m st (Some main) h = when_found (Sound C N B W) s_allowed (λ x. Unit {0}) (slice_get P.procs main) _ (there _) (λ entry _.
       s_made (words_row words (here C m st)) m st (λ list m st. begun_if C (nat_le 1 st.world.heap.bounds.levels) main entry (list ∷ []) m st) (rows_keep.words_made words (here C m st)) (rows_keep.worded words (here C m st)) h
       (λ v a st' h'. s_begun (nat_le 1 st'.world.heap.bounds.levels) main entry (v ∷ []) a st' h'))
 
   -- each run ends
-  pub ends : (m : M) (words : List (List ℕ)) (input : List ℕ) → EndsFrom C P (start C m P words input)
-  ends m words input = run_ends (start C m P words input) (s_start words m (first_store P input) (main_of P.tables) (((tt, tt), refl), omega arith))
+  pub ends : (m : M) (launch : Launch) → launch.bounds.turns ≡ B → EndsFrom C P (start C m P launch)
+  ends m launch e = run_ends (start C m P launch) (s_start launch.words m (first_store P launch) (main_of P) (((tt, tt), e), omega arith))

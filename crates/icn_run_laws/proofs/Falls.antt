@@ -78,19 +78,19 @@ module _ {K M : Type 0} (T : State K M → Type 0) (allows : Allows T) where
   when_found Q (Some x) next h f = f x h
 
 -- what is true after a turn
-module _ {K M : Type 0} (C : Calls K M) (N : ℕ) (W : Weighs C N) (P : Program) (n : ℕ) where
+module _ {K M : Type 0} (C : Calls K M) (N : ℕ) (W : Weighs C N) (P : Program) (B : ℕ) (n : ℕ) where
   abbrev pub A : State K M → Type 0
-  A s = After C N P.bounds.turns W n s
+  A s = After C N B W n s
 
   allowed : Allows A
   allowed = record { lacks = tt; ends = λ ending outside. tt }
 
   abbrev Holds : Store K → Type 0
-  Holds st = Held C N P.bounds.turns W st
+  Holds st = Held C N B W st
 
   -- a stack and a store that may go on after a turn
   abbrev pub Ready : M → Store K → Type 0
-  Ready m st = Fits C N P.bounds.turns W m × Holds st × (st.turns ≡ n + 1)
+  Ready m st = Fits C N B W m × Holds st × (st.turns ≡ n + 1)
 
   abbrev pub Rest : Store K → Type 0
   Rest st = Holds st × (st.turns ≡ n + 1)
@@ -233,7 +233,7 @@ module _ {K M : Type 0} (C : Calls K M) (N : ℕ) (W : Weighs C N) (P : Program)
   a_integer v None items m st h = tt
 
   a_invoked : (v : Value) (items : List Item) (m : M) (st : Store K) → Ready m st → A (invoked C P v items m st)
-  a_invoked (ProcedureValue k) items m st h = a_callee (callee_of P.tables k) k items m st h
+  a_invoked (ProcedureValue k) items m st h = a_callee (callee_of P k) k items m st h
   a_invoked v items m st h = a_integer v (number_of v) items m st h
 
   a_invoked_with : (items : List Item) (m : M) (st : Store K) → Ready m st → A (invoked_with C P items m st)
@@ -254,7 +254,7 @@ module _ {K M : Type 0} (C : Calls K M) (N : ℕ) (W : Weighs C N) (P : Program)
   a_taken (Some place) k m st h = a_push _ m st h
 
   a_field : (field : ℕ) (v : Value) (m : M) (st : Store K) → Ready m st → A (field_of C P field v m st)
-  a_field field (ARecord k) m st h = a_taken (field_place P.tables field (record_at st.world.heap k).kind) k m st h
+  a_field field (ARecord k) m st h = a_taken (field_place P field (record_at st.world.heap k).kind) k m st h
   a_field field _ m st h = tt
 
   a_field_applied : (field : ℕ) (items : List Item) (m : M) (st : Store K) → Ready m st → A (field_applied C P field items m st)
@@ -270,14 +270,14 @@ module _ {K M : Type 0} (C : Calls K M) (N : ℕ) (W : Weighs C N) (P : Program)
   a_operated op items m st h = a_outcome (apply st.names (Operation op) items (here C m st)) m st (rows_keep.applied st.names (Operation op) items (here C m st)) h
 
 -- what is true of a step: a turn is made, or what is left becomes lighter than w
-module _ {K M : Type 0} (C : Calls K M) (N : ℕ) (W : Weighs C N) (P : Program) (n w : ℕ) (few : n ≤ P.bounds.turns) where
+module _ {K M : Type 0} (C : Calls K M) (N : ℕ) (W : Weighs C N) (P : Program) (B : ℕ) (n w : ℕ) (few : n ≤ B) where
   abbrev pub Lt : State K M → Type 0
-  Lt s = Later C N P.bounds.turns W n w s
+  Lt s = Later C N B W n w s
 
   pub lt_allowed : Allows Lt
   lt_allowed = record { lacks = tt; ends = λ ending outside. tt }
 
-  after_turn : (s : State K M) → After C N P.bounds.turns W n s → n < P.bounds.turns → Lt s
+  after_turn : (s : State K M) → After C N B W n s → n < B → Lt s
   after_turn (running m st) h lt = (h.0, h.1, inl (h.2, lt))
   after_turn (failing m st) h lt = (h.0, h.1, inl (h.2, lt))
   after_turn (hopping m st) h lt = (h.0, (h.1, lt))
@@ -286,18 +286,18 @@ module _ {K M : Type 0} (C : Calls K M) (N : ℕ) (W : Weighs C N) (P : Program)
 
   -- the stores of one step before its turn
   pub record Same (st : Store K) : Type 0 where
-    pub fit : Held C N P.bounds.turns W st
+    pub fit : Held C N B W st
     pub turns : st.turns ≡ n
 
   abbrev pub TurnOf : Store K → Store K
   TurnOf st = record st { turns = suc st.turns }
 
-  by_bound : (st : Store K) (event : Store K → State K M) (b : Bool) → nat_lt st.turns st.world.heap.bounds.turns ≡ b → st.turns ≡ n → st.world.heap.bounds.turns ≡ P.bounds.turns → After C N P.bounds.turns W n (event (TurnOf st)) → Lt (turn_if b st event)
+  by_bound : (st : Store K) (event : Store K → State K M) (b : Bool) → nat_lt st.turns st.world.heap.bounds.turns ≡ b → st.turns ≡ n → st.world.heap.bounds.turns ≡ B → After C N B W n (event (TurnOf st)) → Lt (turn_if b st event)
   by_bound st event false q e g h = tt
   by_bound st event true q e g h = let lt = ltb-true st.turns st.world.heap.bounds.turns q in after_turn _ h (omega arith)
 
   -- a turn, and then its event
-  pub turned : (st : Store K) (event : Store K → State K M) → Same st → After C N P.bounds.turns W n (event (TurnOf st)) → Lt (turn P st event)
+  pub turned : (st : Store K) (event : Store K → State K M) → Same st → After C N B W n (event (TurnOf st)) → Lt (turn P st event)
   turned st event g h = by_bound st event (nat_lt st.turns st.world.heap.bounds.turns) refl g.turns g.fit.1 h
 
   same_left : (o : Option Pair) (st : Store K) → Same st → Same (scans_left o st)
@@ -309,11 +309,11 @@ module _ {K M : Type 0} (C : Calls K M) (N : ℕ) (W : Weighs C N) (P : Program)
   same_back (Some swap) st s = record { fit = s.fit; turns = s.turns }
 
   -- ready for a turn
-  pub ready : (m : M) (st : Store K) → Fits C N P.bounds.turns W m → Same st → Fits C N P.bounds.turns W m × Held C N P.bounds.turns W st × (suc st.turns ≡ n + 1)
+  pub ready : (m : M) (st : Store K) → Fits C N B W m → Same st → Fits C N B W m × Held C N B W st × (suc st.turns ≡ n + 1)
   ready m st f s = let e = s.turns in (f, s.fit, omega arith)
 
   -- the place is that of the next instruction
-  module _ (m : M) (fits : Fits C N P.bounds.turns W m) (bound : worth N (C.place m) + worth N (C.place m) + worth N (C.place m) + worth N (C.place m) + fits.0 ≤ w) where
+  module _ (m : M) (fits : Fits C N B W m) (bound : worth N (C.place m) + worth N (C.place m) + worth N (C.place m) + worth N (C.place m) + fits.0 ≤ w) where
     go_on : (k : ℕ) (after : M) (st : Store K) → Stays W.Bounded C.place k fits.0 m after → k ≤ suc (worth N (C.place m)) → Same st → Lt (running after st)
     go_on k after st s le g = let more = s.weighs in let e : worth N (C.place after) ≡ worth N (C.place m) = ap (worth N) s.stands in let one = cost_some (N - C.place m) in
         (s.fits, g.fit, inr (g.turns, omega arith))
@@ -431,20 +431,20 @@ module _ {K M : Type 0} (C : Calls K M) (N : ℕ) (W : Weighs C N) (P : Program)
     -- an instruction is a turn, or what is left becomes lighter
     pub l_instruction : (i : Instr) (st : Store K) → IsForward' (C.place m) i → Same st → Lt (instruction C P i m st)
     l_instruction I.Pnull st le g = push_on 0 m (Val Null) st stay (omega arith) g
-    l_instruction (I.Int k) st le g = when_found Lt lt_allowed (λ x. Unit {0}) (slice_get P.tables.integers k) _ (there _) (λ x _. push_on 0 m (Val (Integer x)) st stay (omega arith) g)
-    l_instruction (I.Str k) st le g = when_found Lt lt_allowed (λ x. Unit {0}) (slice_get P.tables.strings k) _ (there _) (λ x _. push_on 0 m (Val (Text x)) st stay (omega arith) g)
-    l_instruction (I.Cset k) st le g = when_found Lt lt_allowed (λ x. Unit {0}) (slice_get P.tables.csets k) _ (there _) (λ x _. push_on 0 m (Val (Chars (members_of x))) st stay (omega arith) g)
+    l_instruction (I.Int k) st le g = when_found Lt lt_allowed (λ x. Unit {0}) (slice_get P.integers k) _ (there _) (λ x _. push_on 0 m (Val (Integer x)) st stay (omega arith) g)
+    l_instruction (I.Str k) st le g = when_found Lt lt_allowed (λ x. Unit {0}) (slice_get P.strings k) _ (there _) (λ x _. push_on 0 m (Val (Text x)) st stay (omega arith) g)
+    l_instruction (I.Cset k) st le g = when_found Lt lt_allowed (λ x. Unit {0}) (slice_get P.csets k) _ (there _) (λ x _. push_on 0 m (Val (Chars (members_of x))) st stay (omega arith) g)
     l_instruction (I.Local k) st le g = push_on 0 m _ st stay (omega arith) g
     l_instruction (I.Static k) st le g = push_on 0 m _ st stay (omega arith) g
     l_instruction (I.Global k) st le g = push_on 0 m _ st stay (omega arith) g
     l_instruction (I.Keywd keyword) st le g = l_or_fails (keyword_item (standing C m st) keyword) st g
     l_instruction I.Pop st le g = popping _ (λ item a s. go_on 0 a st s (omega arith) g)
     l_instruction I.Dup st le g = popping _ (λ item a s. push_on 0 m item st stay (omega arith) g)
-    l_instruction (I.Op op) st le g = taking (arity op) _ (λ items a s. turned st (operated C op items a) g (a_operated C N W P n op items a (TurnOf st) (ready a st s.fits g)))
-    l_instruction (I.Llist k) st le g = taking k _ (λ items a s. turned st (λ st. with_values C items a st (λ values. list_made C values a st (λ list m st. pushed C (Val list) m st))) g (a_values C N W P n items a (TurnOf st) _ (ready a st s.fits g) (λ vs. a_list C N W P n vs a (TurnOf st) (λ list m st. pushed C (Val list) m st) (ready a st s.fits g) (λ v b st' h'. a_push C N W P n (Val v) b st' h'))))
-    l_instruction (I.Field k) st le g = taking 1 _ (λ items a s. turned st (field_applied C P k items a) g (a_field_applied C N W P n k items a (TurnOf st) (ready a st s.fits g)))
-    l_instruction (I.Invoke k) st le g = taking (suc k) _ (λ items a s. turned st (invoked_with C P items a) g (a_invoked_with C N W P n items a (TurnOf st) (ready a st s.fits g)))
-    l_instruction I.Appl st le g = taking 2 _ (λ items a s. turned st (applied_to_elements C P items a) g (a_applied C N W P n items a (TurnOf st) (ready a st s.fits g)))
+    l_instruction (I.Op op) st le g = taking (arity op) _ (λ items a s. turned st (operated C op items a) g (a_operated C N W P B n op items a (TurnOf st) (ready a st s.fits g)))
+    l_instruction (I.Llist k) st le g = taking k _ (λ items a s. turned st (λ st. with_values C items a st (λ values. list_made C values a st (λ list m st. pushed C (Val list) m st))) g (a_values C N W P B n items a (TurnOf st) _ (ready a st s.fits g) (λ vs. a_list C N W P B n vs a (TurnOf st) (λ list m st. pushed C (Val list) m st) (ready a st s.fits g) (λ v b st' h'. a_push C N W P B n (Val v) b st' h'))))
+    l_instruction (I.Field k) st le g = taking 1 _ (λ items a s. turned st (field_applied C P k items a) g (a_field_applied C N W P B n k items a (TurnOf st) (ready a st s.fits g)))
+    l_instruction (I.Invoke k) st le g = taking (suc k) _ (λ items a s. turned st (invoked_with C P items a) g (a_invoked_with C N W P B n items a (TurnOf st) (ready a st s.fits g)))
+    l_instruction I.Appl st le g = taking 2 _ (λ items a s. turned st (applied_to_elements C P items a) g (a_applied C N W P B n items a (TurnOf st) (ready a st s.fits g)))
     l_instruction (I.Mark l) st le g = let y = worth_less N (C.place m) l le in go_on (suc (worth N l)) (C.mark (Some l) m) st (W.mark (Some l) m fits) (omega arith) g
     l_instruction I.Mark0 st le g = go_on 1 (C.mark None m) st (W.mark None m fits) (omega arith) g
     l_instruction I.Unmark st le g = unmarking 0 m st running stay g (λ b st' s g'. go_on 0 b st' s (omega arith) g')
@@ -466,52 +466,52 @@ module _ {K M : Type 0} (C : Calls K M) (N : ℕ) (W : Weighs C N) (P : Program)
         (λ caller p. paid_push 0 a caller result (all_left C a st) s (omega arith) p (same_back _ st g))))
     l_instruction I.Pfail st le g = either_way Lt (is_create_body C m st) _ _ tt (returning 0 m (C.leave m) failing (all_left C m st) stay (omega arith) (W.leave m fits) (same_back _ st g)
         (λ caller p. paid_fail 0 m caller (all_left C m st) stay (omega arith) p (same_back _ st g)))
-    l_instruction (I.Create l) st le g = turned st (coexp_made C (C.locals m) (C.proc m) (C.place m) (C.go l m)) g (a_new C N W P n (C.locals m) (C.proc m) (C.place m) (C.go l m) (TurnOf st) (ready (C.go l m) st ((fits.0, W.go l m fits.0 fits.1)) g))
-    l_instruction I.Coact st le g = taking 2 _ (λ items a s. turned st (activation_of C items a) g (a_activation_of C N W P n items a (TurnOf st) (ready a st s.fits g)))
-    l_instruction I.Coret st le g = either_way Lt (is_create_body C m st) _ _ (popping _ (λ item a s. turned st (λ st. with_value C item a st (λ value. result_given C value a st)) g (a_value C N W P n item a (TurnOf st) _ (ready a st s.fits g) (λ v. a_result C N W P n v a (TurnOf st) (ready a st s.fits g))))) tt
-    l_instruction I.Cofail st le g = either_way Lt (is_create_body C m st) _ _ (turned st (λ st. passed_failure C (activator_of st.active st) m (with_status st.active Exhausted st)) g (a_exhausted C N W P n m (TurnOf st) ((ready m st fits g).1, (ready m st fits g).2))) tt
+    l_instruction (I.Create l) st le g = turned st (coexp_made C (C.locals m) (C.proc m) (C.place m) (C.go l m)) g (a_new C N W P B n (C.locals m) (C.proc m) (C.place m) (C.go l m) (TurnOf st) (ready (C.go l m) st ((fits.0, W.go l m fits.0 fits.1)) g))
+    l_instruction I.Coact st le g = taking 2 _ (λ items a s. turned st (activation_of C items a) g (a_activation_of C N W P B n items a (TurnOf st) (ready a st s.fits g)))
+    l_instruction I.Coret st le g = either_way Lt (is_create_body C m st) _ _ (popping _ (λ item a s. turned st (λ st. with_value C item a st (λ value. result_given C value a st)) g (a_value C N W P B n item a (TurnOf st) _ (ready a st s.fits g) (λ v. a_result C N W P B n v a (TurnOf st) (ready a st s.fits g))))) tt
+    l_instruction I.Cofail st le g = either_way Lt (is_create_body C m st) _ _ (turned st (λ st. passed_failure C (activator_of st.active st) m (with_status st.active Exhausted st)) g (a_exhausted C N W P B n m (TurnOf st) ((ready m st fits g).1, (ready m st fits g).2))) tt
 
 -- what fails weighs w at most
-module _ {K M : Type 0} (C : Calls K M) (N : ℕ) (W : Weighs C N) (P : Program) (n w : ℕ) (few : n ≤ P.bounds.turns) (m : M) (fits : Fits C N P.bounds.turns W m) (bound : fits.0 ≤ w) where
+module _ {K M : Type 0} (C : Calls K M) (N : ℕ) (W : Weighs C N) (P : Program) (B : ℕ) (n w : ℕ) (few : n ≤ B) (m : M) (fits : Fits C N B W m) (bound : fits.0 ≤ w) where
   abbrev pub L : State K M → Type 0
-  L s = Later C N P.bounds.turns W n w s
+  L s = Later C N B W n w s
 
-  lighter : (after : M) (st : Store K) → Lightens W.Bounded fits.0 after → Same C N W P n w few st → L (failing after st)
+  lighter : (after : M) (st : Store K) → Lightens W.Bounded fits.0 after → Same C N W P B n w few st → L (failing after st)
   lighter after st l g = let x = l.weighs in (l.fits, g.fit, inr (g.turns, omega arith))
 
-  f_returned : (o : Option M) (st : Store K) → IfThere o (λ caller. Pays W.Bounded C.place N fits.0 caller) → Same C N W P n w few st → L (returned o failing st)
+  f_returned : (o : Option M) (st : Store K) → IfThere o (λ caller. Pays W.Bounded C.place N fits.0 caller) → Same C N W P B n w few st → L (returned o failing st)
   f_returned None st i g = either_way L (is_main st.active) _ _ tt tt
   f_returned (Some caller) st i g = let x = i.weighs in (i.fits, g.fit, inr (g.turns, omega arith))
 
-  f_exhausted : (st : Store K) → Same C N W P n w few st → L (exhausted C P m st)
-  f_exhausted st g = turned C N W P n w few st (λ st. passed_failure C (activator_of st.active st) m (with_status st.active Exhausted st)) g
-      (a_exhausted C N W P n m (TurnOf C N W P n w few st) ((ready C N W P n w few m st fits g).1, (ready C N W P n w few m st fits g).2))
+  f_exhausted : (st : Store K) → Same C N W P B n w few st → L (exhausted C P m st)
+  f_exhausted st g = turned C N W P B n w few st (λ st. passed_failure C (activator_of st.active st) m (with_status st.active Exhausted st)) g
+      (a_exhausted C N W P B n m (TurnOf C N W P B n w few st) ((ready C N W P B n w few m st fits g).1, (ready C N W P B n w few m st fits g).2))
 
-  f_without : (st : Store K) → Same C N W P n w few st → L (without_mark C P m st)
-  f_without st g = either_way L (is_create_body C m st) _ _ (f_exhausted st g) (f_returned (C.leave m) (all_left C m st) (W.leave m fits) (same_back C N W P n w few _ st g))
+  f_without : (st : Store K) → Same C N W P B n w few st → L (without_mark C P m st)
+  f_without st g = either_way L (is_create_body C m st) _ _ (f_exhausted st g) (f_returned (C.leave m) (all_left C m st) (W.leave m fits) (same_back C N W P B n w few _ st g))
 
-  f_dropped : (d : Dropped M) (st : Store K) → DropsWell W.Bounded C.place N fits.0 d → Same C N W P n w few st → L (mark_dropped C P m st d)
+  f_dropped : (d : Dropped M) (st : Store K) → DropsWell W.Bounded C.place N fits.0 d → Same C N W P B n w few st → L (mark_dropped C P m st d)
   f_dropped NoMark st i g = f_without st g
   f_dropped (Goes after) st i g = let x = i.weighs in (i.fits, g.fit, inr (g.turns, omega arith))
-  f_dropped (Repeats after) st i g = turned C N W P n w few st (running after) g (ready C N W P n w few after st i g)
+  f_dropped (Repeats after) st i g = turned C N W P B n w few st (running after) g (ready C N W P B n w few after st i g)
   f_dropped (WithoutLabel after) st i g = lighter after st i g
 
-  f_escan : (after : M) (o : Option (Pair × M)) (st : Store K) → (l : Lightens W.Bounded fits.0 after) → IfThere o (λ swap. Stays W.Bounded C.place 0 l.fits.0 after swap.1) → Same C N W P n w few st → L (exchanged o failing st)
+  f_escan : (after : M) (o : Option (Pair × M)) (st : Store K) → (l : Lightens W.Bounded fits.0 after) → IfThere o (λ swap. Stays W.Bounded C.place 0 l.fits.0 after swap.1) → Same C N W P B n w few st → L (exchanged o failing st)
   f_escan after None st l i g = tt
   f_escan after (Some swap) st l i g = let x = l.weighs in let y = i.weighs in (i.fits, g.fit, inr (g.turns, omega arith))
 
-  f_resumed : (why : Why) (after : M) (st : Store K) → ResumesWell W.Bounded fits.0 why after → Same C N W P n w few st → L (resumed C P why after st)
+  f_resumed : (why : Why) (after : M) (st : Store K) → ResumesWell W.Bounded fits.0 why after → Same C N W P B n w few st → L (resumed C P why after st)
   f_resumed Alt after st i g = lighter after st i g
-  f_resumed (Operating r) after st i g = turned C N W P n w few st (λ st. outcome C (again r (here C after st)) after st) g
-      (a_outcome C N W P n (again r (here C after (TurnOf C N W P n w few st))) after (TurnOf C N W P n w few st) (rows_keep.resumed r (here C after (TurnOf C N W P n w few st))) (ready C N W P n w few after st i g))
+  f_resumed (Operating r) after st i g = turned C N W P B n w few st (λ st. outcome C (again r (here C after st)) after st) g
+      (a_outcome C N W P B n (again r (here C after (TurnOf C N W P B n w few st))) after (TurnOf C N W P B n w few st) (rows_keep.resumed r (here C after (TurnOf C N W P B n w few st))) (ready C N W P B n w few after st i g))
   f_resumed (Scan pair) after st i g = lighter after (with_pair pair st) i (record { fit = g.fit; turns = g.turns })
   f_resumed Escan after st i g = f_escan after (C.swap_newest (pair_now st) after) st i (W.swap_newest (pair_now st) after i.fits) g
-  f_resumed Proc after st i g = turned C N W P n w few st (λ st. maybe_exchanged (C.swap_oldest (pair_now st) after) after st running) g
-      (a_maybe C N W P n i.0 (C.swap_oldest (pair_now (TurnOf C N W P n w few st)) after) after (TurnOf C N W P n w few st) (W.swap_oldest (pair_now (TurnOf C N W P n w few st)) after i) (ready C N W P n w few after st i g))
+  f_resumed Proc after st i g = turned C N W P B n w few st (λ st. maybe_exchanged (C.swap_oldest (pair_now st) after) after st running) g
+      (a_maybe C N W P B n i.0 (C.swap_oldest (pair_now (TurnOf C N W P B n w few st)) after) after (TurnOf C N W P B n w few st) (W.swap_oldest (pair_now (TurnOf C N W P B n w few st)) after i) (ready C N W P B n w few after st i g))
 
-  f_back : (o : Option (Why × M)) (st : Store K) → IfThere o (λ back. ResumesWell W.Bounded fits.0 back.0 back.1) → Same C N W P n w few st → L (resumed_or_dropped C P m st o)
+  f_back : (o : Option (Why × M)) (st : Store K) → IfThere o (λ back. ResumesWell W.Bounded fits.0 back.0 back.1) → Same C N W P B n w few st → L (resumed_or_dropped C P m st o)
   f_back None st i g = f_dropped (C.drop_mark m) st (W.drop_mark m fits) g
   f_back (Some back) st i g = f_resumed back.0 back.1 st i g
 
-  pub f_fails : (st : Store K) → Same C N W P n w few st → L (fails C P m st)
+  pub f_fails : (st : Store K) → Same C N W P B n w few st → L (fails C P m st)
   f_fails st g = f_back (C.resume m) st (W.resume m fits) g

@@ -10,7 +10,7 @@ use Rattle.icn_code.specs.declared.instr.Instr.TheVariants as I
 use Rattle.icn_code.specs.Codes.{Proc as Procedure, RecordType}
 use Rattle.icn_run.specs.Rows.{Value, Null, Integer, Text, Chars, Procedure as ProcedureValue, ARecord, AList, ACoexp, Static, Local, Whole, Part, Item, Val, Var, Setting, World, Outside, Outcome, Fails, Gives, Suspends, Error, Ends, integer_of, number_of, again, apply, keyword_item, value_row, list_row, text_row, record_row, coexpression_row, words_row, record_at, Operation, Function, Ending}
 use Rattle.icn_run.specs.Calls.{Pair, Why, Alt, Op as Operating, Scan, Escan, Proc, Dropped, NoMark, Goes, Repeats, Outside as WithoutLabel, Calls}
-use Rattle.icn_run.specs.Step.{Program, Status, Fresh, Active, Waiting, Exhausted, Coexp, Store, State, running, failing, over, stuck, with_found, parted, turn_if, turn, steps, step, here, with_world, with_at, valued, made, with_value, with_values, pushed, outcome, list_made, instrs_of, statics_before, with_pair, pair_now, scans_left, exchanged, maybe_exchanged, swapped_back, all_left, coexp_at, status_of, activator_of, with_status, with_activator, activated, fail_by, passed_failure, begun_by, give_by, passed_value, hop, exhausted, counted_result, result_given, is_main, is_create_body, with_new, coexp_made, refreshed_from, refreshed, entered_by, entered_if, activation, entered, filled, collected, with_parameters, called_if, called, constructed, chosen, pushed_or_fails, integer_called, Callee, IsProc, IsRecord, IsFunc, IsNothing, callee_of, callee_called, invoked, invoked_with, elements_called, applied_to_elements, field_place, field_taken, field_of, with_result, returned, proc_fails, without_mark, mark_dropped, resumed, resumed_or_dropped, fails, members_of, standing, with_popped, with_taken, unmarked, limited, limited_result, scan_opened, initial_if, initial_done, activation_of, operated, field_applied, instruction, instruction_at, begun_if, start_of, start, first_store, main_of}
+use Rattle.icn_run.specs.Step.{Program, Launch, Status, Fresh, Active, Waiting, Exhausted, Coexp, Store, State, running, failing, over, stuck, with_found, parted, turn_if, turn, steps, step, here, with_world, with_at, valued, made, with_value, with_values, pushed, outcome, list_made, instrs_of, statics_before, with_pair, pair_now, scans_left, exchanged, maybe_exchanged, swapped_back, all_left, coexp_at, status_of, activator_of, with_status, with_activator, activated, fail_by, passed_failure, begun_by, give_by, passed_value, hop, exhausted, counted_result, result_given, is_main, is_create_body, with_new, coexp_made, refreshed_from, refreshed, entered_by, entered_if, activation, entered, filled, collected, with_parameters, called_if, called, constructed, chosen, pushed_or_fails, integer_called, Callee, IsProc, IsRecord, IsFunc, IsNothing, callee_of, callee_called, invoked, invoked_with, elements_called, applied_to_elements, field_place, field_taken, field_of, with_result, returned, proc_fails, without_mark, mark_dropped, resumed, resumed_or_dropped, fails, members_of, standing, with_popped, with_taken, unmarked, limited, limited_result, scan_opened, initial_if, initial_done, activation_of, operated, field_applied, instruction, instruction_at, begun_if, start_of, start, first_store, main_of}
 use Rattle.icn_defs.specs.Keeping.{KeepsIn}
 use Rattle.icn_run_laws.specs.Laws.{Both, Then, With, SameDropped, Agrees}
 use Rattle.icn_run_laws.specs.SameStates.{IsMade, LostAt, mark_of, Opens, RowsKeep, SameStatus, SameCoexp, alike, Rests, lift, Ready, Same, same_running, same_failing, same_hopping, same_over, same_stuck, lost}
@@ -345,7 +345,7 @@ module _ {K M K' M' : Type 0} (C' : Calls K' M') (C : Calls K M) (P : Program) (
   a_callee IsNothing k items m' m st ks' h = same_over
 
   a_invoked : (v : Value) (items : List Item) (m' : M') (m : M) (st : Store K) (ks' : List (Coexp K')) → Rd st.active m' m ks' st.coexps → Sm (invoked C' P v items m' (lift st ks')) (invoked C P v items m st)
-  a_invoked (ProcedureValue k) items m' m st ks' h = a_callee (callee_of P.tables k) k items m' m st ks' h
+  a_invoked (ProcedureValue k) items m' m st ks' h = a_callee (callee_of P k) k items m' m st ks' h
   a_invoked v items m' m st ks' h = a_integer v (number_of v) items m' m st ks' h
 
   a_invoked_with : (items : List Item) (m' : M') (m : M) (st : Store K) (ks' : List (Coexp K')) → Rd st.active m' m ks' st.coexps → Sm (invoked_with C' P items m' (lift st ks')) (invoked_with C P items m st)
@@ -369,7 +369,7 @@ module _ {K M K' M' : Type 0} (C' : Calls K' M') (C : Calls K M) (P : Program) (
   a_taken (Some place) k m' m st ks' h = p_push _ m' m st ks' h
 
   a_field : (field : ℕ) (v : Value) (m' : M') (m : M) (st : Store K) (ks' : List (Coexp K')) → Rd st.active m' m ks' st.coexps → Sm (field_of C' P field v m' (lift st ks')) (field_of C P field v m st)
-  a_field field (ARecord k) m' m st ks' h = a_taken (field_place P.tables field (record_at st.world.heap k).kind) k m' m st ks' h
+  a_field field (ARecord k) m' m st ks' h = a_taken (field_place P field (record_at st.world.heap k).kind) k m' m st ks' h
   a_field field _ m' m st ks' h = same_over
 
   a_field_applied : (field : ℕ) (items : List Item) (m' : M') (m : M) (st : Store K) (ks' : List (Coexp K')) → Rd st.active m' m ks' st.coexps → Sm (field_applied C' P field items m' (lift st ks')) (field_applied C P field items m st)
@@ -522,14 +522,14 @@ module _ {K M K' M' : Type 0} (C' : Calls K' M') (C : Calls K M) (P : Program) (
       (w_same (C.below m) (λ item. pushed C' item m' (lift st ks')) (λ item. pushed C item m st) (λ item. p_push item m' m st ks' h))
 
   l_static : (k : ℕ) (m' : M') (m : M) (st : Store K) (ks' : List (Coexp K')) → Rd st.active m' m ks' st.coexps → Sm (instruction C' P (I.Static k) m' (lift st ks')) (instruction C P (I.Static k) m st)
-  l_static k m' m st ks' h = subst (λ p. Sm (pushed C' (Var (Whole (Static (statics_before P.tables p + k)))) m' (lift st ks')) (instruction C P (I.Static k) m st)) (sym (G.proc h.world st.active m' m h.here)) (p_push _ m' m st ks' h)
+  l_static k m' m st ks' h = subst (λ p. Sm (pushed C' (Var (Whole (Static (statics_before P p + k)))) m' (lift st ks')) (instruction C P (I.Static k) m st)) (sym (G.proc h.world st.active m' m h.here)) (p_push _ m' m st ks' h)
 
   -- the place is that of the next instruction
-  pub l_instruction : (i : Instr) (m' : M') (m : M) (st : Store K) (ks' : List (Coexp K')) → slice_get (instrs_of P.tables (C.proc m)) (pred (C.place m)) ≡ Some i → Rd st.active m' m ks' st.coexps → Sm (instruction C' P i m' (lift st ks')) (instruction C P i m st)
+  pub l_instruction : (i : Instr) (m' : M') (m : M) (st : Store K) (ks' : List (Coexp K')) → slice_get (instrs_of P (C.proc m)) (pred (C.place m)) ≡ Some i → Rd st.active m' m ks' st.coexps → Sm (instruction C' P i m' (lift st ks')) (instruction C P i m st)
   l_instruction I.Pnull m' m st ks' e h = p_push (Val Null) m' m st ks' h
-  l_instruction (I.Int k) m' m st ks' e h = w_same (slice_get P.tables.integers k) (λ n. pushed C' (Val (Integer n)) m' (lift st ks')) (λ n. pushed C (Val (Integer n)) m st) (λ x. p_push (Val (Integer x)) m' m st ks' h)
-  l_instruction (I.Str k) m' m st ks' e h = w_same (slice_get P.tables.strings k) (λ n. pushed C' (Val (Text n)) m' (lift st ks')) (λ n. pushed C (Val (Text n)) m st) (λ x. p_push (Val (Text x)) m' m st ks' h)
-  l_instruction (I.Cset k) m' m st ks' e h = w_same (slice_get P.tables.csets k) (λ n. pushed C' (Val (Chars (members_of n))) m' (lift st ks')) (λ n. pushed C (Val (Chars (members_of n))) m st) (λ x. p_push (Val (Chars (members_of x))) m' m st ks' h)
+  l_instruction (I.Int k) m' m st ks' e h = w_same (slice_get P.integers k) (λ n. pushed C' (Val (Integer n)) m' (lift st ks')) (λ n. pushed C (Val (Integer n)) m st) (λ x. p_push (Val (Integer x)) m' m st ks' h)
+  l_instruction (I.Str k) m' m st ks' e h = w_same (slice_get P.strings k) (λ n. pushed C' (Val (Text n)) m' (lift st ks')) (λ n. pushed C (Val (Text n)) m st) (λ x. p_push (Val (Text x)) m' m st ks' h)
+  l_instruction (I.Cset k) m' m st ks' e h = w_same (slice_get P.csets k) (λ n. pushed C' (Val (Chars (members_of n))) m' (lift st ks')) (λ n. pushed C (Val (Chars (members_of n))) m st) (λ x. p_push (Val (Chars (members_of x))) m' m st ks' h)
   l_instruction (I.Local k) m' m st ks' e h = p_push _ m' m st ks' h
   l_instruction (I.Static k) m' m st ks' e h = l_static k m' m st ks' h
   l_instruction (I.Global k) m' m st ks' e h = p_push _ m' m st ks' h
@@ -653,17 +653,17 @@ module _ {K M K' M' : Type 0} (C' : Calls K' M') (C : Calls K M) (P : Program) (
 
   -- Steps
 
-  at_instruction : (m' : M') (m : M) (st : Store K) (ks' : List (Coexp K')) → Rd st.active m' m ks' st.coexps → (o : Option Instr) → slice_get (instrs_of P.tables (C.proc m)) (C.place m) ≡ o
+  at_instruction : (m' : M') (m : M) (st : Store K) (ks' : List (Coexp K')) → Rd st.active m' m ks' st.coexps → (o : Option Instr) → slice_get (instrs_of P (C.proc m)) (C.place m) ≡ o
       → Sm (with_found o (λ instr. instruction C' P instr (C'.go (suc (C.place m)) m') (lift st ks'))) (with_found o (λ instr. instruction C P instr (C.go (suc (C.place m)) m) st))
   at_instruction m' m st ks' h None e = same_stuck
   at_instruction m' m st ks' h (Some i) e = l_instruction i (C'.go (suc (C.place m)) m') (C.go (suc (C.place m)) m) st ks'
-      (ap (λ p. slice_get (instrs_of P.tables p) (pred (C.place (C.go (suc (C.place m)) m)))) (G.go_proc (suc (C.place m)) m) ∙ ap (λ q. slice_get (instrs_of P.tables (C.proc m)) (pred q)) (G.go_place (suc (C.place m)) m) ∙ e)
+      (ap (λ p. slice_get (instrs_of P p) (pred (C.place (C.go (suc (C.place m)) m)))) (G.go_proc (suc (C.place m)) m) ∙ ap (λ q. slice_get (instrs_of P (C.proc m)) (pred q)) (G.go_place (suc (C.place m)) m) ∙ e)
       (r_go (suc (C.place m)) st.active m' m ks' st.coexps h)
 
   s_running : (m' : M') (m : M) (st : Store K) (ks' : List (Coexp K')) → Rd st.active m' m ks' st.coexps → Sm (step C' P (running m' (lift st ks'))) (step C P (running m st))
   s_running m' m st ks' h =
-      subst (λ p. Sm (with_found (slice_get (instrs_of P.tables p) (C'.place m')) (λ instr. instruction C' P instr (C'.go (suc (C'.place m')) m') (lift st ks'))) (step C P (running m st))) (sym (G.proc h.world st.active m' m h.here))
-      (subst (λ q. Sm (with_found (slice_get (instrs_of P.tables (C.proc m)) q) (λ instr. instruction C' P instr (C'.go (suc q) m') (lift st ks'))) (step C P (running m st))) (sym (G.place h.world st.active m' m h.here))
+      subst (λ p. Sm (with_found (slice_get (instrs_of P p) (C'.place m')) (λ instr. instruction C' P instr (C'.go (suc (C'.place m')) m') (lift st ks'))) (step C P (running m st))) (sym (G.proc h.world st.active m' m h.here))
+      (subst (λ q. Sm (with_found (slice_get (instrs_of P (C.proc m)) q) (λ instr. instruction C' P instr (C'.go (suc q) m') (lift st ks'))) (step C P (running m st))) (sym (G.place h.world st.active m' m h.here))
       (at_instruction m' m st ks' h (instruction_at C P m) refl))
 
   -- one step of the first is one step of the second, or two
@@ -707,14 +707,14 @@ module _ {K M K' M' : Type 0} (C' : Calls K' M') (C : Calls K M) (P : Program) (
 
     s_start : (words : List (List ℕ)) (m' : M') (m : M) (st : Store K) (ks' : List (Coexp K')) → Blank m' m → Rests (Others w st.active) ks' st.coexps → (o : Option ℕ) → Sm (start_of C' P words m' (lift st ks') o) (start_of C P words m st o)
     s_start words m' m st ks' h r None = same_over
-    s_start words m' m st ks' h r (Some main) = w_same (slice_get P.tables.procs main)
+    s_start words m' m st ks' h r (Some main) = w_same (slice_get P.procs main)
         (λ (entry : Procedure). made C' (words_row words (here C' m' (lift st ks'))) m' (lift st ks') (λ list m st. begun_if C' (nat_le 1 st.world.heap.bounds.levels) main entry (list ∷ []) m st))
         (λ (entry : Procedure). made C (words_row words (here C m st)) m st (λ list m st. begun_if C (nat_le 1 st.world.heap.bounds.levels) main entry (list ∷ []) m st))
         (λ entry. first_row (words_row words) (keep.words_made words) (keep.worded words) m' m st ks' h (λ list m st. begun_if C' (nat_le 1 st.world.heap.bounds.levels) main entry (list ∷ []) m st) (λ list m st. begun_if C (nat_le 1 st.world.heap.bounds.levels) main entry (list ∷ []) m st)
         (λ v a' a seen q. s_begun_if (nat_le 1 seen.world.heap.bounds.levels) main entry (v ∷ []) a' a (with_at seen st) ks' q r))
 
-    pub same_start : (words : List (List ℕ)) (input : List ℕ) (m' : M') (m : M) → Blank m' m → Sm (start C' m' P words input) (start C m P words input)
-    same_start words input m' m h = s_start words m' m (first_store P input) (record { status = Active; activator = 0; values = []; proc = 0; place = 0 } ∷ []) h (alike Active Active 0 [] 0 0 tt, tt) (main_of P.tables)
+    pub same_start : (launch : Launch) (m' : M') (m : M) → Blank m' m → Sm (start C' m' P launch) (start C m P launch)
+    same_start launch m' m h = s_start launch.words m' m (first_store P launch) (record { status = Active; activator = 0; values = []; proc = 0; place = 0 } ∷ []) h (alike Active Active 0 [] 0 0 tt, tt) (main_of P)
 
   -- Runs
 

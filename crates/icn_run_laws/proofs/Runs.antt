@@ -1,8 +1,8 @@
 -- Every run of a code whose labels go forward ends by its bound.
-use Rattle.std.proofs.Common.{ℕ, List, Bool}
+use Rattle.std.proofs.Common.{ℕ, Bool, refl}
 use Rattle.icn_run.specs.Stacks.{flat, empty}
 use Rattle.icn_run.specs.Chains.{linked}
-use Rattle.icn_run.specs.Step.{Program}
+use Rattle.icn_run.specs.Step.{Program, Launch}
 use Rattle.icn_run.specs.FlatStep as Flat
 use Rattle.icn_run.specs.LinkedStep as Linked
 use Rattle.icn_run_laws.specs.Measure.{Forward, EndsFrom}
@@ -12,9 +12,9 @@ use Rattle.icn_run_laws.proofs.FlatEnds.{flat_weighs}
 use Rattle.icn_run_laws.proofs.LinkedEnds.{linked_weighs}
 
 -- on flat stacks
-pub flat_ends : (N : ℕ) (P : Program) → Forward N P → (words : List (List ℕ)) (input : List ℕ) → EndsFrom flat P (Flat.start P words input)
-flat_ends N P code words input = ends flat N (flat_weighs N) P code empty words input
+pub flat_ends : (N : ℕ) (P : Program) → Forward N P → (launch : Launch) → EndsFrom flat P (Flat.start P launch)
+flat_ends N P code launch = ends flat N (flat_weighs N) P launch.bounds.turns code empty launch refl
 
 -- on linked marks
-pub linked_ends : (repeats : ℕ → ℕ → Bool) (N : ℕ) (P : Program) → Forward N P → (words : List (List ℕ)) (input : List ℕ) → EndsFrom (linked repeats) P (Linked.start repeats P words input)
-linked_ends repeats N P code words input = ends (linked repeats) N (linked_weighs repeats N) P code no_chain words input
+pub linked_ends : (repeats : ℕ → ℕ → Bool) (N : ℕ) (P : Program) → Forward N P → (launch : Launch) → EndsFrom (linked repeats) P (Linked.start repeats P launch)
+linked_ends repeats N P code launch = ends (linked repeats) N (linked_weighs repeats N) P launch.bounds.turns code no_chain launch refl

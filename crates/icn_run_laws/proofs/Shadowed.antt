@@ -1,10 +1,9 @@
 -- States of the run on linked marks that a run on flat stacks follows: all that a run comes to.
-use Rattle.std.proofs.Common.{ℕ, suc, List, Bool}
-use Rattle.icn_value.specs.Limited.{Bounds}
+use Rattle.std.proofs.Common.{ℕ, suc, Bool}
 use Rattle.icn_code.specs.Codes.{Tables}
 use Rattle.icn_run.specs.Stacks.{Frames, flat}
 use Rattle.icn_run.specs.Chains.{Parked, Linked, linked}
-use Rattle.icn_run.specs.Step.{Program, State, Store, running, step, steps}
+use Rattle.icn_run.specs.Step.{Program, Launch, State, Store, running, step, steps}
 use Rattle.icn_run.specs.LinkedStep as L
 use Rattle.icn_run.specs.FlatStep as F
 use Rattle.icn_run_laws.specs.SameStates.{Opens, same_running, same_failing, same_hopping, same_over, same_stuck, lost}
@@ -15,9 +14,9 @@ use Rattle.icn_run_laws.proofs.OnSteps.{Sm, same_step}
 use Rattle.icn_run_laws.proofs.OnMarks.{Lacks}
 use Rattle.icn_run_laws.proofs.SecondLaw.{starts}
 
-module _ (repeats : ℕ → ℕ → Bool) (tables : Tables) (bounds : Bounds) where
+module _ (repeats : ℕ → ℕ → Bool) (tables : Tables) where
   abbrev Q : Program
-  Q = record { tables = tables; bounds = bounds }
+  Q = tables
 
   abbrev Sames : State Parked Linked → State Frames Frames → Type 0
   Sames l f = Sm (linked repeats) flat Q (Lacks repeats (Opens Q)) (linked_agrees repeats (Opens Q)) rows_keep l f
@@ -26,8 +25,8 @@ module _ (repeats : ℕ → ℕ → Bool) (tables : Tables) (bounds : Bounds) wh
     pub shadow : State Frames Frames
     pub same : Sames l shadow
 
-  pub shadowed_start : (words : List (List ℕ)) (input : List ℕ) → Shadowed (L.start repeats Q words input)
-  shadowed_start words input = record { shadow = F.start Q words input; same = starts rows_keep repeats tables words input bounds }
+  pub shadowed_start : (launch : Launch) → Shadowed (L.start repeats Q launch)
+  shadowed_start launch = record { shadow = F.start Q launch; same = starts rows_keep repeats tables launch }
 
   pub shadowed_step : (l : State Parked Linked) → Shadowed l → Shadowed (step (linked repeats) Q l)
   shadowed_step l g = let s = same_step (linked repeats) flat Q (Lacks repeats (Opens Q)) (linked_agrees repeats (Opens Q)) rows_keep g.same in record { shadow = steps flat Q (suc s.0) g.shadow; same = s.1 }

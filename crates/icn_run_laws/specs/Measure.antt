@@ -100,8 +100,8 @@ IsForward place (I.Init label) = place < label
 IsForward place instr = Unit {0}
 
 pub record Forward (N : ℕ) (P : Program) : Type 0 where
-  pub within : (proc place : ℕ) (instr : Instr) → slice_get (instrs_of P.tables proc) place ≡ Some instr → place < N
-  pub forward : (proc place : ℕ) (instr : Instr) → slice_get (instrs_of P.tables proc) place ≡ Some instr → IsForward place instr
+  pub within : (proc place : ℕ) (instr : Instr) → slice_get (instrs_of P proc) place ≡ Some instr → place < N
+  pub forward : (proc place : ℕ) (instr : Instr) → slice_get (instrs_of P proc) place ≡ Some instr → IsForward place instr
 
 -- stacks that wait are well formed
 abbrev pub FitsStatus : {K : Type 0} → (K → Type 0) → Status K → Type 0

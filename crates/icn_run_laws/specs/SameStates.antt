@@ -16,11 +16,11 @@ mark_of (Some label) = Instrs.Mark label
 mark_of None = Instrs.Mark0
 
 abbrev pub Opens : Program → ℕ → ℕ → Option ℕ → Type 0
-Opens P proc place label = slice_get (instrs_of P.tables proc) place ≡ Some (mark_of label)
+Opens P proc place label = slice_get (instrs_of P proc) place ≡ Some (mark_of label)
 
 -- a procedure sets a label, and something lacks for that
 abbrev pub LostAt : Program → (ℕ → ℕ → Type 0) → Type 0
-LostAt P Lacks = (proc : ℕ) × (place : ℕ) × (label : ℕ) × (slice_get (instrs_of P.tables proc) place ≡ Some (Instrs.Chfail label)) × Lacks proc label
+LostAt P Lacks = (proc : ℕ) × (place : ℕ) × (label : ℕ) × (slice_get (instrs_of P proc) place ≡ Some (Instrs.Chfail label)) × Lacks proc label
 
 -- it gives a value, or is an error
 abbrev pub IsMade : Outcome → Type 0

@@ -34,16 +34,16 @@ module _ (G : Ground) where
 
   -- what the run comes to: it is followed by one on flat stacks, so that open scans are another each
   abbrev pub Good : LState → Type 0
-  Good l = Shadowed G.L.repeats G.L.tables G.bounds l
+  Good l = Shadowed G.L.repeats G.L.tables l
 
   good_to : {l l' : LState} → To G l l' → Good l → Good l'
-  good_to {l} e g = subst Good e.by (shadowed_step G.L.repeats G.L.tables G.bounds l g)
+  good_to {l} e g = subst Good e.by (shadowed_step G.L.repeats G.L.tables l g)
 
   good_mark : {zs xs : List Item} {s s' : Suspensions} {z : List ℕ} {o : Outer} (l : Label) (os : List ℕ) (p : ℕ) (st : M.Store) (ls : List (S.Coexp Parked)) → Good (run (chain zs s' (os ++ z) (mark l (chain xs s z o))) p st ls) → Apart (first_scan z) os
-  good_mark l os p st ls g = shadowed_apart G.L.repeats G.L.tables G.bounds _ _ g os refl
+  good_mark l os p st ls g = shadowed_apart G.L.repeats G.L.tables _ _ g os refl
 
   good_limit : {zs xs : List Item} {s s' : Suspensions} {z : List ℕ} {o : Outer} (c : ℕ) (os : List ℕ) (p : ℕ) (st : M.Store) (ls : List (S.Coexp Parked)) → Good (run (chain zs s' (os ++ z) (limit c (chain xs s z o))) p st ls) → Apart (first_scan z) os
-  good_limit c os p st ls g = shadowed_apart G.L.repeats G.L.tables G.bounds _ _ g os refl
+  good_limit c os p st ls g = shadowed_apart G.L.repeats G.L.tables _ _ g os refl
 
   pub unmark : {xs : List Item} {s : Suspensions} {z : List ℕ} {o : Outer} (l : Label) (zs : List Item) (s' : Suspensions) (p : ℕ) (st : M.Store) (ls : List (S.Coexp Parked)) → At G.L o p I.Unmark → To G (run (chain zs s' z (mark l (chain xs s z o))) p st ls) (run (chain xs s z o) (suc p) st ls)
   unmark l zs s' p st ls h = unmarks l zs s' [] p st ls tt h

@@ -13,15 +13,16 @@ use Rattle.icn_meaning.specs.Contexts.{Nothing, NoChoice, InCall}
 use Rattle.icn_meaning.specs.Turns as MT
 use Rattle.icn_meaning.specs.Calls as MC
 use Rattle.icn_meaning.specs.Meaning as MM
-use Rattle.icn_meaning.specs.Meaning.{Observed, observed}
-use Rattle.icn_defs.specs.Running.{first_world, words_row}
-use Rattle.icn_value.specs.Store.{outside_of}
+use Rattle.icn_meaning.specs.Meaning.{Observed, observed, Means}
+use Rattle.icn_defs.specs.Running.{Launch, first_world, words_row}
 use Rattle.icn_run.specs.Chains.{chain, none, base, empty, Parked, Linked}
 use Rattle.icn_run.specs.Step as S
+use Rattle.icn_run.specs.LinkedStep as Linked
+use Rattle.icn_run.proofs.Observing.{over_seen}
 use Rattle.icn_simulation.specs.Standing.{StandsRoutine, e_plain, e_initial}
 use Rattle.icn_simulation.specs.Relation.{v_main, r_end, a_frame, c_all, c_none, t_active, linked_of, store_of}
 use Rattle.icn_simulation.specs.Ground.{Ground, code_of, machine, OfCallee, o_routine}
-use Rattle.icn_simulation.specs.Law.{OfMain, no_main, a_main, Begins, MeansSo, RunsSo}
+use Rattle.icn_simulation.specs.Law.{OfMain, no_main, a_main, Begins}
 use Rattle.icn_simulation.proofs.Basics.{LState, Reach, Live, run, then_reach, on_made, errored}
 use Rattle.icn_simulation.proofs.Acts.{on_rest}
 use Rattle.icn_simulation.proofs.Applied.{inits, fitted_filled}
@@ -32,10 +33,10 @@ module _ (G : Ground) where
   first_coexp : S.Coexp Parked
   first_coexp = record { status = S.Active; activator = zero; values = []; proc = zero; place = zero }
 
-  abbrev made_store : List Value → ℕ → ℕ → Names → List ℕ → S.Store Parked
-  made_store globals statics procs names input = record {
-    world = first_world G.bounds globals statics;
-    outside = outside_of input;
+  abbrev made_store : List Value → ℕ → ℕ → Names → Launch → S.Store Parked
+  made_store globals statics procs names launch = record {
+    world = first_world launch.bounds globals statics;
+    outside = launch.outside;
     turns = 0;
     begun = replicate procs false;
     coexps = record { status = S.Active; activator = zero; values = []; proc = zero; place = zero } ∷ [];
@@ -43,11 +44,11 @@ module _ (G : Ground) where
     names = names;
   }
 
-  same_store : (input : List ℕ) → Begins G.L → store_of (MM.first_store G.L.program G.bounds input) (record { status = S.Active; activator = zero; values = []; proc = zero; place = zero } ∷ []) ≡ S.first_store (code_of G) input
-  same_store input b = ap (λ g. made_store g G.L.program.statics (length G.L.program.routines) (MP.names_of G.L.program) input) b.globals
-      ∙ ap (λ s. made_store (map (S.global_value G.L.tables) G.L.tables.globals) s (length G.L.program.routines) (MP.names_of G.L.program) input) b.statics
-      ∙ ap (λ p. made_store (map (S.global_value G.L.tables) G.L.tables.globals) (sum_by S.statics_of G.L.tables.procs) p (MP.names_of G.L.program) input) b.procs
-      ∙ ap (λ n. made_store (map (S.global_value G.L.tables) G.L.tables.globals) (sum_by S.statics_of G.L.tables.procs) (length G.L.tables.procs) n input) b.names
+  same_store : (launch : Launch) → Begins G.L → store_of (MM.first_store G.L.program launch) (record { status = S.Active; activator = zero; values = []; proc = zero; place = zero } ∷ []) ≡ S.first_store (code_of G) launch
+  same_store launch b = ap (λ g. made_store g G.L.program.statics (length G.L.program.routines) (MP.names_of G.L.program) launch) b.globals
+      ∙ ap (λ s. made_store (map (S.global_value G.L.tables) G.L.tables.globals) s (length G.L.program.routines) (MP.names_of G.L.program) launch) b.statics
+      ∙ ap (λ p. made_store (map (S.global_value G.L.tables) G.L.tables.globals) (sum_by S.statics_of G.L.tables.procs) p (MP.names_of G.L.program) launch) b.procs
+      ∙ ap (λ n. made_store (map (S.global_value G.L.tables) G.L.tables.globals) (sum_by S.statics_of G.L.tables.procs) (length G.L.tables.procs) n launch) b.names
 
   -- `main` begins
   main_begin : {initial : Initial} {body : Trees} (b : Bool) (n a : ℕ) (st : M.Store) (ls : List (S.Coexp Parked)) → Live G true st.active st.coexpressions ls → b ≡ slice_index_or st.begun n true → StandsRoutine G.L n initial body →
@@ -89,9 +90,9 @@ module _ (G : Ground) where
       (subst (λ x. Reach G (MM.main_called n routine words st) (S.with_found x (λ (entry : Procedure). S.made (machine G) (words_row words (S.here (machine G) (linked_of (chain [] none [] (base 0 0)) 0 st) (store_of st ls))) (linked_of (chain [] none [] (base 0 0)) 0 st) (store_of st ls) (λ list m st. S.begun_if (machine G) (nat_le 1 st.world.heap.bounds.levels) n entry (list ∷ []) m st)))) (sym el)
       (on_made G 0 [] (words_row words) st ls _ _ refl live (r_end refl) (λ v seen. main_call (nat_le 1 (MT.after zero seen st).world.heap.bounds.levels) n routine entry (v ∷ []) (MT.after zero seen st) ls live c)))
 
-  pub starts : (words : List (List ℕ)) (input : List ℕ) → Begins G.L → Reach G (MM.start G.L.program words G.bounds input) (S.start (machine G) empty (code_of G) words input)
-  starts words input b = subst (λ st. Reach G (MM.start G.L.program words G.bounds input) (S.start_of (machine G) (code_of G) words empty st (S.main_of G.L.tables))) (same_store input b)
-      (start_at words (MM.first_store G.L.program G.bounds input) _ (refl, c_all (record { activator = refl; procedure = refl; values = refl; status = t_active }) c_none) b.main)
+  pub starts : (launch : Launch) → Begins G.L → Reach G (MM.start G.L.program launch) (S.start (machine G) empty (code_of G) launch)
+  starts launch b = subst (λ st. Reach G (MM.start G.L.program launch) (S.start_of (machine G) (code_of G) launch.words empty st (S.main_of G.L.tables))) (same_store launch b)
+      (start_at launch.words (MM.first_store G.L.program launch) _ (refl, c_all (record { activator = refl; procedure = refl; values = refl; status = t_active }) c_none) b.main)
 
   -- Steps of the meaning
 
@@ -112,22 +113,22 @@ module _ (G : Ground) where
   seen_over s seen e = absurd (cc)
 
   -- what the meaning comes to, the code comes to
-  pub means_runs : (words : List (List ℕ)) (input : List ℕ) (seen : Observed) → Begins G.L → MeansSo G.L.program G.bounds words input seen → RunsSo G.L G.bounds words input seen
-  means_runs words input seen b m =
+  pub means_runs : (launch : Launch) (seen : Observed) → Begins G.L → Means G.L.program launch seen → Linked.Runs G.L.repeats G.L.tables launch seen
+  means_runs launch seen b m =
       let o = seen_over _ seen m.is in
-      let g = starts words input b in
-      let f = forward G m.count (MM.start G.L.program words G.bounds input) g.to seen.ending o.store (good_steps G g.turns _ g.comes (shadowed_start G.L.repeats G.L.tables G.bounds words input)) g.rel o.is in
+      let g = starts launch b in
+      let f = forward G m.count (MM.start G.L.program launch) g.to seen.ending o.store (good_steps G g.turns _ g.comes (shadowed_start G.L.repeats G.L.tables launch)) g.rel o.is in
       let a = after G g.turns f.0 g.comes f.1 in
-      record { count = a.0; is = a.1 ∙ ap (λ x. S.over seen.ending x) o.outside_is }
+      record { count = a.0; is = ap S.observed (a.1 ∙ ap (λ x. S.over seen.ending x) o.outside_is) }
 
   -- what the code comes to, the meaning comes to
-  pub runs_means : (words : List (List ℕ)) (input : List ℕ) (seen : Observed) → Begins G.L → RunsSo G.L G.bounds words input seen → MeansSo G.L.program G.bounds words input seen
-  runs_means words input seen b r =
+  pub runs_means : (launch : Launch) (seen : Observed) → Begins G.L → Linked.Runs G.L.repeats G.L.tables launch seen → Means G.L.program launch seen
+  runs_means launch seen b r =
       let z : LState = S.over seen.ending seen.outside in
-      let s = MM.start G.L.program words G.bounds input in
-      let g = starts words input b in
-      let e = shift G z refl r.count g.turns (S.start (machine G) empty (code_of G) words input) r.is g.comes in
-      let back = backward G z refl r.count s g.to (good_steps G g.turns _ g.comes (shadowed_start G.L.repeats G.L.tables G.bounds words input)) g.rel e in
+      let s = MM.start G.L.program launch in
+      let g = starts launch b in
+      let e = shift G z refl r.count g.turns (S.start (machine G) empty (code_of G) launch) (over_seen _ seen r.is) g.comes in
+      let back = backward G z refl r.count s g.to (good_steps G g.turns _ g.comes (shadowed_start G.L.repeats G.L.tables launch)) g.rel e in
       let o = was_over G {ending = seen.ending} {outside = seen.outside} back.1 in
       let a = after_steps back.0 o.count refl o.is in
       record { count = a.0; is = ap observed a.1 ∙ ap (λ x. Some (record_of seen.ending x)) o.outside_is }

@@ -1,6 +1,8 @@
 -- The premises of the law are met by a program: procedure main(); every write(|(1 | 2) \ 3); end
 use Rattle.std.proofs.Common.{ℕ, List, [], ◌∷◌, refl, pos, false, codes}
-use Rattle.icn_value.specs.Limited.{Bounds}
+use Rattle.icn_defs.specs.Running.{Launch, Observed}
+use Rattle.icn_run.specs.LinkedStep as Linked
+use Rattle.icn_run.specs.LinkedStep.{repeats_of}
 use Rattle.icn_text.specs.declared.func.Func.TheVariants.{Write}
 use Rattle.icn_tree.specs.declared.token.Operator.TheVariants as Signs
 use Rattle.icn_tree.specs.declared.tree.Literal.TheVariants as Literals
@@ -11,13 +13,13 @@ use Rattle.icn_tree.specs.Trees.{Tree, Trees, Absent, NoTrees, More, NoInitial, 
 use Rattle.icn_code.specs.declared.code.Start.TheVariants as Starts
 use Rattle.icn_code.specs.Codes.{Tables}
 use Rattle.icn_meaning.specs.Program as M
-use Rattle.icn_meaning.specs.Meaning.{Observed}
+use Rattle.icn_meaning.specs.Meaning.{Means}
 use Rattle.icn_simulation.specs.Translation as X
 use Rattle.icn_simulation.specs.Naming.{here, named, names_of, within}
 use Rattle.icn_simulation.specs.Linkage.{l_integer, l_global}
 use Rattle.icn_simulation.specs.Translatable.{ok_constant, ok_identifier, ok_call, ok_cons, ok_nil, ok_limit, ok_repeated, ok_last, ok_or, ok_every, ok_absent, ok_more, ok_end, ok_plain}
 use Rattle.icn_simulation.specs.Translated.{linkage, TransRoutine, u_none, u_more, d_none, Translated}
-use Rattle.icn_simulation.specs.Law.{a_main, Begins, MeansSo, RunsSo}
+use Rattle.icn_simulation.specs.Law.{a_main, Begins}
 use Rattle.icn_simulation.proofs.Routines.{routine_callee, first_law}
 
 abbrev number : ℕ → Tree
@@ -68,5 +70,5 @@ translated = record { names = λ n. names; routines = u_more main_is u_none; kin
 begins : Begins (linkage program tables)
 begins = record { globals = refl; statics = refl; procs = refl; names = refl; main = a_main refl refl (routine_callee (linkage program tables) (λ n. names) (λ j p. refl) main_is) }
 
-agrees : (bounds : Bounds) (words : List (List ℕ)) (input : List ℕ) (seen : Observed) → (MeansSo program bounds words input seen → RunsSo (linkage program tables) bounds words input seen) × (RunsSo (linkage program tables) bounds words input seen → MeansSo program bounds words input seen)
-agrees bounds words input seen = first_law program tables bounds words input seen translated begins
+agrees : (launch : Launch) (seen : Observed) → (Means program launch seen → Linked.Runs (repeats_of tables) tables launch seen) × (Linked.Runs (repeats_of tables) tables launch seen → Means program launch seen)
+agrees launch seen = first_law program tables launch seen translated begins

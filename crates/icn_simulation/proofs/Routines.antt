@@ -1,7 +1,7 @@
 -- The translation of procedures stands, and the first law for translated programs.
 use Rattle.std.proofs.Common.{◌≡◌, ℕ, zero, suc, ◌+◌, Bool, true, false, List, [], ◌∷◌, ◌++◌, Option, Some, refl, sym, ap, ◌∙◌, subst, arith}
 use Rattle.std.specs.Prelude.{slice_get, if◌then◌else◌, find, ◌==◌}
-use Rattle.icn_value.specs.Limited.{Bounds}
+use Rattle.icn_defs.specs.Running.{Launch, Observed}
 use Rattle.icn_code.specs.declared.instr.Instr.{Instr}
 use Rattle.icn_code.specs.declared.instr.Instr.TheVariants as I
 use Rattle.icn_code.specs.Codes.{Tables, Proc as Procedure, RecordType}
@@ -10,8 +10,9 @@ use Rattle.icn_text.specs.declared.func.TheConstants.Func.{ALL as funcs}
 use Rattle.icn_text.specs.Funcs.{func_number}
 use Rattle.icn_tree.specs.Trees.{Tree, Trees, Present, NoTrees, More, Initial}
 use Rattle.icn_meaning.specs.Program as M
-use Rattle.icn_meaning.specs.Meaning.{Observed}
+use Rattle.icn_meaning.specs.Meaning.{Means}
 use Rattle.std.specs.List.{list_any}
+use Rattle.icn_run.specs.LinkedStep as Linked
 use Rattle.icn_run.specs.LinkedStep.{repeats_of, is_chfail_to}
 use Rattle.icn_run.specs.Step as S
 use Rattle.icn_simulation.specs.Translation as X
@@ -21,7 +22,7 @@ use Rattle.icn_simulation.specs.Standing.{top, in_mark, StandsMaybe, s_present, 
 use Rattle.icn_simulation.specs.Translatable.{Ok, OkRest, ok_end, ok_skipped, ok_more, OkRoutine, ok_plain, ok_blank, ok_initial}
 use Rattle.icn_simulation.specs.Translated.{linkage, TransRoutine, Routines, u_none, u_more, Kinds, d_none, d_more, Translated}
 use Rattle.icn_simulation.specs.Ground.{Ground, OfCallee, o_routine, o_kind, o_function, o_nothing}
-use Rattle.icn_simulation.specs.Law.{Begins, MeansSo, RunsSo, Exactly, with_turns}
+use Rattle.icn_simulation.specs.Law.{Begins, Exactly, with_turns}
 use Rattle.icn_simulation.proofs.Segments.{Sits, Part, part_nil, part_cons, part_append, part_map}
 use Rattle.icn_simulation.proofs.Stand.{good, maybe_by, same_empty}
 use Rattle.icn_simulation.proofs.Agree.{means_runs, runs_means}
@@ -86,25 +87,25 @@ module _ (L : Linkage) (names : ℕ → Names) (r : (j p : ℕ) → L.repeats j 
   callee_at b zero n e (u_more {routine = routine} {entry = entry} t ts) ks = let h : b ≡ n = omega arith in subst (λ n. OfCallee L n (M.IsRoutine routine) (S.IsProc entry)) h (routine_callee t)
   callee_at b (suc k) n e (u_more t ts) ks = callee_at (suc b) k n (omega arith) ts ks
 
-abbrev ground_of : (program : M.Program) (tables : Tables) (bounds : Bounds) → Translated program tables → Ground
-ground_of program tables bounds t = record { L = linkage program tables; bounds = bounds; callees = λ n. callee_at (linkage program tables) t.names (λ j p. refl) 0 n n (omega arith) t.routines t.kinds }
+abbrev ground_of : (program : M.Program) (tables : Tables) → Translated program tables → Ground
+ground_of program tables t = record { L = linkage program tables; callees = λ n. callee_at (linkage program tables) t.names (λ j p. refl) 0 n n (omega arith) t.routines t.kinds }
 
 -- The first law: where the code of each procedure is its translation, the meaning of the program and the linked run of its code agree.
-pub first_law : (program : M.Program) (tables : Tables) (bounds : Bounds) (words : List (List ℕ)) (input : List ℕ) (seen : Observed) → Translated program tables → Begins (linkage program tables) → (MeansSo program bounds words input seen → RunsSo (linkage program tables) bounds words input seen) × (RunsSo (linkage program tables) bounds words input seen → MeansSo program bounds words input seen)
-first_law program tables bounds words input seen t b = let G = ground_of program tables bounds t in (means_runs G words input seen b, runs_means G words input seen b)
+pub first_law : (program : M.Program) (tables : Tables) (launch : Launch) (seen : Observed) → Translated program tables → Begins (linkage program tables) → (Means program launch seen → Linked.Runs (repeats_of tables) tables launch seen) × (Linked.Runs (repeats_of tables) tables launch seen → Means program launch seen)
+first_law program tables launch seen t b = let G = ground_of program tables t in (means_runs G launch seen b, runs_means G launch seen b)
 
-exactly : {P Q : Bounds → Observed → Type 0} {bounds : Bounds} {turns : ℕ} {seen : Observed} → ((bounds : Bounds) (seen : Observed) → P bounds seen → Q bounds seen) → Exactly P bounds turns seen → Exactly Q bounds turns seen
-exactly {bounds = bounds} {turns = turns} {seen = seen} f e = record {
-  ends = f (with_turns turns bounds) seen e.ends;
+exactly : {P Q : Launch → Observed → Type 0} {launch : Launch} {turns : ℕ} {seen : Observed} → ((launch : Launch) (seen : Observed) → P launch seen → Q launch seen) → Exactly P launch turns seen → Exactly Q launch turns seen
+exactly {launch = launch} {turns = turns} {seen = seen} f e = record {
+  ends = f (with_turns turns launch) seen e.ends;
   not_bound = e.not_bound;
-  bound = λ fewer h. let b = e.bound fewer h in (b.0, f (with_turns fewer bounds) b.0 b.1, b.2);
+  bound = λ fewer h. let b = e.bound fewer h in (b.0, f (with_turns fewer launch) b.0 b.1, b.2);
 }
 
 -- and they make the same number of turns
-pub same_turns : (program : M.Program) (tables : Tables) (bounds : Bounds) (words : List (List ℕ)) (input : List ℕ) (turns : ℕ) (seen : Observed) → Translated program tables → Begins (linkage program tables) →
-    (Exactly (λ bounds seen. MeansSo program bounds words input seen) bounds turns seen → Exactly (λ bounds seen. RunsSo (linkage program tables) bounds words input seen) bounds turns seen)
-    × (Exactly (λ bounds seen. RunsSo (linkage program tables) bounds words input seen) bounds turns seen → Exactly (λ bounds seen. MeansSo program bounds words input seen) bounds turns seen)
-same_turns program tables bounds words input turns seen t b = (
-  λ e. exactly (λ bounds seen m. (first_law program tables bounds words input seen t b).0 m) e,
-  λ e. exactly (λ bounds seen m. (first_law program tables bounds words input seen t b).1 m) e,
+pub same_turns : (program : M.Program) (tables : Tables) (launch : Launch) (turns : ℕ) (seen : Observed) → Translated program tables → Begins (linkage program tables) →
+    (Exactly (λ launch seen. Means program launch seen) launch turns seen → Exactly (λ launch seen. Linked.Runs (repeats_of tables) tables launch seen) launch turns seen)
+    × (Exactly (λ launch seen. Linked.Runs (repeats_of tables) tables launch seen) launch turns seen → Exactly (λ launch seen. Means program launch seen) launch turns seen)
+same_turns program tables launch turns seen t b = (
+  λ e. exactly (λ launch seen m. (first_law program tables launch seen t b).0 m) e,
+  λ e. exactly (λ launch seen m. (first_law program tables launch seen t b).1 m) e,
 )

@@ -49,7 +49,7 @@ module _ (G : Ground) where
 
   pub good_steps : (n : ℕ) (l : LState) {l' : LState} → l_steps G n l ≡ l' → Good G l → Good G l'
   good_steps zero l e g = subst (Good G) e g
-  good_steps (suc n) l e g = good_steps n (l_step G l) e (shadowed_step G.L.repeats G.L.tables G.bounds l g)
+  good_steps (suc n) l e g = good_steps n (l_step G l) e (shadowed_step G.L.repeats G.L.tables l g)
 
   pub forward : (n : ℕ) (s : M.State) (l : LState) (ending : M.Ending) (st : M.Store) → Good G l → Rel G.L s l → MM.steps G.L.program n s ≡ M.over ending st → (m : ℕ) × (l_steps G m l ≡ S.over ending st.outside)
   forward zero s l ending st good h e = (0, is_over (subst (λ s. Rel G.L s l) e h))

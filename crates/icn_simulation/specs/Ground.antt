@@ -1,7 +1,6 @@
 -- What the law stands on: a program and the tables of its code, whose callees correspond by their numbers.
 use Rattle.std.specs.Prelude.{◌≡◌, ℕ, ◌-◌, length}
 use Rattle.icn_text.specs.declared.func.Func.{Func}
-use Rattle.icn_value.specs.Limited.{Bounds}
 use Rattle.icn_code.specs.Codes.{Proc as Procedure, RecordType}
 use Rattle.icn_meaning.specs.Program as M
 use Rattle.icn_run.specs.Chains.{Parked, Linked, linked}
@@ -18,12 +17,11 @@ pub data OfCallee (L : Linkage) (n : ℕ) : M.Callee → S.Callee → Type 0 whe
 
 pub record Ground : Type 0 where
   pub L : Linkage
-  pub bounds : Bounds
   pub callees : (n : ℕ) → OfCallee L n (M.callee_of L.program n) (S.callee_of L.tables n)
 
--- the code as it runs, and its machine
+-- the code that runs, and its machine
 abbrev pub code_of : Ground → S.Program
-code_of G = record { tables = G.L.tables; bounds = G.bounds }
+code_of G = G.L.tables
 
 abbrev pub machine : Ground → Calls Parked Linked
 machine G = linked G.L.repeats

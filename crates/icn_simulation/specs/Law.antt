@@ -1,13 +1,10 @@
 -- What the first law says.
-use Rattle.std.specs.Prelude.{◌<◌, ◌≡◌, ℕ, List, length, map, Option, Some, None, codes, slice_get}
+use Rattle.std.specs.Prelude.{◌<◌, ◌≡◌, ℕ, length, map, Option, Some, None, codes, slice_get}
 use Rattle.std.specs.List.{sum_by}
 use Rattle.icn_code.specs.Codes.{Proc as Procedure}
 use Rattle.icn_meaning.specs.Program as MP
-use Rattle.icn_meaning.specs.Meaning.{Observed, observed}
+use Rattle.icn_defs.specs.Running.{Launch, Observed}
 use Rattle.icn_meaning.specs.Contexts.{AtBound}
-use Rattle.icn_meaning.specs.Meaning as MM
-use Rattle.icn_value.specs.Limited.{Bounds}
-use Rattle.icn_run.specs.Chains.{empty, linked}
 use Rattle.icn_run.specs.Step as S
 use Rattle.icn_simulation.specs.Linkage.{Linkage}
 use Rattle.icn_simulation.specs.Ground.{OfCallee}
@@ -25,21 +22,12 @@ pub record Begins (L : Linkage) : Type 0 where
   pub names : MP.names_of L.program ≡ S.all_names L.tables
   pub main : OfMain L (MP.place_of (codes "main") (MP.routine_names L.program.routines)) (S.main_of L.tables)
 
--- the meaning of the program, with these words and this input, is seen so
-pub record MeansSo (program : MP.Program) (bounds : Bounds) (words : List (List ℕ)) (input : List ℕ) (seen : Observed) : Type 0 where
-  pub count : ℕ
-  pub is : observed (MM.steps program count (MM.start program words bounds input)) ≡ Some seen
-
--- the linked run of the code is seen so
-pub record RunsSo (L : Linkage) (bounds : Bounds) (words : List (List ℕ)) (input : List ℕ) (seen : Observed) : Type 0 where
-  pub count : ℕ
-  pub is : S.steps (linked L.repeats) (record { tables = L.tables; bounds = bounds }) count (S.start (linked L.repeats) empty (record { tables = L.tables; bounds = bounds }) words input) ≡ S.over seen.ending seen.outside
-
-abbrev pub with_turns : ℕ → Bounds → Bounds
-with_turns n bounds = record bounds { turns = n }
+-- the same launch with another bound of turns
+abbrev pub with_turns : ℕ → Launch → Launch
+with_turns n launch = record launch { bounds = record launch.bounds { turns = n } }
 
 -- It is seen so after exactly so many turns: where so many are allowed it ends so, and not at the bound; and where fewer are, at the bound.
-pub record Exactly (Sees : Bounds → Observed → Type 0) (bounds : Bounds) (turns : ℕ) (seen : Observed) : Type 0 where
-  pub ends : Sees (with_turns turns bounds) seen
+pub record Exactly (Sees : Launch → Observed → Type 0) (launch : Launch) (turns : ℕ) (seen : Observed) : Type 0 where
+  pub ends : Sees (with_turns turns launch) seen
   pub not_bound : seen.ending ≡ AtBound → ⊥
-  pub bound : (fewer : ℕ) → fewer < turns → (other : Observed) × Sees (with_turns fewer bounds) other × (other.ending ≡ AtBound)
+  pub bound : (fewer : ℕ) → fewer < turns → (other : Observed) × Sees (with_turns fewer launch) other × (other.ending ≡ AtBound)

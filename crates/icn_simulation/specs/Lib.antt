@@ -5,6 +5,5 @@ pub mod Ground
 pub mod Law
 pub mod Translatable
 pub mod Translated
-pub mod Flat
 pub mod Translation
 pub mod Naming

@@ -1,5 +1,12 @@
 use Rattle.icn_run.proofs.Runs.{one_observation}
+use Rattle.icn_run.proofs.Observing.{flat_once, linked_once}
 use Rattle.icn_run.proofs.laws.one_observation.Goals as goal
 
-pub returns : goal.returns
-returns c = one_observation
+pub returns-clause-built : goal.returns-clause-built
+returns-clause-built c = one_observation
+
+pub returns-clause-on_stacks : goal.returns-clause-on_stacks
+returns-clause-on_stacks c = flat_once
+
+pub returns-clause-on_marks : goal.returns-clause-on_marks
+returns-clause-on_marks c = linked_once
