@@ -1,4 +1,4 @@
--- The rows keep the number of locals and the limits.
+-- The rows keep how many locals, globals and statics there are, and the limits.
 use Rattle.std.proofs.Common.{ℕ, refl, Bool, true, false, List, Option}
 use Rattle.icn_value.specs.Values.{Value, Item, Val}
 use Rattle.icn_value.specs.Store.{Setting, Names}
@@ -10,7 +10,7 @@ use Rattle.icn_defs.specs.StepRows.{Applied}
 use Rattle.icn_run_laws.specs.SameStates.{RowsKeep, IsMade}
 
 self : (at : Setting) → Keeps at at
-self at = record { locals = refl; bounds = refl }
+self at = record { locals = refl; globals = refl; statics = refl; bounds = refl }
 
 applied : (names : Names) (what : Applied) (items : List Item) (at : Setting) → KeepsIn at (apply names what items at)
 applied names (Operation op) items at = operation_keeps op items at
