@@ -14,5 +14,5 @@ abbrev pub set_cell : {T : Type 0} → ℕ → T → List T → List T
 set_cell height cell cells = slice_set cells (length cells - height) cell
 
 -- the cells above one height, up to another, once more on top
-abbrev pub copied : {T : Type 0} → ℕ → ℕ → List T → List T
-copied from to cells = take (to - from) (cut to cells) ++ cells
+abbrev pub with_copy : {T : Type 0} → ℕ → ℕ → List T → List T
+with_copy from to cells = take (to - from) (cut to cells) ++ cells

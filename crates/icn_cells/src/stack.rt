@@ -1,6 +1,6 @@
 // What a stack of cells does.
 ghost use Rattle.std.specs.Prelude.{◌≡◌, ◌+◌, ◌-◌, ◌^◌, ◌<◌, ◌≤◌, ℕ, List, [], ◌∷◌, length, Option, OnOk, IsOk};
-ghost use Rattle.icn_cells.specs.Heights.{cut, cell_at, set_cell, copied};
+ghost use Rattle.icn_cells.specs.Heights.{cut, cell_at, set_cell, with_copy};
 
 use std::alloc::{AllocError, Global};
 
@@ -67,7 +67,7 @@ pub trait Stack<T: Copy> {
         requires order { from ≤ to }
         requires within { to ≤ length (cells self.old) }
         requires room { to - from ≤ spare self.old }
-        ensures cells { cells self.new ≡ copied from to (cells self.old) }
+        ensures cells { cells self.new ≡ with_copy from to (cells self.old) }
         ensures spare { spare self.new + (to - from) ≡ spare self.old };
 
     /// The cells and the room are fewer than half of what 64 bits count, so that no sum of indices is too large.

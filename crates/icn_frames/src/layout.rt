@@ -1,0 +1,72 @@
+// What a stack holds.
+use icn_value::{Item, Pair, Residual, Val};
+
+/// Why something was suspended.
+#[derive(Clone, Copy, Debug, PartialEq, Eq)]
+pub enum Why {
+    /// A branch, or a limited expression, gave a result.
+    Alt,
+    /// An operation or a function may be resumed.
+    Op(Residual),
+    /// A scan was opened; the pair is that outside it.
+    Scan(Pair),
+    /// A scan was left.
+    Escan,
+    /// A procedure suspended.
+    Proc,
+}
+
+/// Where the frame, the marks and the suspensions of what runs stand.
+///
+/// A height counts the cells up to one, which stands there: the lowest has the height 1. The procedure's frame counts as
+/// its outermost mark.
+#[derive(Clone, Copy)]
+pub struct Registers {
+    /// The frame of the procedure that runs.
+    pub base: u64,
+    /// The innermost mark.
+    pub mark: u64,
+    /// The newest suspension of that mark.
+    pub newest: Option<u64>,
+    /// The frame of the newest open scan of the procedure, which leads to the older ones.
+    pub scan: Option<u64>,
+}
+
+/// One cell. A frame has its locals directly above it.
+#[derive(Clone, Copy)]
+pub enum Cell {
+    /// The lowest frame: its procedure, and how many locals it has.
+    Base {
+        proc: u32,
+        locals: u64,
+    },
+    /// The frame of a procedure that was called: besides, how deep it is called, and what comes back as it is left.
+    Call {
+        proc: u32,
+        locals: u64,
+        level: u64,
+        saved: Registers,
+        place: u32,
+    },
+    /// A local.
+    Local(Val),
+    /// A plain mark: its label, whether that was set anew, and the registers outside.
+    Mark {
+        label: Option<u32>,
+        changed: bool,
+        saved: Registers,
+    },
+    /// A limit mark: how many results may still come, and the registers outside.
+    Limit {
+        count: u64,
+        saved: Registers,
+    },
+    /// A suspension: what comes back as it is resumed.
+    Suspension {
+        why: Why,
+        saved: Registers,
+        place: u32,
+    },
+    /// An operand.
+    Operand(Item),
+}
