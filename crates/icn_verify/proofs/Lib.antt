@@ -12,3 +12,4 @@ mod Tables
 mod Bounding
 mod Checking
 mod Lawful
+mod Deciding

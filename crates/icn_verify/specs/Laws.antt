@@ -1,9 +1,10 @@
 -- Laws of the shapes and of the first fault.
-use Rattle.std.specs.Prelude.{◌≡◌, ℕ, Bool, true, false, List}
+use Rattle.std.specs.Prelude.{◌≡◌, ◌⊎◌, ℕ, Bool, true, false, List}
 use Rattle.icn_tree.specs.declared.rule.Rule.{Rule}
 use Rattle.icn_tree.specs.declared.rule.Rule.TheVariants.{V2}
 use Rattle.icn_code.specs.declared.instr.Instr.{Instr}
-use Rattle.icn_code.specs.Codes.{Proc}
+use Rattle.icn_code.specs.Codes.{Proc, Tables}
+use Rattle.icn_code.specs.Rules.{keeps_rules}
 use Rattle.icn_verify.specs.Shapes.{PlainShape, start_shape}
 use Rattle.icn_verify.specs.Reaching.{Reaches, Carries}
 use Rattle.icn_verify.specs.Faults.{Breaks, AreSound, IsFirstFault}
@@ -33,3 +34,11 @@ HaveOneFault = (procs : List Proc) (rule : Rule) (number place : ℕ) (rule' : R
 -- and sound ones have none
 abbrev pub HaveNoFault : Type 0
 HaveNoFault = (procs : List Proc) (rule : Rule) (number place : ℕ) → AreSound procs → IsFirstFault procs rule number place → ⊥
+
+-- procedures break no rule, or one of them is the first that they break, at one place of one of them
+abbrev pub IsSoundOrBroken : List Proc → Type 0
+IsSoundOrBroken procs = AreSound procs ⊎ ((rule : Rule) × (number : ℕ) × (place : ℕ) × IsFirstFault procs rule number place)
+
+-- the tables of a code do so
+abbrev pub AreSoundOrBroken : Type 0
+AreSoundOrBroken = (tables : Tables) → keeps_rules tables ≡ true → IsSoundOrBroken tables.procs
