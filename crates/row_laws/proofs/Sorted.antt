@@ -1,0 +1,65 @@
+-- The order of sort: total, and a tie is one value.
+use Rattle.std.proofs.Common.{◌≡◌, ◌∙◌, refl, sym, ap, ℕ, ℤ, ◌==◌, ◌||◌, true, if◌then◌else◌, true≢false, List, []}
+use Rattle.std.specs.Cmp.{IsTotalOrder}
+use Rattle.std.specs.declared.cmp.Ordering.{Ordering}
+use Rattle.std.specs.declared.cmp.Ordering.TheVariants.{Less, Equal, Greater}
+use Rattle.std.specs.Cmp.Lexicographic.{slice_cmp}
+use Rattle.std.specs.Ordering.{ordering_then, nat_cmp, is_eq}
+use Rattle.std.proofs.lemmas.Cmp.{nat_cmp_total, int_cmp_total, nat_list_cmp_total, on_total, then_total}
+use Rattle.std.proofs.lemmas.Map.Lookups.{exact_bytes, exact_signed, exact_unsigned}
+use Rattle.icn_value.specs.Values.{Value, Null, Integer, Text, Chars, Std, Procedure, ARecord, AList, ASet, ATable, ACoexp}
+use Rattle.icn_value.specs.Sameness.{Shape, shape_of, shape_cmp, same}
+use Rattle.icn_value.specs.Store.{Heap, Names}
+use Rattle.icn_value.proofs.SameValues.{same_self}
+use Rattle.icn_defs.specs.Images.{value_cmp, sorted_shape}
+
+shapes : IsTotalOrder shape_cmp
+shapes = then_total (on_total (λ (shape : Shape). shape.rank) nat_cmp_total)
+    (then_total (on_total (λ (shape : Shape). shape.text) nat_list_cmp_total) (on_total (λ (shape : Shape). shape.number) int_cmp_total))
+
+pub total : (names : Names) (heap : Heap) → IsTotalOrder (value_cmp names heap)
+total names heap = on_total (sorted_shape names heap) shapes
+
+both : (a b : Ordering) → ordering_then a b ≡ Equal → (a ≡ Equal) × (b ≡ Equal)
+both Less b is = (is, absurd (less is))
+  where
+    less : Less ≡ Equal → ⊥
+    less same = true≢false (sym (ap is_eq same))
+both Equal b is = (refl, is)
+both Greater b is = (is, absurd (greater is))
+  where
+    greater : Greater ≡ Equal → ⊥
+    greater same = true≢false (sym (ap is_eq same))
+
+shape_by : {rank rank' : ℕ} {text text' : List ℕ} {number number' : ℤ} → rank ≡ rank' → text ≡ text' → number ≡ number'
+    → (let a : Shape = record { rank = rank; text = text; number = number } in a) ≡ (let b : Shape = record { rank = rank'; text = text'; number = number' } in b)
+shape_by rank text number = cc
+
+tied_shapes : (a b : Shape) → shape_cmp a b ≡ Equal → a ≡ b
+tied_shapes a b is =
+    let first = both (nat_cmp a.rank b.rank) _ is in
+    let second = both (slice_cmp nat_cmp a.text b.text) _ first.1 in
+    shape_by (exact_unsigned _ _ first.0) (exact_bytes _ _ second.0) (exact_signed _ _ second.1)
+
+-- the shape that `===` looks at is that of the order without the names of procedures and of records
+unnamed : Shape → Shape
+unnamed shape = record { rank = shape.rank; text = if (shape.rank == 6) || (shape.rank == 10) then [] else shape.text; number = shape.number }
+
+unnamed_shape : (names : Names) (heap : Heap) (value : Value) → unnamed (sorted_shape names heap value) ≡ shape_of value
+unfolding unnamed
+unnamed_shape names heap Null = refl
+unnamed_shape names heap (Integer n) = refl
+unnamed_shape names heap (Text bytes) = refl
+unnamed_shape names heap (Chars bytes) = refl
+unnamed_shape names heap (Std file) = refl
+unnamed_shape names heap (Procedure number) = refl
+unnamed_shape names heap (ARecord id) = refl
+unnamed_shape names heap (AList id) = refl
+unnamed_shape names heap (ASet id) = refl
+unnamed_shape names heap (ATable id) = refl
+unnamed_shape names heap (ACoexp id) = refl
+
+pub ties : (names : Names) (heap : Heap) (a b : Value) → value_cmp names heap a b ≡ Equal → same a b ≡ true
+ties names heap a b is =
+    let one : shape_of a ≡ shape_of b = sym (unnamed_shape names heap a) ∙ (ap unnamed (tied_shapes _ _ is) ∙ unnamed_shape names heap b) in
+    ap (λ shape. is_eq (shape_cmp (shape_of a) shape)) (sym one) ∙ same_self a

@@ -1,0 +1,14 @@
+-- What a row gives when it is resumed again and again with nothing done between.
+use Rattle.std.specs.Prelude.{ℕ, zero, suc, List, [], ◌∷◌}
+use Rattle.icn_value.specs.Values.{Item}
+use Rattle.icn_defs.specs.Rows.{Outcome, Fails, Gives, Suspends, Error, Ends}
+use Rattle.icn_defs.specs.Applying.{again}
+
+-- the results of an outcome and of so many resumptions of it, in order
+abbrev pub results : ℕ → Outcome → List Item
+results zero outcome = []
+results (suc n) (Suspends item rest setting) = item ∷ results n (again rest setting)
+results (suc n) (Gives item setting) = item ∷ []
+results (suc n) (Fails setting) = []
+results (suc n) (Error number value setting) = []
+results (suc n) (Ends status setting) = []

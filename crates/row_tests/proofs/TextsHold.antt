@@ -1,0 +1,184 @@
+-- Each case of the table holds, by computing.
+use Rattle.std.proofs.Common.{refl}
+use Rattle.std.specs.Fmt.{digits}
+use Rattle.std.specs.List.{AllByRecursion}
+use Rattle.row_tests.specs.Cases.{Holds}
+use Rattle.row_tests.specs.Texts.{texts}
+
+pub texts_hold : AllByRecursion Holds texts
+unfolding digits
+texts_hold = (
+  record { saw = refl; facts = refl },
+  (
+    record { saw = refl; facts = refl },
+    (
+      record { saw = refl; facts = refl },
+      (
+        record { saw = refl; facts = refl },
+        (
+          record { saw = refl; facts = refl },
+          (
+            record { saw = refl; facts = refl },
+            (
+              record { saw = refl; facts = refl },
+              (
+                record { saw = refl; facts = refl },
+                (
+                  record { saw = refl; facts = refl },
+                  (
+                    record { saw = refl; facts = refl },
+                    (
+                      record { saw = refl; facts = refl },
+                      (
+                        record { saw = refl; facts = refl },
+                        (
+                          record { saw = refl; facts = refl },
+                          (
+                            record { saw = refl; facts = refl },
+                            (
+                              record { saw = refl; facts = refl },
+                              (
+                                record { saw = refl; facts = refl },
+                                (
+                                  record { saw = refl; facts = refl },
+                                  (
+                                    record { saw = refl; facts = refl },
+                                    (
+                                      record { saw = refl; facts = refl },
+                                      (
+                                        record { saw = refl; facts = refl },
+                                        (
+                                          record { saw = refl; facts = refl },
+                                          (
+                                            record { saw = refl; facts = refl },
+                                            (
+                                              record { saw = refl; facts = refl },
+                                              (
+                                                record { saw = refl; facts = refl },
+                                                (
+                                                  record { saw = refl; facts = refl },
+                                                  (
+                                                    record { saw = refl; facts = refl },
+                                                    (
+                                                      record { saw = refl; facts = refl },
+                                                      (
+                                                        record { saw = refl; facts = refl },
+                                                        (
+                                                          record { saw = refl; facts = refl },
+                                                          (
+                                                            record { saw = refl; facts = refl },
+                                                            (
+                                                              record { saw = refl; facts = refl },
+                                                              (
+                                                                record { saw = refl; facts = refl },
+                                                                (
+                                                                  record { saw = refl; facts = refl },
+                                                                  (
+                                                                    record { saw = refl; facts = refl },
+                                                                    (
+                                                                      record { saw = refl; facts = refl },
+                                                                      (
+                                                                        record { saw = refl; facts = refl },
+                                                                        (
+                                                                          record { saw = refl; facts = refl },
+                                                                          (
+                                                                            record { saw = refl; facts = refl },
+                                                                            (
+                                                                              record { saw = refl; facts = refl },
+                                                                              (
+                                                                                record { saw = refl; facts = refl },
+                                                                                (
+                                                                                  record { saw = refl; facts = refl },
+                                                                                  (
+                                                                                    record { saw = refl; facts = refl },
+                                                                                    (
+                                                                                      record { saw = refl; facts = refl },
+                                                                                      (
+                                                                                        record { saw = refl; facts = refl },
+                                                                                        (
+                                                                                          record { saw = refl; facts = refl },
+                                                                                          (
+                                                                                            record { saw = refl; facts = refl },
+                                                                                            (
+                                                                                              record { saw = refl; facts = refl },
+                                                                                              (
+                                                                                                record { saw = refl; facts = refl },
+                                                                                                (
+                                                                                                  record { saw = refl; facts = refl },
+                                                                                                  (
+                                                                                                    record { saw = refl; facts = refl },
+                                                                                                    (
+                                                                                                      record { saw = refl; facts = refl },
+                                                                                                      (
+                                                                                                        record { saw = refl; facts = refl },
+                                                                                                        (
+                                                                                                          record { saw = refl; facts = refl },
+                                                                                                          (
+                                                                                                            record { saw = refl; facts = refl },
+                                                                                                            (
+                                                                                                              record { saw = refl; facts = refl },
+                                                                                                              (
+                                                                                                                record { saw = refl; facts = refl },
+                                                                                                                (
+                                                                                                                  record { saw = refl; facts = refl },
+                                                                                                                  (
+                                                                                                                    record { saw = refl; facts = refl },
+                                                                                                                    tt,
+                                                                                                                  ),
+                                                                                                                ),
+                                                                                                              ),
+                                                                                                            ),
+                                                                                                          ),
+                                                                                                        ),
+                                                                                                      ),
+                                                                                                    ),
+                                                                                                  ),
+                                                                                                ),
+                                                                                              ),
+                                                                                            ),
+                                                                                          ),
+                                                                                        ),
+                                                                                      ),
+                                                                                    ),
+                                                                                  ),
+                                                                                ),
+                                                                              ),
+                                                                            ),
+                                                                          ),
+                                                                        ),
+                                                                      ),
+                                                                    ),
+                                                                  ),
+                                                                ),
+                                                              ),
+                                                            ),
+                                                          ),
+                                                        ),
+                                                      ),
+                                                    ),
+                                                  ),
+                                                ),
+                                              ),
+                                            ),
+                                          ),
+                                        ),
+                                      ),
+                                    ),
+                                  ),
+                                ),
+                              ),
+                            ),
+                          ),
+                        ),
+                      ),
+                    ),
+                  ),
+                ),
+              ),
+            ),
+          ),
+        ),
+      ),
+    ),
+  ),
+)

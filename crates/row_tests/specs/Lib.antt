@@ -1,0 +1,9 @@
+pub mod Cases
+pub mod Numbers
+pub mod Compared
+pub mod Texts
+pub mod Scanned
+pub mod Structured
+pub mod Assigned
+pub mod Outside
+pub mod Limited

@@ -1,0 +1,8 @@
+//! Cases of the rows of operations and functions, each of them proved by the definitions.
+#![tactic(auto)]
+
+mod table;
+
+pub use table::{
+    arithmetic, comparisons, input_and_output, limits, scanning, structures, texts, variables,
+};
