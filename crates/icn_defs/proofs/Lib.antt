@@ -4,3 +4,4 @@ pub mod KeywordNumbers
 pub mod Found
 pub mod Kept
 pub mod Observing
+pub mod Interrupting

@@ -22,3 +22,4 @@ pub mod Errors
 pub mod Keeping
 pub mod StepRows
 pub mod Running
+pub mod Interruptions

@@ -1,17 +1,20 @@
 // Laws of the tables.
 ghost use Rattle.std.specs.Prelude.{◌≡◌, ℕ, List, Some};
 ghost use Rattle.icn_defs.specs.Applying.{again, function_row, operation_row};
+ghost use Rattle.icn_defs.specs.InputOutput.{put_on};
+ghost use Rattle.icn_defs.specs.Interruptions.{Breaks, BreaksReading, Ends, IsOutsideOf, Streams, after_reading};
 ghost use Rattle.icn_defs.specs.Keeping.{KeepsIn};
 ghost use Rattle.icn_defs.specs.Numbers.{func_of, keyword_of, op_of};
 ghost use Rattle.icn_defs.specs.Rows.{Residual};
+ghost use Rattle.icn_defs.specs.Running.{Observed};
 ghost use Rattle.icn_text.specs.Funcs.{func_number};
 ghost use Rattle.icn_text.specs.Keywords.{keyword_number};
 ghost use Rattle.icn_text.specs.Ops.{op_number};
 ghost use Rattle.icn_text.specs.declared.func.Func.{Func};
 ghost use Rattle.icn_text.specs.declared.keyword.Keyword.{Keyword};
 ghost use Rattle.icn_text.specs.declared.op.Op.{Op};
-ghost use Rattle.icn_value.specs.Store.{Names, Setting};
-ghost use Rattle.icn_value.specs.Values.{Item};
+ghost use Rattle.icn_value.specs.Store.{Asked, Names, Outside, Setting, outside_of};
+ghost use Rattle.icn_value.specs.Values.{File, Item};
 
 /// The number of an operation, a function or a keyword leads back to it, and what a number leads to has that number.
 pub fn numbers_lead_back()
@@ -29,4 +32,14 @@ pub fn rows_keep()
     ensures operations { (op : Op) (items : List Item) (at : Setting) → KeepsIn at (operation_row op items at) }
     ensures functions { (names : Names) (func : Func) (items : List Item) (at : Setting) → KeepsIn at (function_row names func items at) }
     ensures resumed { (residual : Residual) (at : Setting) → KeepsIn at (again residual at) }
+{}
+
+/// A run that ended, and one that a failed reading broke off, left first parts of what it puts and takes, as every run that was broken off. A
+/// program's outside begins as one that a run comes to, and each put and each reading keeps it so.
+pub fn broken_off()
+    ensures ended { (input : List ℕ) (seen : Observed) (before after : Streams) → IsOutsideOf input seen.outside → Ends seen before after → Breaks input seen before after }
+    ensures reading { (input : List ℕ) (seen : Observed) (before after : Streams) → IsOutsideOf input seen.outside → BreaksReading seen before after → Breaks input seen before after }
+    ensures begun { (input : List ℕ) → IsOutsideOf input (outside_of input) }
+    ensures put { (input : List ℕ) (outside : Outside) (file : File) (text : List ℕ) → IsOutsideOf input outside → IsOutsideOf input (put_on file text outside) }
+    ensures read { (input : List ℕ) (outside : Outside) (asked : Asked) → IsOutsideOf input outside → IsOutsideOf input (after_reading asked outside) }
 {}

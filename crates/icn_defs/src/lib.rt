@@ -6,5 +6,5 @@ mod laws;
 mod numbers;
 
 pub use arities::arity;
-pub use laws::{numbers_lead_back, rows_keep};
+pub use laws::{broken_off, numbers_lead_back, rows_keep};
 pub use numbers::{func_numbered, keyword_numbered, op_numbered};

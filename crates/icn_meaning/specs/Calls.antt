@@ -8,7 +8,7 @@ use Rattle.icn_defs.specs.Conversions.{integer_of, place_of as position_of}
 use Rattle.icn_defs.specs.Running.{number_of}
 use Rattle.icn_defs.specs.StepRows.{Operation, Function, apply, list_row, record_row}
 use Rattle.icn_meaning.specs.Program.{Program, Routine, Kind, Callee, IsRoutine, IsKind, IsFunction, IsNothing, callee_of, place_of}
-use Rattle.icn_meaning.specs.Contexts.{Form, Operating, Calling, Spreading, Collecting, Taking, Activating, frame_of, activation_of, Works, ◌and_then◌, Choices, ◌or_else◌, Args, Back, Surroundings, InCall, InScan, InLoop, Store, State, eval, succeed, fail}
+use Rattle.icn_meaning.specs.Contexts.{Form, Operating, Calling, Spreading, Collecting, Taking, Activating, frame_of, activation_of, Works, ◌and_then◌, Choices, ◌or_else◌, Args, Back, Surroundings, InCall, InScan, InLoop, Store, State, eval, succeed, fail, lost}
 use Rattle.icn_meaning.specs.Turns.{turn, errs, within, answer, made, value, values, outgoing}
 use Rattle.icn_meaning.specs.Scanning.{restored, exchanged_oldest}
 use Rattle.icn_meaning.specs.Actions.{rest}
@@ -71,8 +71,7 @@ abbrev pub choose : Option ℤ → Value → List Item → Works → Choices →
 choose (Some i) v xs k r st = chosen (argument_at (position_of i (length xs)) xs) k r st
 choose None v xs k r st = errs 106 (Some v) r st
 
--- an integer, or a string that converts to one, calls an argument by its number; a cset does not
--- a value is called with arguments
+-- A value is called with arguments. One that is called by number gives the argument of that number.
 abbrev pub invoke : Program → Value → List Item → Surroundings → Works → Choices → Store → State
 invoke program (Procedure n) xs s k r st = invoke_callee (callee_of program n) n xs s k r st
 invoke program v xs s k r st = choose (number_of v) v xs k r st
@@ -104,16 +103,21 @@ take_field program name v k r st = errs 107 (Some v) r st
 abbrev pub listed : List Value → ℕ → Works → Choices → Store → State
 listed vs a k r st = made (list_row vs (within a st)) a r st (λ v st. succeed (Val v) k r st)
 
--- what is applied, to these items, in its turn
+-- What is applied, to these items, in its turn. No form has fewer operands than it is applied to.
 abbrev pub applied : Program → Form → List Item → Surroundings → Works → Choices → Store → State
 applied program (Operating Refresh) (x ∷ xs) s k r st = value x (activation_of s) r st (λ v. refreshed v (activation_of s) k r st)
 applied program (Operating o) xs s k r st = answer (apply st.names (Operation o) xs (within (activation_of s) st)) (activation_of s) k r st
+applied program Calling [] s k r st = lost
 applied program Calling (x ∷ xs) s k r st = value x (activation_of s) r st (λ v. invoke program v xs s k r st)
+applied program Spreading [] s k r st = lost
+applied program Spreading (x ∷ []) s k r st = lost
 applied program Spreading (x ∷ y ∷ xs) s k r st = value x (activation_of s) r st (λ p. value y (activation_of s) r st (λ v. spread program p v s k r st))
 applied program Collecting xs s k r st = values xs (activation_of s) r st (λ vs. listed vs (activation_of s) k r st)
+applied program (Taking name) [] s k r st = lost
 applied program (Taking name) (x ∷ xs) s k r st = value x (activation_of s) r st (λ v. take_field program name v k r st)
+applied program Activating [] s k r st = lost
+applied program Activating (x ∷ []) s k r st = lost
 applied program Activating (x ∷ y ∷ xs) s k r st = value x (activation_of s) r st (λ v. value y (activation_of s) r st (λ c. activate v c k r st))
-applied program form xs s k r st = fail r st
 
 -- the next operand; or, where none is left, what is applied is applied to the items, which stand with the newest first
 abbrev pub operands : Program → Form → List Item → Trees → Surroundings → Works → Choices → Store → State
