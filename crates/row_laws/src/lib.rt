@@ -2,7 +2,9 @@
 #![tactic(auto)]
 
 mod values;
+mod walks;
 
 pub use values::{
     equivalence_is_equality, integers_survive_texts, positions_are_places, sorting_is_total,
 };
+pub use walks::{counting_goes_in_order, searches_go_in_order, walks_go_in_order};
