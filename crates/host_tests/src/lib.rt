@@ -331,12 +331,17 @@ mod tests {
         }
         let mut files = DiskFiles::new(&rt);
         check_files(&rt, &mut files, &mut bytes);
-        for (name, look) in [
-            (".", Look::Failed),
-            ("nowhere/host", Look::NotThere),
-            ("host/host", Look::Failed),
-        ] {
-            assert_eq!(rt; files.read(name, 9, &mut bytes), Err(look), "at {name}");
+        // a folder, a name behind a folder that is not there or is none, a byte 0, and a name that is too long
+        let mut long = String::new(rt.alloc());
+        for _ in 0..300 {
+            long.push_str("long")?;
+        }
+        for name in [".", "nowhere/host", "host/host", "ho\0st", &long] {
+            assert_eq!(rt;
+                files.read(name, 9, &mut bytes),
+                Err(Look::NotThere),
+                "at {name}"
+            );
             assert_eq!(rt; files.write(name, b"no"), Err(Fault::Failed), "at {name}");
         }
         bytes.clear();

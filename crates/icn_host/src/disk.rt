@@ -5,14 +5,15 @@ ghost use Rattle.icn_host.specs.Buffers.{Extends};
 use crate::fault::{Fault, Look};
 use crate::retry::{fault_of, open, read_some, write_whole};
 use crate::traits::Files;
-use std::fs::OpenOptions;
+use std::fs::{OpenFile, OpenOptions};
 use std::io::{ErrorKind, Read};
 use std::rt;
 
 /// The files of the system. A name is a path.
 ///
-/// The count of absences rises at each read of a file that is not there. The count of faults rises at each other error
-/// of the system but want of memory, and at an interruption after 1000 others in a row.
+/// The count of absences rises at each read of a file that is not there, also where the system can hold none under the name: it
+/// names a folder, a folder on its way is none, it is too long or has a byte 0. The count of faults rises at each other error of
+/// the system but want of memory, and at an interruption after 1000 others in a row.
 #[derive(Drop)]
 pub struct DiskFiles<R> {
     rt: R,
@@ -63,9 +64,34 @@ fn read_file<R: rt::Files>(rt: &R, name: &str, most: u64, into: &mut Vec<u8>) ->
     let mut options = OpenOptions::new();
     options.read(true);
     match open(rt, &options, name) {
-        Ok(mut file) => Ok(read_first(&mut file, most, into)?),
-        Err(e) if e.kind() == ErrorKind::NotFound => Err(Look::NotThere),
+        Ok(mut file) => {
+            if is_folder(&file)? {
+                return Err(Look::NotThere);
+            }
+            Ok(read_first(&mut file, most, into)?)
+        }
+        Err(e) if names_no_file(e.kind()) => Err(Look::NotThere),
         Err(e) => Err(Look::from(fault_of(&e))),
+    }
+}
+
+// Nothing is there, or the system can hold no file under the name: a folder on its way is none, it is too long, or it has a
+// byte 0.
+fn names_no_file(kind: ErrorKind) -> bool {
+    matches!(
+        kind,
+        ErrorKind::NotFound
+            | ErrorKind::NotADirectory
+            | ErrorKind::InvalidFilename
+            | ErrorKind::InvalidInput
+    )
+}
+
+// A folder can be opened, but it is no file.
+fn is_folder<F: OpenFile>(file: &F) -> Result<bool, Fault> {
+    match file.metadata() {
+        Ok(metadata) => Ok(metadata.is_dir()),
+        Err(e) => Err(fault_of(&e)),
     }
 }
 
