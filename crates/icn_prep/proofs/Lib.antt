@@ -9,3 +9,4 @@ pub mod Stores
 pub mod Faults
 pub mod Mapping
 pub mod Owning
+pub mod Counting

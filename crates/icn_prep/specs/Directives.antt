@@ -5,8 +5,8 @@ use Rattle.icn_prep.specs.declared.keyword.Keyword.{Keyword}
 use Rattle.icn_prep.specs.declared.keyword.Keyword.TheVariants.{Define, Undef, Include, Ifdef, Ifndef, Else, Endif, Line, Error}
 use Rattle.icn_prep.specs.declared.literal.LiteralState.{LiteralState}
 use Rattle.icn_prep.specs.declared.literal.LiteralState.TheVariants.{Outside, Inside, Joining, Escape, Control, Comment}
-use Rattle.icn_prep.specs.LiteralStates.{after}
-use Rattle.icn_prep.specs.Words.{first_word, behind_word, trimmed}
+use Rattle.icn_prep.specs.LiteralStates.{after_in}
+use Rattle.icn_prep.specs.Words.{first_word, behind_word, trimmed, trimmed_start}
 
 -- `(`, `)`, `<` or `>`: with a `$` before it, it spells a brace or a bracket
 abbrev pub is_pair_end : ℕ → Bool
@@ -37,21 +37,26 @@ is_comment (Joining quote) = false
 is_comment (Escape quote) = false
 is_comment (Control quote) = false
 
--- the bytes up to a comment
-abbrev pub uncommented : LiteralState → List ℕ → List ℕ
-uncommented state [] = []
-uncommented state (b ∷ rest) =
-    if is_comment (after state b) then [] else b ∷ uncommented (after state b) rest
+-- the bytes up to a comment; what has names has no escapes
+abbrev pub uncommented : Bool → LiteralState → List ℕ → List ℕ
+uncommented is_name state [] = []
+uncommented is_name state (b ∷ rest) =
+    if is_comment (after_in is_name state b) then [] else b ∷ uncommented is_name (after_in is_name state b) rest
 
--- what stands behind the `$` of a directive, without a comment and the blanks round it
+-- what stands behind the `$` of a directive, without the blanks before its name
 abbrev pub directive_text : List ℕ → List ℕ
-directive_text line = trimmed (uncommented Outside (drop 1 line))
+directive_text line = trimmed_start (drop 1 line)
 
 abbrev pub directive_name : List ℕ → List ℕ
 directive_name line = first_word (directive_text line)
 
+-- the directives whose quoted operand is the name of a file
+abbrev pub names_file : List ℕ → Bool
+names_file name = bytes_eq name (codes "include") || bytes_eq name (codes "line")
+
+-- what stands behind a directive's name, without a comment and the blanks round it
 abbrev pub operand : List ℕ → List ℕ
-operand line = trimmed (behind_word (directive_text line))
+operand line = trimmed (uncommented (names_file (directive_name line)) Outside (behind_word (directive_text line)))
 
 abbrev pub keyword_of : List ℕ → Option Keyword
 keyword_of name =

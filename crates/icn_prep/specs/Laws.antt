@@ -1,11 +1,14 @@
 -- What the definition of the given lines means, in other words.
-use Rattle.std.specs.Prelude.{◌≡◌, ◌≤◌, ℕ, true, List, [], ◌∷◌, length, Some, Result, Ok, Err}
+use Rattle.std.specs.Prelude.{◌≡◌, ◌≤◌, ◌+◌, ℕ, true, List, [], ◌∷◌, length, Some, Result, Ok, Err}
 use Rattle.icn_host.specs.FileMaps.{FileMap}
 use Rattle.icn_prep.specs.declared.fault.PrepFault.{PrepFault}
 use Rattle.icn_prep.specs.Answers.{IsTextFault}
 use Rattle.icn_prep.specs.FileLines.{lines_of}
 use Rattle.icn_prep.specs.PlainFiles.{has_no_directive, numbered_lines}
+use Rattle.icn_prep.specs.declared.literal.LiteralState.{LiteralState}
+use Rattle.icn_prep.specs.Replacement.{replaced}
 use Rattle.icn_prep.specs.SourceLines.{Source, source_lines}
+use Rattle.icn_prep.specs.Texts.{Texts, no_texts, with_text, undefined}
 
 -- files and a name have one outcome, and no other
 abbrev pub OneOutcome : Type 0
@@ -20,3 +23,15 @@ OwnLines = (files : FileMap) (name bytes : List ℕ) → files name ≡ Some byt
 -- where there are no lines, the file is missing or a rule is broken
 abbrev pub TextFaults : Type 0
 TextFaults = (files : FileMap) (name : List ℕ) (fault : PrepFault) → source_lines files name ≡ Err fault → IsTextFault fault
+
+-- texts that `$define` and `$undef` make
+pub data IsMade : Texts → Type 0 where
+  none : IsMade no_texts
+  defined : (texts : Texts) (name text : List ℕ) → IsMade texts → IsMade (with_text texts name text)
+  undefined_in : (texts : Texts) (name : List ℕ) → IsMade texts → IsMade (undefined texts name)
+
+-- words are counted down in a replacement so that it ends by its form alone: where more of them are allowed than names have
+-- a text, each line is replaced in the same way
+abbrev pub CountNeverBinds : Type 0
+CountNeverBinds = (texts : Texts) → IsMade texts → (more : ℕ) (state : LiteralState) (line : List ℕ)
+    → replaced (texts.count + more) texts.text_of state line ≡ replaced texts.count texts.text_of state line

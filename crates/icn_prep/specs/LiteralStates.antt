@@ -1,5 +1,5 @@
 -- How the bytes of a line stand to literals and comments.
-use Rattle.std.specs.Prelude.{ℕ, if◌then◌else◌, ◌==◌, ◌||◌}
+use Rattle.std.specs.Prelude.{ℕ, Bool, if◌then◌else◌, ◌==◌, ◌||◌}
 use Rattle.icn_prep.specs.declared.literal.LiteralState.{LiteralState}
 use Rattle.icn_prep.specs.declared.literal.LiteralState.TheVariants.{Outside, Inside, Joining, Escape, Control, Comment}
 
@@ -17,6 +17,19 @@ after (Joining quote) b = within quote b
 after (Escape quote) b = if b == 94 then Control quote else Inside quote
 after (Control quote) b = Inside quote
 after Comment b = Comment
+
+-- the same where a backslash is a byte like another
+abbrev pub unescaped : LiteralState → LiteralState
+unescaped (Escape quote) = Inside quote
+unescaped Outside = Outside
+unescaped (Inside quote) = Inside quote
+unescaped (Joining quote) = Joining quote
+unescaped (Control quote) = Control quote
+unescaped Comment = Comment
+
+-- behind a byte of a directive's operand, where a name has no escapes
+abbrev pub after_in : Bool → LiteralState → ℕ → LiteralState
+after_in is_name state b = if is_name then unescaped (after state b) else after state b
 
 -- where the next line begins: inside a literal where this one ended with an underscore that joins them, else outside
 abbrev pub carried : LiteralState → LiteralState

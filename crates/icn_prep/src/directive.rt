@@ -1,10 +1,10 @@
 // Lines that are directives.
 ghost use Rattle.std.specs.Prelude.{◌≡◌, drop};
-ghost use Rattle.icn_prep.specs.Directives.{is_pair_end, begins_pair_end, begins_directive, is_directive, uncommented, directive_text, directive_name, operand};
+ghost use Rattle.icn_prep.specs.Directives.{is_pair_end, begins_pair_end, begins_directive, is_directive, uncommented, directive_text, directive_name, names_file, operand};
 ghost use Rattle.icn_prep.specs.declared.literal.LiteralState.TheVariants.{Outside};
 ghost use Rattle.icn_prep.specs.Words.{first_word, behind_word};
 
-use crate::bytes::{trimmed, word_len};
+use crate::bytes::{trimmed, trimmed_start, word_len};
 use crate::literal::LiteralState;
 
 // Whether a line that begins so is a directive.
@@ -49,10 +49,10 @@ pub fn name_and_operand(line: &[u8]) -> (&[u8], &[u8])
 {
     let text = directive_text(line);
     let (name, rest) = text.split_at(word_len(text));
-    (name, trimmed(rest))
+    (name, trimmed(uncommented(names_file(name), rest)))
 }
 
-// What stands behind the `$`, without a comment and the blanks round it.
+// What stands behind the `$`, without the blanks before the directive's name.
 fn directive_text(line: &[u8]) -> &[u8]
     ensures { result.now ≡ directive_text line.now }
 {
@@ -60,16 +60,23 @@ fn directive_text(line: &[u8]) -> &[u8]
         Some((_, rest)) => rest,
         None => line,
     };
-    trimmed(uncommented(text))
+    trimmed_start(text)
+}
+
+// Whether a directive's quoted operand is the name of a file, in which there are no escapes.
+fn names_file(name: &[u8]) -> bool
+    ensures { result ≡ names_file name.now }
+{
+    name == b"include".as_slice() || name == b"line".as_slice()
 }
 
 // The bytes up to a comment.
-fn uncommented(text: &[u8]) -> &[u8]
-    ensures { result.now ≡ uncommented Outside text.now }
+fn uncommented(is_name: bool, text: &[u8]) -> &[u8]
+    ensures { result.now ≡ uncommented is_name Outside text.now }
 {
     let mut literal = LiteralState::Outside;
     for (at, byte) in text.iter().enumerate() {
-        literal = literal.after(*byte);
+        literal = literal.after_in(is_name, *byte);
         if literal == LiteralState::Comment {
             return &text[..at];
         }

@@ -21,5 +21,5 @@ mod texts;
 
 pub use fault::PrepFault;
 pub use icn_tree::{Lines, SourceLine};
-pub use laws::{one_outcome, own_lines, text_faults};
+pub use laws::{count_never_binds, one_outcome, own_lines, text_faults};
 pub use source::preprocess;

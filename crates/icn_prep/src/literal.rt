@@ -1,6 +1,6 @@
 // How the bytes of a line stand to literals and comments.
 ghost use Rattle.std.specs.Prelude.{◌≡◌};
-ghost use Rattle.icn_prep.specs.LiteralStates.{within, after, carried};
+ghost use Rattle.icn_prep.specs.LiteralStates.{within, after, after_in, carried, unescaped};
 
 /// How a byte stands to literals and comments. A literal goes by its quote.
 #[derive(Clone, Copy, Debug, PartialEq, Eq)]
@@ -36,6 +36,24 @@ impl LiteralState {
                 LiteralState::Inside(quote)
             }
             LiteralState::Comment => LiteralState::Comment,
+        }
+    }
+
+    /// How the byte behind this one of a directive's operand stands, where a name has no escapes.
+    pub fn after_in(self, is_name: bool, byte: u8) -> Self
+        ensures { result ≡ after_in is_name self byte }
+    {
+        let state = self.after(byte);
+        if is_name { state.unescaped() } else { state }
+    }
+
+    // The same where a backslash is a byte like another.
+    fn unescaped(self) -> Self
+        ensures { result ≡ unescaped self }
+    {
+        match self {
+            LiteralState::Escape(quote) => LiteralState::Inside(quote),
+            state => state,
         }
     }
 
