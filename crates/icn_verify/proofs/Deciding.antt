@@ -7,8 +7,8 @@ use Rattle.icn_code.specs.Rules.{keeps_rules}
 use Rattle.icn_verify.specs.Reaching.{AreWithin}
 use Rattle.icn_verify.specs.Faults.{IsSound, IsFirstOf, AreSound, IsFirstFault}
 use Rattle.icn_verify.specs.Passing.{fault_of}
-use Rattle.icn_verify.specs.Laws.{IsSoundOrBroken, AreSoundOrBroken}
-use Rattle.icn_verify.proofs.Giving.{found_means}
+use Rattle.icn_verify.specs.Laws.{IsSoundOrBroken, AreSoundOrBroken, GiveShapes}
+use Rattle.icn_verify.proofs.Giving.{found_means, sound_shapes}
 use Rattle.icn_verify.proofs.Bounding.{bounded}
 
 some_same : {A : Type 0} (a b : A) → Some a ≡ Some b → a ≡ b
@@ -46,3 +46,6 @@ decided (proc ∷ procs) labels = decided_on proc procs (fault_of proc.instrs) (
 
 pub sound_or_broken : AreSoundOrBroken
 sound_or_broken tables kept = decided tables.procs (bounded tables kept).labels
+
+pub shapes_given : GiveShapes
+shapes_given tables kept verified number proc at = sound_shapes proc.instrs ((bounded tables kept).labels number proc at) (verified number proc at)

@@ -7,7 +7,8 @@ use Rattle.icn_code.specs.Codes.{Proc, Tables}
 use Rattle.icn_code.specs.Rules.{keeps_rules}
 use Rattle.icn_verify.specs.Shapes.{PlainShape, start_shape}
 use Rattle.icn_verify.specs.Reaching.{Reaches, Carries}
-use Rattle.icn_verify.specs.Faults.{Breaks, AreSound, IsFirstFault}
+use Rattle.icn_verify.specs.Faults.{Breaks, AreSound, IsFirstFault, IsVerified}
+use Rattle.icn_verify.specs.Given.{HaveShapes}
 
 -- at most one shape reaches a place where two shapes or a missing one break no rule
 abbrev pub HaveOneShape : Type 0
@@ -42,3 +43,7 @@ IsSoundOrBroken procs = AreSound procs ⊎ ((rule : Rule) × (number : ℕ) × (
 -- the tables of a code do so
 abbrev pub AreSoundOrBroken : Type 0
 AreSoundOrBroken = (tables : Tables) → keeps_rules tables ≡ true → IsSoundOrBroken tables.procs
+
+-- verified code has shapes, in the words of a machine that runs it
+abbrev pub GiveShapes : Type 0
+GiveShapes = (tables : Tables) → keeps_rules tables ≡ true → IsVerified tables → HaveShapes tables

@@ -1,5 +1,5 @@
 // Laws of the shapes and of the first fault.
-ghost use Rattle.icn_verify.specs.Laws.{AreLeast, AreSoundOrBroken, HaveNoFault, HaveOneFault, HaveOneShape};
+ghost use Rattle.icn_verify.specs.Laws.{AreLeast, AreSoundOrBroken, GiveShapes, HaveNoFault, HaveOneFault, HaveOneShape};
 
 /// At most one shape reaches a place that is not refused for it, and the shapes that reach are the least that hold at the start
 /// and are carried on.
@@ -8,9 +8,11 @@ pub fn least_shapes()
     ensures least { AreLeast }
 {}
 
-/// Procedures have at most one first fault, none where they break no rule, and one where they break any.
+/// Procedures have at most one first fault, none where they break no rule, and one where they break any. Those that
+/// break none have shapes.
 pub fn one_fault()
     ensures one_fault { HaveOneFault }
     ensures no_fault { HaveNoFault }
     ensures judged { AreSoundOrBroken }
+    ensures shapes { GiveShapes }
 {}
