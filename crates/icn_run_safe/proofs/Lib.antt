@@ -1,0 +1,10 @@
+pub mod Entries
+pub mod Growing
+pub mod Keeping
+pub mod Marks
+pub mod Stores
+pub mod Steps
+pub mod Hops
+pub mod Instructions
+pub mod TablesKept
+pub mod NoStuck

@@ -1,0 +1,24 @@
+-- Verified code is never stuck.
+use Rattle.std.specs.Prelude.{◌≡◌, ℕ, ◌<◌, Bool, true, List, Some, slice_get, map, length}
+use Rattle.icn_value.specs.Limited.{Bounds}
+use Rattle.icn_code.specs.declared.instr.Instr.{Instr}
+use Rattle.icn_code.specs.Codes.{Tables, Proc as Procedure}
+use Rattle.icn_run.specs.Step.{instrs_of, global_value, main_of}
+use Rattle.icn_run.specs.LinkedStep.{repeats_anywhere}
+use Rattle.icn_run_laws.specs.SecondLaw.{MissingCell, LinkedStuck, FlatStuck}
+use Rattle.icn_run_safe.specs.Within.{Each, ValueWithin}
+use Rattle.icn_run_safe.specs.Shaped.{InRange}
+
+-- what tables keep, as far as a run needs it
+pub record TablesOk (tables : Tables) : Type 0 where
+  pub instrs : (p place : ℕ) (instr : Instr) → slice_get (instrs_of tables p) place ≡ Some instr → InRange tables instr
+  pub collects : (p : ℕ) (entry : Procedure) → slice_get tables.procs p ≡ Some entry → entry.collects ≡ true → 0 < entry.parameters
+  pub globals : Each (ValueWithin 1) (map (global_value tables) tables.globals)
+  pub main : (n : ℕ) → main_of tables ≡ Some n → n < length tables.procs
+
+-- No run of the code lacks what an instruction needs, neither on linked marks nor on flat stacks, nor on linked marks where only some have cells, if none
+-- is missing.
+pub record IsNeverStuck (tables : Tables) : Type 0 where
+  pub linked : (words : List (List ℕ)) (input : List ℕ) (bounds : Bounds) → LinkedStuck repeats_anywhere tables words input bounds → ⊥
+  pub flat : (words : List (List ℕ)) (input : List ℕ) (bounds : Bounds) → FlatStuck tables words input bounds → ⊥
+  pub covered : (repeats : ℕ → ℕ → Bool) → (MissingCell repeats tables → ⊥) → (words : List (List ℕ)) (input : List ℕ) (bounds : Bounds) → LinkedStuck repeats tables words input bounds → ⊥

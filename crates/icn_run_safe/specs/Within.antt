@@ -1,0 +1,91 @@
+-- Values that name no co-expression but one that is there: the first of them are so many.
+use Rattle.std.specs.Prelude.{◌≡◌, ℕ, suc, ◌<◌, List, [], ◌∷◌, length}
+use Rattle.icn_structs.specs.Numbered.{Numbered}
+use Rattle.icn_value.specs.Values.{Value, ACoexp, Root, Key, Variable, Whole, Part, Item, Val, Var}
+use Rattle.icn_value.specs.Store.{Table, Record, Heap, World, Setting, Names}
+use Rattle.icn_defs.specs.Rows.{Residual, VariableBytes, UndoAssign, UndoExchange, Outcome, Fails, Gives, Suspends, Error, Ends}
+use Rattle.icn_defs.specs.Applying.{again}
+use Rattle.icn_defs.specs.StepRows.{Applied, apply, list_row, record_row, text_row, coexpression_row}
+use Rattle.icn_defs.specs.Running.{words_row}
+
+-- it is so of each in a list
+abbrev pub Each : {A : Type 0} → (A → Type 0) → List A → Type 0
+Each Q [] = Unit {0}
+Each Q (x ∷ xs) = Q x × Each Q xs
+
+abbrev pub ValueWithin : ℕ → Value → Type 0
+ValueWithin n (ACoexp k) = k < n
+ValueWithin n value = Unit {0}
+
+abbrev pub RootWithin : ℕ → Root → Type 0
+RootWithin n (Key table key) = ValueWithin n key
+RootWithin n root = Unit {0}
+
+abbrev pub VariableWithin : ℕ → Variable → Type 0
+VariableWithin n (Whole root) = RootWithin n root
+VariableWithin n (Part root place size) = RootWithin n root
+
+abbrev pub ItemWithin : ℕ → Item → Type 0
+ItemWithin n (Val value) = ValueWithin n value
+ItemWithin n (Var variable) = VariableWithin n variable
+
+abbrev pub PairWithin : ℕ → Value × Value → Type 0
+PairWithin n pair = ValueWithin n pair.0 × ValueWithin n pair.1
+
+abbrev pub ListWithin : ℕ → Numbered Value → Type 0
+ListWithin n list = Each (ValueWithin n) list.items
+
+abbrev pub SetWithin : ℕ → List Value → Type 0
+SetWithin n members = Each (ValueWithin n) members
+
+abbrev pub TableWithin : ℕ → Table → Type 0
+TableWithin n table = ValueWithin n table.default × Each (PairWithin n) table.pairs
+
+abbrev pub RecordWithin : ℕ → Record → Type 0
+RecordWithin n structure = Each (ValueWithin n) structure.fields
+
+-- the heap counts the results of so many co-expressions, and its structures hold no others
+pub record HeapWithin (n : ℕ) (heap : Heap) : Type 0 where
+  pub lists : Each (ListWithin n) heap.lists
+  pub sets : Each (SetWithin n) heap.sets
+  pub tables : Each (TableWithin n) heap.tables
+  pub records : Each (RecordWithin n) heap.records
+  pub count : length heap.coexps ≡ n
+
+pub record WorldWithin (n : ℕ) (world : World) : Type 0 where
+  pub heap : HeapWithin n world.heap
+  pub globals : Each (ValueWithin n) world.globals
+  pub statics : Each (ValueWithin n) world.statics
+
+pub record SettingWithin (n : ℕ) (setting : Setting) : Type 0 where
+  pub world : WorldWithin n setting.world
+  pub locals : Each (ValueWithin n) setting.locals
+
+abbrev pub ResidualWithin : ℕ → Residual → Type 0
+ResidualWithin n (VariableBytes variable place) = VariableWithin n variable
+ResidualWithin n (UndoAssign variable old) = VariableWithin n variable × ValueWithin n old
+ResidualWithin n (UndoExchange mover x y old_x old_y) = VariableWithin n x × VariableWithin n y × ValueWithin n old_x × ValueWithin n old_y
+ResidualWithin n residual = Unit {0}
+
+abbrev pub OutcomeWithin : ℕ → Outcome → Type 0
+OutcomeWithin n (Fails seen) = SettingWithin n seen
+OutcomeWithin n (Gives item seen) = ItemWithin n item × SettingWithin n seen
+OutcomeWithin n (Suspends item residual seen) = ItemWithin n item × ResidualWithin n residual × SettingWithin n seen
+OutcomeWithin n (Error number value seen) = Unit {0}
+OutcomeWithin n (Ends status seen) = Unit {0}
+
+-- one more co-expression was made, and nothing else changed of what values stand in
+abbrev pub CreatedWithin : ℕ → Setting → Outcome → Type 0
+CreatedWithin n before (Gives (Val value) seen) = (value ≡ ACoexp n) × WorldWithin (suc n) seen.world × (seen.locals ≡ before.locals)
+CreatedWithin n before (Error number value seen) = Unit {0}
+CreatedWithin n before outcome = ⊥
+
+-- rows make no others
+pub record RowsStayWithin : Type 0 where
+  pub applied : (n : ℕ) (names : Names) (what : Applied) (items : List Item) (at : Setting) → SettingWithin n at → Each (ItemWithin n) items → OutcomeWithin n (apply names what items at)
+  pub listed : (n : ℕ) (values : List Value) (at : Setting) → SettingWithin n at → Each (ValueWithin n) values → OutcomeWithin n (list_row values at)
+  pub recorded : (n kind : ℕ) (values : List Value) (at : Setting) → SettingWithin n at → Each (ValueWithin n) values → OutcomeWithin n (record_row kind values at)
+  pub scanned : (n : ℕ) (value : Value) (at : Setting) → SettingWithin n at → OutcomeWithin n (text_row value at)
+  pub worded : (n : ℕ) (words : List (List ℕ)) (at : Setting) → SettingWithin n at → OutcomeWithin n (words_row words at)
+  pub created : (n locals : ℕ) (at : Setting) → SettingWithin n at → CreatedWithin n at (coexpression_row locals at)
+  pub resumed : (n : ℕ) (residual : Residual) (at : Setting) → SettingWithin n at → ResidualWithin n residual → OutcomeWithin n (again residual at)
