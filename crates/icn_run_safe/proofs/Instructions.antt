@@ -61,15 +61,15 @@ keyword_within n s Keywords.Main z c a = z
 keyword_within n s Keywords.Source z c a = a
 keyword_within n s _ z c a = tt
 
-module _ (P : Program) (sh : ℕ → ℕ → Option PlainShape) (given : Shaped P.tables sh) (keep : RowsStayWithin) where
+module _ (P : Program) (sh : ℕ → ℕ → Option PlainShape) (given : Shaped P sh) (keep : RowsStayWithin) where
   abbrev Good : St P sh given keep → Type 0
   Good state = Ok P sh given keep state
 
   abbrev Set : Known → ℕ → PlainShape → Linked → Store Parked → Type 0
   Set w p S m st = Ready P sh given keep w p S m st
 
-  flag_store : (w : Known) (p : ℕ) (S : PlainShape) (st : Store Parked) → StoreOk P.tables sh w (λ i. i ≡ st.active) st → StoreOk P.tables sh (with_flag w p S) (λ i. i ≡ st.active) st
-  flag_store w p S st h = grow_store P.tables sh w (with_flag w p S) (λ i. i ≡ st.active) st refl (grow_flag w p S) h
+  flag_store : (w : Known) (p : ℕ) (S : PlainShape) (st : Store Parked) → StoreOk P sh w (λ i. i ≡ st.active) st → StoreOk P sh (with_flag w p S) (λ i. i ≡ st.active) st
+  flag_store w p S st h = grow_store P sh w (with_flag w p S) (λ i. i ≡ st.active) st refl (grow_flag w p S) h
 
   -- the active co-expression, its activator and `&main` are there
   keyword_ok : (k : Keyword) (w : Known) (p : ℕ) (S : PlainShape) (m : Linked) (st : Store Parked) → Set w p S m st → sh p m.place ≡ Some (with_more 1 S) → Good (pushed_or_fails M (keyword_item (standing M m st) k) m st)
@@ -106,14 +106,14 @@ module _ (P : Program) (sh : ℕ → ℕ → Option PlainShape) (given : Shaped 
   limited_ok v None w p S m st h e = tt
   limited_ok v (Some (negsuc n)) w p S m st h e = tt
   limited_ok v (Some (pos zero)) w p S m st h e = ok_fails P sh given keep w p S m st h
-  limited_ok v (Some (pos (suc n))) w p S m st h e = ok_runs P sh given keep w p (with_mark Levels.Limit S) (M.limit (suc n) m) st (record { now = limit_ok P.tables sh n w st.active p S m h.now; store = h.store }) e
+  limited_ok v (Some (pos (suc n))) w p S m st h e = ok_runs P sh given keep w p (with_mark Levels.Limit S) (M.limit (suc n) m) st (record { now = limit_ok P sh n w st.active p S m h.now; store = h.store }) e
 
   -- the innermost mark is suspended with its level, and the result stands on what is outside
   suspended_ok : (item : Item) (w : Known) (p : ℕ) (S : PlainShape) (m : Linked) (st : Store Parked) → Set w p S m st → ItemWithin w.coexps item → is_some (slice_get S.outer 0) ≡ true → ((S' : PlainShape) → before_mark S ≡ Some S' → sh p m.place ≡ Some (with_more 1 S'))
       → Good (with_found (M.suspend_mark m) (λ m. pushed M item m st))
-  suspended_ok item w p S m st h g l e = let o = outside_ok P.tables sh w st.active p S m h.now l in
+  suspended_ok item w p S m st h g l e = let o = outside_ok P sh w st.active p S m h.now l in
       let m' : Linked = with_chain (C.suspended (C.suspension (C.because Cs.Alt) m.place m.chain) o.chain) m in
-      ok_found P sh given keep (C.suspend_mark m) (λ m. pushed M item m st) m' o.suspend (ok_push P sh given keep item w p o.shape m' st (ready_at P sh given keep w p S m st o.shape m' h (suspend_alt P.tables sh w st.active p S m h.now o)) g (e o.shape o.before))
+      ok_found P sh given keep (C.suspend_mark m) (λ m. pushed M item m st) m' o.suspend (ok_push P sh given keep item w p o.shape m' st (ready_at P sh given keep w p S m st o.shape m' h (suspend_alt P sh w st.active p S m h.now o)) g (e o.shape o.before))
 
   limited_result_ok : (item : Item) (n : ℕ) (w : Known) (p : ℕ) (S : PlainShape) (m : Linked) (st : Store Parked) → Set w p S m st → ItemWithin w.coexps item → is_some (slice_get S.outer 0) ≡ true → ((S' : PlainShape) → before_mark S ≡ Some S' → sh p m.place ≡ Some (with_more 1 S'))
       → Good (limited_result M item n m st)
@@ -125,7 +125,7 @@ module _ (P : Program) (sh : ℕ → ℕ → Option PlainShape) (given : Shaped 
   scan_ok (Text text) w p S m st h e =
       let pair : Pair = record { subject = text; position = 1 } in
       let m' : Linked = M.suspend (Cs.Scan (pair_now st)) m in
-      ok_runs P sh given keep w p (with_scan S) m' (with_pair pair st) (ready_pair P sh given keep w p (with_scan S) m' st pair (record { now = suspend_scan P.tables sh (pair_now st) w st.active p S m h.now; store = h.store })) e
+      ok_runs P sh given keep w p (with_scan S) m' (with_pair pair st) (ready_pair P sh given keep w p (with_scan S) m' st pair (record { now = suspend_scan P sh (pair_now st) w st.active p S m h.now; store = h.store })) e
   scan_ok Null w p S m st h e = ok_fails P sh given keep w p S m st h
   scan_ok (Integer x) w p S m st h e = ok_fails P sh given keep w p S m st h
   scan_ok (Chars x) w p S m st h e = ok_fails P sh given keep w p S m st h
@@ -172,11 +172,11 @@ module _ (P : Program) (sh : ℕ → ℕ → Option PlainShape) (given : Shaped 
     drops : (taken left : ℕ) → sh p (q + 1) ≡ Some (with_more left (unwrap_or (before_mark S) (with_fewer taken S))) → (S' : PlainShape) → before_mark S ≡ Some S' → sh p m.place ≡ Some (with_more left S')
     drops taken left e S' z = on_next (with_more left (unwrap_or (before_mark S) (with_fewer taken S))) e ∙ ap (λ x. Some (with_more left (unwrap_or x (with_fewer taken S)))) z
 
-    opens : (label : Option ℕ) → LabelTo P.tables sh p S label → sh p (q + 1) ≡ Some (with_more 0 (with_mark Levels.Plain (with_fewer 0 S))) → Good (running (M.mark label m) st)
+    opens : (label : Option ℕ) → LabelTo P sh p S label → sh p (q + 1) ≡ Some (with_more 0 (with_mark Levels.Plain (with_fewer 0 S))) → Good (running (M.mark label m) st)
     opens label to e =
         let there = on_next (with_more 0 (with_mark Levels.Plain (with_fewer 0 S))) e ∙ ap Some (more_none (with_mark Levels.Plain (with_fewer 0 S))) ∙ ap (λ x. Some (with_mark Levels.Plain x)) (fewer_none S) in
         let behind = ap (sh p) (sym here_at) ∙ there in
-        ok_runs P sh given keep (with_flag w p S) p (with_mark Levels.Plain S) (M.mark label m) st (record { now = mark_ok P.tables sh label w st.active p S m q h.now here_at to behind; store = flag_store w p S st h.store }) there
+        ok_runs P sh given keep (with_flag w p S) p (with_mark Levels.Plain S) (M.mark label m) st (record { now = mark_ok P sh label w st.active p S m q h.now here_at to behind; store = flag_store w p S st h.store }) there
 
     goes : (label : ℕ) → sh p label ≡ Some (with_more 0 (with_fewer 0 S)) → Good (running (M.go label m) st)
     goes label e = ok_runs P sh given keep w p S (M.go label m) st (record { now = record { has = h.now.has; memory = h.now.memory }; store = h.store }) (e ∙ ap Some (more_none (with_fewer 0 S) ∙ fewer_none S))
@@ -186,19 +186,19 @@ module _ (P : Program) (sh : ℕ → ℕ → Option PlainShape) (given : Shaped 
     initial_ok false label to on = ok_runs P sh given keep w p S m (record st { begun = slice_set st.begun (M.proc m) true }) (record { now = h.now; store = record { world = h.store.world; coexps = h.store.coexps } }) (stays on)
 
     in_create_body : is_create_body M m st ≡ S.in_create
-    in_create_body = here_create P.tables sh w st.active p S m h.now
+    in_create_body = here_create P sh w st.active p S m h.now
 
     pub instruction_ok : (instr : Instr) → fits S instr ≡ true → IfSome (next instr q S) (λ to. sh p to.0 ≡ Some to.1) → IfSome (forward instr S) (λ to. (q < to.0) × (sh p to.0 ≡ Some to.1)) → IfSome (back instr S) (λ to. (to.0 ≤ q) × (sh p to.0 ≡ Some to.1))
-        → InRange P.tables instr → Good (instruction M P instr m st)
+        → InRange P instr → Good (instruction M P instr m st)
     instruction_ok Instrs.Pnull fit on onward backward range = ok_push P sh given keep (Val Null) w p S m st h tt (pushes on)
-    instruction_ok (Instrs.Int k) fit on onward backward range = let o = stands P.tables.integers k range in
-        ok_found P sh given keep (slice_get P.tables.integers k) (λ n. pushed M (Val (Integer n)) m st) o.0 o.1 (ok_push P sh given keep (Val (Integer o.0)) w p S m st h tt (pushes on))
-    instruction_ok (Instrs.Str k) fit on onward backward range = let o = stands P.tables.strings k range in
-        ok_found P sh given keep (slice_get P.tables.strings k) (λ bytes. pushed M (Val (Text bytes)) m st) o.0 o.1 (ok_push P sh given keep (Val (Text o.0)) w p S m st h tt (pushes on))
-    instruction_ok (Instrs.Cset k) fit on onward backward range = let o = stands P.tables.csets k range in
-        ok_found P sh given keep (slice_get P.tables.csets k) (λ set. pushed M (Val (Chars (members_of set))) m st) o.0 o.1 (ok_push P sh given keep (Val (Chars (members_of o.0))) w p S m st h tt (pushes on))
+    instruction_ok (Instrs.Int k) fit on onward backward range = let o = stands P.integers k range in
+        ok_found P sh given keep (slice_get P.integers k) (λ n. pushed M (Val (Integer n)) m st) o.0 o.1 (ok_push P sh given keep (Val (Integer o.0)) w p S m st h tt (pushes on))
+    instruction_ok (Instrs.Str k) fit on onward backward range = let o = stands P.strings k range in
+        ok_found P sh given keep (slice_get P.strings k) (λ bytes. pushed M (Val (Text bytes)) m st) o.0 o.1 (ok_push P sh given keep (Val (Text o.0)) w p S m st h tt (pushes on))
+    instruction_ok (Instrs.Cset k) fit on onward backward range = let o = stands P.csets k range in
+        ok_found P sh given keep (slice_get P.csets k) (λ set. pushed M (Val (Chars (members_of set))) m st) o.0 o.1 (ok_push P sh given keep (Val (Chars (members_of o.0))) w p S m st h tt (pushes on))
     instruction_ok (Instrs.Local k) fit on onward backward range = ok_push P sh given keep (Var (Whole (Local k))) w p S m st h tt (pushes on)
-    instruction_ok (Instrs.Static k) fit on onward backward range = ok_push P sh given keep (Var (Whole (Static (statics_before P.tables (M.proc m) + k)))) w p S m st h tt (pushes on)
+    instruction_ok (Instrs.Static k) fit on onward backward range = ok_push P sh given keep (Var (Whole (Static (statics_before P (M.proc m) + k)))) w p S m st h tt (pushes on)
     instruction_ok (Instrs.Global k) fit on onward backward range = ok_push P sh given keep (Var (Whole (Global k))) w p S m st h tt (pushes on)
     instruction_ok (Instrs.Keywd k) fit on onward backward range = keyword_ok k w p S m st h (pushes on)
     instruction_ok Instrs.Pop fit on onward backward range = let l = (enough S.inner.operands 1 true fit).0 in
@@ -253,7 +253,7 @@ module _ (P : Program) (sh : ℕ → ℕ → Option PlainShape) (given : Shaped 
         let k = both (is_some (slice_get S.outer 0) && same_kind S.inner.kind Levels.Limit) (is_ended S.inner) f.1 in
         let d = both (is_some (slice_get S.outer 0)) (same_kind S.inner.kind Levels.Limit) k.0 in
         ok_popped P sh given keep w p S m st (λ item m. with_found (M.count_down m) (parted (λ count m. limited_result M item count m st))) h f.0 (λ item c' g r.
-        let o = count_ok P.tables sh w st.active p (with_fewer 1 S) (with_chain c' m) r.now d.0 d.1 in
+        let o = count_ok P sh w st.active p (with_fewer 1 S) (with_chain c' m) r.now d.0 d.1 in
         ok_found P sh given keep (C.count_down (with_chain c' m)) (parted (λ count m. limited_result M item count m st)) o.0 o.1
         (limited_result_ok item o.0.0 w p (with_fewer 1 S) o.0.1 st (record { now = o.2.now; store = r.store }) g d.0 (λ S' e. ap (sh p) o.2.place ∙ drops 1 1 on S' e)))
     instruction_ok Instrs.Efail fit on onward backward range = ok_fails P sh given keep w p S m st h
@@ -261,7 +261,7 @@ module _ (P : Program) (sh : ℕ → ℕ → Option PlainShape) (given : Shaped 
         let f = (enough S.inner.operands 0 (is_some (slice_get S.outer 0) && same_kind S.inner.kind Levels.Plain) fit).1 in
         let d = both (is_some (slice_get S.outer 0)) (same_kind S.inner.kind Levels.Plain) f in
         let to : (S' : PlainShape) → before_mark S ≡ Some S' → sh p l ≡ Some S' = λ S' e. (subst (λ x. IfSome (labeled l x) (λ to. (to.0 ≤ q) × (sh p to.0 ≡ Some to.1))) e backward).1 in
-        let o = relabel_ok P.tables sh l w st.active p S m h.now d.0 d.1 to in
+        let o = relabel_ok P sh l w st.active p S m h.now d.0 d.1 to in
         ok_found P sh given keep (C.relabel l m) (λ m. running m st) o.0 o.1 (ok_runs P sh given keep w p S o.0 st (record { now = o.2.now; store = h.store }) (ap (sh p) o.2.place ∙ stays on))
     instruction_ok (Instrs.Goto l) fit on onward backward range = goes l onward.1
     instruction_ok (Instrs.Loop l) fit on onward backward range =
@@ -277,9 +277,9 @@ module _ (P : Program) (sh : ℕ → ℕ → Option PlainShape) (given : Shaped 
         let some = ltb-true 0 S.inner.scans f.1 in
         ok_popped P sh given keep w p S m st (λ item m. exchanged (C.swap_newest (pair_now st) m) (λ m. pushed M item (M.suspend Cs.Escan m)) st) h f.0 (λ item c' g r.
         ok_exchanged P sh given keep w p (with_fewer 1 S) (with_chain c' m) st (λ m. pushed M item (M.suspend Cs.Escan m)) r some (λ m' st' r' e.
-        ok_push P sh given keep item w p (without_scan (with_fewer 1 S)) (M.suspend Cs.Escan m') st' (record { now = suspend_escan P.tables sh w st'.active p (with_fewer 1 S) m' r'.now some; store = r'.store }) g (ap (sh p) e ∙ on_next (with_more 1 (without_scan (with_fewer 1 S))) on)))
+        ok_push P sh given keep item w p (without_scan (with_fewer 1 S)) (M.suspend Cs.Escan m') st' (record { now = suspend_escan P sh w st'.active p (with_fewer 1 S) m' r'.now some; store = r'.store }) g (ap (sh p) e ∙ on_next (with_more 1 (without_scan (with_fewer 1 S))) on)))
     instruction_ok Instrs.Ccase fit on onward backward range =
-        let o = below_ok P.tables sh w st.active p S m h.now (enough S.inner.operands 0 (option_map_or has_operand (slice_get S.outer 0) false) fit).1 in
+        let o = below_ok P sh w st.active p S m h.now (enough S.inner.operands 0 (option_map_or has_operand (slice_get S.outer 0) false) fit).1 in
         ok_found P sh given keep (C.below m) (λ item. pushed M item m st) o.0 o.1 (ok_push P sh given keep o.0 w p S m st h o.2 (pushes on))
     instruction_ok (Instrs.Init l) fit on onward backward range = initial_ok (slice_index_or st.begun (M.proc m) true) l onward.1 on
     instruction_ok Instrs.Psusp fit on onward backward range =
@@ -287,24 +287,24 @@ module _ (P : Program) (sh : ℕ → ℕ → Option PlainShape) (given : Shaped 
         let back_here = on_next (with_more 1 (with_fewer 1 S)) on ∙ ap Some (more_of_fewer 1 S f.0) in
         ok_popped P sh given keep w p S m st (λ item below. with_result M item m st (λ result. maybe_exchanged (C.swap_oldest (pair_now st) m) m st (λ m. returned (C.suspend_proc m) (pushed M result)))) h f.0 (λ item c' g r.
         result_of item w p S m st (λ result. maybe_exchanged (C.swap_oldest (pair_now st) m) m st (λ m. returned (C.suspend_proc m) (pushed M result))) h g (λ result gr.
-        ok_maybe P sh given keep (C.swap_oldest (pair_now st) m) w p S m st (λ m. returned (C.suspend_proc m) (pushed M result)) h (swap_oldest_ok P.tables sh (pair_now st) w st.active p S m h.now) (λ m' st' r' e.
-        ok_returned P sh given keep (C.suspend_proc m') w S.in_create st' (pushed M result) r'.store (suspend_proc_ok P.tables sh w st'.active p S m' r'.now (ap (sh p) e ∙ back_here)) (is_false S.in_create f.1) (λ m'' p' S' r'' e'.
+        ok_maybe P sh given keep (C.swap_oldest (pair_now st) m) w p S m st (λ m. returned (C.suspend_proc m) (pushed M result)) h (swap_oldest_ok P sh (pair_now st) w st.active p S m h.now) (λ m' st' r' e.
+        ok_returned P sh given keep (C.suspend_proc m') w S.in_create st' (pushed M result) r'.store (suspend_proc_ok P sh w st'.active p S m' r'.now (ap (sh p) e ∙ back_here)) (is_false S.in_create f.1) (λ m'' p' S' r'' e'.
         ok_push P sh given keep result w p' S' m'' st' r'' gr e'))))
     instruction_ok Instrs.Pret fit on onward backward range =
         let f = enough S.inner.operands 1 (not S.in_create) fit in
         ok_popped P sh given keep w p S m st (λ item m. with_result M item m st (λ result. returned (C.leave m) (pushed M result) (all_left M m st))) h f.0 (λ item c' g r.
         result_of item w p (with_fewer 1 S) (with_chain c' m) st (λ result. returned (C.leave (with_chain c' m)) (pushed M result) (all_left M (with_chain c' m) st)) r g (λ result gr.
         ok_all P sh given keep w p (with_fewer 1 S) (with_chain c' m) st (λ st. returned (C.leave (with_chain c' m)) (pushed M result) st) r (λ st' r'.
-        ok_returned P sh given keep (C.leave (with_chain c' m)) w S.in_create st' (pushed M result) r'.store (leave_ok P.tables sh w st'.active p (with_fewer 1 S) (with_chain c' m) r'.now) (is_false S.in_create f.1) (λ m'' p' S' r'' e'.
+        ok_returned P sh given keep (C.leave (with_chain c' m)) w S.in_create st' (pushed M result) r'.store (leave_ok P sh w st'.active p (with_fewer 1 S) (with_chain c' m) r'.now) (is_false S.in_create f.1) (λ m'' p' S' r'' e'.
         ok_push P sh given keep result w p' S' m'' st' r'' gr e'))))
     instruction_ok Instrs.Pfail fit on onward backward range = let d = is_false S.in_create (enough S.inner.operands 0 (not S.in_create) fit).1 in
         ok_if P sh given keep (is_create_body M m st) _ _ (λ z. not_true (sym (in_create_body ∙ d) ∙ z)) (λ z. proc_fails_ok P sh given keep w p S m st h d)
     instruction_ok (Instrs.Create l) fit on onward backward range =
-        let proc = here_proc P.tables sh w st.active p S m h.now in
+        let proc = here_proc P sh w st.active p S m h.now in
         let origin : sh (M.proc m) m.place ≡ Some (start_shape true) = ap (λ x. sh x m.place) proc ∙ on_next (start_shape true) on in
         let here : Set w p S (M.go l m) st = record { now = record { has = h.now.has; memory = h.now.memory }; store = h.store } in
         ok_turn P sh given keep w p S (M.go l m) st (coexp_made M (M.locals m) (M.proc m) (M.place m) (M.go l m)) here (λ st' r.
-        coexp_made_ok P sh given keep (M.locals m) (M.proc m) (M.place m) w p S (M.go l m) st' r (subst (λ x. LocalsOk P.tables sh w x (M.locals m)) (sym proc) (locals_ok P.tables sh w st.active p S m h.now)) origin (onward.1 ∙ ap (λ x. Some (with_more 1 x)) (fewer_none S)))
+        coexp_made_ok P sh given keep (M.locals m) (M.proc m) (M.place m) w p S (M.go l m) st' r (subst (λ x. LocalsOk P sh w x (M.locals m)) (sym proc) (locals_ok P sh w st.active p S m h.now)) origin (onward.1 ∙ ap (λ x. Some (with_more 1 x)) (fewer_none S)))
     instruction_ok Instrs.Coact fit on onward backward range =
         ok_taken P sh given keep 2 w p S m st (λ items m. turn P st (activation_of M items m)) h (enough S.inner.operands 2 true fit).0 (λ items c' l g r.
         ok_turn P sh given keep w p (with_fewer 2 S) (with_chain c' m) st (activation_of M items (with_chain c' m)) r (λ st' r'.

@@ -3,14 +3,13 @@ use Rattle.std.proofs.Common.{◌≡◌, ℕ, zero, suc, ◌-◌, ◌<◌, Bool,
 use Rattle.std.specs.Prelude.{slice_get, slice_set, slice_index_or, replicate, drop, not, nat_le}
 use Rattle.std.specs.List.{sum_by}
 use Rattle.std.specs.Option.{option_map_or}
-use Rattle.icn_value.specs.Limited.{Bounds}
 use Rattle.icn_code.specs.Codes.{Tables, Proc as Procedure}
 use Rattle.icn_verify.specs.Shapes.{PlainShape, start_shape}
 use Rattle.icn_verify.specs.Given.{HaveShapes, HasShapes, IsFine}
 use Rattle.icn_run.specs.Rows.{Value, Null, Item, Val, Var, World, Setting, Outcome, Fails, Gives, Suspends, Error, Ends, list_row, words_row, first_world}
 use Rattle.icn_run.specs.Chains.{Parked, Linked, empty}
 use Rattle.icn_run.specs.Chains as C
-use Rattle.icn_run.specs.Step.{Program, Store, Coexp, Active, running, failing, hopping, over, stuck, here, with_at, made, list_made, collected, with_parameters, filled, begun_if, instruction, instruction_at, instrs_of, step, steps, start, start_of, first_store, first_globals, main_of, static_count, is_main}
+use Rattle.icn_run.specs.Step.{Program, Launch, Store, Coexp, Active, running, failing, hopping, over, stuck, here, with_at, made, list_made, collected, with_parameters, filled, begun_if, instruction, instruction_at, instrs_of, step, steps, start, start_of, first_store, first_globals, main_of, static_count, is_main}
 use Rattle.icn_run.specs.LinkedStep.{repeats_anywhere}
 use Rattle.icn_run_laws.specs.SameStates.{IsMade}
 use Rattle.icn_run_laws.specs.SecondLaw.{LinkedStuck, FlatStuck}
@@ -59,16 +58,16 @@ none_there : {A : Type 0} (xs : List A) (n : ℕ) (d : A) → length xs ≡ 0 �
 none_there [] n d e = refl
 none_there (x ∷ xs) n d e = absurd (omega (arith, e))
 
-module _ (P : Program) (sh : ℕ → ℕ → Option PlainShape) (given : Shaped P.tables sh) (keep : RowsStayWithin) (tables_ok : TablesOk P.tables) where
+module _ (P : Program) (sh : ℕ → ℕ → Option PlainShape) (given : Shaped P sh) (keep : RowsStayWithin) (tables_ok : TablesOk P) where
   abbrev Good : St P sh given keep → Type 0
   Good state = Ok P sh given keep state
 
   step_ok : (s : St P sh given keep) → Good s → Good (step M P s)
   step_ok (running m st) h =
-      let fine : IsFine (instrs_of P.tables h.1) (sh h.1) m.place h.2 = given.fine h.1 m.place h.2 h.4 in
+      let fine : IsFine (instrs_of P h.1) (sh h.1) m.place h.2 = given.fine h.1 m.place h.2 h.4 in
       let next : Linked = M.go (suc (M.place m)) m in
       ok_found P sh given keep (instruction_at M P m) (λ instr. instruction M P instr next st) fine.instr
-      (ap (λ x. slice_get (instrs_of P.tables x) m.place) (here_proc P.tables sh h.0 st.active h.1 h.2 m h.3) ∙ fine.stands)
+      (ap (λ x. slice_get (instrs_of P x) m.place) (here_proc P sh h.0 st.active h.1 h.2 m h.3) ∙ fine.stands)
       (instruction_ok P sh given keep h.0 h.1 h.2 next m.place st (record { now = record { has = h.3.has; memory = h.3.memory }; store = h.5 }) refl fine.instr fine.fit fine.on fine.onward fine.backward (tables_ok.instrs h.1 m.place fine.instr fine.stands))
   step_ok (failing m st) h = fails_ok P sh given keep h.0 h.1 h.2 m st (record { now = h.3; store = h.4 })
   step_ok (hopping m st) h = hop_ok P sh given keep h.0 m st (record { memory = h.1; store = h.2 })
@@ -86,11 +85,11 @@ module _ (P : Program) (sh : ℕ → ℕ → Option PlainShape) (given : Shaped 
 
   -- no stack runs yet
   record Starts (m : Linked) (st : Store Parked) : Type 0 where
-    memory : MemoryOf P.tables sh none_known m
-    store : StoreOk P.tables sh none_known (λ i. i ≡ st.active) st
+    memory : MemoryOf P sh none_known m
+    store : StoreOk P sh none_known (λ i. i ≡ st.active) st
     main : st.active ≡ 0
 
-  memory_none : (m : Linked) → MemoryOf P.tables sh none_known m → (n : ℕ) (values : List Value) → MemoryOk P.tables sh none_known (slice_set m.activations n values) m.flags m.relabels
+  memory_none : (m : Linked) → MemoryOf P sh none_known m → (n : ℕ) (values : List Value) → MemoryOk P sh none_known (slice_set m.activations n values) m.flags m.relabels
   memory_none m h n values = record { same_activations = h.same_activations ∙ sym (set_length m.activations n values); same_flags = h.same_flags; locals = λ a p z. no_some p z; labels = h.labels }
 
   here_starts : (m : Linked) (st : Store Parked) → Starts m st → SettingWithin 1 (here M m st)
@@ -113,64 +112,65 @@ module _ (P : Program) (sh : ℕ → ℕ → Option PlainShape) (given : Shaped 
       made_starts (list_row rest (here M m st)) m st (λ rest m st. next (filled k vs ++ rest ∷ []) m st) (rows_keep.list_made rest (here M m st)) (keep.listed 1 rest (here M m st) (here_starts m st h) (each_drop (ValueWithin 1) k vs g)) h
       (λ v a st' gv h'. f (filled k vs ++ v ∷ []) a st' (record { within = each_append (ValueWithin 1) (filled k vs) (v ∷ []) (filled_within k 1 vs g) (gv, tt); count = joined_length entry.parameters vs v (some refl) }) h')
 
-  begun_ok : (b : Bool) (main : ℕ) (entry : Procedure) → slice_get P.tables.procs main ≡ Some entry → main < length P.tables.procs → (v : Value) (m : Linked) (st : Store Parked) → ValueWithin 1 v → Starts m st → Good (begun_if M b main entry (v ∷ []) m st)
+  begun_ok : (b : Bool) (main : ℕ) (entry : Procedure) → slice_get P.procs main ≡ Some entry → main < length P.procs → (v : Value) (m : Linked) (st : Store Parked) → ValueWithin 1 v → Starts m st → Good (begun_if M b main entry (v ∷ []) m st)
   begun_ok false main entry e l v m st g h = tt
   begun_ok true main entry e l v m st g h = collected_starts entry.collects entry (given.collects main entry e) (v ∷ []) m st (λ parameters m st. running (M.begin main (parameters ++ replicate entry.locals Null) 0 m) st) (g, tt) h (λ ps a st' gp h'.
       let values = ps ++ replicate entry.locals Null in
       ok_runs P sh given keep (with_activation none_known main) main (start_shape false) (M.begin main values 0 a) st'
       (record {
-        now = begin_ok P.tables sh main values 0 false none_known st'.active a h'.memory (parameters_locals P sh given keep main entry e none_known ps gp) (ap (λ n. not (is_main n)) (sym h'.main));
-        store = grow_store P.tables sh none_known (with_activation none_known main) (λ i. i ≡ st'.active) st' refl (grow_activation none_known main) h'.store;
+        now = begin_ok P sh main values 0 false none_known st'.active a h'.memory (parameters_locals P sh given keep main entry e none_known ps gp) (ap (λ n. not (is_main n)) (sym h'.main));
+        store = grow_store P sh none_known (with_activation none_known main) (λ i. i ≡ st'.active) st' refl (grow_activation none_known main) h'.store;
       })
       (given.starts main l))
 
-  start_ok : (words : List (List ℕ)) (m : Linked) (st : Store Parked) (o : Option ℕ) → main_of P.tables ≡ o → Starts m st → Good (start_of M P words m st o)
+  start_ok : (words : List (List ℕ)) (m : Linked) (st : Store Parked) (o : Option ℕ) → main_of P ≡ o → Starts m st → Good (start_of M P words m st o)
   start_ok words m st None e h = tt
   start_ok words m st (Some main) e h =
       let l = tables_ok.main main e in
-      let o = stands P.tables.procs main l in
-      ok_found P sh given keep (slice_get P.tables.procs main) (λ (entry : Procedure). made M (words_row words (here M m st)) m st (λ list m st. begun_if M (nat_le 1 st.world.heap.bounds.levels) main entry (list ∷ []) m st)) o.0 o.1
+      let o = stands P.procs main l in
+      ok_found P sh given keep (slice_get P.procs main) (λ (entry : Procedure). made M (words_row words (here M m st)) m st (λ list m st. begun_if M (nat_le 1 st.world.heap.bounds.levels) main entry (list ∷ []) m st)) o.0 o.1
       (made_starts (words_row words (here M m st)) m st (λ list m st. begun_if M (nat_le 1 st.world.heap.bounds.levels) main o.0 (list ∷ []) m st) (rows_keep.words_made words (here M m st)) (keep.worded 1 words (here M m st) (here_starts m st h)) h
       (λ v a st' g h'. begun_ok (nat_le 1 st'.world.heap.bounds.levels) main o.0 o.1 l v a st' g h'))
 
   abbrev main_coexp : Coexp Parked
   main_coexp = record { status = Active; activator = zero; values = []; proc = zero; place = zero }
 
-  main_entered : Entered P.tables sh (main_coexp ∷ []) 0
+  main_entered : Entered P sh (main_coexp ∷ []) 0
   main_entered = record { coexp = main_coexp; stands = refl; begun = λ z. z }
 
-  main_each : (i : ℕ) (c : Coexp Parked) → slice_get (main_coexp ∷ []) i ≡ Some c → CoexpOk P.tables sh none_known (main_coexp ∷ []) i c
-  main_each zero c e = subst (λ x. CoexpOk P.tables sh none_known (main_coexp ∷ []) 0 x) (some_inj e) (record { values = λ d. absurd (d refl); origin = λ d. absurd (d refl); activator = main_entered })
+  main_each : (i : ℕ) (c : Coexp Parked) → slice_get (main_coexp ∷ []) i ≡ Some c → CoexpOk P sh none_known (main_coexp ∷ []) i c
+  main_each zero c e = subst (λ x. CoexpOk P sh none_known (main_coexp ∷ []) 0 x) (some_inj e) (record { values = λ d. absurd (d refl); origin = λ d. absurd (d refl); activator = main_entered })
   main_each (suc i) c e = no_some c e
 
-  main_waits : (i : ℕ) (c : Coexp Parked) → slice_get (main_coexp ∷ []) i ≡ Some c → (i ≡ 0 → ⊥) → StatusOk P.tables sh none_known i c.status
+  main_waits : (i : ℕ) (c : Coexp Parked) → slice_get (main_coexp ∷ []) i ≡ Some c → (i ≡ 0 → ⊥) → StatusOk P sh none_known i c.status
   main_waits zero c e d = absurd (d refl)
   main_waits (suc i) c e d = no_some c e
 
-  first_ok : (input : List ℕ) → Starts empty (first_store P input)
-  first_ok input = record {
+  first_ok : (launch : Launch) → Starts empty (first_store P launch)
+  first_ok launch = record {
     memory = record { same_activations = refl; same_flags = refl; locals = λ a p z. no_some p z; labels = tt };
     store = record {
-      world = record { heap = record { lists = tt; sets = tt; tables = tt; records = tt; count = refl }; globals = tables_ok.globals; statics = each_replicate (ValueWithin 1) (static_count P.tables) Null tt };
+      world = record { heap = record { lists = tt; sets = tt; tables = tt; records = tt; count = refl }; globals = tables_ok.globals; statics = each_replicate (ValueWithin 1) (static_count P) Null tt };
       coexps = record { count = refl; each = main_each; waits = main_waits; there = main_entered; first = main_entered };
     };
     main = refl;
   }
 
-  pub runs_ok : (words : List (List ℕ)) (input : List ℕ) (n : ℕ) → Good (steps M P n (start M empty P words input))
-  runs_ok words input n = steps_ok n (start M empty P words input) (start_ok words empty (first_store P input) (main_of P.tables) refl (first_ok input))
+  pub start_safe : (launch : Launch) → Good (start M empty P launch)
+  start_safe launch = start_ok launch.words empty (first_store P launch) (main_of P) refl (first_ok launch)
+
+  pub runs_ok : (launch : Launch) (n : ℕ) → Good (steps M P n (start M empty P launch))
+  runs_ok launch n = steps_ok n (start M empty P launch) (start_safe launch)
 
 pub never_stuck : (tables : Tables) → HaveShapes tables → TablesOk tables → RowsStayWithin → IsNeverStuck tables
 never_stuck tables have ok keep = record {
   linked = linked_never;
   flat = flat_never;
-  covered = λ repeats none words input bounds run. flat_never words input bounds ((covered repeats tables words input bounds none).stuck_flat run);
+  covered = λ repeats none launch run. flat_never launch ((covered repeats tables launch none).stuck_flat run);
 }
   where
-    linked_never : (words : List (List ℕ)) (input : List ℕ) (bounds : Bounds) → LinkedStuck repeats_anywhere tables words input bounds → ⊥
-    linked_never words input bounds run =
-        let P : Program = record { tables = tables; bounds = bounds } in
-        subst (λ s. Safe tables (shapes_of tables have) s) run.is (runs_ok P (shapes_of tables have) (shaped tables have ok) keep ok words input run.count)
+    linked_never : (launch : Launch) → LinkedStuck repeats_anywhere tables launch → ⊥
+    linked_never launch run = subst (λ s. Safe tables (shapes_of tables have) s) run.is (runs_ok tables (shapes_of tables have) (shaped tables have ok) keep ok launch run.count)
 
-    flat_never : (words : List (List ℕ)) (input : List ℕ) (bounds : Bounds) → FlatStuck tables words input bounds → ⊥
-    flat_never words input bounds run = linked_never words input bounds ((everywhere tables words input bounds).stuck_linked run)
+    flat_never : (launch : Launch) → FlatStuck tables launch → ⊥
+    flat_never launch run = linked_never launch ((everywhere tables launch).stuck_linked run)

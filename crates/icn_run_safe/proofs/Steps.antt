@@ -102,20 +102,20 @@ argument_within n None items g = tt
 count_of : (tables : Tables) (n : ℕ) (entry : Procedure) → slice_get tables.procs n ≡ Some entry → local_count tables n ≡ locals_in entry
 count_of tables n entry e = ap (λ o. option_map_or locals_in o 0) e
 
-module _ (P : Program) (sh : ℕ → ℕ → Option PlainShape) (given : Shaped P.tables sh) (keep : RowsStayWithin) where
+module _ (P : Program) (sh : ℕ → ℕ → Option PlainShape) (given : Shaped P sh) (keep : RowsStayWithin) where
   abbrev pub St : Type 0
   St = State Parked Linked
 
   abbrev pub Ok : St → Type 0
-  Ok state = Safe P.tables sh state
+  Ok state = Safe P sh state
 
   abbrev pub Locals : Known → ℕ → List Value → Type 0
-  Locals w p values = LocalsOk P.tables sh w p values
+  Locals w p values = LocalsOk P sh w p values
 
   -- a stack with a store
   pub record Ready (w : Known) (p : ℕ) (S : PlainShape) (m : Linked) (st : Store Parked) : Type 0 where
-    pub now : Now P.tables sh w st.active p S m
-    pub store : StoreOk P.tables sh w (λ i. i ≡ st.active) st
+    pub now : Now P sh w st.active p S m
+    pub store : StoreOk P sh w (λ i. i ≡ st.active) st
 
   pub ok_if : (b : Bool) (x y : St) → (b ≡ true → Ok x) → (b ≡ false → Ok y) → Ok (if b then x else y)
   ok_if true x y f g = f refl
@@ -131,13 +131,13 @@ module _ (P : Program) (sh : ℕ → ℕ → Option PlainShape) (given : Shaped 
   ok_runs w p S m st h e = (w, p, S, h.now, e, h.store)
 
   pub ok_push : (item : Item) (w : Known) (p : ℕ) (S : PlainShape) (m : Linked) (st : Store Parked) → Ready w p S m st → ItemWithin w.coexps item → sh p m.place ≡ Some (with_more 1 S) → Ok (pushed M item m st)
-  ok_push item w p S m st h g e = (w, p, with_more 1 S, push_ok P.tables sh item w st.active p S m h.now g, e, h.store)
+  ok_push item w p S m st h g e = (w, p, with_more 1 S, push_ok P sh item w st.active p S m h.now g, e, h.store)
 
   pub ready_world : (w : Known) (p : ℕ) (S : PlainShape) (m : Linked) (st : Store Parked) (world : World) → Ready w p S m st → WorldWithin w.coexps world → Ready w p S m (with_world world st)
   ready_world w p S m st world h g = record { now = h.now; store = record { world = g; coexps = h.store.coexps } }
 
   pub here_within : (w : Known) (p : ℕ) (S : PlainShape) (m : Linked) (st : Store Parked) → Ready w p S m st → SettingWithin w.coexps (here M m st)
-  here_within w p S m st h = record { world = h.store.world; locals = (locals_ok P.tables sh w st.active p S m h.now).within }
+  here_within w p S m st h = record { world = h.store.world; locals = (locals_ok P sh w st.active p S m h.now).within }
 
   -- Rows
 
@@ -161,7 +161,7 @@ module _ (P : Program) (sh : ℕ → ℕ → Option PlainShape) (given : Shaped 
 
   ready_seen : (w : Known) (p : ℕ) (S : PlainShape) (m : Linked) (st : Store Parked) (seen : Setting) → Ready w p S m st → SettingWithin w.coexps seen → Keeps (here M m st) seen → Ready w p S (C.set_locals seen.locals m) (with_at seen st)
   ready_seen w p S m st seen h g k = record {
-    now = set_locals_ok P.tables sh seen.locals w st.active p S m h.now (record { within = g.locals; count = k.locals ∙ (locals_ok P.tables sh w st.active p S m h.now).count });
+    now = set_locals_ok P sh seen.locals w st.active p S m h.now (record { within = g.locals; count = k.locals ∙ (locals_ok P sh w st.active p S m h.now).count });
     store = record { world = g.world; coexps = h.store.coexps };
   }
 
@@ -170,7 +170,7 @@ module _ (P : Program) (sh : ℕ → ℕ → Option PlainShape) (given : Shaped 
   ok_outcome (Gives item seen) w p S m st h g k e = ok_push item w p S (C.set_locals seen.locals m) (with_at seen st) (ready_seen w p S m st seen h g.1 k) g.0 e
   ok_outcome (Suspends item r seen) w p S m st h g k e =
       let x = ready_seen w p S m st seen h g.2 k in
-      ok_push item w p S (C.suspend (Cs.Op r) (C.set_locals seen.locals m)) (with_at seen st) (record { now = suspend_op P.tables sh r w st.active p S (C.set_locals seen.locals m) x.now g.1 e; store = x.store }) g.0 e
+      ok_push item w p S (C.suspend (Cs.Op r) (C.set_locals seen.locals m)) (with_at seen st) (record { now = suspend_op P sh r w st.active p S (C.set_locals seen.locals m) x.now g.1 e; store = x.store }) g.0 e
   ok_outcome (Error j v seen) w p S m st h g k e = tt
   ok_outcome (Ends j seen) w p S m st h g k e = tt
 
@@ -218,29 +218,29 @@ module _ (P : Program) (sh : ℕ → ℕ → Option PlainShape) (given : Shaped 
         count = joined_length entry.parameters vs rest (some refl);
       }) h' e)
 
-  pub ok_parameters : (n : ℕ) (entry : Procedure) → slice_get P.tables.procs n ≡ Some entry → (vs : List Value) (w : Known) (p : ℕ) (S : PlainShape) (m : Linked) (st : Store Parked) (next : List Value → Linked → Store Parked → St) → Ready w p S m st → Each (ValueWithin w.coexps) vs
+  pub ok_parameters : (n : ℕ) (entry : Procedure) → slice_get P.procs n ≡ Some entry → (vs : List Value) (w : Known) (p : ℕ) (S : PlainShape) (m : Linked) (st : Store Parked) (next : List Value → Linked → Store Parked → St) → Ready w p S m st → Each (ValueWithin w.coexps) vs
       → ((ps : List Value) (a : Linked) (st' : Store Parked) → Parameters w entry ps → Ready w p S a st' → a.place ≡ m.place → Ok (next ps a st')) → Ok (with_parameters M entry vs m st next)
   ok_parameters n entry e vs w p S m st next h g f = collected_ok entry.collects entry (given.collects n entry e) vs w p S m st next h g f
 
   -- with nulls behind them they are the locals
-  pub parameters_locals : (n : ℕ) (entry : Procedure) → slice_get P.tables.procs n ≡ Some entry → (w : Known) (ps : List Value) → Parameters w entry ps → Locals w n (ps ++ replicate entry.locals Null)
+  pub parameters_locals : (n : ℕ) (entry : Procedure) → slice_get P.procs n ≡ Some entry → (w : Known) (ps : List Value) → Parameters w entry ps → Locals w n (ps ++ replicate entry.locals Null)
   parameters_locals n entry e w ps h =
       let count = h.count in
       record {
         within = each_append (ValueWithin w.coexps) ps (replicate entry.locals Null) h.within (each_replicate (ValueWithin w.coexps) entry.locals Null tt);
-        count = omega (arith, length-append ps (replicate entry.locals Null), replicate_length entry.locals Null, count, count_of P.tables n entry e);
+        count = omega (arith, length-append ps (replicate entry.locals Null), replicate_length entry.locals Null, count, count_of P n entry e);
       }
 
   ready_enter : (n : ℕ) (values : List Value) (w : Known) (p : ℕ) (S : PlainShape) (m : Linked) (st : Store Parked) → Ready w p S m st → Locals w n values → sh p m.place ≡ Some (with_more 1 S) → Ready (with_activation w n) n (start_shape false) (C.enter n values m) st
   ready_enter n values w p S m st h g e =
-      record { now = enter_ok P.tables sh n values w st.active p S m h.now g e; store = grow_store P.tables sh w (with_activation w n) (λ i. i ≡ st.active) st refl (grow_activation w n) h.store }
+      record { now = enter_ok P sh n values w st.active p S m h.now g e; store = grow_store P sh w (with_activation w n) (λ i. i ≡ st.active) st refl (grow_activation w n) h.store }
 
-  called_ok : (b : Bool) (n : ℕ) (entry : Procedure) → slice_get P.tables.procs n ≡ Some entry → (vs : List Value) (w : Known) (p : ℕ) (S : PlainShape) (m : Linked) (st : Store Parked) → Ready w p S m st → Each (ValueWithin w.coexps) vs → sh p m.place ≡ Some (with_more 1 S)
+  called_ok : (b : Bool) (n : ℕ) (entry : Procedure) → slice_get P.procs n ≡ Some entry → (vs : List Value) (w : Known) (p : ℕ) (S : PlainShape) (m : Linked) (st : Store Parked) → Ready w p S m st → Each (ValueWithin w.coexps) vs → sh p m.place ≡ Some (with_more 1 S)
       → Ok (called_if M b n entry vs m st)
   called_ok false n entry e vs w p S m st h g o = tt
   called_ok true n entry e vs w p S m st h g o = ok_parameters n entry e vs w p S m st (λ parameters m st. entered M n entry parameters m st) h g (λ ps a st' gp h' q.
       ok_runs (with_activation w n) n (start_shape false) (C.enter n (ps ++ replicate entry.locals Null) a) st'
-      (ready_enter n (ps ++ replicate entry.locals Null) w p S a st' h' (parameters_locals n entry e w ps gp) (ap (sh p) q ∙ o)) (given.starts n (within P.tables.procs n entry e)))
+      (ready_enter n (ps ++ replicate entry.locals Null) w p S a st' h' (parameters_locals n entry e w ps gp) (ap (sh p) q ∙ o)) (given.starts n (within P.procs n entry e)))
 
   constructed_ok : (kind : ℕ) (entry : RecordType) (vs : List Value) (w : Known) (p : ℕ) (S : PlainShape) (m : Linked) (st : Store Parked) → Ready w p S m st → Each (ValueWithin w.coexps) vs → sh p m.place ≡ Some (with_more 1 S) → Ok (constructed M kind entry vs m st)
   constructed_ok kind entry vs w p S m st h g e =
@@ -249,7 +249,7 @@ module _ (P : Program) (sh : ℕ → ℕ → Option PlainShape) (given : Shaped 
       (keep.recorded w.coexps kind fields (here M m st) (here_within w p S m st h) (filled_within (length entry.fields) w.coexps vs g)) (rows_keep.recorded kind fields (here M m st))
       (λ v a st' gv h' q. ok_push (Val v) w p S a st' h' gv (ap (sh p) q ∙ e))
 
-  callee_ok : (c : Callee) (n : ℕ) → CalleeIn P.tables.procs n c → (items : List Item) (w : Known) (p : ℕ) (S : PlainShape) (m : Linked) (st : Store Parked) → Ready w p S m st → Each (ItemWithin w.coexps) items → sh p m.place ≡ Some (with_more 1 S) → Ok (callee_called M c n items m st)
+  callee_ok : (c : Callee) (n : ℕ) → CalleeIn P.procs n c → (items : List Item) (w : Known) (p : ℕ) (S : PlainShape) (m : Linked) (st : Store Parked) → Ready w p S m st → Each (ItemWithin w.coexps) items → sh p m.place ≡ Some (with_more 1 S) → Ok (callee_called M c n items m st)
   callee_ok (IsProc entry) n i items w p S m st h g e = ok_values items w p S m st (λ arguments. called M n entry arguments m st) h g (λ vs gv. called_ok (nat_le (suc (M.level m)) st.world.heap.bounds.levels) n entry i vs w p S m st h gv e)
   callee_ok (IsRecord kind entry) n i items w p S m st h g e = ok_values items w p S m st (λ arguments. constructed M kind entry arguments m st) h g (λ vs gv. constructed_ok kind entry vs w p S m st h gv e)
   callee_ok (IsFunc func) n i items w p S m st h g e = ok_outcome (apply st.names (Function func) items (here M m st)) w p S m st h (keep.applied w.coexps st.names (Function func) items (here M m st) (here_within w p S m st h) g) (rows_keep.applied st.names (Function func) items (here M m st)) e
@@ -264,7 +264,7 @@ module _ (P : Program) (sh : ℕ → ℕ → Option PlainShape) (given : Shaped 
   integer_ok callee None items w p S m st h g e = tt
 
   pub ok_invoked : (callee : Value) (items : List Item) (w : Known) (p : ℕ) (S : PlainShape) (m : Linked) (st : Store Parked) → Ready w p S m st → Each (ItemWithin w.coexps) items → sh p m.place ≡ Some (with_more 1 S) → Ok (invoked M P callee items m st)
-  ok_invoked (ProcedureValue n) items w p S m st h g e = callee_ok (callee_of P.tables n) n (callee_in P.tables.procs P.tables.records n) items w p S m st h g e
+  ok_invoked (ProcedureValue n) items w p S m st h g e = callee_ok (callee_of P n) n (callee_in P.procs P.records n) items w p S m st h g e
   ok_invoked Null items w p S m st h g e = tt
   ok_invoked (Integer x) items w p S m st h g e = integer_ok (Integer x) (number_of (Integer x)) items w p S m st h g e
   ok_invoked (Text x) items w p S m st h g e = integer_ok (Text x) (number_of (Text x)) items w p S m st h g e
@@ -309,7 +309,7 @@ module _ (P : Program) (sh : ℕ → ℕ → Option PlainShape) (given : Shaped 
   field_ok n (Some place) w p S m st h e = ok_push (Var (Whole (R.Field n place))) w p S m st h tt e
 
   pub ok_field : (k : ℕ) (v : Value) (w : Known) (p : ℕ) (S : PlainShape) (m : Linked) (st : Store Parked) → Ready w p S m st → sh p m.place ≡ Some (with_more 1 S) → Ok (field_of M P k v m st)
-  ok_field k (ARecord x) w p S m st h e = field_ok x (field_place P.tables k (record_at st.world.heap x).kind) w p S m st h e
+  ok_field k (ARecord x) w p S m st h e = field_ok x (field_place P k (record_at st.world.heap x).kind) w p S m st h e
   ok_field k Null w p S m st h e = tt
   ok_field k (Integer x) w p S m st h e = tt
   ok_field k (Text x) w p S m st h e = tt
@@ -323,17 +323,17 @@ module _ (P : Program) (sh : ℕ → ℕ → Option PlainShape) (given : Shaped 
 
   -- Operands and marks
 
-  pub ready_at : (w : Known) (p : ℕ) (S : PlainShape) (m : Linked) (st : Store Parked) (S' : PlainShape) (m' : Linked) → Ready w p S m st → Now P.tables sh w st.active p S' m' → Ready w p S' m' st
+  pub ready_at : (w : Known) (p : ℕ) (S : PlainShape) (m : Linked) (st : Store Parked) (S' : PlainShape) (m' : Linked) → Ready w p S m st → Now P sh w st.active p S' m' → Ready w p S' m' st
   ready_at w p S m st S' m' h n = record { now = n; store = h.store }
 
   pub ok_popped : (w : Known) (p : ℕ) (S : PlainShape) (m : Linked) (st : Store Parked) (next : Item → Linked → St) → Ready w p S m st → 0 < S.inner.operands
       → ((item : Item) (c : Chain) → ItemWithin w.coexps item → Ready w p (with_fewer 1 S) (with_chain c m) st → Ok (next item (with_chain c m))) → Ok (with_popped M m next)
-  ok_popped w p S m st next h l f = let o = pop_ok P.tables sh w st.active p S m h.now l in
+  ok_popped w p S m st next h l f = let o = pop_ok P sh w st.active p S m h.now l in
       ok_found (C.pop m) (parted next) (o.0, with_chain o.1 m) o.2 (f o.0 o.1 o.3 (ready_at w p S m st (with_fewer 1 S) (with_chain o.1 m) h o.4))
 
   pub ok_taken : (n : ℕ) (w : Known) (p : ℕ) (S : PlainShape) (m : Linked) (st : Store Parked) (next : List Item → Linked → St) → Ready w p S m st → n ≤ S.inner.operands
       → ((items : List Item) (c : Chain) → length items ≡ n → Each (ItemWithin w.coexps) items → Ready w p (with_fewer n S) (with_chain c m) st → Ok (next items (with_chain c m))) → Ok (with_taken M n m next)
-  ok_taken n w p S m st next h l f = let o = take_ok P.tables sh n w st.active p S m h.now l in
+  ok_taken n w p S m st next h l f = let o = take_ok P sh n w st.active p S m h.now l in
       ok_found (C.take_items n m) (parted next) (o.0, with_chain o.1 m) o.2 (f o.0 o.1 o.3 o.4 (ready_at w p S m st (with_fewer n S) (with_chain o.1 m) h o.5))
 
   pub ready_pair : (w : Known) (p : ℕ) (S : PlainShape) (m : Linked) (st : Store Parked) (pair : Pair) → Ready w p S m st → Ready w p S m (with_pair pair st)
@@ -345,7 +345,7 @@ module _ (P : Program) (sh : ℕ → ℕ → Option PlainShape) (given : Shaped 
 
   pub ok_unmarked : (w : Known) (p : ℕ) (S : PlainShape) (m : Linked) (st : Store Parked) (next : Linked → Store Parked → St) → Ready w p S m st → is_some (slice_get S.outer 0) ≡ true
       → ((c : Chain) (S' : PlainShape) (st' : Store Parked) → before_mark S ≡ Some S' → Ready w p S' (with_chain c m) st' → Ok (next (with_chain c m) st')) → Ok (unmarked M m st next)
-  ok_unmarked w p S m st next h l f = let o = outside_ok P.tables sh w st.active p S m h.now l in
+  ok_unmarked w p S m st next h l f = let o = outside_ok P sh w st.active p S m h.now l in
       let pair : Option Pair = C.pair_at m (C.oldest (C.first_scan (C.scans_of o.chain)) (C.scans_of m.chain)) in
       ok_found (C.unmark m) (parted (λ outside pair. next outside (scans_left pair st))) (with_chain o.chain m, pair) o.unmark
       (left_ok w p o.shape (with_chain o.chain m) st pair (next (with_chain o.chain m)) (ready_at w p S m st o.shape (with_chain o.chain m) h (record { has = o.has; memory = h.now.memory })) (λ st' r. f o.chain o.shape st' o.before r))

@@ -1,9 +1,8 @@
 -- Verified code is never stuck.
 use Rattle.std.specs.Prelude.{◌≡◌, ℕ, ◌<◌, Bool, true, List, Some, slice_get, map, length}
-use Rattle.icn_value.specs.Limited.{Bounds}
 use Rattle.icn_code.specs.declared.instr.Instr.{Instr}
 use Rattle.icn_code.specs.Codes.{Tables, Proc as Procedure}
-use Rattle.icn_run.specs.Step.{instrs_of, global_value, main_of}
+use Rattle.icn_run.specs.Step.{Launch, instrs_of, global_value, main_of}
 use Rattle.icn_run.specs.LinkedStep.{repeats_anywhere}
 use Rattle.icn_run_laws.specs.SecondLaw.{MissingCell, LinkedStuck, FlatStuck}
 use Rattle.icn_run_safe.specs.Within.{Each, ValueWithin}
@@ -19,6 +18,6 @@ pub record TablesOk (tables : Tables) : Type 0 where
 -- No run of the code lacks what an instruction needs, neither on linked marks nor on flat stacks, nor on linked marks where only some have cells, if none
 -- is missing.
 pub record IsNeverStuck (tables : Tables) : Type 0 where
-  pub linked : (words : List (List ℕ)) (input : List ℕ) (bounds : Bounds) → LinkedStuck repeats_anywhere tables words input bounds → ⊥
-  pub flat : (words : List (List ℕ)) (input : List ℕ) (bounds : Bounds) → FlatStuck tables words input bounds → ⊥
-  pub covered : (repeats : ℕ → ℕ → Bool) → (MissingCell repeats tables → ⊥) → (words : List (List ℕ)) (input : List ℕ) (bounds : Bounds) → LinkedStuck repeats tables words input bounds → ⊥
+  pub linked : (launch : Launch) → LinkedStuck repeats_anywhere tables launch → ⊥
+  pub flat : (launch : Launch) → FlatStuck tables launch → ⊥
+  pub covered : (repeats : ℕ → ℕ → Bool) → (MissingCell repeats tables → ⊥) → (launch : Launch) → LinkedStuck repeats tables launch → ⊥

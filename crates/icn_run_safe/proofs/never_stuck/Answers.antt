@@ -1,5 +1,6 @@
 use Rattle.icn_run_safe.proofs.NoStuck.{never_stuck}
+use Rattle.icn_run_safe.proofs.TablesKept.{tables_ok}
 use Rattle.icn_run_safe.proofs.never_stuck.Goals as goal
 
-pub returns-clause-by_rows : goal.returns-clause-by_rows
-returns-clause-by_rows c = λ tables ok have keep. never_stuck tables have ok keep
+pub returns : goal.returns
+returns c = record { by_rows = λ tables rules have keep. never_stuck tables have (tables_ok tables rules) keep }
