@@ -1,3 +1,4 @@
 pub mod Sorted
 pub mod Numbers
 pub mod InOrder
+pub mod Undone
