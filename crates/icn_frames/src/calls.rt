@@ -1,5 +1,5 @@
 // The calls of a stack.
-ghost use Rattle.std.specs.Prelude.{◌≡◌, ◌+◌, ◌<◌, ◌≤◌, ℕ, Option, Bool, true, false, OnOk, OnErr, IsOk, IfOk, IsSome, is_some, length, map, slice_get, slice_set};
+ghost use Rattle.std.specs.Prelude.{◌≡◌, ◌+◌, ◌<◌, ◌≤◌, ℕ, Option, Bool, true, false, OnOk, OnErr, IsOk, IfOk, IsSome, is_some, is_none, length, map, slice_get, slice_set};
 ghost use Rattle.icn_frames.specs.Stacks as flat;
 ghost use Rattle.icn_frames.specs.Shapes.{shape, IsScan, MayBeAt};
 
@@ -178,7 +178,10 @@ impl<K: Stack<Cell> + Drop> Frames<K> {
 
     /// Whether the innermost mark is the base or the running procedure's frame.
     pub fn at_base(&self) -> bool
-        ensures { result ≡ flat.at_base self.now.flat }
+        ensures mark { result ≡ flat.at_base self.now.flat }
+
+        // No other mark can be dropped.
+        ensures drops { result ≡ is_none (flat.unmark self.now.flat) }
     {
         self.registers.mark == self.registers.base
     }
