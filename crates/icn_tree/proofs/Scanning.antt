@@ -21,14 +21,15 @@ use Rattle.icn_tree.specs.Numbers.{is_nothing, is_radix_mark, is_real_mark, are_
 use Rattle.icn_tree.specs.Semicolons.{Piece, is_ender, is_beginner, semicolon_at, between, with_semicolons}
 use Rattle.icn_tree.specs.SourceTexts.{joined_len}
 use Rattle.icn_tree.specs.Spellings.{lookup_text, word_of, name_of, marks_of}
-use Rattle.icn_tree.specs.TokenBounds.{IsScanRule, IsSized}
+use Rattle.icn_tree.specs.TokenBounds.{IsScanRule, IsSized, IsFormed, is_name, is_augmented}
+use Rattle.icn_tree.proofs.Members.{members_ascend}
 use Rattle.icn_tree.specs.TokenSpellings.{Spells, bare, string, cset}
 use Rattle.icn_tree.specs.Tokens.{name, dotted, mark, spelled, longer, longest, judged, first_of, Scan, Found, Broken, before, piece_on, token_then, opened, literal_piece, closed_then, escape_found, escape_then, State, Between, Inside, bytes_from, line_from, lines_from, after_blanks, Outcome, Scanned, Fault, finished, tokens_of}
 
 -- One token
 
 abbrev SenseSized : Result Kind Rule → Type 0
-SenseSized (Ok kind) = IsSized kind
+SenseSized (Ok kind) = IsSized kind × IsFormed kind
 SenseSized (Err rule) = IsScanRule rule
 
 abbrev FoundSized : Option (Result Kind Rule) → Type 0
@@ -43,19 +44,26 @@ choose_found : (test : Bool) (x y : Option (Result Kind Rule)) → FoundSized x 
 choose_found true x y h g = h
 choose_found false x y h g = g
 
+-- the same where a test holds
+choose_found_so : (test : Bool) (x y : Option (Result Kind Rule)) → (test ≡ true → FoundSized x) → FoundSized y → FoundSized (cond test x y)
+choose_found_so true x y h g = h refl
+choose_found_so false x y h g = g
+
 at_most : (n m : ℕ) → nat_le n m ≡ true → n ≤ m
 at_most n m h = grind (arith, nat_tests)
 
-word_sized : (word : Option Word) (text : List ℕ) → 1 ≤ length text → length text ≤ 65535 → IsSized (unwrap_or (option_map WordKind word) (Identifier text))
-word_sized None text p h = (p, h)
-word_sized (Some word) text p h = tt
+word_sized : (word : Option Word) (text : List ℕ) → word_of text ≡ word → is_name text ≡ true → 1 ≤ length text → length text ≤ 65535
+    → SenseSized (Ok (unwrap_or (option_map WordKind word) (Identifier text)))
+word_sized None text e n p h = ((p, h), (n, e))
+word_sized (Some word) text e n p h = (tt, tt)
 
-name_sized : (b : ℕ) (rest : List ℕ) → FoundSized (name b rest)
-name_sized b rest = choose_found (list_all continues_identifier rest) (Some (sized (b ∷ rest) (Ok (name_of (b ∷ rest))))) None
-    (choose_sense (nat_le (length (b ∷ rest)) 65535) (Ok (name_of (b ∷ rest))) (Err L7) (λ h. word_sized (word_of (b ∷ rest)) (b ∷ rest) (omega arith) (at_most (length (b ∷ rest)) 65535 h)) tt) tt
+name_sized : (b : ℕ) (rest : List ℕ) → begins_identifier b ≡ true → FoundSized (name b rest)
+name_sized b rest begins = choose_found_so (list_all continues_identifier rest) (Some (sized (b ∷ rest) (Ok (name_of (b ∷ rest))))) None
+    (λ goes_on. choose_sense (nat_le (length (b ∷ rest)) 65535) (Ok (name_of (b ∷ rest))) (Err L7)
+    (λ h. word_sized (word_of (b ∷ rest)) (b ∷ rest) refl (ap (λ first. first && list_all continues_identifier rest) begins ∙ goes_on) (omega arith) (at_most (length (b ∷ rest)) 65535 h)) tt) tt
 
 bounded_sized : (n : ℕ) → SenseSized (bounded n)
-bounded_sized n = choose_sense (nat_le n 9223372036854775807) (Ok (Integer (pos n))) (Err L4) (λ h. at_most n 9223372036854775807 h) tt
+bounded_sized n = choose_sense (nat_le n 9223372036854775807) (Ok (Integer (pos n))) (Err L4) (λ h. (at_most n 9223372036854775807 h, tt)) tt
 
 integer_sized : (radix : ℕ) (digits : List ℕ) → SenseSized (integer radix digits)
 integer_sized radix digits = choose_sense (is_between 2 36 radix && are_digits radix digits) (bounded (number_in radix digits)) (Err L5) (λ h. bounded_sized (number_in radix digits)) tt
@@ -72,23 +80,23 @@ unfolding number
 number_sized bytes = number_by_sized (take (prefix_len is_digit bytes) bytes) (drop (prefix_len is_digit bytes) bytes)
 
 dotted_sized : (rest : List ℕ) → FoundSized (dotted rest)
-dotted_sized [] = tt
+dotted_sized [] = (tt, tt)
 dotted_sized (b ∷ []) = choose_found (is_digit b) (Some (Err L6)) None tt tt
 dotted_sized (b ∷ c ∷ rest) = tt
 
--- no literal and no identifier
+-- no literal and no identifier, and only augmented operators that are tokens
 abbrev is_mark : Kind → Bool
 is_mark (Operator operator) = true
-is_mark (Augmented operator) = true
+is_mark (Augmented operator) = is_augmented operator
 is_mark (Punctuation mark) = true
 is_mark _ = false
 
-mark_is_sized : (kind : Kind) → is_mark kind ≡ true → IsSized kind
-mark_is_sized (Operator operator) h = tt
-mark_is_sized (Augmented operator) h = tt
-mark_is_sized (Punctuation mark) h = tt
-mark_is_sized (WordKind word) h = tt
-mark_is_sized (Cset set) h = tt
+mark_is_sized : (kind : Kind) → is_mark kind ≡ true → SenseSized (Ok kind)
+mark_is_sized (Operator operator) h = (tt, tt)
+mark_is_sized (Augmented operator) h = (tt, h)
+mark_is_sized (Punctuation mark) h = (tt, tt)
+mark_is_sized (WordKind word) h = (tt, tt)
+mark_is_sized (Cset set) h = absurd (false≢true h)
 mark_is_sized (Identifier text) h = absurd (false≢true h)
 mark_is_sized (Integer n) h = absurd (false≢true h)
 mark_is_sized (Text bytes) h = absurd (false≢true h)
@@ -117,7 +125,7 @@ both false y h = absurd (false≢true h)
 abbrev SizedAt : Option Kind → Type 0
 SizedAt found = FoundSized (option_map (λ kind. Ok kind) found)
 
-choose_row : (test : Bool) (kind : Kind) (others : Option Kind) → IsSized kind → SizedAt others → SizedAt (cond test (Some kind) others)
+choose_row : (test : Bool) (kind : Kind) (others : Option Kind) → SenseSized (Ok kind) → SizedAt others → SizedAt (cond test (Some kind) others)
 choose_row true kind others h g = h
 choose_row false kind others h g = g
 
@@ -131,13 +139,14 @@ spelled_sized : (text : List ℕ) → FoundSized (spelled text)
 unfolding spelled
 spelled_sized [] = tt
 spelled_sized (b ∷ rest) =
-    choose_found (begins_identifier b) (name b rest) (cond (is_digit b) (number (b ∷ rest)) (cond (b == 46) (dotted rest) (mark b rest))) (name_sized b rest)
+    choose_found_so (begins_identifier b) (name b rest) (cond (is_digit b) (number (b ∷ rest)) (cond (b == 46) (dotted rest) (mark b rest))) (name_sized b rest)
     (choose_found (is_digit b) (number (b ∷ rest)) (cond (b == 46) (dotted rest) (mark b rest)) (number_sized (b ∷ rest))
     (choose_found (b == 46) (dotted rest) (mark b rest) (dotted_sized rest) (rows_sized (marks_of b) (b ∷ rest) (marks_are b))))
 
--- a token is within its bounds and has a spelling
+-- a token is within its bounds, is formed as the scanner forms tokens, and has a spelling
 pub record IsSound (kind : Kind) : Type 0 where
   pub sized : IsSized kind
+  pub formed : IsFormed kind
   pub text : List ℕ
   pub spells : Spells kind text
 
@@ -148,7 +157,7 @@ LongestSound (Some (Err rule, count)) = IsScanRule rule
 
 longer_sound : (found : Option (Result Kind Rule)) (text : List ℕ) (n : ℕ) (shorter : Option (Result Kind Rule × ℕ)) → spelled text ≡ found → FoundSized found → LongestSound shorter → LongestSound (longer found n shorter)
 longer_sound None text n shorter e h g = g
-longer_sound (Some (Ok kind)) text n shorter e h g = record { sized = h; text = text; spells = bare kind text e }
+longer_sound (Some (Ok kind)) text n shorter e h g = record { sized = h.0; formed = h.1; text = text; spells = bare kind text e }
 longer_sound (Some (Err rule)) text n shorter e h g = h
 
 longest_sound : (n : ℕ) (bytes : List ℕ) → LongestSound (longest spelled n bytes)
@@ -191,8 +200,8 @@ token_sound line is_first (Ok first) later h g = before_sound (piece_on line is_
 token_sound line is_first (Err rule) later h g = h
 
 kind_sound : (cset : Bool) (bytes : List ℕ) → length bytes ≤ 65535 → IsSound (cond cset (Cset (members_of bytes)) (Text bytes))
-kind_sound true bytes h = record { sized = tt; text = _; spells = cset bytes h }
-kind_sound false bytes h = record { sized = h; text = _; spells = string bytes h }
+kind_sound true bytes h = record { sized = tt; formed = members_ascend bytes; text = _; spells = cset bytes h }
+kind_sound false bytes h = record { sized = h; formed = tt; text = _; spells = string bytes h }
 
 closed_sound : (literal : Literal) (later : Scan) → ScanSound later → ScanSound (closed_then literal later)
 closed_sound literal later g =
@@ -264,7 +273,7 @@ TokensSound (token ∷ tokens) = IsSound token.kind × TokensSound tokens
 
 semicolon_sound : IsSound (Punctuation Semicolon)
 unfolding spelled marks_of
-semicolon_sound = record { sized = tt; text = 59 ∷ []; spells = bare (Punctuation Semicolon) (59 ∷ []) refl }
+semicolon_sound = record { sized = tt; formed = tt; text = 59 ∷ []; spells = bare (Punctuation Semicolon) (59 ∷ []) refl }
 
 choose_between : (test : Bool) (token : Token) (rest : List Token) → TokensSound rest → TokensSound (cond test (semicolon_at token ∷ []) [] ++ rest)
 choose_between true token rest h = (semicolon_sound, h)
@@ -300,6 +309,10 @@ all_next {A} P x xs h g = at where
 pub all_sized : (tokens : List Token) → TokensSound tokens → All (λ token. IsSized token.kind) tokens
 all_sized [] h = all_none (λ (token : Token). IsSized token.kind)
 all_sized (token ∷ tokens) h = all_next (λ (token : Token). IsSized token.kind) token tokens h.0.sized (all_sized tokens h.1)
+
+pub all_formed : (tokens : List Token) → TokensSound tokens → All (λ token. IsFormed token.kind) tokens
+all_formed [] h = all_none (λ (token : Token). IsFormed token.kind)
+all_formed (token ∷ tokens) h = all_next (λ (token : Token). IsFormed token.kind) token tokens h.0.formed (all_formed tokens h.1)
 
 -- Semicolons
 

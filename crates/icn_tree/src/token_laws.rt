@@ -8,7 +8,7 @@ ghost use Rattle.icn_tree.specs.declared.token.Token.{Token};
 ghost use Rattle.icn_tree.specs.declared.token.Word.TheVariants.{By, Do, Else, Of, Then, To};
 ghost use Rattle.icn_tree.specs.Semicolons.{Piece, is_beginner, is_ender, with_semicolons};
 ghost use Rattle.icn_tree.specs.SourceTexts.{joined_len};
-ghost use Rattle.icn_tree.specs.TokenBounds.{IsScanRule, IsSized};
+ghost use Rattle.icn_tree.specs.TokenBounds.{IsFormed, IsScanRule, IsSized};
 ghost use Rattle.icn_tree.specs.TokenSpellings.{SpellsAll};
 ghost use Rattle.icn_tree.specs.Tokens.{Fault, Scanned, tokens_of};
 
@@ -25,10 +25,12 @@ pub fn scan_rules()
     ensures { (lines : List SourceLine) (rule : Rule) (file line : ℕ) → tokens_of lines ≡ Fault rule file line → IsScanRule rule }
 {}
 
-/// Lines have no more tokens than bytes, with their newlines, and each token is within its bounds.
+/// Lines have no more tokens than bytes, with their newlines, and each token is within its bounds: an identifier is a name and no
+/// reserved word, the members of a cset ascend, and an augmented operator is one of the twenty-eight.
 pub fn tokens_bounded()
     ensures count { (lines : List SourceLine) (tokens : List Token) → tokens_of lines ≡ Scanned tokens → length tokens ≤ joined_len lines }
     ensures sized { (lines : List SourceLine) (tokens : List Token) → tokens_of lines ≡ Scanned tokens → All (λ token. IsSized token.kind) tokens }
+    ensures formed { (lines : List SourceLine) (tokens : List Token) → tokens_of lines ≡ Scanned tokens → All (λ token. IsFormed token.kind) tokens }
 {}
 
 /// Tokens that are spelled on one line, with one blank between them, are the same tokens again; and the tokens of lines can
