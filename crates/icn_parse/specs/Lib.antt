@@ -3,3 +3,4 @@ pub mod FileReading
 pub mod PartReading
 pub mod Gathering
 pub mod Views
+pub mod Longest

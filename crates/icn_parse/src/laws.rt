@@ -3,6 +3,7 @@ ghost use Rattle.std.specs.Prelude.{◌≡◌, List, None};
 ghost use Rattle.icn_tree.specs.declared.token.Token.{Token};
 ghost use Rattle.icn_tree.specs.Declarations.{IsTreeOf};
 ghost use Rattle.icn_tree.specs.Trees.{Declaration};
+ghost use Rattle.icn_parse.specs.Longest.{ReadsByGrammar, ReadsLongest};
 ghost use Rattle.icn_parse.specs.Outcomes.{Outcome, IsTree, IsOutcome, first_fault, first_too_high};
 
 /// Tokens have exactly one outcome.
@@ -16,4 +17,10 @@ pub fn one_outcome()
 pub fn trees_are_read()
     ensures { (file : List Declaration) (tokens : List Token) → IsTreeOf file tokens → first_too_high file ≡ None → first_fault file ≡ None
         → (outcome : Outcome) → IsOutcome tokens outcome → outcome ≡ IsTree file }
+{}
+
+/// What `icn_expr::expression` reads in front of some tokens is the longest expression that stands there by the grammar.
+pub fn longest_expressions()
+    ensures reads_longest { ReadsLongest }
+    ensures by_grammar { ReadsByGrammar }
 {}

@@ -14,5 +14,5 @@ mod sign;
 mod stop;
 
 pub use fault::ParseFault;
-pub use laws::{one_outcome, trees_are_read};
+pub use laws::{longest_expressions, one_outcome, trees_are_read};
 pub use parser::parse;
