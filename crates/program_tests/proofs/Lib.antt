@@ -1,0 +1,9 @@
+pub mod PlainHold
+pub mod GeneratorsHold
+pub mod LoopsHold
+pub mod ScansHold
+pub mod CoexpressionsHold
+pub mod ErrorsHold
+pub mod LibraryHold
+pub mod BoundedHold
+pub mod ReadingsHold

@@ -1,0 +1,140 @@
+-- Each error of a form, and of the limits.
+use Rattle.std.specs.Prelude.{List, [], ◌∷◌, codes}
+use Rattle.icn_tree.specs.declared.token.Operator.TheVariants as Signs
+use Rattle.program_tests.specs.Words.{int, text, name, key, before, between, assign, call, write, field, list, to_by, when, every, globals, kind, procedure, main}
+use Rattle.program_tests.specs.Cases.{Case, case, under, started, done, stopped, most_strings, most_cells, most_levels}
+
+abbrev pub errors : List Case
+errors =
+    -- procedure main(); write(9223372036854775807 + 1); end
+    case
+    (main (write (between (int 9223372036854775807) Signs.Plus (int 1) ∷ []) ∷ []) ∷ [])
+    80
+    (stopped 203 "" "Run-time error 203\ninteger overflow\n" 1 0 1) ∷
+    -- procedure main(); write("a" + 1); end
+    case (main (write (between (text "a") Signs.Plus (int 1) ∷ []) ∷ []) ∷ [])
+    80
+    (stopped 102 "" "Run-time error 102\nnumeric expected\noffending value: \"a\"\n" 1 0 1) ∷
+    -- global write
+    -- procedure main(); write("x"); end
+    case (globals ("write" ∷ []) ∷ main (write (text "x" ∷ []) ∷ []) ∷ []) 72
+    (stopped 106 "" "Run-time error 106\nprocedure or integer expected\noffending value: &null\n" 1 0 1) ∷
+    -- procedure main(); write(1 \ -1); end
+    case
+    (main (write (between (int 1) Signs.Backslash (before Signs.Minus (int 1)) ∷ []) ∷ []) ∷ [])
+    80
+    (stopped 205 "" "Run-time error 205\ninvalid value\noffending value: -1\n" 1 0 1) ∷
+    -- procedure main(); ^&main; end
+    case (main (before Signs.Caret (key "main") ∷ []) ∷ []) 66
+    (stopped 215 ""
+    "Run-time error 215\nattempt to refresh &main\noffending value: co-expression_1(0)\n"
+    1
+    0
+    1) ∷
+    case [] 60 (stopped 117 "" "Run-time error 117\nmissing main procedure\n" 0 0 0) ∷
+    -- procedure p(n); if n > 0 then p(n - 1); end
+    -- procedure main(); p(9); end
+    under (most_levels 10)
+    (procedure "p" ("n" ∷ [])
+    (when (between (name "n") Signs.Greater (int 0))
+    (call (name "p") (between (name "n") Signs.Minus (int 1) ∷ [])) ∷
+    []) ∷
+    main (call (name "p") (int 9 ∷ []) ∷ []) ∷
+    [])
+    432
+    (stopped 301 "" "Run-time error 301\nevaluation stack overflow\n" 28 0 1) ∷
+    -- procedure p(n); if n > 0 then p(n - 1); end
+    -- procedure main(); p(8); end
+    under (most_levels 10)
+    (procedure "p" ("n" ∷ [])
+    (when (between (name "n") Signs.Greater (int 0))
+    (call (name "p") (between (name "n") Signs.Minus (int 1) ∷ [])) ∷
+    []) ∷
+    main (call (name "p") (int 8 ∷ []) ∷ []) ∷
+    [])
+    434
+    (done "" 26 0 1) ∷
+    -- procedure main(); write("abc" || "def"); end
+    under (most_strings 5)
+    (main (write (between (text "abc") Signs.BarBar (text "def") ∷ []) ∷ []) ∷ [])
+    80
+    (stopped 306 "" "Run-time error 306\ninadequate space in string region\n" 1 0 1) ∷
+    -- procedure main(); write("abc" || "def"); end
+    under (most_strings 6)
+    (main (write (between (text "abc") Signs.BarBar (text "def") ∷ []) ∷ []) ∷ [])
+    86
+    (done "abcdef\n" 2 6 1) ∷
+    -- procedure main(); L := list(99); end
+    under (most_cells 100)
+    (main (assign (name "L") (call (name "list") (int 99 ∷ [])) ∷ []) ∷ [])
+    80
+    (stopped 307 "" "Run-time error 307\ninadequate space in block region\n" 1 0 1) ∷
+    -- procedure main(); L := list(98); end
+    under (most_cells 100)
+    (main (assign (name "L") (call (name "list") (int 98 ∷ [])) ∷ []) ∷ [])
+    86
+    (done "" 2 0 100) ∷
+    -- record p(x, y)
+    -- procedure main(); r := p(1); write(r.z); end
+    case
+    (kind "p" ("x" ∷ "y" ∷ []) ∷
+    main (assign (name "r") (call (name "p") (int 1 ∷ [])) ∷ write (field (name "r") "z" ∷ []) ∷ []) ∷
+    [])
+    100
+    (stopped 207 "" "Run-time error 207\ninvalid field name\noffending value: record p_1(2)\n" 3 0 4) ∷
+    -- procedure main(); r := 1; write(r.z); end
+    case
+    (main (assign (name "r") (int 1) ∷ write (field (name "r") "z" ∷ []) ∷ []) ∷ [])
+    90
+    (stopped 107 "" "Run-time error 107\nrecord expected\noffending value: 1\n" 2 0 1) ∷
+    -- procedure main(); x := [1]; x(2); end
+    case
+    (main (assign (name "x") (list (int 1 ∷ [])) ∷ call (name "x") (int 2 ∷ []) ∷ []) ∷ [])
+    92
+    (stopped 106 ""
+    "Run-time error 106\nprocedure or integer expected\noffending value: list_2(1)\n"
+    3
+    0
+    3) ∷
+    -- procedure main(); foo(1); end
+    case (main (call (name "foo") (int 1 ∷ []) ∷ []) ∷ []) 72
+    (stopped 106 "" "Run-time error 106\nprocedure or integer expected\noffending value: &null\n" 1 0 1) ∷
+    -- procedure main(); write ! 3; end
+    case (main (between (name "write") Signs.Bang (int 3) ∷ []) ∷ []) 72
+    (stopped 126 "" "Run-time error 126\nlist or record expected\noffending value: 3\n" 1 0 1) ∷
+    -- procedure main(); @5; end
+    case (main (before Signs.At (int 5) ∷ []) ∷ []) 72
+    (stopped 118 "" "Run-time error 118\nco-expression expected\noffending value: 5\n" 1 0 1) ∷
+    -- procedure main(); write(1 \ "a"); end
+    case
+    (main (write (between (int 1) Signs.Backslash (text "a") ∷ []) ∷ []) ∷ [])
+    74
+    (stopped 101 ""
+    "Run-time error 101\ninteger expected or out of range\noffending value: \"a\"\n"
+    0
+    0
+    1) ∷
+    -- procedure main(); [] ? 1; end
+    case (main (between (list []) Signs.Question (int 1) ∷ []) ∷ []) 66
+    (stopped 103 "" "Run-time error 103\nstring expected\noffending value: list_2(0)\n" 1 0 2) ∷
+    -- procedure main(); 1 := 2; end
+    case (main (assign (int 1) (int 2) ∷ []) ∷ []) 72
+    (stopped 111 "" "Run-time error 111\nvariable expected\noffending value: 1\n" 1 0 1) ∷
+    -- procedure main(); every write(1 to 2 by 0); end
+    case (main (every (write (to_by (int 1) (int 2) (int 0) ∷ [])) ∷ []) ∷ [])
+    86
+    (stopped 211 "" "Run-time error 211\nby value equal to zero\n" 1 0 1) ∷
+    -- procedure main(); write(1); end
+    started ((main (write (int 1 ∷ []) ∷ []) ∷ []) ∷ [])
+    (codes "ab" ∷ codes "cde" ∷ [])
+    (most_strings 4)
+    []
+    60
+    (stopped 306 "" "Run-time error 306\ninadequate space in string region\n" 0 0 0) ∷
+    -- procedure main(); write(1); end
+    started ((main (write (int 1 ∷ []) ∷ []) ∷ []) ∷ []) (codes "ab" ∷ [])
+    (most_cells 1)
+    []
+    60
+    (stopped 307 "" "Run-time error 307\ninadequate space in block region\n" 0 2 0) ∷
+    []

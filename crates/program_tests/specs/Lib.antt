@@ -1,0 +1,12 @@
+pub mod Words
+pub mod Coded
+pub mod Cases
+pub mod Plain
+pub mod Generators
+pub mod Loops
+pub mod Scans
+pub mod Coexpressions
+pub mod Errors
+pub mod Library
+pub mod Bounded
+pub mod Readings

@@ -1,0 +1,8 @@
+//! Programs that are run by computing: what each means, and what its code does on flat stacks and on linked marks.
+#![tactic(auto)]
+
+mod table;
+
+pub use table::{
+    bounded, coexpressions, errors, generators, library, loops, plain, readings, scans,
+};
