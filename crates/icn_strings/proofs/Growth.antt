@@ -1,6 +1,7 @@
 -- A region's buffer: what is kept as it grows, and what a part of it holds.
-use Rattle.std.proofs.Common.{◌≡◌, ◌∙◌, ℕ, zero, suc, ◌+◌, ◌-◌, ◌<◌, ◌≤◌, List, [], ◌++◌, length, take, drop, refl, sym, ap, arith, length-append, length-drop, append-nil}
-use Rattle.std.proofs.lemmas.List.{take-append-le, drop-append-le, drop-take, drop-drop, take-take}
+use Rattle.std.proofs.Common.{inl, inr, ◌≡◌, ◌∙◌, ℕ, zero, suc, ◌+◌, ◌-◌, ◌<◌, ◌≤◌, List, [], ◌++◌, length, take, drop, refl, sym, ap, arith, length-append, length-drop, append-nil}
+use Rattle.std.proofs.lemmas.Bool.{cases_lt}
+use Rattle.std.proofs.lemmas.List.{length-take-le, take_all, take-append-le, drop-append-le, drop-take, drop-drop, take-take}
 use Rattle.icn_strings.specs.declared.place.Place.{Place}
 use Rattle.icn_strings.specs.declared.region.Region.{Region}
 use Rattle.icn_strings.specs.Places.{IsPart}
@@ -60,3 +61,11 @@ part_bytes xs part whole is =
     ∙ ap (λ n. take part.len (drop before (take n (drop whole.place xs)))) (sym lens)))
 
 pub ruleset growth = (keeps_more, keeps_same, unchanged)
+
+-- a part of a short buffer is short
+pub part_short : (xs : List ℕ) (at n most : ℕ) → length xs < most → length (take n (drop at xs)) < most
+part_short xs at n most h =
+    elim (cases_lt (length (drop at xs)) n) [
+      inl beyond ↦ (let all : length (take n (drop at xs)) ≡ length (drop at xs) = ap length (take_all n (drop at xs) (omega arith)) in omega (arith, length-drop at xs))
+    | inr within ↦ omega (arith, length-take-le n (drop at xs) within, length-drop at xs)
+    ]

@@ -42,3 +42,10 @@ pub fn end_of_place(region: &Region, place: Place)
 pub fn within_limit(region: &Region)
     ensures { sum_of region.now ≤ limit_of region.now }
 {}
+
+/// A string of a region has so few bytes that each position in it is an `i64`, the one behind its last byte too.
+#[tactic(auto, using(crate::proofs::Growth::part_short), unfolding(crate::specs::Regions::bytes_of))]
+pub fn short_string(region: &Region, place: Place)
+    requires { IsOf region.now place }
+    ensures { length (bytes_of region.now place) < 2 ^ 63 - 1 }
+{}

@@ -8,6 +8,8 @@ mod place;
 mod region;
 
 pub use full::Full;
-pub use laws::{empty_place, end_of_place, length_of_bytes, part_of_place, within_limit};
+pub use laws::{
+    empty_place, end_of_place, length_of_bytes, part_of_place, short_string, within_limit,
+};
 pub use place::Place;
 pub use region::Region;

@@ -7,6 +7,9 @@ use crate::place::Place;
 use std::alloc::{AllocError, Global};
 use std::ops::Range;
 
+// A region has fewer bytes, so that every position in a string is an `i64`, the one behind its last byte too.
+const MOST: u64 = i64::MAX as u64;
+
 /// The strings of a program's heap.
 ///
 /// A string that is built or joined is charged by its length, in bytes, and what is charged never passes the limit.
@@ -17,6 +20,7 @@ pub struct Region {
     sum: u64,
     limit: u64,
     ghost within: { sum ≤ limit },
+    ghost short: { length bytes.items < 2 ^ 63 - 1 },
 }
 
 impl Region {
@@ -104,6 +108,9 @@ impl Region {
         ensures err { OnErr result (IsUnchanged self.old self.new) }
     {
         let place = self.bytes.len() as u64;
+        if bytes.len() as u64 >= MOST - place {
+            return Err(AllocError);
+        }
         self.bytes.extend_from_slice(bytes)?;
         Ok(Place {
             place,
@@ -149,6 +156,9 @@ impl Region {
         ensures err { OnErr result (IsUnchanged self.old self.new) }
     {
         let place = self.bytes.len() as u64;
+        if a.len + b.len >= MOST - place {
+            return Err(AllocError);
+        }
         let first = self.range(a);
         let second = self.range(b);
         append_both(&mut self.bytes, first, second)?;
