@@ -1,0 +1,4 @@
+pub mod CellsRead
+pub mod CallsRead
+pub mod ScansRead
+pub mod DropsRead
