@@ -2,3 +2,4 @@ pub mod Sorted
 pub mod Numbers
 pub mod InOrder
 pub mod Undone
+pub mod Charging

@@ -1,10 +1,12 @@
 //! Laws of values, of their order, and of the rows of operations and functions. Nothing here runs.
 #![tactic(auto)]
 
+mod errors;
 mod undoing;
 mod values;
 mod walks;
 
+pub use errors::errors_change_nothing;
 pub use undoing::undoing_gives_back;
 pub use values::{
     equivalence_is_equality, integers_survive_texts, positions_are_places, sorting_is_total,
