@@ -66,6 +66,7 @@ operation_on SectionPlus x y z = section_plus_row x y z
 operation_on SectionMinus x y z = section_minus_row x y z
 operation_on ToBy x y z = to_by_row x y z
 
+-- an operand by its place, from 0 on
 abbrev pub operand : List Item → ℕ → Item
 operand items place = unwrap_or (slice_get items place) (Val Null)
 

@@ -9,13 +9,14 @@ use Rattle.icn_defs.specs.Rows.{Row, ◌>>=◌, ◌>>◌, Counting, fails, gives
 use Rattle.icn_defs.specs.Reading.{the_value}
 use Rattle.icn_defs.specs.Arguments.{number, integer}
 
--- `+n`, `-n`
+-- `+n`: the integer
 abbrev pub number_row : Item → Row
 number_row x = do
   v ← the_value x
   n ← number v
   gives_value (Integer n)
 
+-- `-n`: 203 past 64 bits
 abbrev pub negate_row : Item → Row
 negate_row x = do
   v ← the_value x
@@ -33,21 +34,27 @@ arithmetic_row operation x y = do
   result ← computed (operation m n)
   gives_value (Integer result)
 
+-- `m + n`
 abbrev pub add_row : Item → Item → Row
 add_row x y = arithmetic_row sum x y
 
+-- `m - n`
 abbrev pub subtract_row : Item → Item → Row
 subtract_row x y = arithmetic_row difference x y
 
+-- `m * n`
 abbrev pub multiply_row : Item → Item → Row
 multiply_row x y = arithmetic_row product x y
 
+-- `m / n`: 201 by zero
 abbrev pub divide_row : Item → Item → Row
 divide_row x y = arithmetic_row quotient x y
 
+-- `m % n`: 202 by zero
 abbrev pub remainder_row : Item → Item → Row
 remainder_row x y = arithmetic_row remainder x y
 
+-- `m ^ n`
 abbrev pub power_row : Item → Item → Row
 power_row x y = arithmetic_row power x y
 
@@ -63,21 +70,27 @@ number_comparison_row test x y = do
   passing (test m n)
   gives_value (Integer n)
 
+-- `m < n`
 abbrev pub less_row : Item → Item → Row
 less_row x y = number_comparison_row (λ m n. is_lt (int_cmp m n)) x y
 
+-- `m <= n`
 abbrev pub less_or_equal_row : Item → Item → Row
 less_or_equal_row x y = number_comparison_row (λ m n. is_le (int_cmp m n)) x y
 
+-- `m = n`
 abbrev pub equal_row : Item → Item → Row
 equal_row x y = number_comparison_row (λ m n. is_eq (int_cmp m n)) x y
 
+-- `m >= n`
 abbrev pub greater_or_equal_row : Item → Item → Row
 greater_or_equal_row x y = number_comparison_row (λ m n. is_ge (int_cmp m n)) x y
 
+-- `m > n`
 abbrev pub greater_row : Item → Item → Row
 greater_row x y = number_comparison_row (λ m n. is_gt (int_cmp m n)) x y
 
+-- `m ~= n`
 abbrev pub not_equal_row : Item → Item → Row
 not_equal_row x y = number_comparison_row (λ m n. is_ne (int_cmp m n)) x y
 
@@ -87,6 +100,7 @@ not_equal_row x y = number_comparison_row (λ m n. is_ne (int_cmp m n)) x y
 abbrev pub counts_on : ℤ → ℤ → ℤ → Bool
 counts_on step last n = if is_positive step then int_le n last else int_le last n
 
+-- the next integer of a count, if there is one that has not passed the end
 abbrev pub count_from : ℤ → ℤ → Option ℤ → Row
 count_from last step None = fails
 count_from last step (Some n) = do
@@ -105,5 +119,6 @@ to_by_row x y z = do
   check (not (int_eq step (pos 0))) 211 None
   count_from last step (Some first)
 
+-- resumed, the count goes on by its step
 abbrev pub counting_again : ℤ → ℤ → ℤ → Row
 counting_again n last step = count_from last step (fitting (n +ℤ step))

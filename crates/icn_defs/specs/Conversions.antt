@@ -19,24 +19,28 @@ pub data Form : Type 0 where
   Member : List ℕ → Form
   Other : Form
 
+-- the form of a value
 abbrev pub form_of : Value → Form
 form_of (Integer n) = Number n
 form_of (Text bytes) = Written bytes
 form_of (Chars bytes) = Member bytes
 form_of value = Other
 
+-- what converts to an integer: a string or a cset does where its bytes write one
 abbrev pub integer_in : Form → Option ℤ
 integer_in (Number n) = Some n
 integer_in (Written bytes) = written_integer bytes
 integer_in (Member bytes) = written_integer bytes
 integer_in Other = None
 
+-- what converts to a string: all three forms
 abbrev pub text_in : Form → Option (List ℕ)
 text_in (Number n) = Some (signed_decimal n)
 text_in (Written bytes) = Some bytes
 text_in (Member bytes) = Some bytes
 text_in Other = None
 
+-- what converts to a cset: the bytes of an integer's decimal, of a string
 abbrev pub cset_in : Form → Option (List ℕ)
 cset_in (Number n) = Some (members (contains (signed_decimal n)))
 cset_in (Written bytes) = Some (members (contains bytes))
@@ -50,25 +54,29 @@ text_made (Written bytes) = None
 text_made (Member bytes) = Some bytes
 text_made Other = None
 
--- the integer, the text and the cset that a value converts to
+-- the integer that a value converts to
 abbrev pub integer_of : Value → Option ℤ
 integer_of value = integer_in (form_of value)
 
+-- the string that a value converts to
 abbrev pub text_of : Value → Option (List ℕ)
 text_of value = text_in (form_of value)
 
+-- the cset that a value converts to
 abbrev pub cset_of : Value → Option (List ℕ)
 cset_of value = cset_in (form_of value)
 
--- a value that is an integer, or a text, without conversion
+-- a value that is an integer, without conversion
 abbrev pub held_integer : Value → Option ℤ
 held_integer (Integer n) = Some n
 held_integer value = None
 
+-- a value that is a string, without conversion
 abbrev pub held_text : Value → Option (List ℕ)
 held_text (Text bytes) = Some bytes
 held_text value = None
 
+-- whether a value is null
 abbrev pub is_null : Value → Bool
 is_null Null = true
 is_null value = false
@@ -90,6 +98,7 @@ sorted_in cmp item [] = item ∷ []
 sorted_in cmp item (other ∷ others) =
     if is_lt (cmp item other) then item ∷ (other ∷ others) else other ∷ sorted_in cmp item others
 
+-- each item in turn goes to its place among those that are placed
 abbrev pub sorted_onto : {A : Type 0} → (A → A → Ordering) → List A → List A → List A
 sorted_onto cmp placed [] = placed
 sorted_onto cmp placed (item ∷ items) = sorted_onto cmp (sorted_in cmp item placed) items

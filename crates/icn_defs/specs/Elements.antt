@@ -30,14 +30,17 @@ part_item (Some variable) text place size = Var (part_of variable place size)
 abbrev pub element_item : ℕ → Numbered Value → ℕ → Item
 element_item id list place = Var (Whole (Element id (list.number +ℤ pos place)))
 
+-- a field of a record
 abbrev pub field_item : ℕ → ℕ → Item
 field_item id place = Var (Whole (Field id place))
 
+-- the value at a key of a table
 abbrev pub key_item : ℕ → Value → Item
 key_item id key = Var (Whole (Key id key))
 
 -- Elements: each is given with the place behind it, and where no element stands there it fails
 
+-- the byte at a place of a text
 abbrev pub text_bytes_from : List ℕ → ℕ → Row
 text_bytes_from text place = do
   byte ← found (slice_get text place)
@@ -51,6 +54,7 @@ variable_bytes_from variable place = do
   passing (nat_lt place (length text))
   suspends (Var (part_of variable (place + 1) 1)) (VariableBytes variable (place + 1))
 
+-- the element at a place of a list
 abbrev pub list_items_from : ℕ → ℕ → Row
 list_items_from id place = do
   setting ← here
@@ -58,30 +62,35 @@ list_items_from id place = do
   passing (nat_lt place (length list.items))
   suspends (element_item id list place) (ListItems id (place + 1))
 
+-- the member at a place of a set
 abbrev pub set_members_from : ℕ → ℕ → Row
 set_members_from id place = do
   setting ← here
   member ← found (slice_get (set_at setting.world.heap id) place)
   suspends (Val member) (SetMembers id (place + 1))
 
+-- the value at a place of a table
 abbrev pub table_values_from : ℕ → ℕ → Row
 table_values_from id place = do
   setting ← here
   pair ← found (slice_get (table_at setting.world.heap id).pairs place)
   suspends (key_item id pair.0) (TableValues id (place + 1))
 
+-- the field at a place of a record
 abbrev pub record_fields_from : ℕ → ℕ → Row
 record_fields_from id place = do
   setting ← here
   passing (nat_lt place (length (record_at setting.world.heap id).fields))
   suspends (field_item id place) (RecordFields id (place + 1))
 
+-- the bytes of a text: parts of the variable that holds it, if one does
 abbrev pub text_elements : Option Variable → Value → List ℕ → Row
 text_elements (Some variable) value text = variable_bytes_from variable 0
 text_elements None value text = do
   costs_text value
   text_bytes_from text 0
 
+-- the elements of a value: 116 where it has none
 abbrev pub elements_of : Item → Value → Group → Row
 elements_of x v (Textual text) = text_elements (text_variable x v) v text
 elements_of x v (Listed id) = list_items_from id 0
@@ -108,6 +117,7 @@ picks size next = do
   changes (having_random state)
   next (picked state size)
 
+-- an integer from 1 to n: 205 where n is below 1
 abbrev pub random_number : Value → ℤ → Row
 random_number v (pos n) = do
   check (nat_lt 0 n) 205 (Some v)
@@ -151,6 +161,7 @@ random_of x v (Filed file) = wrong 113 (Some v)
 random_of x v (Activated id) = wrong 113 (Some v)
 random_of x v Single = wrong 113 (Some v)
 
+-- of an integer a number, of anything else an element
 abbrev pub random_by : Item → Value → Option ℤ → Row
 random_by x v (Some n) = random_number v n
 random_by x v None = random_of x v (group_of v)

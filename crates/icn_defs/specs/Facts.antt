@@ -12,6 +12,7 @@ use Rattle.icn_defs.specs.Rows.{Residual, TextBytes, VariableBytes, ListItems, S
 
 -- Values
 
+-- numbers below 256
 abbrev pub are_bytes : List ℕ → Bool
 are_bytes bytes = list_all (λ byte. nat_lt byte 256) bytes
 
@@ -37,6 +38,7 @@ is_live names heap (ASet id) = nat_lt id (length heap.sets)
 is_live names heap (ATable id) = nat_lt id (length heap.tables)
 is_live names heap (ACoexp id) = nat_lt id (length heap.coexps)
 
+-- all values are live
 abbrev pub are_live : Names → Heap → List Value → Bool
 are_live names heap values = list_all (is_live names heap) values
 
@@ -49,6 +51,7 @@ is_numbered heap list =
     int_le (pos 1) (list.number +ℤ pos heap.cells)
     && int_le (list.number +ℤ pos (length list.items)) (pos (1 + heap.cells))
 
+-- a list is numbered, and its elements are live
 abbrev pub is_list : Names → Heap → Numbered Value → Bool
 is_list names heap list = is_numbered heap list && are_live names heap list.items
 
@@ -57,17 +60,21 @@ abbrev pub differ : List Value → Bool
 differ [] = true
 differ (value ∷ values) = not (has_value values value) && differ values
 
+-- the members of a set differ, and are live
 abbrev pub is_set : Names → Heap → List Value → Bool
 is_set names heap members = differ members && are_live names heap members
 
+-- a key and its value are live
 abbrev pub is_pair : Names → Heap → Value × Value → Bool
 is_pair names heap pair = is_live names heap pair.0 && is_live names heap pair.1
 
+-- the keys of a table differ, and all in it is live
 abbrev pub is_table : Names → Heap → Table → Bool
 is_table names heap table =
     differ (keys_of table.pairs) && (is_live names heap table.default
     && list_all (is_pair names heap) table.pairs)
 
+-- the type of a record is one of the program, and its fields are live
 abbrev pub is_record : Names → Heap → Record → Bool
 is_record names heap structure =
     nat_lt structure.kind (length names.records) && are_live names heap structure.fields
@@ -99,6 +106,7 @@ is_world names world =
     && (nat_lt world.random (2 ^ 31) && (are_live names world.heap world.globals
     && are_live names world.heap world.statics)))))
 
+-- the world, and the locals
 abbrev pub is_setting : Names → Setting → Bool
 is_setting names setting = is_world names setting.world && are_live names setting.world.heap setting.locals
 
@@ -117,10 +125,12 @@ is_root names setting (Key table key) =
     nat_lt table (length setting.world.heap.tables) && is_live names setting.world.heap key
 is_root names setting (Keyword word) = true
 
+-- its root is there, and a part begins at 1 or later
 abbrev pub is_variable : Names → Setting → Variable → Bool
 is_variable names setting (Whole root) = is_root names setting root
 is_variable names setting (Part root place size) = is_root names setting root && nat_le 1 place
 
+-- a live value, or a variable that is there
 abbrev pub is_item : Names → Setting → Item → Bool
 is_item names setting (Val value) = is_live names setting.world.heap value
 is_item names setting (Var variable) = is_variable names setting variable
@@ -131,6 +141,7 @@ word_holds Subject value = is_some (held_text value)
 word_holds Position value = is_some (held_integer value)
 word_holds Random value = is_some (held_integer value)
 
+-- whether a root can hold a value
 abbrev pub root_holds : Root → Value → Bool
 root_holds (Global place) value = true
 root_holds (Static place) value = true
@@ -140,6 +151,7 @@ root_holds (Field structure place) value = true
 root_holds (Key table key) value = true
 root_holds (Keyword word) value = word_holds word value
 
+-- whether a variable can hold a value
 abbrev pub can_hold : Variable → Value → Bool
 can_hold (Whole root) value = root_holds root value
 can_hold (Part root place size) value = is_some (held_text value)
@@ -152,6 +164,7 @@ is_old names setting variable value =
 
 -- Residuals
 
+-- what a residual names is there
 abbrev pub is_residual : Names → Setting → Residual → Bool
 is_residual names setting (TextBytes text place) = are_bytes text
 is_residual names setting (VariableBytes variable place) = is_variable names setting variable

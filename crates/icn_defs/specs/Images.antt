@@ -15,6 +15,7 @@ use Rattle.icn_defs.specs.Conversions.{Shape, shape_of, shape_cmp, size_of}
 
 -- Names
 
+-- the functions in the order of their numbers
 abbrev pub functions : List Func
 functions =
     Abs ∷ Any ∷ Bal ∷ Center ∷ Char ∷ Copy ∷ Cset ∷ Delete ∷ Exit ∷ Find ∷ Get ∷ Iand ∷ Icom ∷ Image
@@ -28,9 +29,11 @@ abbrev pub procedure_name : Names → ℕ → List ℕ
 procedure_name names number =
     unwrap_or (slice_get (names.procedures ++ (names.records ++ map func_name functions)) number) []
 
+-- the name of a record's type
 abbrev pub record_name : Names → Heap → ℕ → List ℕ
 record_name names heap id = unwrap_or (slice_get names.records (record_at heap id).kind) []
 
+-- the name of a standard file
 abbrev pub file_name : File → List ℕ
 file_name Input = codes "&input"
 file_name Output = codes "&output"
@@ -58,6 +61,7 @@ letter_of byte =
     lookup (λ other. other == byte) ((8, 98) ∷ (127, 100) ∷ (27, 101) ∷ (12, 102) ∷ (10, 110) ∷ (13, 114)
     ∷ (9, 116) ∷ (11, 118) ∷ (92, 92) ∷ [])
 
+-- a byte as it is, or in hexadecimal where it is no printable one
 abbrev pub plain_or_hex : ℕ → List ℕ
 plain_or_hex byte =
     if nat_le 32 byte && nat_le byte 126 then byte ∷ []
@@ -69,6 +73,7 @@ escaped quote byte =
     if byte == quote then 92 ∷ quote ∷ []
     else option_map_or (λ letter. 92 ∷ letter ∷ []) (letter_of byte) (plain_or_hex byte)
 
+-- a text in quotes
 abbrev pub quoted : ℕ → List ℕ → List ℕ
 quoted quote text = quote ∷ (flat_map (escaped quote) text ++ quote ∷ [])
 
@@ -76,26 +81,32 @@ quoted quote text = quote ∷ (flat_map (escaped quote) text ++ quote ∷ [])
 abbrev pub ucase : List ℕ
 ucase = range_with_len 65 26
 
+-- `&lcase`
 abbrev pub lcase : List ℕ
 lcase = range_with_len 97 26
 
+-- `&letters`
 abbrev pub letters : List ℕ
 letters = ucase ++ lcase
 
+-- `&digits`
 abbrev pub digit_bytes : List ℕ
 digit_bytes = range_with_len 48 10
 
+-- the csets whose image is a keyword
 abbrev pub keyword_csets : List (List ℕ × List ℕ)
 keyword_csets =
     (range_with_len 0 128, codes "&ascii") ∷ (range_with_len 0 256, codes "&cset")
     ∷ (digit_bytes, codes "&digits") ∷ (lcase, codes "&lcase")
     ∷ (letters, codes "&letters") ∷ (ucase, codes "&ucase") ∷ []
 
+-- the image of a cset
 abbrev pub cset_image : List ℕ → List ℕ
 cset_image bytes = unwrap_or (lookup (bytes_eq bytes) keyword_csets) (quoted 39 bytes)
 
 -- Images
 
+-- the image of a procedure, a record constructor or a function
 abbrev pub procedure_image : Names → ℕ → List ℕ
 procedure_image names number =
     if nat_lt number (length names.procedures) then codes "procedure " ++ procedure_name names number
@@ -115,6 +126,7 @@ abbrev pub numbered_image : List ℕ → ℕ → Option ℕ → List ℕ
 numbered_image name number size =
     name ++ (codes "_" ++ (decimal number ++ (codes "(" ++ (decimal (unwrap_or size 0) ++ codes ")"))))
 
+-- `image(x)`: the text that shows a value
 abbrev pub image : Names → Heap → Value → List ℕ
 image names heap Null = codes "&null"
 image names heap (Integer n) = signed_decimal n
@@ -132,14 +144,17 @@ image names heap (ACoexp id) = numbered_image (codes "co-expression") (id + 1) (
 
 -- The order of sort: procedures go by name and then by number, records by record name and then by creation
 
+-- a shape with a name
 abbrev pub named_shape : Shape → List ℕ → Shape
 named_shape shape name = record { rank = shape.rank; text = name; number = shape.number }
 
+-- what the order of sort looks at
 abbrev pub sorted_shape : Names → Heap → Value → Shape
 sorted_shape names heap (Procedure number) =
     named_shape (shape_of (Procedure number)) (procedure_name names number)
 sorted_shape names heap (ARecord id) = named_shape (shape_of (ARecord id)) (record_name names heap id)
 sorted_shape names heap value = shape_of value
 
+-- the order of sort
 abbrev pub value_cmp : Names → Heap → Value → Value → Ordering
 value_cmp names heap a b = shape_cmp (sorted_shape names heap a) (sorted_shape names heap b)

@@ -48,17 +48,21 @@ pub data Piece : Type 0 where
   Puts : List ℕ → Piece
   Selects : File → Piece
 
+-- a text is put
 abbrev pub texts_piece : Option (List ℕ) → Option Piece
 texts_piece None = None
 texts_piece (Some text) = Some (Puts text)
 
+-- a file selects, and null puts nothing
 abbrev pub piece_by : Value → Option File → Option Piece
 piece_by value (Some file) = Some (Selects file)
 piece_by value None = if is_null value then Some (Puts []) else texts_piece (text_of value)
 
+-- what an argument of `write` does, if it may stand there
 abbrev pub piece_of : Value → Option Piece
 piece_of value = piece_by value (file_of value)
 
+-- nothing is put on the input
 abbrev pub takes_output : Piece → Bool
 takes_output (Puts text) = true
 takes_output (Selects file) = not (is_input file)
@@ -93,16 +97,18 @@ puts_line newline file parts next = do
 abbrev pub last_of : List Value → Value
 last_of values = value_at values (length values - 1)
 
+-- the end of a line
 abbrev pub newline : List ℕ
 newline = 10 ∷ []
 
--- `write(x, ..)`, `writes(x, ..)`
+-- `write(x, ..)`
 abbrev pub write_row : List Value → Row
 write_row args = do
   parts ← pieces args
   puts_line newline Output parts
   gives_value (last_of args)
 
+-- `writes(x, ..)`
 abbrev pub writes_row : List Value → Row
 writes_row args = do
   parts ← pieces args

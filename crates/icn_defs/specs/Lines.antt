@@ -4,6 +4,7 @@ use Rattle.icn_value.specs.Values.{Text, Std, File, Input, Output, Errout, Val}
 use Rattle.icn_value.specs.Store.{Asked, ALine, SomeBytes, with_reading, having_left}
 use Rattle.icn_defs.specs.Rows.{Row, Finds, ◌>>=◌, ◌>>◌, InputLines, suspends, check, passing, here, changes, costs_bytes}
 
+-- whether a file is `&input`
 abbrev pub is_input : File → Bool
 is_input Input = true
 is_input Output = false
@@ -50,6 +51,7 @@ lines_again = do
   line ← next_line
   suspends (Val (Text line)) InputLines
 
+-- `!f`
 abbrev pub lines_row : File → Row
 lines_row file = do
   check (is_input file) 212 (Some (Std file))

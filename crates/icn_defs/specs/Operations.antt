@@ -11,19 +11,21 @@ use Rattle.icn_defs.specs.Arguments.{string, cset, list, set_of}
 
 -- Null and size
 
--- `/x`, `\x`, `.x`
+-- `/x`: x itself where it is null
 abbrev pub is_null_row : Item → Row
 is_null_row x = do
   v ← the_value x
   passing (is_null v)
   gives x
 
+-- `\x`: x itself where it is not null
 abbrev pub is_not_null_row : Item → Row
 is_not_null_row x = do
   v ← the_value x
   passing (not (is_null v))
   gives x
 
+-- `.x`: the value
 abbrev pub dereference_row : Item → Row
 dereference_row x = do
   v ← the_value x
@@ -57,21 +59,27 @@ text_comparison_row test x y = do
   passing (test s t)
   gives_value (Text t)
 
+-- `s << t`
 abbrev pub lexically_less_row : Item → Item → Row
 lexically_less_row x y = text_comparison_row (λ s t. is_lt (slice_cmp nat_cmp s t)) x y
 
+-- `s <<= t`
 abbrev pub lexically_less_or_equal_row : Item → Item → Row
 lexically_less_or_equal_row x y = text_comparison_row (λ s t. is_le (slice_cmp nat_cmp s t)) x y
 
+-- `s == t`
 abbrev pub lexically_equal_row : Item → Item → Row
 lexically_equal_row x y = text_comparison_row (λ s t. is_eq (slice_cmp nat_cmp s t)) x y
 
+-- `s >>= t`
 abbrev pub lexically_greater_or_equal_row : Item → Item → Row
 lexically_greater_or_equal_row x y = text_comparison_row (λ s t. is_ge (slice_cmp nat_cmp s t)) x y
 
+-- `s >> t`
 abbrev pub lexically_greater_row : Item → Item → Row
 lexically_greater_row x y = text_comparison_row (λ s t. is_gt (slice_cmp nat_cmp s t)) x y
 
+-- `s ~== t`
 abbrev pub lexically_not_equal_row : Item → Item → Row
 lexically_not_equal_row x y = text_comparison_row (λ s t. is_ne (slice_cmp nat_cmp s t)) x y
 
@@ -83,9 +91,11 @@ equivalence_row test x y = do
   passing (test (same v w))
   gives_value w
 
+-- `x === y`
 abbrev pub equivalent_row : Item → Item → Row
 equivalent_row x y = equivalence_row (λ b. b) x y
 
+-- `x ~=== y`
 abbrev pub not_equivalent_row : Item → Item → Row
 not_equivalent_row x y = equivalence_row not x y
 
@@ -111,11 +121,13 @@ concatenate_lists_row x y = do
   setting ← here
   gives_list ((list_at setting.world.heap first).items ++ (list_at setting.world.heap second).items)
 
+-- the numbers of two sets, where both are sets
 abbrev pub two_sets : Option ℕ → Option ℕ → Option (ℕ × ℕ)
 two_sets None other = None
 two_sets (Some first) None = None
 two_sets (Some first) (Some second) = Some (first, second)
 
+-- a new set of these members, which are all different
 abbrev pub new_set_of : List Value → Finds Value
 new_set_of items next = do
   costs_cells (1 + length items)
@@ -136,6 +148,7 @@ sets_or_csets on_sets on_bytes v w None = do
   b ← present (cset_of w) 120 (Some w)
   gives_value (Chars (members (λ byte. on_bytes (contains a byte) (contains b byte))))
 
+-- an operation on two sets or two csets
 abbrev pub set_row : (List Value → List Value → List Value) → (Bool → Bool → Bool) → Item → Item → Row
 set_row on_sets on_bytes x y = do
   v ← the_value x
@@ -146,15 +159,18 @@ set_row on_sets on_bytes x y = do
 abbrev pub shared : List Value → List Value → List Value
 shared first second = filter (has_value second) first
 
+-- those that are not in another set
 abbrev pub unshared : List Value → List Value → List Value
 unshared first second = filter (λ value. not (has_value second value)) first
 
--- `x ++ y`, `x -- y`, `x ** y`
+-- `x ++ y`
 abbrev pub union_row : Item → Item → Row
 union_row x y = set_row (λ first second. first ++ unshared second first) ◌||◌ x y
 
+-- `x -- y`
 abbrev pub difference_row : Item → Item → Row
 difference_row x y = set_row unshared (λ a b. a && not b) x y
 
+-- `x ** y`
 abbrev pub intersection_row : Item → Item → Row
 intersection_row x y = set_row shared ◌&&◌ x y

@@ -10,6 +10,7 @@ use Rattle.icn_defs.specs.Rows.{Row, Finds, ◌>>=◌, ◌>>◌, Mover, Neither,
 
 -- Reading
 
+-- what `&subject`, `&pos` and `&random` hold
 abbrev pub keyword_value : Setting → KeywordVariable → Value
 keyword_value setting Subject = Text setting.world.subject
 keyword_value setting Position = Integer (pos setting.world.position)
@@ -74,6 +75,7 @@ the_variable (Var variable) next = next variable
 -- Assigning. Where `&pos` would be out of range it goes on as is said first, which is to fail, and in an
 -- undo error 205.
 
+-- `&subject` wants a string, and sets `&pos` to 1; `&pos` and `&random` want integers
 abbrev pub assigns_keyword : Row → KeywordVariable → Value → Row → Row
 assigns_keyword refused Subject value next = do
   text ← present (text_of value) 103 (Some value)
@@ -107,6 +109,7 @@ stores id key value next = do
   changes_heap (with_table id (record table { pairs = stored same table.pairs key value }))
   next
 
+-- a whole variable gets a value: 205 where a list element is gone
 abbrev pub assigns_root : Row → Root → Value → Row → Row
 assigns_root refused (Global place) value next =
     changes (λ setting. having_globals (slice_set setting.world.globals place value) setting) next
@@ -144,6 +147,7 @@ assigns_or refused (Part root place size) value next = do
   assigns_root refused root (Text (replaced text place size new))
   next (Part root place (length new))
 
+-- a variable gets a value: `x := y`
 abbrev pub assigns : Variable → Value → Finds Variable
 assigns variable value = assigns_or fails variable value
 
@@ -163,11 +167,13 @@ root_number (Field structure place) = 4
 root_number (Key table key) = 5
 root_number (Keyword word) = 6
 
+-- the number of a keyword
 abbrev pub word_number : KeywordVariable → ℕ
 word_number Subject = 0
 word_number Position = 1
 word_number Random = 2
 
+-- the place or the structure of a root
 abbrev pub root_place : Root → ℕ
 root_place (Global place) = place
 root_place (Static place) = place
@@ -177,6 +183,7 @@ root_place (Field structure place) = structure
 root_place (Key table key) = table
 root_place (Keyword word) = word_number word
 
+-- what else tells a root apart: the number of an element, the place of a field, a key
 abbrev pub root_key : Root → Value
 root_key (Global place) = Null
 root_key (Static place) = Null
@@ -186,6 +193,7 @@ root_key (Field structure place) = Integer (pos place)
 root_key (Key table key) = key
 root_key (Keyword word) = Null
 
+-- two roots are one
 abbrev pub same_root : Root → Root → Bool
 same_root a b =
     root_number a == root_number b && (root_place a == root_place b && same (root_key a) (root_key b))
@@ -198,6 +206,7 @@ mover_of (Part root place size) (Part other begin count) =
     if not (same_root root other) then Neither
     else (if nat_lt place begin then Left else (if nat_lt begin place then Right else Neither))
 
+-- the length of a part
 abbrev pub part_length : Variable → ℕ
 part_length (Whole root) = 0
 part_length (Part root place size) = size
@@ -209,11 +218,13 @@ moved old new (Part root place size) next = do
   check (nat_lt old (place + new)) 205 None
   next (Part root (place + new - old) size)
 
+-- the right side, moved by what the left side became
 abbrev pub moved_by_left : Mover → ℕ → ℕ → Variable → Finds Variable
 moved_by_left Neither old new y next = next y
 moved_by_left Left old new y next = moved old new y next
 moved_by_left Right old new y next = next y
 
+-- the left side, moved by what the right side became
 abbrev pub moved_by_right : Mover → ℕ → ℕ → Variable → Finds Variable
 moved_by_right Neither old new x next = next x
 moved_by_right Left old new x next = next x

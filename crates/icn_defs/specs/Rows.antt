@@ -41,6 +41,7 @@ pub data Outcome : Type 0 where
   Error : ℕ → Option Value → Setting → Outcome
   Ends : ℕ → Setting → Outcome
 
+-- a row is a function from a setting to what it comes to in it
 abbrev pub Row : Type 0
 Row = Setting → Outcome
 
@@ -49,30 +50,38 @@ abbrev pub Finds : Type 0 → Type 0
 Finds A = (A → Row) → Row
 
 infixl 10 ◌>>=◌
+-- a thing is found, and the rest of the row goes on with it
 abbrev pub ◌>>=◌ : {A : Type 0} → Finds A → (A → Row) → Row
 find >>= next = find next
 
 infixl 10 ◌>>◌
+-- a check, a charge or a change, and then the rest of the row
 abbrev pub ◌>>◌ : (Row → Row) → Row → Row
 first >> next = first next
 
 -- How a row ends
 
+-- it fails
 abbrev pub fails : Row
 fails setting = Fails setting
 
+-- it gives an item
 abbrev pub gives : Item → Row
 gives item setting = Gives item setting
 
+-- it gives a value
 abbrev pub gives_value : Value → Row
 gives_value value setting = Gives (Val value) setting
 
+-- it gives an item, and may be resumed
 abbrev pub suspends : Item → Residual → Row
 suspends item rest setting = Suspends item rest setting
 
+-- a run-time error, with the value that it is about, if any
 abbrev pub wrong : ℕ → Option Value → Row
 wrong number offending setting = Error number offending setting
 
+-- the program ends with a status
 abbrev pub ends : ℕ → Row
 ends status setting = Ends status setting
 
@@ -116,12 +125,15 @@ natural (negsuc n) value next setting = Error 205 (Some value) setting
 
 -- The setting
 
+-- the setting as it is here
 abbrev pub here : Finds Setting
 here next setting = next setting setting
 
+-- the setting is changed
 abbrev pub changes : (Setting → Setting) → Row → Row
 changes change next setting = next (change setting)
 
+-- the heap is changed
 abbrev pub changes_heap : (Heap → Heap) → Row → Row
 changes_heap change next setting = next (having_heap change setting)
 
@@ -145,6 +157,7 @@ costs_cells count next = do
   changes_heap (λ heap. record heap { cells = heap.cells + count })
   next
 
+-- a text that is made costs its length
 abbrev pub costs_made : Option (List ℕ) → Row → Row
 costs_made None next = next
 costs_made (Some text) next = costs_bytes (length text) next
@@ -173,6 +186,7 @@ new_list_of items next = do
   changes_heap (λ heap. record heap { lists = heap.lists ++ new_list items ∷ [] })
   next (AList (length lists))
 
+-- it gives a new list of these elements
 abbrev pub gives_list : List Value → Row
 gives_list items = do
   list ← new_list_of items

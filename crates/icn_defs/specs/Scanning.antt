@@ -12,6 +12,7 @@ use Rattle.icn_defs.specs.Variables.{places}
 
 -- A text and two positions in it
 
+-- a text, and two positions in it
 pub record Region : Type 0 where
   pub text : List ℕ
   pub first : ℤ
@@ -21,6 +22,7 @@ pub record Region : Type 0 where
 abbrev pub byte_behind : List ℕ → ℕ → ℕ
 byte_behind text place = slice_index text (place - 1)
 
+-- the bytes between two places
 abbrev pub between : List ℕ → ℕ → ℕ → List ℕ
 between text a b = slice_range text (a - 1) (b - 1)
 
@@ -41,6 +43,7 @@ ends_of region = places region.first region.last (length region.text)
 
 -- Tests at the first place
 
+-- it gives a place
 abbrev pub gives_place : ℕ → Row
 gives_place place = gives_value (Integer (pos place))
 
@@ -82,6 +85,7 @@ match_row args = do
 
 -- Searches: each place is given, and the search goes on behind it
 
+-- the next place from this one on at which the text stands
 abbrev pub found_from : List ℕ → List ℕ → ℕ → ℕ → Row
 found_from wanted text place last = do
   place ← found (find (λ place. stands wanted text place last) (range_with_len place (last + 1 - place)))
@@ -96,6 +100,7 @@ find_row args = do
   ends ← ends_of region
   found_from wanted region.text ends.0 ends.1
 
+-- the next place from this one on before a byte of the cset
 abbrev pub among_from : List ℕ → List ℕ → ℕ → ℕ → Row
 among_from bytes text place last = do
   let places = range_with_len place (last - place)
@@ -116,6 +121,7 @@ abbrev pub closed : ℕ → Option ℕ
 closed zero = None
 closed (suc count) = Some count
 
+-- the count behind a byte
 abbrev pub count_behind : List ℕ → List ℕ → ℕ → ℕ → Option ℕ
 count_behind opening closing byte count =
     if contains opening byte then Some (count + 1)
@@ -130,11 +136,13 @@ balanced_place wanted opening closing (byte ∷ bytes) place count =
     else option_and_then (λ later. balanced_place wanted opening closing bytes (place + 1) later)
     (count_behind opening closing byte count)
 
+-- the next place from this one on, with this count there
 abbrev pub balanced_from : List ℕ → List ℕ → List ℕ → List ℕ → ℕ → ℕ → ℕ → Row
 balanced_from wanted opening closing text place last count = do
   place ← found (balanced_place wanted opening closing (between text place last) place count)
   suspends (Val (Integer (pos place))) (Balanced wanted opening closing text place last)
 
+-- resumed, the search goes on behind the byte at its last place, where the count was 0
 abbrev pub balanced_again : List ℕ → List ℕ → List ℕ → List ℕ → ℕ → ℕ → Row
 balanced_again wanted opening closing text place last = do
   count ← found (count_behind opening closing (byte_behind text place) 0)

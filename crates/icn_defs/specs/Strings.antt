@@ -11,9 +11,11 @@ use Rattle.icn_defs.specs.Rows.{Row, ◌>>=◌, ◌>>◌, Sequence, gives_value,
 use Rattle.icn_defs.specs.Arguments.{arg, arg_or, number, integer, string, cset}
 use Rattle.icn_defs.specs.Images.{image, type_name, ucase, lcase}
 
+-- it gives an integer
 abbrev pub gives_integer : ℤ → Row
 gives_integer n = gives_value (Integer n)
 
+-- the integer 1
 abbrev pub one : Value
 one = Integer (pos 1)
 
@@ -33,12 +35,15 @@ bits_row operation args = do
   n ← integer (arg args 1)
   gives_integer (operation m n)
 
+-- `iand(i, j)`
 abbrev pub iand_row : List Value → Row
 iand_row args = bits_row (int_bit_and w64) args
 
+-- `ior(i, j)`
 abbrev pub ior_row : List Value → Row
 ior_row args = bits_row (int_bit_or w64) args
 
+-- `ixor(i, j)`
 abbrev pub ixor_row : List Value → Row
 ixor_row args = bits_row (int_bit_xor w64) args
 
@@ -61,6 +66,7 @@ ishift_row args = do
   n ← integer (arg args 1)
   gives_integer (shifted m n)
 
+-- the next integer of a sequence, which has no end
 abbrev pub sequence_from : ℤ → ℤ → Row
 sequence_from n step = suspends (Val (Integer n)) (Sequence n step)
 
@@ -72,6 +78,7 @@ seq_row args = do
   check (not (int_eq step (pos 0))) 211 None
   sequence_from first step
 
+-- resumed, the sequence goes on: 203 past 64 bits
 abbrev pub sequence_again : ℤ → ℤ → Row
 sequence_again n step = do
   later ← computed (sum n step)
@@ -134,9 +141,11 @@ abbrev pub filling : List ℕ → List ℕ
 filling [] = 32 ∷ []
 filling (byte ∷ bytes) = byte ∷ bytes
 
+-- aligned at the left end
 abbrev pub filled_left : List ℕ → ℕ → List ℕ
 filled_left fill count = take count (concat (replicate count (filling fill)))
 
+-- aligned at the right end
 abbrev pub filled_right : List ℕ → ℕ → List ℕ
 filled_right fill count =
     let text = concat (replicate count (filling fill)) in drop (length text - count) text
@@ -145,15 +154,18 @@ filled_right fill count =
 abbrev pub left_text : List ℕ → ℕ → List ℕ → List ℕ
 left_text text width fill = take width text ++ filled_right fill (width - length text)
 
+-- at the right end of the field
 abbrev pub right_text : List ℕ → ℕ → List ℕ → List ℕ
 right_text text width fill = filled_left fill (width - length text) ++ drop (length text - width) text
 
+-- in the middle of the field
 abbrev pub center_text : List ℕ → ℕ → List ℕ → List ℕ
 center_text text width fill =
     let missing = width - length text in
     filled_left fill (missing / 2) ++ (take width (drop ((length text - width + 1) / 2) text)
     ++ filled_right fill (missing - missing / 2))
 
+-- a text in a field: 205 where its width is below 0
 abbrev pub field_row : (List ℕ → ℕ → List ℕ → List ℕ) → List Value → Row
 field_row laid_out args = do
   text ← string (arg args 0)
@@ -163,13 +175,15 @@ field_row laid_out args = do
   costs_texts (arg args 0 ∷ arg args 2 ∷ [])
   builds (laid_out text width fill)
 
--- `left(s, i, s2)`, `right(s, i, s2)`, `center(s, i, s2)`
+-- `left(s, i, s2)`
 abbrev pub left_row : List Value → Row
 left_row args = field_row left_text args
 
+-- `right(s, i, s2)`
 abbrev pub right_row : List Value → Row
 right_row args = field_row right_text args
 
+-- `center(s, i, s2)`
 abbrev pub center_row : List Value → Row
 center_row args = field_row center_text args
 

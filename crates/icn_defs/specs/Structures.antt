@@ -15,6 +15,7 @@ use Rattle.icn_defs.specs.Images.{value_cmp}
 
 -- New tables and records
 
+-- a new table with this default and these pairs
 abbrev pub new_table_of : Table → Finds Value
 new_table_of table next = do
   costs_cells (1 + length table.pairs)
@@ -23,6 +24,7 @@ new_table_of table next = do
   changes_heap (λ heap. record heap { tables = heap.tables ++ table ∷ [] })
   next (ATable (length tables))
 
+-- a new record of this type with these fields
 abbrev pub new_record_of : Record → Finds Value
 new_record_of structure next = do
   costs_cells (1 + length structure.fields)
@@ -53,6 +55,7 @@ copy_of v (Filed file) = gives_value v
 copy_of v (Activated id) = gives_value v
 copy_of v Single = gives_value v
 
+-- `copy(x)`
 abbrev pub copy_row : List Value → Row
 copy_row args = copy_of (arg args 0) (group_of (arg args 0))
 
@@ -68,10 +71,11 @@ takes_from taken rest args = do
   changes_heap (with_list id (rest elements))
   gives_value value
 
--- `get(L)` and `pop(L)`, `pull(L)`
+-- `get(L)` and `pop(L)`
 abbrev pub get_row : List Value → Row
 get_row args = takes_from leftmost without_left args
 
+-- `pull(L)`
 abbrev pub pull_row : List Value → Row
 pull_row args = takes_from rightmost without_right args
 
@@ -80,6 +84,7 @@ abbrev pub or_null : List Value → List Value
 or_null [] = Null ∷ []
 or_null (value ∷ values) = value ∷ values
 
+-- elements are added at an end, one after the other
 abbrev pub adds_to : (Numbered Value → Value → Numbered Value) → List Value → Row
 adds_to grown args = do
   id ← list (arg args 0)
@@ -89,10 +94,11 @@ adds_to grown args = do
   changes_heap (with_list id (fold grown (list_at setting.world.heap id) added))
   gives_value (AList id)
 
--- `push(L, x, ..)`, `put(L, x, ..)`
+-- `push(L, x, ..)`
 abbrev pub push_row : List Value → Row
 push_row args = adds_to with_left args
 
+-- `put(L, x, ..)`
 abbrev pub put_row : List Value → Row
 put_row args = adds_to with_right args
 
@@ -105,6 +111,7 @@ list_row args = do
 
 -- Sets and tables
 
+-- a set of the elements of a list, or an empty one of null
 abbrev pub new_set_by : Value → Option ℕ → Row
 new_set_by value (Some id) = do
   setting ← here
@@ -125,6 +132,7 @@ table_row args = do
   table ← new_table_of (record { default = arg args 0; pairs = [] })
   gives_value table
 
+-- a member, or a key with its value, is put in
 abbrev pub inserts : Keeper → Value → Value → Row → Row
 inserts (SetKeeper id) key value next = do
   setting ← here
@@ -141,6 +149,7 @@ insert_row args = do
   inserts kept (arg args 1) (arg args 2)
   gives_value (arg args 0)
 
+-- a member, or a key with its value, is taken out
 abbrev pub without_key : Keeper → Value → Heap → Heap
 without_key (SetKeeper id) key heap =
     with_set id (filter (λ member. not (same key member)) (set_at heap id)) heap
@@ -155,6 +164,7 @@ delete_row args = do
   changes_heap (without_key kept (arg args 1))
   gives_value (arg args 0)
 
+-- whether a member or a key is there
 abbrev pub has_key : Heap → Keeper → Value → Bool
 has_key heap (SetKeeper id) key = has_value (set_at heap id) key
 has_key heap (TableKeeper id) key = is_some (value_of same (table_at heap id).pairs key)
@@ -194,14 +204,17 @@ pair_lists (pair ∷ pairs) next = do
 abbrev pub key_cmp : Names → Heap → Value × Value → Value × Value → Ordering
 key_cmp names heap a b = value_cmp names heap a.0 b.0
 
+-- by value, and of equal values by key
 abbrev pub entry_cmp : Names → Heap → Value × Value → Value × Value → Ordering
 entry_cmp names heap a b = ordering_then (value_cmp names heap a.1 b.1) (value_cmp names heap a.0 b.0)
 
+-- a list of lists of two
 abbrev pub gives_pair_lists : List (Value × Value) → Row
 gives_pair_lists pairs = do
   lists ← pair_lists pairs
   gives_list lists
 
+-- one list of keys and values in turn
 abbrev pub gives_pairs : List (Value × Value) → Row
 gives_pairs pairs = gives_list (flat_map (λ (pair : Value × Value). pair.0 ∷ pair.1 ∷ []) pairs)
 
@@ -216,6 +229,7 @@ table_sorted names heap pairs (pos (suc (suc (suc (suc zero))))) chosen =
     gives_pairs (sorted (entry_cmp names heap) pairs)
 table_sorted names heap pairs n chosen = wrong 205 (Some chosen)
 
+-- a sorted list of what a structure holds: 115 for other values
 abbrev pub sorted_of : Names → Value → ℤ → Value → Group → Row
 sorted_of names v n chosen (Listed id) = do
   setting ← here

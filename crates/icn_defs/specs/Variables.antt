@@ -39,6 +39,7 @@ reversible_assign_row x y = do
   now ← assigns target v
   suspends (Var now) (UndoAssign now old)
 
+-- the undo of `x <- y`
 abbrev pub undo_assign_again : Variable → Value → Row
 undo_assign_again variable old = do
   undoes variable old
@@ -54,6 +55,7 @@ reversible_swap_row x y = do
   now ← exchanges left right v w
   suspends (Var now.0) (UndoExchange (mover_of left right) now.0 now.1 v w)
 
+-- the undo of `x <-> y`
 abbrev pub undo_exchange_again : Mover → Variable → Variable → Value → Value → Row
 undo_exchange_again mover x y old_x old_y = do
   undoes_exchange mover x y old_x old_y
@@ -68,6 +70,7 @@ element_place n size next = do
   passing (nat_le place size)
   next place
 
+-- the element, the field, the byte or the value at a key: 114 for other values
 abbrev pub subscript_of : Item → Value → Value → Group → Row
 subscript_of x v w (Textual text) = do
   n ← integer w
@@ -119,6 +122,7 @@ positions second u w next = do
   end ← computed (second m n)
   next (m, end)
 
+-- the bytes or elements between two positions: 110 for other values
 abbrev pub section_of : (ℤ → ℤ → Result ℤ Arith) → Item → Value → Value → Value → Group → Row
 section_of second x v u w (Textual text) = do
   range ← positions second u w
@@ -146,11 +150,14 @@ section_by second x y z = do
   w ← the_value z
   section_of second x v u w (group_of v)
 
+-- `x[i:j]`
 abbrev pub section_row : Item → Item → Item → Row
 section_row x y z = section_by (λ m n. Ok n) x y z
 
+-- `x[i+:j]`
 abbrev pub section_plus_row : Item → Item → Item → Row
 section_plus_row x y z = section_by sum x y z
 
+-- `x[i-:j]`
 abbrev pub section_minus_row : Item → Item → Item → Row
 section_minus_row x y z = section_by difference x y z
