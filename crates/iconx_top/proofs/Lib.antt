@@ -5,3 +5,4 @@ pub mod Refused
 pub mod Reported
 pub mod Deciding
 pub mod Answering
+pub mod Existing

@@ -1,5 +1,5 @@
 -- What the words, the files and the input ask for.
-use Rattle.std.specs.Prelude.{◌≡◌, ℕ, List, [], None, Some, Ok, Err}
+use Rattle.std.specs.Prelude.{◌≡◌, ◌<◌, ℕ, All, List, [], None, Some, Ok, Err}
 use Rattle.icn_host.specs.FileMaps.{FileMap}
 use Rattle.icn_tree.specs.declared.rule.Rule.{Rule}
 use Rattle.icn_value.specs.Limited.{Bounds}
@@ -43,3 +43,7 @@ pub data IsJob (words : List (List ℕ)) (files : FileMap) (left : List ℕ) : J
   bad : (bounds : Bounds) (name bytes : List ℕ) (arguments : List (List ℕ)) (rule : Rule) → asked words ≡ Asks bounds name arguments → files name ≡ Some bytes → IsJudged bytes (Err rule)
       → IsJob words files left (refusal files left name (BadImage rule))
   ran : (run : Run) (observed : Observed) → IsRun words files left run → Observes run observed → IsJob words files left (observation files observed)
+
+-- the files hold bytes
+abbrev pub HoldBytes : FileMap → Type 0
+HoldBytes files = (name bytes : List ℕ) → files name ≡ Some bytes → All (λ byte. byte < 256) bytes

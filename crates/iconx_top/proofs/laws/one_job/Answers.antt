@@ -1,4 +1,5 @@
 use Rattle.iconx_top.proofs.Deciding.{one_job, no_fault_asked}
+use Rattle.iconx_top.proofs.Existing.{a_job}
 use Rattle.iconx_top.proofs.laws.one_job.Goals as goal
 
 pub returns-clause-one : goal.returns-clause-one
@@ -6,3 +7,6 @@ returns-clause-one c = one_job c.one_fault.ensures.one_fault c.one_fault.ensures
 
 pub returns-clause-faultless : goal.returns-clause-faultless
 returns-clause-faultless c = no_fault_asked
+
+pub returns-clause-some : goal.returns-clause-some
+returns-clause-some c = a_job c.one_spelling.ensures.spelled c.one_fault.ensures.judged c.one_fault.ensures.shapes c.runs_end.ensures c.never_stuck.ensures
