@@ -85,7 +85,16 @@ variables_hold = (
                                                                             record { saw = refl; facts = refl },
                                                                             (
                                                                               record { saw = refl; facts = refl },
-                                                                              tt,
+                                                                              (
+                                                                                record { saw = refl; facts = refl },
+                                                                                (
+                                                                                  record { saw = refl; facts = refl },
+                                                                                  (
+                                                                                    record { saw = refl; facts = refl },
+                                                                                    tt,
+                                                                                  ),
+                                                                                ),
+                                                                              ),
                                                                             ),
                                                                           ),
                                                                         ),

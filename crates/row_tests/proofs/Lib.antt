@@ -6,3 +6,4 @@ pub mod StructuredHold
 pub mod AssignedHold
 pub mod OutsideHold
 pub mod LimitedHold
+pub mod ReportedHold

@@ -92,6 +92,13 @@ variables =
     (Gave (local_part 0 1 2) (costs 11 0 (text_local (codes "lleho") plain)) ∷ []) ∷
     case (op O.Swap (local_part 0 3 2 ∷ local_part 0 1 1 ∷ []))
     (Gave (local_part 0 4 1) (costs 9 0 (text_local (codes "lleho") plain)) ∷ []) ∷
+    -- parts that overlap: the second is written over the first
+    case (op O.Swap (local_part 0 1 3 ∷ local_part 0 2 3 ∷ []))
+    (Gave (local_part 0 1 3) (costs 10 0 (text_local (codes "ehelo") plain)) ∷ []) ∷
+    case (op O.Swap (local_part 0 1 4 ∷ local_part 0 4 2 ∷ []))
+    (Gave (local_part 0 1 2) (costs 8 0 (text_local (codes "lhell") plain)) ∷ []) ∷
+    -- a part that would move below 1, and what was assigned by then
+    case (op O.Swap (local_part 0 1 5 ∷ local_part 0 2 1 ∷ [])) (Stopped 205 None (costs 1 0 (text_local (codes "e") plain)) ∷ []) ∷
     -- x <- y and x <-> y, and what they take back
     case (op O.ReversibleAssign (local 1 ∷ int 2 ∷ []))
     (Suspended (local 1) (holding (Text (codes "hello") ∷ num 2 ∷ Null ∷ []) plain) ∷ fails) ∷

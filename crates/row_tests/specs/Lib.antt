@@ -7,3 +7,4 @@ pub mod Structured
 pub mod Assigned
 pub mod Outside
 pub mod Limited
+pub mod Reported

@@ -4,5 +4,6 @@
 mod table;
 
 pub use table::{
-    arithmetic, comparisons, input_and_output, limits, scanning, structures, texts, variables,
+    arithmetic, comparisons, input_and_output, limits, reports, scanning, structures, texts,
+    variables, words,
 };

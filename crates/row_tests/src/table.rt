@@ -6,6 +6,7 @@ ghost use Rattle.row_tests.specs.Compared.{comparisons};
 ghost use Rattle.row_tests.specs.Limited.{limits};
 ghost use Rattle.row_tests.specs.Numbers.{arithmetic};
 ghost use Rattle.row_tests.specs.Outside.{input_and_output};
+ghost use Rattle.row_tests.specs.Reported.{IsGiven, IsReported, reports, words};
 ghost use Rattle.row_tests.specs.Scanned.{scanning};
 ghost use Rattle.row_tests.specs.Structured.{structures};
 ghost use Rattle.row_tests.specs.Texts.{texts};
@@ -48,4 +49,14 @@ pub fn input_and_output()
 /// Each case that comes to a limit does.
 pub fn limits()
     ensures { AllByRecursion Holds limits }
+{}
+
+/// Each run-time error has the report that stands beside it.
+pub fn reports()
+    ensures { AllByRecursion IsReported reports }
+{}
+
+/// Each keyword gives what stands beside it.
+pub fn words()
+    ensures { AllByRecursion IsGiven words }
 {}
