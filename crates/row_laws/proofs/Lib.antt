@@ -3,3 +3,4 @@ pub mod Numbers
 pub mod InOrder
 pub mod Undone
 pub mod Charging
+pub mod Growing

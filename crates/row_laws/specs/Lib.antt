@@ -1,2 +1,3 @@
 pub mod Results
 pub mod Unchanged
+pub mod Growths

@@ -2,11 +2,13 @@
 #![tactic(auto)]
 
 mod errors;
+mod growth;
 mod undoing;
 mod values;
 mod walks;
 
 pub use errors::errors_change_nothing;
+pub use growth::nothing_is_given_back;
 pub use undoing::undoing_gives_back;
 pub use values::{
     equivalence_is_equality, integers_survive_texts, positions_are_places, sorting_is_total,
