@@ -19,7 +19,13 @@ behind p next e (I.Goto l) h = omega arith
 behind p next e (I.Init l) h = omega arith
 behind p next e _ h = tt
 
-module _ {K M : Type 0} (C : Calls K M) (N : ℕ) (W : Weighs C N) (P : Program) (B : ℕ) (code : Forward N P) where
+-- what a run keeps from state to state, and where it goes forward
+pub record GoesForward {K M : Type 0} (C : Calls K M) (N : ℕ) (P : Program) (Kept : State K M → Type 0) : Type 0 where
+  pub on : (s : State K M) → Kept s → Kept (step C P s)
+  pub within : (m : M) (st : Store K) → Kept (running m st) → (instr : Instr) → instruction_at C P m ≡ Some instr → C.place m < N
+  pub forward : (m : M) (st : Store K) → Kept (running m st) → (instr : Instr) → instruction_at C P m ≡ Some instr → IsForward (C.place m) instr
+
+module _ {K M : Type 0} (C : Calls K M) (N : ℕ) (W : Weighs C N) (P : Program) (B : ℕ) (Kept : State K M → Type 0) (code : GoesForward C N P Kept) where
   -- what is left in a state, and the turns that it made
   abbrev left : (s : State K M) → Sound C N B W s → ℕ
   left (running m st) h = worth N (C.place m) + h.0.0
@@ -34,65 +40,65 @@ module _ {K M : Type 0} (C : Calls K M) (N : ℕ) (W : Weighs C N) (P : Program)
   turns_of (hopping m st) = st.turns
   turns_of _ = 0
 
-  at_instruction : (m : M) (st : Store K) (o : Option Instr) → slice_get (instrs_of P (C.proc m)) (C.place m) ≡ o → (f : Fits C N B W m) → Held C N B W st → (few : st.turns ≤ B)
+  at_instruction : (m : M) (st : Store K) (o : Option Instr) → instruction_at C P m ≡ o → Kept (running m st) → (f : Fits C N B W m) → Held C N B W st → (few : st.turns ≤ B)
       → Later C N B W st.turns (worth N (C.place m) + f.0) (with_found o (λ instr. instruction C P instr (C.go (suc (C.place m)) m) st))
-  at_instruction m st None q f g few = tt
-  at_instruction m st (Some i) q f g few =
+  at_instruction m st None q kept f g few = tt
+  at_instruction m st (Some i) q kept f g few =
       let p = C.place m in let stands = W.go_stands (suc p) m in
       let e : worth N (C.place (C.go (suc p) m)) ≡ worth N (suc p) = ap (worth N) stands in
-      let y = worth_next N p (code.within (C.proc m) p i q) in
+      let y = worth_next N p (code.within m st kept i q) in
       l_instruction C N W P B st.turns (worth N p + f.0) few (C.go (suc p) m) (f.0, W.go (suc p) m f.0 f.1) (omega arith) i st
-      (behind p (C.place (C.go (suc p) m)) stands i (code.forward (C.proc m) p i q)) (record { fit = g; turns = refl })
+      (behind p (C.place (C.go (suc p) m)) stands i (code.forward m st kept i q)) (record { fit = g; turns = refl })
 
   -- a step is a turn, or what is left becomes less
-  pub falls : (s : State K M) (h : Sound C N B W s) → Later C N B W (turns_of s) (left s h) (step C P s)
-  falls (running m st) h = at_instruction m st (instruction_at C P m) refl h.0 h.1 h.2
-  falls (failing m st) h = f_fails C N W P B st.turns h.0.0 h.2 m h.0 (omega arith) st (record { fit = h.1; turns = refl })
-  falls (hopping m st) h = turned C N W P B st.turns 0 h.1 st (λ st. passed_failure C (activator_of st.active st) m st) (record { fit = h.0; turns = refl }) (a_to_activator C N W P B st.turns m (TurnOf C N W P B st.turns 0 h.1 st) (h.0, omega arith))
-  falls (over ending outside) h = tt
-  falls stuck h = tt
+  pub falls : (s : State K M) (h : Sound C N B W s) → Kept s → Later C N B W (turns_of s) (left s h) (step C P s)
+  falls (running m st) h kept = at_instruction m st (instruction_at C P m) refl kept h.0 h.1 h.2
+  falls (failing m st) h kept = f_fails C N W P B st.turns h.0.0 h.2 m h.0 (omega arith) st (record { fit = h.1; turns = refl })
+  falls (hopping m st) h kept = turned C N W P B st.turns 0 h.1 st (λ st. passed_failure C (activator_of st.active st) m st) (record { fit = h.0; turns = refl }) (a_to_activator C N W P B st.turns m (TurnOf C N W P B st.turns 0 h.1 st) (h.0, omega arith))
+  falls (over ending outside) h kept = tt
+  falls stuck h kept = tt
 
   one_step : (s : State K M) → EndsFrom C P (step C P s) → EndsFrom C P s
   one_step s e = record { count = suc e.count; is_end = e.is_end }
 
   -- with k turns left, and less than w left to do before the next
   abbrev Ends : ℕ → ℕ → Type 0
-  Ends k w = (s : State K M) (h : Sound C N B W s) → turns_of s + k ≡ B → left s h < w → EndsFrom C P s
+  Ends k w = (s : State K M) (h : Sound C N B W s) → Kept s → turns_of s + k ≡ B → left s h < w → EndsFrom C P s
 
-  on_falls : (k w n : ℕ) → ((j : ℕ) → suc j ≡ k → (v : ℕ) → Ends j v) → Ends k w → (t : State K M) (h : Sound C N B W t) → n + k ≡ B → (v : ℕ) → v ≤ w → Falls C N B W (turns_of t) (left t h) n v → EndsFrom C P t
-  on_falls k w n fewer lighter t h e v le (inl turn) = let a = turn.0 in let b = turn.1 in fewer (k - 1) (omega arith) (suc (left t h)) t h (omega arith) (omega arith)
-  on_falls k w n fewer lighter t h e v le (inr less) = let a = less.0 in let b = less.1 in lighter t h (omega arith) (omega arith)
+  on_falls : (k w n : ℕ) → ((j : ℕ) → suc j ≡ k → (v : ℕ) → Ends j v) → Ends k w → (t : State K M) (h : Sound C N B W t) → Kept t → n + k ≡ B → (v : ℕ) → v ≤ w → Falls C N B W (turns_of t) (left t h) n v → EndsFrom C P t
+  on_falls k w n fewer lighter t h kept e v le (inl turn) = let a = turn.0 in let b = turn.1 in fewer (k - 1) (omega arith) (suc (left t h)) t h kept (omega arith) (omega arith)
+  on_falls k w n fewer lighter t h kept e v le (inr less) = let a = less.0 in let b = less.1 in lighter t h kept (omega arith) (omega arith)
 
-  on_next : (k w n v : ℕ) → ((j : ℕ) → suc j ≡ k → (v : ℕ) → Ends j v) → Ends k w → n + k ≡ B → v ≤ w → (t : State K M) → Later C N B W n v t → EndsFrom C P t
-  on_next k w n v fewer lighter e le (running m st) l = on_falls k w n fewer lighter (running m st) (l.0, l.1, few l.2) e v le l.2
+  on_next : (k w n v : ℕ) → ((j : ℕ) → suc j ≡ k → (v : ℕ) → Ends j v) → Ends k w → n + k ≡ B → v ≤ w → (t : State K M) → Kept t → Later C N B W n v t → EndsFrom C P t
+  on_next k w n v fewer lighter e le (running m st) kept l = on_falls k w n fewer lighter (running m st) (l.0, l.1, few l.2) kept e v le l.2
     where
       few : Falls C N B W st.turns (worth N (C.place m) + l.0.0) n v → st.turns ≤ B
       few (inl turn) = let a = turn.0 in let b = turn.1 in omega arith
       few (inr less) = let a = less.0 in omega arith
-  on_next k w n v fewer lighter e le (failing m st) l = on_falls k w n fewer lighter (failing m st) (l.0, l.1, few l.2) e v le l.2
+  on_next k w n v fewer lighter e le (failing m st) kept l = on_falls k w n fewer lighter (failing m st) (l.0, l.1, few l.2) kept e v le l.2
     where
       few : Falls C N B W st.turns l.0.0 n v → st.turns ≤ B
       few (inl turn) = let a = turn.0 in let b = turn.1 in omega arith
       few (inr less) = let a = less.0 in omega arith
-  on_next k w n v fewer lighter e le (hopping m st) l = let a = l.1.0 in let b = l.1.1 in on_falls k w n fewer lighter (hopping m st) (l.0, omega arith) e v le (inl l.1)
-  on_next k w n v fewer lighter e le (over ending outside) l = record { count = 0; is_end = tt }
-  on_next k w n v fewer lighter e le stuck l = record { count = 0; is_end = tt }
+  on_next k w n v fewer lighter e le (hopping m st) kept l = let a = l.1.0 in let b = l.1.1 in on_falls k w n fewer lighter (hopping m st) (l.0, omega arith) kept e v le (inl l.1)
+  on_next k w n v fewer lighter e le (over ending outside) kept l = record { count = 0; is_end = tt }
+  on_next k w n v fewer lighter e le stuck kept l = record { count = 0; is_end = tt }
 
   by_weight : (k : ℕ) → ((j : ℕ) → suc j ≡ k → (v : ℕ) → Ends j v) → (w : ℕ) → Ends k w
-  by_weight k fewer zero s h e lt = absurd (omega arith)
-  by_weight k fewer (suc w) s h e lt = one_step s (on_next k w (turns_of s) (left s h) fewer (by_weight k fewer w) e (omega arith) (step C P s) (falls s h))
+  by_weight k fewer zero s h kept e lt = absurd (omega arith)
+  by_weight k fewer (suc w) s h kept e lt = one_step s (on_next k w (turns_of s) (left s h) fewer (by_weight k fewer w) e (omega arith) (step C P s) (code.on s kept) (falls s h kept))
 
   by_turns : (k w : ℕ) → Ends k w
   by_turns zero w = by_weight zero (λ j q. absurd (omega arith)) w
-  by_turns (suc k) w = by_weight (suc k) (λ j q v s h e lt. by_turns k v s h (omega arith) lt) w
+  by_turns (suc k) w = by_weight (suc k) (λ j q v s h kept e lt. by_turns k v s h kept (omega arith) lt) w
 
   -- from each sound state on the run ends, by its bound at the latest
-  pub run_ends : (s : State K M) → Sound C N B W s → EndsFrom C P s
-  run_ends (running m st) h = let few = h.2 in by_turns (B - st.turns) (suc (left (running m st) h)) (running m st) h (omega arith) (omega arith)
-  run_ends (failing m st) h = let few = h.2 in by_turns (B - st.turns) (suc (left (failing m st) h)) (failing m st) h (omega arith) (omega arith)
-  run_ends (hopping m st) h = let few = h.1 in by_turns (B - st.turns) 1 (hopping m st) h (omega arith) (omega arith)
-  run_ends (over ending outside) h = record { count = 0; is_end = tt }
-  run_ends stuck h = record { count = 0; is_end = tt }
+  pub run_ends : (s : State K M) → Sound C N B W s → Kept s → EndsFrom C P s
+  run_ends (running m st) h kept = let few = h.2 in by_turns (B - st.turns) (suc (left (running m st) h)) (running m st) h kept (omega arith) (omega arith)
+  run_ends (failing m st) h kept = let few = h.2 in by_turns (B - st.turns) (suc (left (failing m st) h)) (failing m st) h kept (omega arith) (omega arith)
+  run_ends (hopping m st) h kept = let few = h.1 in by_turns (B - st.turns) 1 (hopping m st) h kept (omega arith) (omega arith)
+  run_ends (over ending outside) h kept = record { count = 0; is_end = tt }
+  run_ends stuck h kept = record { count = 0; is_end = tt }
 
   -- the start is sound
 
@@ -126,5 +132,13 @@ module _ {K M : Type 0} (C : Calls K M) (N : ℕ) (W : Weighs C N) (P : Program)
       (λ v a st' h'. s_begun (nat_le 1 st'.world.heap.bounds.levels) main entry (v ∷ []) a st' h'))
 
   -- each run ends
-  pub ends : (m : M) (launch : Launch) → launch.bounds.turns ≡ B → EndsFrom C P (start C m P launch)
-  ends m launch e = run_ends (start C m P launch) (s_start launch.words m (first_store P launch) (main_of P) (((tt, tt), e), omega arith))
+  pub ends_by : (m : M) (launch : Launch) → launch.bounds.turns ≡ B → Kept (start C m P launch) → EndsFrom C P (start C m P launch)
+  ends_by m launch e kept = run_ends (start C m P launch) (s_start launch.words m (first_store P launch) (main_of P) (((tt, tt), e), omega arith)) kept
+
+-- where all labels go forward, nothing needs to be kept
+pub ends : {K M : Type 0} (C : Calls K M) (N : ℕ) (W : Weighs C N) (P : Program) (B : ℕ) → Forward N P → (m : M) (launch : Launch) → launch.bounds.turns ≡ B → EndsFrom C P (start C m P launch)
+ends C N W P B code m launch e = ends_by C N W P B (λ s. Unit {0}) (record {
+  on = λ s kept. tt;
+  within = λ m st kept i q. code.within (C.proc m) (C.place m) i q;
+  forward = λ m st kept i q. code.forward (C.proc m) (C.place m) i q;
+}) m launch e tt

@@ -8,3 +8,6 @@ pub mod Hops
 pub mod Instructions
 pub mod TablesKept
 pub mod NoStuck
+pub mod RowValues
+pub mod RowsWithin
+pub mod Ended

@@ -62,7 +62,7 @@ module _ (P : Program) (sh : ℕ → ℕ → Option PlainShape) (given : Shaped 
   abbrev Good : St P sh given keep → Type 0
   Good state = Ok P sh given keep state
 
-  step_ok : (s : St P sh given keep) → Good s → Good (step M P s)
+  pub step_ok : (s : St P sh given keep) → Good s → Good (step M P s)
   step_ok (running m st) h =
       let fine : IsFine (instrs_of P h.1) (sh h.1) m.place h.2 = given.fine h.1 m.place h.2 h.4 in
       let next : Linked = M.go (suc (M.place m)) m in

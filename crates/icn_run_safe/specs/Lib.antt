@@ -1,3 +1,4 @@
 pub mod Within
 pub mod Shaped
 pub mod NoStuck
+pub mod Ended

@@ -4,12 +4,25 @@
 ghost use Rattle.std.specs.Prelude.{◌≡◌, true};
 ghost use Rattle.icn_code.specs.Codes.{Tables};
 ghost use Rattle.icn_code.specs.Rules.{keeps_rules};
+ghost use Rattle.icn_verify.specs.Faults.{IsVerified};
 ghost use Rattle.icn_verify.specs.Given.{HaveShapes};
 ghost use Rattle.icn_run_safe.specs.Within.{RowsStayWithin};
+ghost use Rattle.icn_run_safe.specs.Ended.{AreOver};
 ghost use Rattle.icn_run_safe.specs.NoStuck.{IsNeverStuck};
 
-/// No run of a code whose places have shapes and whose tables keep their rules lacks what an instruction needs, where rows make no value that names a
-/// co-expression that is not there.
+/// No run of verified code lacks what an instruction needs.
 pub fn never_stuck()
-    ensures by_rows { (tables : Tables) → keeps_rules tables ≡ true → HaveShapes tables → RowsStayWithin → IsNeverStuck tables }
+    ensures verified { (tables : Tables) → keeps_rules tables ≡ true → IsVerified tables → IsNeverStuck tables }
+    ensures shaped { (tables : Tables) → keeps_rules tables ≡ true → HaveShapes tables → IsNeverStuck tables }
+{}
+
+/// Where what a row is given names no co-expression but those that are there, nor does what it leaves and gives.
+pub fn rows_stay()
+    ensures within { RowsStayWithin }
+{}
+
+/// Each run of verified code is over at some time, by its bound on turns at the latest.
+pub fn runs_end()
+    ensures verified { (tables : Tables) → keeps_rules tables ≡ true → IsVerified tables → AreOver tables }
+    ensures shaped { (tables : Tables) → keeps_rules tables ≡ true → HaveShapes tables → AreOver tables }
 {}

@@ -12,4 +12,4 @@ mod Tables
 mod Bounding
 mod Checking
 mod Lawful
-mod Deciding
+pub mod Deciding

@@ -1,6 +1,11 @@
+use Rattle.icn_verify.proofs.Deciding.{shapes_given}
 use Rattle.icn_run_safe.proofs.NoStuck.{never_stuck}
 use Rattle.icn_run_safe.proofs.TablesKept.{tables_ok}
+use Rattle.icn_run_safe.proofs.RowsWithin.{rows_stay_within}
 use Rattle.icn_run_safe.proofs.never_stuck.Goals as goal
 
-pub returns : goal.returns
-returns c = record { by_rows = λ tables rules have keep. never_stuck tables have (tables_ok tables rules) keep }
+pub returns-clause-shaped : goal.returns-clause-shaped
+returns-clause-shaped c = λ tables rules have. never_stuck tables have (tables_ok tables rules) rows_stay_within
+
+pub returns-clause-verified : goal.returns-clause-verified
+returns-clause-verified c = λ tables rules verified. never_stuck tables (shapes_given tables rules verified) (tables_ok tables rules) rows_stay_within

@@ -1,0 +1,321 @@
+-- Lists, structures and settings whose values name no co-expression but one that is there.
+use Rattle.std.proofs.Common.{◌≡◌, ℕ, zero, suc, Bool, true, false, List, [], ◌∷◌, ◌++◌, length, Option, Some, None, refl, sym, subst, if◌then◌else◌}
+use Rattle.std.specs.Prelude.{◌+◌, ◌-◌, ◌&&◌, ℤ, pos, negsuc, slice_get, slice_set, slice_range, unwrap_or, take, drop, filter, fold, replicate, flat_map, not, cond}
+use Rattle.std.specs.declared.cmp.Ordering.{Ordering}
+use Rattle.std.specs.Ordering.{is_lt}
+use Rattle.icn_structs.specs.Numbered.{Numbered, item_at, items_with, after_first, with_left, with_right}
+use Rattle.icn_structs.specs.PairLists.{value_of, stored, without}
+use Rattle.icn_value.specs.Values.{Value, Null, Integer, Text, Chars, Std, Procedure, ARecord, AList, ASet, ATable, ACoexp, File, Root, Global, Static, Local, Element, Field, Key, Keyword, KeywordVariable, Variable, Whole, Part, Item, Val, Var}
+use Rattle.icn_value.specs.Store.{Table, Record, Heap, World, Setting, new_list, list_at, set_at, table_at, record_at, value_at}
+use Rattle.icn_defs.specs.Conversions.{same, has_value, with_member, sorted_in, sorted_onto, sorted}
+use Rattle.icn_defs.specs.Rows.{Row, Outcome, Residual}
+use Rattle.icn_defs.specs.Elements.{part_of}
+use Rattle.icn_defs.specs.Structures.{or_null}
+use Rattle.icn_run_laws.proofs.Lists.{some_inj, no_some}
+use Rattle.icn_run_safe.specs.Within.{Each, ValueWithin, VariableWithin, ItemWithin, PairWithin, ListWithin, SetWithin, TableWithin, RecordWithin, HeapWithin, WorldWithin, SettingWithin, ResidualWithin, OutcomeWithin}
+use Rattle.icn_run_safe.proofs.Entries.{each_map, each_get, each_append, each_replicate, each_take, each_drop, each_set}
+
+-- Each fact as a record, so that it is found by its name
+
+pub record V (n : ℕ) (v : Value) : Type 0 where
+  pub is : ValueWithin n v
+
+pub record X (n : ℕ) (x : Variable) : Type 0 where
+  pub is : VariableWithin n x
+
+pub record I (n : ℕ) (x : Item) : Type 0 where
+  pub is : ItemWithin n x
+
+pub record Vs (n : ℕ) (vs : List Value) : Type 0 where
+  pub is : Each (ValueWithin n) vs
+
+pub record Ps (n : ℕ) (ps : List (Value × Value)) : Type 0 where
+  pub is : Each (PairWithin n) ps
+
+pub record Lists (n : ℕ) (xs : List (Numbered Value)) : Type 0 where
+  pub is : Each (ListWithin n) xs
+
+pub record Sets (n : ℕ) (xs : List (List Value)) : Type 0 where
+  pub is : Each (SetWithin n) xs
+
+pub record Tables (n : ℕ) (xs : List Table) : Type 0 where
+  pub is : Each (TableWithin n) xs
+
+pub record Records (n : ℕ) (xs : List Record) : Type 0 where
+  pub is : Each (RecordWithin n) xs
+
+pub record Count (n : ℕ) (xs : List ℕ) : Type 0 where
+  pub is : length xs ≡ n
+
+pub record S (n : ℕ) (a : Setting) : Type 0 where
+  pub is : SettingWithin n a
+
+pub record R (n : ℕ) (r : Residual) : Type 0 where
+  pub is : ResidualWithin n r
+
+pub record O (n : ℕ) (o : Outcome) : Type 0 where
+  pub is : OutcomeWithin n o
+
+module _ (n : ℕ) where
+  -- Values, variables and items
+
+  pub v_null : V n Null
+  v_null = record { is = tt }
+
+  pub v_integer : (x : ℤ) → V n (Integer x)
+  v_integer x = record { is = tt }
+
+  pub v_text : (x : List ℕ) → V n (Text x)
+  v_text x = record { is = tt }
+
+  pub v_chars : (x : List ℕ) → V n (Chars x)
+  v_chars x = record { is = tt }
+
+  pub v_file : (x : File) → V n (Std x)
+  v_file x = record { is = tt }
+
+  pub v_record : (x : ℕ) → V n (ARecord x)
+  v_record x = record { is = tt }
+
+  pub v_list : (x : ℕ) → V n (AList x)
+  v_list x = record { is = tt }
+
+  pub v_set : (x : ℕ) → V n (ASet x)
+  v_set x = record { is = tt }
+
+  pub v_table : (x : ℕ) → V n (ATable x)
+  v_table x = record { is = tt }
+
+  pub x_element : (id : ℕ) (k : ℤ) → X n (Whole (Element id k))
+  x_element id k = record { is = tt }
+
+  pub x_field : (id k : ℕ) → X n (Whole (Field id k))
+  x_field id k = record { is = tt }
+
+  pub x_key : (id : ℕ) (v : Value) → V n v → X n (Whole (Key id v))
+  x_key id v h = record { is = h.is }
+
+  pub x_part : (x : Variable) (a b : ℕ) → X n x → X n (part_of x a b)
+  x_part (Whole root) a b h = record { is = h.is }
+  x_part (Part root c d) a b h = record { is = h.is }
+
+  pub i_val : (v : Value) → V n v → I n (Val v)
+  i_val v h = record { is = h.is }
+
+  pub i_var : (x : Variable) → X n x → I n (Var x)
+  i_var x h = record { is = h.is }
+
+  -- Lists of values
+
+  pub vs_nil : Vs n []
+  vs_nil = record { is = tt }
+
+  pub vs_cons : (v : Value) (vs : List Value) → V n v → Vs n vs → Vs n (v ∷ vs)
+  vs_cons v vs h g = record { is = (h.is, g.is) }
+
+  pub vs_append : (vs ws : List Value) → Vs n vs → Vs n ws → Vs n (vs ++ ws)
+  vs_append vs ws h g = record { is = each_append (ValueWithin n) vs ws h.is g.is }
+
+  pub vs_set : (vs : List Value) (k : ℕ) (v : Value) → Vs n vs → V n v → Vs n (slice_set vs k v)
+  vs_set vs k v h g = record { is = each_set (ValueWithin n) vs k v h.is g.is }
+
+  pub vs_take : (k : ℕ) (vs : List Value) → Vs n vs → Vs n (take k vs)
+  vs_take k vs h = record { is = each_take (ValueWithin n) k vs h.is }
+
+  pub vs_drop : (k : ℕ) (vs : List Value) → Vs n vs → Vs n (drop k vs)
+  vs_drop k vs h = record { is = each_drop (ValueWithin n) k vs h.is }
+
+  pub vs_replicate : (k : ℕ) (v : Value) → V n v → Vs n (replicate k v)
+  vs_replicate k v h = record { is = each_replicate (ValueWithin n) k v h.is }
+
+  each_filter : (test : Value → Bool) (vs : List Value) → Each (ValueWithin n) vs → Each (ValueWithin n) (filter test vs)
+  each_filter test [] h = tt
+  each_filter test (v ∷ vs) h = by (test v) (each_filter test vs h.1)
+    where
+      by : (b : Bool) → Each (ValueWithin n) (filter test vs) → Each (ValueWithin n) (cond b (v ∷ filter test vs) (filter test vs))
+      by true g = (h.0, g)
+      by false g = g
+
+  pub vs_filter : (test : Value → Bool) (vs : List Value) → Vs n vs → Vs n (filter test vs)
+  vs_filter test vs h = record { is = each_filter test vs h.is }
+
+  pub vs_after : (vs : List Value) (k : ℤ) → Vs n vs → Vs n (after_first vs k).items
+  vs_after [] k h = record { is = tt }
+  vs_after (v ∷ vs) k h = record { is = h.is.1 }
+
+  pub vs_with : (vs : List Value) (k : ℤ) (v : Value) → Vs n vs → V n v → Vs n (items_with vs k v)
+  vs_with vs (pos k) v h g = vs_set vs k v h g
+  vs_with vs (negsuc k) v h g = h
+
+  pub vs_or_null : (vs : List Value) → Vs n vs → Vs n (or_null vs)
+  vs_or_null [] h = record { is = (tt, tt) }
+  vs_or_null (v ∷ vs) h = h
+
+  pub vs_member : (vs : List Value) (v : Value) → Vs n vs → V n v → Vs n (with_member vs v)
+  vs_member vs v h g = by (has_value vs v)
+    where
+      by : (b : Bool) → Vs n (if b then vs else (vs ++ v ∷ []))
+      by true = h
+      by false = vs_append vs (v ∷ []) h (vs_cons v [] g vs_nil)
+
+  pub vs_members : (vs added : List Value) → Vs n vs → Vs n added → Vs n (fold with_member vs added)
+  vs_members vs [] h g = h
+  vs_members vs (v ∷ added) h g = vs_members (with_member vs v) added (vs_member vs v h (record { is = g.is.0 })) (record { is = g.is.1 })
+
+  pub vs_left : (list : Numbered Value) (added : List Value) → Vs n list.items → Vs n added → Vs n (fold with_left list added).items
+  vs_left list [] h g = h
+  vs_left list (v ∷ added) h g = vs_left (with_left list v) added (record { is = (g.is.0, h.is) }) (record { is = g.is.1 })
+
+  pub vs_right : (list : Numbered Value) (added : List Value) → Vs n list.items → Vs n added → Vs n (fold with_right list added).items
+  vs_right list [] h g = h
+  vs_right list (v ∷ added) h g = vs_right (with_right list v) added (vs_append list.items (v ∷ []) h (record { is = (g.is.0, tt) })) (record { is = g.is.1 })
+
+  each_in : {A : Type 0} (P : A → Type 0) (cmp : A → A → Ordering) (x : A) (xs : List A) → P x → Each P xs → Each P (sorted_in cmp x xs)
+  each_in P cmp x [] h g = (h, tt)
+  each_in P cmp x (y ∷ ys) h g = by (is_lt (cmp x y)) (each_in P cmp x ys h g.1)
+    where
+      by : (b : Bool) → Each P (sorted_in cmp x ys) → Each P (if b then x ∷ (y ∷ ys) else y ∷ sorted_in cmp x ys)
+      by true q = (h, g)
+      by false q = (g.0, q)
+
+  each_onto : {A : Type 0} (P : A → Type 0) (cmp : A → A → Ordering) (xs ys : List A) → Each P xs → Each P ys → Each P (sorted_onto cmp xs ys)
+  each_onto P cmp xs [] h g = h
+  each_onto P cmp xs (y ∷ ys) h g = each_onto P cmp (sorted_in cmp y xs) ys (each_in P cmp y xs g.0 h) g.1
+
+  pub vs_sorted : (cmp : Value → Value → Ordering) (vs : List Value) → Vs n vs → Vs n (sorted cmp vs)
+  vs_sorted cmp vs h = record { is = each_onto (ValueWithin n) cmp [] vs tt h.is }
+
+  pub ps_sorted : (cmp : Value × Value → Value × Value → Ordering) (ps : List (Value × Value)) → Ps n ps → Ps n (sorted cmp ps)
+  ps_sorted cmp ps h = record { is = each_onto (PairWithin n) cmp [] ps tt h.is }
+
+  each_pairs : (ps : List (Value × Value)) → Each (PairWithin n) ps → Each (ValueWithin n) (flat_map (λ (pair : Value × Value). pair.0 ∷ pair.1 ∷ []) ps)
+  each_pairs [] h = tt
+  each_pairs (p ∷ ps) h = (h.0.0, (h.0.1, each_pairs ps h.1))
+
+  pub vs_pairs : (ps : List (Value × Value)) → Ps n ps → Vs n (flat_map (λ (pair : Value × Value). pair.0 ∷ pair.1 ∷ []) ps)
+  vs_pairs ps h = record { is = each_pairs ps h.is }
+
+  -- What is read
+
+  each_value : (vs : List Value) (k : ℕ) → Each (ValueWithin n) vs → ValueWithin n (value_at vs k)
+  each_value [] k h = tt
+  each_value (v ∷ vs) zero h = h.0
+  each_value (v ∷ vs) (suc k) h = each_value vs k h.1
+
+  pub v_at : (vs : List Value) (k : ℕ) → Vs n vs → V n (value_at vs k)
+  v_at vs k h = record { is = each_value vs k h.is }
+
+  pub v_got : (vs : List Value) (k : ℕ) (v : Value) → slice_get vs k ≡ Some v → Vs n vs → V n v
+  v_got vs k v e h = record { is = each_get (ValueWithin n) vs k v h.is e }
+
+  pub v_key : (ps : List (Value × Value)) (k : ℕ) (p : Value × Value) → slice_get ps k ≡ Some p → Ps n ps → V n p.0
+  v_key ps k p e h = record { is = (each_get (PairWithin n) ps k p h.is e).0 }
+
+  pub v_numbered : (vs : List Value) (k : ℤ) (v : Value) → item_at vs k ≡ Some v → Vs n vs → V n v
+  v_numbered vs (pos k) v e h = v_got vs k v e h
+  v_numbered vs (negsuc k) v e h = no_some v e
+
+  -- Pairs
+
+  each_stored : (ps : List (Value × Value)) (k v : Value) → ValueWithin n k → ValueWithin n v → Each (PairWithin n) ps → Each (PairWithin n) (stored same ps k v)
+  each_stored [] k v g q h = ((g, q), tt)
+  each_stored (p ∷ ps) k v g q h = by (same k p.0) (each_stored ps k v g q h.1)
+    where
+      by : (b : Bool) → Each (PairWithin n) (stored same ps k v) → Each (PairWithin n) (if b then (p.0, v) ∷ ps else p ∷ stored same ps k v)
+      by true z = ((h.0.0, q), h.1)
+      by false z = (h.0, z)
+
+  pub ps_stored : (ps : List (Value × Value)) (k v : Value) → Ps n ps → V n k → V n v → Ps n (stored same ps k v)
+  ps_stored ps k v h g q = record { is = each_stored ps k v g.is q.is h.is }
+
+  -- Structures by their numbers
+
+  each_lists : (xs : List (Numbered Value)) (k : ℕ) → Each (ListWithin n) xs → Each (ValueWithin n) (unwrap_or (slice_get xs k) (new_list [])).items
+  each_lists [] k h = tt
+  each_lists (x ∷ xs) zero h = h.0
+  each_lists (x ∷ xs) (suc k) h = each_lists xs k h.1
+
+  pub items_at : (xs : List (Numbered Value)) (k : ℕ) → Lists n xs → Vs n (unwrap_or (slice_get xs k) (new_list [])).items
+  items_at xs k h = record { is = each_lists xs k h.is }
+
+  each_sets : (xs : List (List Value)) (k : ℕ) → Each (SetWithin n) xs → Each (ValueWithin n) (unwrap_or (slice_get xs k) [])
+  each_sets [] k h = tt
+  each_sets (x ∷ xs) zero h = h.0
+  each_sets (x ∷ xs) (suc k) h = each_sets xs k h.1
+
+  pub members_at : (xs : List (List Value)) (k : ℕ) → Sets n xs → Vs n (unwrap_or (slice_get xs k) [])
+  members_at xs k h = record { is = each_sets xs k h.is }
+
+  each_tables : (xs : List Table) (k : ℕ) → Each (TableWithin n) xs → TableWithin n (unwrap_or (slice_get xs k) (record { default = Null; pairs = [] }))
+  each_tables [] k h = (tt, tt)
+  each_tables (x ∷ xs) zero h = h.0
+  each_tables (x ∷ xs) (suc k) h = each_tables xs k h.1
+
+  pub pairs_at : (xs : List Table) (k : ℕ) → Tables n xs → Ps n (unwrap_or (slice_get xs k) (record { default = Null; pairs = [] })).pairs
+  pairs_at xs k h = record { is = (each_tables xs k h.is).1 }
+
+  pub default_at : (xs : List Table) (k : ℕ) → Tables n xs → V n (unwrap_or (slice_get xs k) (record { default = Null; pairs = [] })).default
+  default_at xs k h = record { is = (each_tables xs k h.is).0 }
+
+  each_records : (xs : List Record) (k : ℕ) → Each (RecordWithin n) xs → Each (ValueWithin n) (unwrap_or (slice_get xs k) (record { kind = 0; fields = [] })).fields
+  each_records [] k h = tt
+  each_records (x ∷ xs) zero h = h.0
+  each_records (x ∷ xs) (suc k) h = each_records xs k h.1
+
+  pub fields_at : (xs : List Record) (k : ℕ) → Records n xs → Vs n (unwrap_or (slice_get xs k) (record { kind = 0; fields = [] })).fields
+  fields_at xs k h = record { is = each_records xs k h.is }
+
+  -- Structures changed and added
+
+  pub lists_set : (xs : List (Numbered Value)) (k : ℕ) (x : Numbered Value) → Lists n xs → Vs n x.items → Lists n (slice_set xs k x)
+  lists_set xs k x h g = record { is = each_set (ListWithin n) xs k x h.is g.is }
+
+  pub lists_more : (xs : List (Numbered Value)) (x : Numbered Value) → Lists n xs → Vs n x.items → Lists n (xs ++ x ∷ [])
+  lists_more xs x h g = record { is = each_append (ListWithin n) xs (x ∷ []) h.is (g.is, tt) }
+
+  pub sets_set : (xs : List (List Value)) (k : ℕ) (x : List Value) → Sets n xs → Vs n x → Sets n (slice_set xs k x)
+  sets_set xs k x h g = record { is = each_set (SetWithin n) xs k x h.is g.is }
+
+  pub sets_more : (xs : List (List Value)) (x : List Value) → Sets n xs → Vs n x → Sets n (xs ++ x ∷ [])
+  sets_more xs x h g = record { is = each_append (SetWithin n) xs (x ∷ []) h.is (g.is, tt) }
+
+  pub tables_set : (xs : List Table) (k : ℕ) (x : Table) → Tables n xs → V n x.default → Ps n x.pairs → Tables n (slice_set xs k x)
+  tables_set xs k x h g q = record { is = each_set (TableWithin n) xs k x h.is (g.is, q.is) }
+
+  pub tables_more : (xs : List Table) (x : Table) → Tables n xs → V n x.default → Ps n x.pairs → Tables n (xs ++ x ∷ [])
+  tables_more xs x h g q = record { is = each_append (TableWithin n) xs (x ∷ []) h.is ((g.is, q.is), tt) }
+
+  pub records_set : (xs : List Record) (k : ℕ) (x : Record) → Records n xs → Vs n x.fields → Records n (slice_set xs k x)
+  records_set xs k x h g = record { is = each_set (RecordWithin n) xs k x h.is g.is }
+
+  pub records_more : (xs : List Record) (x : Record) → Records n xs → Vs n x.fields → Records n (xs ++ x ∷ [])
+  records_more xs x h g = record { is = each_append (RecordWithin n) xs (x ∷ []) h.is (g.is, tt) }
+
+  -- Settings
+
+  pub of_lists : (a : Setting) → S n a → Lists n a.world.heap.lists
+  of_lists a h = record { is = h.is.world.heap.lists }
+
+  pub of_sets : (a : Setting) → S n a → Sets n a.world.heap.sets
+  of_sets a h = record { is = h.is.world.heap.sets }
+
+  pub of_tables : (a : Setting) → S n a → Tables n a.world.heap.tables
+  of_tables a h = record { is = h.is.world.heap.tables }
+
+  pub of_records : (a : Setting) → S n a → Records n a.world.heap.records
+  of_records a h = record { is = h.is.world.heap.records }
+
+  pub of_count : (a : Setting) → S n a → Count n a.world.heap.coexps
+  of_count a h = record { is = h.is.world.heap.count }
+
+  pub of_globals : (a : Setting) → S n a → Vs n a.world.globals
+  of_globals a h = record { is = h.is.world.globals }
+
+  pub of_statics : (a : Setting) → S n a → Vs n a.world.statics
+  of_statics a h = record { is = h.is.world.statics }
+
+  pub of_locals : (a : Setting) → S n a → Vs n a.locals
+  of_locals a h = record { is = h.is.locals }
+
+  pub setting : (a : Setting) → Lists n a.world.heap.lists → Sets n a.world.heap.sets → Tables n a.world.heap.tables → Records n a.world.heap.records → Count n a.world.heap.coexps → Vs n a.world.globals → Vs n a.world.statics → Vs n a.locals → S n a
+  setting a l s t r c g u v = record { is = record { world = record { heap = record { lists = l.is; sets = s.is; tables = t.is; records = r.is; count = c.is }; globals = g.is; statics = u.is }; locals = v.is } }
