@@ -2,17 +2,18 @@
 use Rattle.std.proofs.Common.{arith, ◌≡◌, ◌∙◌, refl, ap, ℕ, zero, suc, pos, ◌+◌, ◌-◌, ◌<◌, ◌≤◌, ◌⊎◌, inl, inr, nat_lt, nat_le, Bool, true, false, List, [], ◌∷◌, length, Option, Some, None, map, filter, find, drop}
 use Rattle.std.specs.Prelude.{slice_get, if◌then◌else◌}
 use Rattle.std.specs.List.{range_with_len}
+use Rattle.std.proofs.lemmas.List.{length-map}
+use Rattle.std.proofs.lemmas.List.FromFn.{length-range_with_len, length-map-range_with_len}
 use Rattle.std.proofs.lemmas.Bool.{cases_lt, le-leb, leb-true, lt-ltb, ltb-true}
-use Rattle.icn_value.specs.Values.{Value, Integer, Text, Item, Val}
-use Rattle.icn_value.specs.Store.{Setting, set_at, table_at, list_at, record_at}
-use Rattle.icn_defs.specs.Rows.{Row, Outcome, Residual, TextBytes, ListItems, SetMembers, TableValues, TableKeys, RecordFields, Found, Among, Counting, Fails, suspends, found, passing}
+use Rattle.icn_value.specs.Values.{Integer, Text, ASet, ATable, AList, ARecord, Item, Val}
+use Rattle.icn_value.specs.Store.{Names, Setting, set_at, table_at, list_at, record_at}
+use Rattle.icn_defs.specs.Rows.{Row, Outcome, Residual, TextBytes, ListItems, SetMembers, TableValues, TableKeys, RecordFields, Found, Among, Counting, Fails, Gives, Suspends, Error, Ends, suspends, found, passing}
 use Rattle.icn_defs.specs.Applying.{again}
-use Rattle.icn_defs.specs.Elements.{text_bytes_from, list_items_from, set_members_from, table_values_from, record_fields_from, element_item, field_item, key_item}
-use Rattle.icn_defs.specs.Structures.{table_keys_from}
+use Rattle.icn_defs.specs.Elements.{element_item, field_item}
 use Rattle.icn_defs.specs.Scanning.{found_from, among_from, stands, byte_behind}
 use Rattle.icn_defs.specs.Arithmetic.{count_from}
 use Rattle.icn_defs.specs.Conversions.{contains, fitting}
-use Rattle.row_laws.specs.Results.{results}
+use Rattle.row_laws.specs.Results.{results, GivesAll, walk, keys, counts, places_of, places_that, integer_item, byte_item, pair_key, pair_variable}
 
 not_below : (a b : ℕ) → b ≤ a → nat_lt a b ≡ false
 not_below a b h = by (nat_lt a b) refl
@@ -27,6 +28,19 @@ not_within a b h = by (nat_le a b) refl
     by : (t : Bool) → nat_le a b ≡ t → nat_le a b ≡ false
     by true e = absurd (let less : a ≤ b = leb-true a b e in omega (arith, less, h))
     by false e = e
+
+-- What was given stays so where it is resumed less often, if it ended by then.
+settled : (n m : ℕ) (o : Outcome) → length (results n o) < m → m ≤ n → results m o ≡ results n o
+settled n zero o less most = absurd (omega (arith, less))
+settled zero (suc m) o less most = absurd (omega (arith, most))
+settled (suc n) (suc m) (Suspends item rest at) less most = ap (λ later. item ∷ later) (settled n m (again rest at) (omega (arith, less)) (omega (arith, most)))
+settled (suc n) (suc m) (Gives item at) less most = refl
+settled (suc n) (suc m) (Fails at) less most = refl
+settled (suc n) (suc m) (Error number value at) less most = refl
+settled (suc n) (suc m) (Ends status at) less most = refl
+
+given : (row : Row) (at : Setting) (items : List Item) (n : ℕ) → results n (row at) ≡ items → length items < n → GivesAll row at items
+given row at items n is less = settled n (length items + 1) (row at) (rw is (omega arith)) (omega (arith, less)) ∙ is
 
 -- Searches
 
@@ -59,18 +73,32 @@ searched test kept stop is (suc count) place (suc n) at ends enough =
 find_search : (wanted text : List ℕ) (last : ℕ) → IsSearch (λ place. stands wanted text place last) (λ place. Found wanted text place last) (last + 1)
 find_search wanted text last = record { resumed = λ place at. refl }
 
-pub found_in_order : (wanted text : List ℕ) (place last n : ℕ) (at : Setting) → place ≤ last + 1 → last + 1 - place < n
-    → results n (found_from wanted text place last at) ≡ map (λ p. Val (Integer (pos p))) (filter (λ p. stands wanted text p last) (range_with_len place (last + 1 - place)))
-found_in_order wanted text place last n at within enough =
-    searched _ _ (last + 1) (find_search wanted text last) (last + 1 - place) place n at (omega (arith, within)) (omega (arith, enough))
+length_filter : (test : ℕ → Bool) (xs : List ℕ) → length (filter test xs) ≤ length xs
+length_filter test [] = omega arith
+length_filter test (x ∷ xs) = by (test x) refl (length_filter test xs)
+  where
+    by : (t : Bool) → test x ≡ t → length (filter test xs) ≤ length xs → length (filter test (x ∷ xs)) ≤ length (x ∷ xs)
+    by true e h = rw e (omega (arith, h))
+    by false e h = rw e (omega (arith, h))
+
+filtered_length : (test : ℕ → Bool) (first count : ℕ) → length (map integer_item (filter test (range_with_len first count))) ≤ count
+filtered_length test first count = rw (length-map (filter test (range_with_len first count)) integer_item)
+    (omega (arith, length_filter test (range_with_len first count), length-range_with_len first count))
+
+pub found_in_order : (wanted text : List ℕ) (place last : ℕ) (at : Setting) → place ≤ last + 1
+    → GivesAll (found_from wanted text place last) at (map integer_item (places_that (λ p. stands wanted text p last) place (last + 1)))
+found_in_order wanted text place last at within =
+    given (found_from wanted text place last) at _ (last + 1 - place + 1) (searched _ _ (last + 1) (find_search wanted text last) (last + 1 - place) place _ at (omega (arith, within)) (omega arith))
+    (omega (arith, filtered_length (λ p. stands wanted text p last) place (last + 1 - place)))
 
 among_search : (bytes text : List ℕ) (last : ℕ) → IsSearch (λ place. contains bytes (byte_behind text place)) (λ place. Among bytes text place last) last
 among_search bytes text last = record { resumed = λ place at. refl }
 
-pub among_in_order : (bytes text : List ℕ) (place last n : ℕ) (at : Setting) → place ≤ last → last - place < n
-    → results n (among_from bytes text place last at) ≡ map (λ p. Val (Integer (pos p))) (filter (λ p. contains bytes (byte_behind text p)) (range_with_len place (last - place)))
-among_in_order bytes text place last n at within enough =
-    searched _ _ last (among_search bytes text last) (last - place) place n at (omega (arith, within)) (omega (arith, enough))
+pub among_in_order : (bytes text : List ℕ) (place last : ℕ) (at : Setting) → place ≤ last
+    → GivesAll (among_from bytes text place last) at (map integer_item (places_that (λ p. contains bytes (byte_behind text p)) place last))
+among_in_order bytes text place last at within =
+    given (among_from bytes text place last) at _ (last - place + 1) (searched _ _ last (among_search bytes text last) (last - place) place _ at (omega (arith, within)) (omega arith))
+    (omega (arith, filtered_length (λ p. contains bytes (byte_behind text p)) place (last - place)))
 
 -- Walks over what a list holds
 
@@ -112,19 +140,22 @@ walked xs item kept at is (x ∷ rest) place (suc n) ends enough =
     next : drop (place + 1) xs ≡ rest
     next = let same : place + 1 ≡ suc place = omega arith in ap (λ p. drop p xs) same ∙ (drop_next xs place ∙ ap rest_of ends)
 
-pub bytes_in_order : (bytes : List ℕ) (at : Setting) → results (length bytes + 1) (text_bytes_from bytes 0 at) ≡ map (λ byte. Val (Text (byte ∷ []))) bytes
-bytes_in_order bytes at = walked bytes _ (TextBytes bytes) at (λ place. refl) bytes 0 (length bytes + 1) refl (omega arith)
+walk_given : {A : Type 0} (row : Row) (xs : List A) (item : A → Item) (at : Setting) → results (length xs + 1) (row at) ≡ map item xs → GivesAll row at (map item xs)
+walk_given row xs item at is = given row at (map item xs) (length xs + 1) is (rw (length-map xs item) (omega arith))
 
-pub members_in_order : (id : ℕ) (at : Setting) → results (length (set_at at.world.heap id) + 1) (set_members_from id 0 at) ≡ map Val (set_at at.world.heap id)
-members_in_order id at = walked (set_at at.world.heap id) Val (SetMembers id) at (λ place. refl) _ 0 _ refl (omega arith)
+pub bytes_in_order : (bytes : List ℕ) (at : Setting) → GivesAll (walk (Text bytes)) at (map byte_item bytes)
+bytes_in_order bytes at = walk_given (walk (Text bytes)) bytes byte_item at (walked bytes _ (TextBytes bytes) at (λ place. refl) bytes 0 (length bytes + 1) refl (omega arith))
 
-pub keys_in_order : (id : ℕ) (at : Setting)
-    → results (length (table_at at.world.heap id).pairs + 1) (table_keys_from id 0 at) ≡ map (λ (pair : Value × Value). Val pair.0) (table_at at.world.heap id).pairs
-keys_in_order id at = walked (table_at at.world.heap id).pairs (λ pair. Val pair.0) (TableKeys id) at (λ place. refl) _ 0 _ refl (omega arith)
+pub members_in_order : (id : ℕ) (at : Setting) → GivesAll (walk (ASet id)) at (map Val (set_at at.world.heap id))
+members_in_order id at = walk_given (walk (ASet id)) (set_at at.world.heap id) Val at (walked (set_at at.world.heap id) Val (SetMembers id) at (λ place. refl) _ 0 _ refl (omega arith))
 
-pub values_in_order : (id : ℕ) (at : Setting)
-    → results (length (table_at at.world.heap id).pairs + 1) (table_values_from id 0 at) ≡ map (λ (pair : Value × Value). key_item id pair.0) (table_at at.world.heap id).pairs
-values_in_order id at = walked (table_at at.world.heap id).pairs (λ pair. key_item id pair.0) (TableValues id) at (λ place. refl) _ 0 _ refl (omega arith)
+pub keys_in_order : (names : Names) (id : ℕ) (at : Setting) → GivesAll (keys names id) at (map pair_key (table_at at.world.heap id).pairs)
+keys_in_order names id at =
+    walk_given (keys names id) (table_at at.world.heap id).pairs pair_key at (walked (table_at at.world.heap id).pairs pair_key (TableKeys id) at (λ place. refl) _ 0 _ refl (omega arith))
+
+pub values_in_order : (id : ℕ) (at : Setting) → GivesAll (walk (ATable id)) at (map (pair_variable id) (table_at at.world.heap id).pairs)
+values_in_order id at =
+    walk_given (walk (ATable id)) (table_at at.world.heap id).pairs (pair_variable id) at (walked (table_at at.world.heap id).pairs (pair_variable id) (TableValues id) at (λ place. refl) _ 0 _ refl (omega arith))
 
 -- Walks by a place below a size
 
@@ -140,15 +171,18 @@ paced size item kept at is (suc count) place (suc n) ends enough =
     ap (λ t. results (suc n) (passing t (suspends (item place) (kept (place + 1))) at)) (lt-ltb place size (omega (arith, ends)))
     ∙ ap (λ later. item place ∷ later) (ap (results n) (is (place + 1)) ∙ paced size item kept at is count (place + 1) n (omega (arith, ends)) (omega (arith, enough)))
 
-pub items_in_order : (id : ℕ) (at : Setting)
-    → results (length (list_at at.world.heap id).items + 1) (list_items_from id 0 at) ≡ map (element_item id (list_at at.world.heap id)) (range_with_len 0 (length (list_at at.world.heap id).items))
-items_in_order id at =
-    paced (length (list_at at.world.heap id).items) (element_item id (list_at at.world.heap id)) (ListItems id) at (λ place. refl) _ 0 _ (omega arith) (omega arith)
+places_given : (row : Row) (item : ℕ → Item) (first count : ℕ) (at : Setting) → results (count + 1) (row at) ≡ map item (range_with_len first count) → GivesAll row at (map item (range_with_len first count))
+places_given row item first count at is = given row at (map item (range_with_len first count)) (count + 1) is (rw (length-map-range_with_len item first count) (omega arith))
 
-pub fields_in_order : (id : ℕ) (at : Setting)
-    → results (length (record_at at.world.heap id).fields + 1) (record_fields_from id 0 at) ≡ map (field_item id) (range_with_len 0 (length (record_at at.world.heap id).fields))
+pub items_in_order : (id : ℕ) (at : Setting) → GivesAll (walk (AList id)) at (map (element_item id (list_at at.world.heap id)) (places_of (list_at at.world.heap id).items))
+items_in_order id at =
+    places_given (walk (AList id)) (element_item id (list_at at.world.heap id)) 0 (length (list_at at.world.heap id).items) at
+    (paced (length (list_at at.world.heap id).items) (element_item id (list_at at.world.heap id)) (ListItems id) at (λ place. refl) _ 0 _ (omega arith) (omega arith))
+
+pub fields_in_order : (id : ℕ) (at : Setting) → GivesAll (walk (ARecord id)) at (map (field_item id) (places_of (record_at at.world.heap id).fields))
 fields_in_order id at =
-    paced (length (record_at at.world.heap id).fields) (field_item id) (RecordFields id) at (λ place. refl) _ 0 _ (omega arith) (omega arith)
+    places_given (walk (ARecord id)) (field_item id) 0 (length (record_at at.world.heap id).fields) at
+    (paced (length (record_at at.world.heap id).fields) (field_item id) (RecordFields id) at (λ place. refl) _ 0 _ (omega arith) (omega arith))
 
 -- Counting
 
@@ -185,5 +219,6 @@ counted last at small (suc count) first (suc n) ends enough =
     by (inr none) later = ap (λ o. results n (count_from (pos last) (pos 1) o at)) none.0 ∙ (none_left n ∙ nothing_left count (omega (arith, ends, none.1, small)))
 
 pub counted_in_order : (first last : ℕ) (at : Setting) → first ≤ last + 1 → last ≤ 9223372036854775807
-    → results (last + 1 - first + 1) (count_up last first at) ≡ map (λ k. Val (Integer (pos k))) (range_with_len first (last + 1 - first))
-counted_in_order first last at within small = counted last at small (last + 1 - first) first _ (omega (arith, within)) (omega arith)
+    → GivesAll (counts first last) at (map integer_item (range_with_len first (last + 1 - first)))
+counted_in_order first last at within small =
+    places_given (counts first last) integer_item first (last + 1 - first) at (counted last at small (last + 1 - first) first _ (omega (arith, within)) (omega arith))

@@ -12,7 +12,7 @@ use Rattle.icn_value.specs.Sameness.{same}
 use Rattle.icn_value.proofs.SameValues.{same_self}
 use Rattle.icn_defs.specs.Rows.{Row, check, wrong}
 use Rattle.icn_defs.specs.Reading.{root_value, assigns, undoes, assigns_root, replaced, table_value}
-use Rattle.row_laws.specs.Results.{is_kept}
+use Rattle.row_laws.specs.Undos.{is_kept}
 
 -- Lists with a value set and set back
 

@@ -1,3 +1,4 @@
 pub mod Results
 pub mod Unchanged
 pub mod Growths
+pub mod Undos

@@ -17,4 +17,4 @@ pub returns-clause-fields : goal.returns-clause-fields
 returns-clause-fields c = fields_in_order
 
 pub returns-clause-keys : goal.returns-clause-keys
-returns-clause-keys c names = keys_in_order
+returns-clause-keys c = keys_in_order
