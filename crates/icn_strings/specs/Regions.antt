@@ -1,6 +1,7 @@
 -- What a region holds, and what it has charged. How it holds the bytes is no caller's matter: callers know of these
 -- words what the contracts and the laws say.
 use Rattle.std.specs.Prelude.{◌≡◌, ℕ, ◌+◌, ◌<◌, ◌≤◌, List, length, take, drop}
+use Rattle.std.proofs.Props.{props}
 use Rattle.icn_strings.specs.declared.place.Place.{Place}
 use Rattle.icn_strings.specs.declared.region.Region.{Region}
 
@@ -35,3 +36,11 @@ pub record IsUnchanged (old new : Region) : Type 0 where
   pub sum : sum_of new ≡ sum_of old
   pub kept : Keeps old new
   pub back : Keeps new old
+
+IsHeld-prop : (region : Region) (place : Place) → IsProp (IsHeld region place)
+unfolding IsHeld
+IsHeld-prop region place = hlevel props
+
+-- whether a place is of a region is a fact alone, which a ghost field can keep
+pub IsOf-prop : (region : Region) (place : Place) → IsProp (IsOf region place)
+IsOf-prop region place = hlevel IsHeld-prop

@@ -1,5 +1,5 @@
 // Pairs of a key and a value, in the order in which the keys came.
-ghost use Rattle.std.specs.Prelude.{◌≡◌, [], length, is_some, is_none, slice_get, IfOk, OnOk, OnErr};
+ghost use Rattle.std.specs.Prelude.{◌≡◌, ◌<◌, ◌^◌, [], length, is_some, is_none, slice_get, IfOk, OnOk, OnErr};
 ghost use Rattle.std.specs.Option.{option_map};
 ghost use Rattle.icn_structs.specs.PairLists.{value_of, stored, without, KeysDiffer};
 
@@ -75,6 +75,7 @@ impl<K: Eq + Hash + Drop, V: Copy> Pairs<K, V> {
     /// How many pairs there are.
     pub fn len(&self) -> u64
         ensures count { result ≡ length self.now }
+        ensures small { length self.now < 2 ^ 63 }
         ensures keys_differ { KeysDiffer K.eq self.now }
     {
         self.entries.len() as u64

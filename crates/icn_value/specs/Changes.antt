@@ -21,6 +21,10 @@ and_then (Err full) next = Err full
 abbrev pub Refuses : {A : Type 0} → Result A Full → Full → Type 0
 Refuses change full = (full ≡ NoMemory) ⊎ (change ≡ Err full)
 
+-- where a limit refuses the change, that is the answer, and no want of memory
+abbrev pub LimitsFirst : {A B : Type 0} → Result A Full → Result B Full → Type 0
+LimitsFirst change result = (full : Full) → change ≡ Err full → result ≡ Err full
+
 -- Charges
 
 -- string bytes, where the sum stays within the limit

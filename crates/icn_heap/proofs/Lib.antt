@@ -1,0 +1,9 @@
+pub mod KeyTests
+pub mod KeyValues
+pub mod Charging
+pub mod Keeping
+pub mod PairViews
+pub mod ListChanges
+pub mod OtherChanges
+pub mod TextChanges
+pub mod Stepping

@@ -1,0 +1,29 @@
+use Rattle.std.proofs.Common.{map, arith}
+use Rattle.std.proofs.lemmas.List.{length-map}
+use Rattle.icn_value.specs.Changes.{having_list}
+use Rattle.icn_heap.specs.Extents.{value_in}
+use Rattle.icn_heap.specs.Heaps.{extent_of, heap_of, parts_of}
+use Rattle.icn_heap.proofs.ListChanges.{list_joins}
+use Rattle.icn_heap.proofs.Stepping.{with_lists, sound_as, keeps_as, steps_as}
+use Rattle.icn_heap.proofs.heap.Heap.list_from.Goals as goal
+
+pub invariant_of-self-2 : goal.invariant_of-self-2
+unfolding extent_of
+invariant_of-self-2 c = record {
+  sound = sound_as (with_lists c.args.self.now _ c.in_ok-add_list.ensures.ok)
+      (list_joins (parts_of c.args.self.now) c.args.self.now.sound (omega (arith, c.in_ok-sum.ensures.sum)) c.in_ok-sum.ensures.within c.in_ok-sum.ensures.sum c.in_ok-list.ensures.items c.in_ok-list.ensures.number c.requires);
+}
+
+pub returns-clause-step : goal.returns-clause-step
+unfolding extent_of heap_of
+returns-clause-step c =
+    rw length-map
+    (steps_as _ (having_list (map (value_in (extent_of c.args.self.now)) c.args.items.now))
+    c.in_ok-sum.ensures.ok (with_lists c.args.self.now _ c.in_ok-add_list.ensures.ok)
+    (list_joins (parts_of c.args.self.now) c.args.self.now.sound (omega (arith, c.in_ok-sum.ensures.sum)) c.in_ok-sum.ensures.within c.in_ok-sum.ensures.sum c.in_ok-list.ensures.items c.in_ok-list.ensures.number c.requires))
+
+pub returns-clause-kept : goal.returns-clause-kept
+unfolding extent_of
+returns-clause-kept c =
+    keeps_as (with_lists c.args.self.now _ c.in_ok-add_list.ensures.ok)
+    (list_joins (parts_of c.args.self.now) c.args.self.now.sound (omega (arith, c.in_ok-sum.ensures.sum)) c.in_ok-sum.ensures.within c.in_ok-sum.ensures.sum c.in_ok-list.ensures.items c.in_ok-list.ensures.number c.requires)

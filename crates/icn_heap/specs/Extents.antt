@@ -1,0 +1,97 @@
+-- What a value stands for beside the texts that a heap has and the counts of its structures, and which values are of it.
+use Rattle.std.specs.Prelude.{◌≡◌, ℕ, ◌<◌, List, ⊤}
+use Rattle.std.specs.List.{All}
+use Rattle.std.specs.Coded.{Unit-prop, le_prop}
+use Rattle.icn_strings.specs.declared.place.Place.{Place}
+use Rattle.icn_strings.specs.declared.region.Region.{Region}
+use Rattle.icn_strings.specs.Regions.{IsOf, IsOf-prop, bytes_of}
+use Rattle.icn_value.specs.declared.val.Span.{Span}
+use Rattle.icn_value.specs.declared.val.Val.{Val}
+use Rattle.icn_value.specs.declared.val.Val.TheVariants.{Null as NullVal, Integer as IntegerVal, Text as TextVal, Chars as CharsVal, Std as StdVal, Proc as ProcVal, Rec as RecVal, List as ListVal, Set as SetVal, Table as TableVal, Coexp as CoexpVal}
+use Rattle.icn_value.specs.Values.{Value, Null, Integer, Text, Chars, Std, Procedure, ARecord, AList, ASet, ATable, ACoexp}
+use Rattle.icn_value.specs.Members.{members_of}
+use Rattle.icn_heap.specs.Keys.{file_of}
+
+-- the texts that a heap has, and how many structures of each type
+pub record Extent : Type 0 where
+  pub strings : Region
+  pub lists : ℕ
+  pub sets : ℕ
+  pub tables : ℕ
+  pub records : ℕ
+  pub coexps : ℕ
+
+abbrev pub place_of : Span → Place
+place_of span = record { place = span.place; len = span.len }
+
+-- the span names a text
+pub record IsText (all : Extent) (span : Span) : Type 0 where
+  pub of : IsOf all.strings (place_of span)
+
+-- the bytes of a text
+unfoldable pub text_in : Extent → Span → List ℕ
+text_in all span = bytes_of all.strings (place_of span)
+
+-- what a value stands for
+abbrev pub value_in : Extent → Val → Value
+value_in all NullVal = Null
+value_in all (IntegerVal n) = Integer n
+value_in all (TextVal span) = Text (text_in all span)
+value_in all (CharsVal cset) = Chars (members_of cset)
+value_in all (StdVal file) = Std (file_of file)
+value_in all (ProcVal number) = Procedure number
+value_in all (RecVal id) = ARecord id
+value_in all (ListVal id) = AList id
+value_in all (SetVal id) = ASet id
+value_in all (TableVal id) = ATable id
+value_in all (CoexpVal id) = ACoexp id
+
+-- what two values stand for
+abbrev pub values_in : Extent → Val × Val → Value × Value
+values_in all pair = (value_in all pair.0, value_in all pair.1)
+
+abbrev pub LiveBy : Extent → Val → Type 0
+LiveBy all NullVal = ⊤
+LiveBy all (IntegerVal n) = ⊤
+LiveBy all (TextVal span) = IsText all span
+LiveBy all (CharsVal cset) = ⊤
+LiveBy all (StdVal file) = ⊤
+LiveBy all (ProcVal number) = ⊤
+LiveBy all (RecVal id) = id < all.records
+LiveBy all (ListVal id) = id < all.lists
+LiveBy all (SetVal id) = id < all.sets
+LiveBy all (TableVal id) = id < all.tables
+LiveBy all (CoexpVal id) = id < all.coexps
+
+-- the value is of the heap: its text or structure is there
+pub record IsLive (all : Extent) (val : Val) : Type 0 where
+  pub live : LiveBy all val
+
+-- every value stays of the heap, and stands for the same
+pub record Keeps (old new : Extent) : Type 0 where
+  pub live : (val : Val) → IsLive old val → IsLive new val
+  pub value : (val : Val) → IsLive old val → value_in new val ≡ value_in old val
+  pub text : (span : Span) → IsText old span → IsText new span
+  pub bytes : (span : Span) → IsText old span → text_in new span ≡ text_in old span
+
+IsText-prop : (all : Extent) (span : Span) → IsProp (IsText all span)
+IsText-prop all span = hlevel IsOf-prop
+
+LiveBy-prop : (all : Extent) (val : Val) → IsProp (LiveBy all val)
+LiveBy-prop all NullVal = Unit-prop
+LiveBy-prop all (IntegerVal n) = Unit-prop
+LiveBy-prop all (TextVal span) = IsText-prop all span
+LiveBy-prop all (CharsVal cset) = Unit-prop
+LiveBy-prop all (StdVal file) = Unit-prop
+LiveBy-prop all (ProcVal number) = Unit-prop
+LiveBy-prop all (RecVal id) = le_prop
+LiveBy-prop all (ListVal id) = le_prop
+LiveBy-prop all (SetVal id) = le_prop
+LiveBy-prop all (TableVal id) = le_prop
+LiveBy-prop all (CoexpVal id) = le_prop
+
+pub IsLive-prop : (all : Extent) (val : Val) → IsProp (IsLive all val)
+IsLive-prop all val = hlevel LiveBy-prop
+
+pub AllLive-prop : (all : Extent) (vals : List Val) → IsProp (All (IsLive all) vals)
+AllLive-prop all vals = hlevel IsLive-prop

@@ -1,0 +1,9 @@
+-- The refusal of a region, as one of a heap.
+use Rattle.icn_strings.specs.declared.full.Full.{Full as FullRegion}
+use Rattle.icn_strings.specs.declared.full.Full.TheVariants.{Strings as StringsRegion, NoMemory as NoRoom}
+use Rattle.icn_value.specs.declared.full.Full.{Full}
+use Rattle.icn_value.specs.declared.full.Full.TheVariants.{Strings, NoMemory}
+
+abbrev pub strings_full : FullRegion → Full
+strings_full (StringsRegion sum limit) = Strings sum limit
+strings_full NoRoom = NoMemory

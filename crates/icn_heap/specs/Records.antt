@@ -1,0 +1,15 @@
+-- Records as a heap holds them.
+use Rattle.std.specs.Prelude.{ℕ, List, []}
+use Rattle.icn_value.specs.declared.val.Val.{Val}
+
+-- the number of its constructor, and the values of its fields
+pub record HeldRecord : Type 0 where
+  pub kind : ℕ
+  pub values : List Val
+
+abbrev pub held_record : ℕ → List Val → HeldRecord
+held_record kind values = record { kind = kind; values = values }
+
+-- the record without fields, for a number that no record has
+abbrev pub no_fields : HeldRecord
+no_fields = held_record 0 []

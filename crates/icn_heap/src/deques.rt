@@ -1,0 +1,100 @@
+// Lists that are made, and one list among others that changes.
+ghost use Rattle.std.specs.Prelude.{◌≡◌, ◌<◌, ◌^◌, ◌++◌, ◌∷◌, [], OnOk, OnErr, IfOk, pos, replicate, slice_set, slice_index_or, length, FitsSigned, ◌+ℤ◌, ◌-ℤ◌, is_some};
+ghost use Rattle.std.specs.Int.{w64};
+ghost use Rattle.std.specs.Vec.{vec_len};
+ghost use Rattle.icn_structs.specs.Numbered.{number_after, with_left, with_right, with_numbered, without_left, without_right, leftmost, rightmost, item_numbered};
+ghost use Rattle.icn_heap.specs.Parts.{no_vals};
+
+use icn_structs::Deque;
+use icn_value::Val;
+use std::alloc::{AllocError, Global};
+
+// A new list of these items.
+pub fn filled(alloc: Global, items: &[Val]) -> Result<Deque<Val>, AllocError>
+    requires few { length items.now < 2 ^ 32 }
+    ensures items { IfOk result (λ list. list.items ≡ items.now) }
+    ensures number { IfOk result (λ list. list.number ≡ pos 1) }
+{
+    let mut list = Deque::new(alloc);
+    for item in items {
+        list.put(*item)?;
+    }
+    Ok(list)
+}
+
+// A new list of one value so many times.
+pub fn repeated(alloc: Global, n: u64, fill: Val) -> Result<Deque<Val>, AllocError>
+    requires few { n < 2 ^ 32 }
+    ensures items { IfOk result (λ list. list.items ≡ replicate n fill) }
+    ensures number { IfOk result (λ list. list.number ≡ pos 1) }
+{
+    let mut list = Deque::new(alloc);
+    for i in 0..n {
+        list.put(fill)?;
+    }
+    Ok(list)
+}
+
+// Adds a list, or leaves all as it was.
+pub fn add_list(lists: &mut Vec<Deque<Val>>, list: Deque<Val>) -> Result<(), AllocError>
+    ensures ok { OnOk result (lists.new.items ≡ lists.old.items ++ list ∷ []) }
+    ensures err { OnErr result (lists.new.items ≡ lists.old.items) }
+{
+    lists.push(list)?;
+    Ok(())
+}
+
+// Adds an item at the right of a list.
+pub fn put_at(lists: &mut Vec<Deque<Val>>, list: u32, val: Val) -> Result<(), AllocError>
+    requires there { list < vec_len lists.old }
+    requires numbers_fit { FitsSigned w64 (number_after (slice_index_or lists.old.items list no_vals) +ℤ pos 1) }
+    ensures ok { OnOk result (lists.new.items ≡ slice_set lists.old.items list (with_right (slice_index_or lists.old.items list no_vals) val)) }
+    ensures err { OnErr result (lists.new.items ≡ lists.old.items) }
+{
+    lists[list as usize].put(val)
+}
+
+// Adds an item at the left of a list.
+pub fn push_at(lists: &mut Vec<Deque<Val>>, list: u32, val: Val) -> Result<(), AllocError>
+    requires there { list < vec_len lists.old }
+    requires numbers_fit { FitsSigned w64 ((slice_index_or lists.old.items list no_vals).number -ℤ pos 1) }
+    ensures ok { OnOk result (lists.new.items ≡ slice_set lists.old.items list (with_left (slice_index_or lists.old.items list no_vals) val)) }
+    ensures err { OnErr result (lists.new.items ≡ lists.old.items) }
+{
+    lists[list as usize].push(val)
+}
+
+// Takes the item at the left of a list.
+pub fn get_at(lists: &mut Vec<Deque<Val>>, list: u32) -> Option<Val>
+    requires { list < vec_len lists.old }
+    ensures item { result ≡ leftmost (slice_index_or lists.old.items list no_vals) }
+    ensures rest { lists.new.items ≡ slice_set lists.old.items list (without_left (slice_index_or lists.old.items list no_vals)) }
+{
+    lists[list as usize].get()
+}
+
+// Takes the item at the right of a list.
+pub fn pull_at(lists: &mut Vec<Deque<Val>>, list: u32) -> Option<Val>
+    requires { list < vec_len lists.old }
+    ensures item { result ≡ rightmost (slice_index_or lists.old.items list no_vals) }
+    ensures rest { lists.new.items ≡ slice_set lists.old.items list (without_right (slice_index_or lists.old.items list no_vals)) }
+{
+    lists[list as usize].pull()
+}
+
+// Puts another item in the place of the one with this number, and answers whether there was one.
+pub fn set_at(lists: &mut Vec<Deque<Val>>, list: u32, n: i64, val: Val) -> bool
+    requires { list < vec_len lists.old }
+    ensures found { result ≡ is_some (item_numbered (slice_index_or lists.old.items list no_vals) n) }
+    ensures items { lists.new.items ≡ slice_set lists.old.items list (with_numbered (slice_index_or lists.old.items list no_vals) n val) }
+{
+    lists[list as usize].set_number(n, val)
+}
+
+// A list.
+pub fn list_ref(lists: &Vec<Deque<Val>>, list: u32) -> &Deque<Val>
+    requires { list < vec_len lists.now }
+    ensures { result.now ≡ slice_index_or lists.now.items list no_vals }
+{
+    &lists[list as usize]
+}

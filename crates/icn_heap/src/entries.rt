@@ -1,0 +1,118 @@
+// Tables as a heap holds them, and one table among others that changes.
+ghost use Rattle.std.specs.Prelude.{◌≡◌, ◌<◌, ◌^◌, ◌++◌, ◌∷◌, [], OnOk, OnErr, slice_set, slice_get, slice_index_or, length, is_some};
+ghost use Rattle.std.specs.Option.{option_map};
+ghost use Rattle.std.specs.Vec.{vec_len};
+ghost use Rattle.icn_structs.specs.PairLists.{value_of, stored, without};
+ghost use Rattle.icn_heap.specs.KeyTests.{key_eq};
+ghost use Rattle.icn_heap.specs.Parts.{no_entries, entry_of, entry_value, entry_vals, table_with, table_without};
+
+use crate::key::Key;
+use icn_structs::Pairs;
+use icn_value::Val;
+use std::alloc::{AllocError, Global};
+
+/// The key and the value of a pair.
+#[derive(Clone, Copy, Debug)]
+pub struct Entry {
+    /// The key, as it came last.
+    pub key: Val,
+    /// Its value.
+    pub value: Val,
+}
+
+/// A table.
+#[derive(Drop)]
+pub struct Entries {
+    /// The value of a key that is not there.
+    pub default: Val,
+    /// The pairs.
+    pub pairs: Pairs<Key, Entry>,
+}
+
+// Adds a table without pairs, or leaves all as it was.
+pub fn add_table(alloc: Global, tables: &mut Vec<Entries>, default: Val) -> Result<(), AllocError>
+    ensures ok { OnOk result (tables.new.items ≡ tables.old.items ++ record { default = default; pairs = [] } ∷ []) }
+    ensures err { OnErr result (tables.new.items ≡ tables.old.items) }
+{
+    tables.push(Entries {
+        default,
+        pairs: Pairs::new(alloc),
+    })?;
+    Ok(())
+}
+
+// The pair of a key of a table.
+#[tactic(auto, using(crate::proofs::KeyTests::same_tests))]
+pub fn entry_at(tables: &Vec<Entries>, table: u32, key: &Key) -> Option<Entry>
+    requires { table < vec_len tables.now }
+    ensures { result ≡ value_of key_eq (slice_index_or tables.now.items table no_entries).pairs key.now }
+{
+    tables[table as usize].pairs.look(key)
+}
+
+// The value of a pair that was found.
+pub fn value_found(found: Option<Entry>) -> Option<Val>
+    ensures { result ≡ option_map entry_value found }
+{
+    Some(found?.value)
+}
+
+// The key and the value of a pair that was found.
+pub fn vals_found(found: Option<Entry>) -> Option<(Val, Val)>
+    ensures { result ≡ option_map entry_vals found }
+{
+    let entry = found?;
+    Some((entry.key, entry.value))
+}
+
+// Stores a pair under its key in a table, or leaves all as it was.
+#[tactic(auto, using(crate::proofs::KeyTests::same_tests))]
+pub fn entry_stored_at(
+    tables: &mut Vec<Entries>,
+    table: u32,
+    key: Key,
+    entry: Entry,
+) -> Result<(), AllocError>
+    requires { table < vec_len tables.old }
+    ensures ok { OnOk result (tables.new.items ≡ slice_set tables.old.items table (table_with (slice_index_or tables.old.items table no_entries) key entry)) }
+    ensures err { OnErr result (tables.new.items ≡ tables.old.items) }
+{
+    tables[table as usize].pairs.store(key, entry)?;
+    Ok(())
+}
+
+// The pair at a place of a table.
+pub fn pair_at(tables: &Vec<Entries>, table: u32, place: u64) -> Option<Entry>
+    requires { table < vec_len tables.now }
+    ensures { result ≡ option_map entry_of (slice_get (slice_index_or tables.now.items table no_entries).pairs place) }
+{
+    let (_, entry) = tables[table as usize].pairs.pair_at(place)?;
+    Some(entry)
+}
+
+// Removes the pair of this key, and answers whether there was one.
+#[tactic(auto, using(crate::proofs::KeyTests::same_tests))]
+pub fn entry_removed_at(tables: &mut Vec<Entries>, table: u32, key: &Key) -> bool
+    requires { table < vec_len tables.old }
+    ensures found { result ≡ is_some (value_of key_eq (slice_index_or tables.old.items table no_entries).pairs key.now) }
+    ensures pairs { tables.new.items ≡ slice_set tables.old.items table (table_without (slice_index_or tables.old.items table no_entries) key.now) }
+{
+    tables[table as usize].pairs.remove(key)
+}
+
+// The default of a table.
+pub fn default_of(tables: &Vec<Entries>, table: u32) -> Val
+    requires { table < vec_len tables.now }
+    ensures { result ≡ (slice_index_or tables.now.items table no_entries).default }
+{
+    tables[table as usize].default
+}
+
+// How many pairs a table has.
+pub fn count_of(tables: &Vec<Entries>, table: u32) -> u64
+    requires { table < vec_len tables.now }
+    ensures count { result ≡ length (slice_index_or tables.now.items table no_entries).pairs }
+    ensures small { result < 2 ^ 63 }
+{
+    tables[table as usize].pairs.len()
+}

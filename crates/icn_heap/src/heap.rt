@@ -1,0 +1,54 @@
+// The heap.
+ghost use Rattle.icn_heap.specs.Parts.{parts, IsSound, IsSound-prop};
+
+use crate::counts::add_count;
+use crate::entries::Entries;
+use crate::fields::Fields;
+use crate::members::Members;
+use icn_strings::Region;
+use icn_structs::Deque;
+use icn_value::{Limits, Val};
+use std::alloc::{AllocError, Global};
+
+/// The strings and structures of a program, and what is charged for them.
+///
+/// What a value stands for is the same from then on, whatever is made beside it. Nothing is given back.
+#[derive(Drop)]
+pub struct Heap {
+    pub(crate) alloc: Global,
+    pub(crate) strings: Region,
+    pub(crate) lists: Vec<Deque<Val>>,
+    pub(crate) sets: Vec<Members>,
+    pub(crate) tables: Vec<Entries>,
+    pub(crate) records: Vec<Fields>,
+    pub(crate) coexps: Vec<u64>,
+    pub(crate) cells: u64,
+    pub(crate) limits: Limits,
+    ghost sound: { IsSound (parts strings lists.items sets.items tables.items records.items coexps.items cells limits) } by { IsSound-prop (parts strings lists.items sets.items tables.items records.items coexps.items cells limits) },
+}
+
+impl Heap {
+    ghost use Rattle.std.specs.Prelude.{◌≡◌, IfOk};
+    ghost use Rattle.icn_value.specs.Limited.{limits_of};
+    ghost use Rattle.icn_heap.specs.Heaps.{heap_of, empty_heap};
+
+    /// A heap without strings and structures, but for `&main`, which is co-expression 0. The error is want of memory.
+    #[tactic(auto, unfolding(crate::specs::Heaps::heap_of))]
+    pub fn new(alloc: Global, limits: Limits) -> Result<Heap, AllocError>
+        ensures { IfOk result (λ heap. heap_of heap ≡ empty_heap (limits_of limits)) }
+    {
+        let mut coexps = Vec::new(alloc);
+        add_count(&mut coexps)?;
+        Ok(Heap {
+            alloc,
+            strings: Region::new(alloc, limits.strings),
+            lists: Vec::new(alloc),
+            sets: Vec::new(alloc),
+            tables: Vec::new(alloc),
+            records: Vec::new(alloc),
+            coexps,
+            cells: 0,
+            limits,
+        })
+    }
+}

@@ -1,0 +1,86 @@
+// Sets as a heap holds them, and one set among others that changes.
+ghost use Rattle.std.specs.Prelude.{◌≡◌, ◌<◌, ◌^◌, ◌++◌, ◌∷◌, [], OnOk, OnErr, slice_set, slice_get, slice_index_or, length, is_some};
+ghost use Rattle.std.specs.Option.{option_map};
+ghost use Rattle.std.specs.Vec.{vec_len};
+ghost use Rattle.icn_structs.specs.PairLists.{value_of, stored, without, KeysDiffer};
+ghost use Rattle.icn_heap.specs.KeyTests.{key_eq};
+ghost use Rattle.icn_heap.specs.Parts.{member_val};
+
+use crate::key::Key;
+use icn_structs::Pairs;
+use icn_value::Val;
+use std::alloc::{AllocError, Global};
+
+/// A set: each member, as it came, under its key.
+pub type Members = Pairs<Key, Val>;
+
+// Adds a set without members, or leaves all as it was.
+pub fn add_set(alloc: Global, sets: &mut Vec<Members>) -> Result<(), AllocError>
+    ensures ok { OnOk result (sets.new.items ≡ sets.old.items ++ [] ∷ []) }
+    ensures err { OnErr result (sets.new.items ≡ sets.old.items) }
+{
+    sets.push(Pairs::new(alloc))?;
+    Ok(())
+}
+
+// Whether a set has a member of this key.
+#[tactic(auto, using(crate::proofs::KeyTests::same_tests))]
+pub fn has_at(sets: &Vec<Members>, set: u32, key: &Key) -> bool
+    requires { set < vec_len sets.now }
+    ensures { result ≡ is_some (value_of key_eq (slice_index_or sets.now.items set []) key.now) }
+{
+    sets[set as usize].look(key).is_some()
+}
+
+// Stores a member under its key in a set, or leaves all as it was.
+#[tactic(auto, using(crate::proofs::KeyTests::same_tests))]
+pub fn member_stored_at(
+    sets: &mut Vec<Members>,
+    set: u32,
+    key: Key,
+    val: Val,
+) -> Result<(), AllocError>
+    requires { set < vec_len sets.old }
+    ensures ok { OnOk result (sets.new.items ≡ slice_set sets.old.items set (stored key_eq (slice_index_or sets.old.items set []) key val)) }
+    ensures err { OnErr result (sets.new.items ≡ sets.old.items) }
+{
+    sets[set as usize].store(key, val)?;
+    Ok(())
+}
+
+// The member at a place of a set.
+pub fn member_at(sets: &Vec<Members>, set: u32, place: u64) -> Option<Val>
+    requires { set < vec_len sets.now }
+    ensures { result ≡ option_map member_val (slice_get (slice_index_or sets.now.items set []) place) }
+{
+    let (_, val) = sets[set as usize].pair_at(place)?;
+    Some(val)
+}
+
+// Removes the member of this key, and answers whether there was one.
+#[tactic(auto, using(crate::proofs::KeyTests::same_tests))]
+pub fn member_removed_at(sets: &mut Vec<Members>, set: u32, key: &Key) -> bool
+    requires { set < vec_len sets.old }
+    ensures found { result ≡ is_some (value_of key_eq (slice_index_or sets.old.items set []) key.now) }
+    ensures members { sets.new.items ≡ slice_set sets.old.items set (without key_eq (slice_index_or sets.old.items set []) key.now) }
+{
+    sets[set as usize].remove(key)
+}
+
+// How many members a set has.
+pub fn count_at(sets: &Vec<Members>, set: u32) -> u64
+    requires { set < vec_len sets.now }
+    ensures count { result ≡ length (slice_index_or sets.now.items set []) }
+    ensures small { result < 2 ^ 63 }
+{
+    sets[set as usize].len()
+}
+
+// No member of a set has the key of another. A call does nothing: it tells a caller's proof so.
+#[tactic(auto, using(crate::proofs::KeyTests::same_tests))]
+pub fn keys_differ(sets: &Vec<Members>, set: u32)
+    requires { set < vec_len sets.now }
+    ensures { KeysDiffer key_eq (slice_index_or sets.now.items set []) }
+{
+    let _count = sets[set as usize].len();
+}

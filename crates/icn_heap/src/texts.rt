@@ -1,0 +1,89 @@
+// The texts of a heap.
+use crate::heap::Heap;
+use crate::spans::{as_place, full_of, span_of};
+use icn_strings::{Place, end_of_place, length_of_bytes, part_of_place};
+use icn_value::{Full, Span};
+use std::alloc::AllocError;
+
+impl Heap {
+    ghost use Rattle.std.specs.Prelude.{◌≡◌, ◌+◌, ◌≤◌, ◌++◌, take, drop, length, MatchResult, IfOk, OnErr, Ok};
+    ghost use Rattle.icn_value.specs.Changes.{charged_strings, Refuses, LimitsFirst};
+    ghost use Rattle.icn_heap.specs.Extents.{IsText, text_in, Keeps};
+    ghost use Rattle.icn_heap.specs.Heaps.{extent_of, heap_of};
+
+    /// Makes a text of these bytes, and charges them.
+    pub fn build(&mut self, bytes: &[u8]) -> Result<Span, Full>
+        ensures live { IfOk result (IsText (extent_of self.new)) }
+        ensures bytes { IfOk result (λ span. text_in (extent_of self.new) span ≡ bytes.now) }
+        ensures step { MatchResult result (λ _. charged_strings (heap_of self.old) (length bytes.now) ≡ Ok (heap_of self.new)) (Refuses (charged_strings (heap_of self.old) (length bytes.now))) }
+        ensures limits { LimitsFirst (charged_strings (heap_of self.old) (length bytes.now)) result }
+        ensures kept { Keeps (extent_of self.old) (extent_of self.new) }
+        ensures unchanged { OnErr result (heap_of self.new ≡ heap_of self.old) }
+    {
+        match self.strings.build(bytes) {
+            Ok(place) => Ok(span_of(place)),
+            Err(full) => Err(full_of(full)),
+        }
+    }
+
+    /// Makes a text of the bytes of `a` and then those of `b`, and charges both.
+    #[tactic(auto, unfolding(crate::specs::Heaps::extent_of))]
+    pub fn join(&mut self, a: Span, b: Span) -> Result<Span, Full>
+        requires first { IsText (extent_of self.old) a }
+        requires second { IsText (extent_of self.old) b }
+        ensures live { IfOk result (IsText (extent_of self.new)) }
+        ensures bytes { IfOk result (λ span. text_in (extent_of self.new) span ≡ text_in (extent_of self.old) a ++ text_in (extent_of self.old) b) }
+        ensures step { MatchResult result (λ _. charged_strings (heap_of self.old) (length (text_in (extent_of self.old) a ++ text_in (extent_of self.old) b)) ≡ Ok (heap_of self.new)) (Refuses (charged_strings (heap_of self.old) (length (text_in (extent_of self.old) a ++ text_in (extent_of self.old) b)))) }
+        ensures limits { LimitsFirst (charged_strings (heap_of self.old) (length (text_in (extent_of self.old) a ++ text_in (extent_of self.old) b))) result }
+        ensures kept { Keeps (extent_of self.old) (extent_of self.new) }
+        ensures unchanged { OnErr result (heap_of self.new ≡ heap_of self.old) }
+    {
+        let first = as_place(a);
+        let second = as_place(b);
+        length_of_bytes(&self.strings, first);
+        length_of_bytes(&self.strings, second);
+        match self.strings.join(first, second) {
+            Ok(place) => Ok(span_of(place)),
+            Err(full) => Err(full_of(full)),
+        }
+    }
+
+    /// Makes a text of these bytes without a charge, for literals and for results that cost nothing. The error is want of memory.
+    #[tactic(auto, unfolding(crate::specs::Heaps::extent_of))]
+    pub fn hold(&mut self, bytes: &[u8]) -> Result<Span, AllocError>
+        ensures live { IfOk result (IsText (extent_of self.new)) }
+        ensures bytes { IfOk result (λ span. text_in (extent_of self.new) span ≡ bytes.now) }
+        ensures kept { Keeps (extent_of self.old) (extent_of self.new) }
+        ensures unchanged { heap_of self.new ≡ heap_of self.old }
+    {
+        Ok(span_of(self.strings.hold(bytes)?))
+    }
+
+    /// The part of a text from a place on, counted from 0. It is not charged, and takes no memory.
+    #[tactic(auto, unfolding(crate::specs::Heaps::extent_of, crate::specs::Extents::text_in))]
+    pub fn part(&self, span: Span, from: u64, len: u64) -> Span
+        requires of { IsText (extent_of self.now) span }
+        requires within { from + len ≤ length (text_in (extent_of self.now) span) }
+        ensures live { IsText (extent_of self.now) result }
+        ensures bytes { text_in (extent_of self.now) result ≡ take len (drop from (text_in (extent_of self.now) span)) }
+    {
+        let whole = as_place(span);
+        length_of_bytes(&self.strings, whole);
+        end_of_place(&self.strings, whole);
+        let part = Place {
+            place: whole.place + from,
+            len,
+        };
+        part_of_place(&self.strings, part, whole);
+        span_of(part)
+    }
+
+    /// The bytes of a text. It takes no memory.
+    #[tactic(auto, unfolding(crate::specs::Extents::text_in, crate::specs::Heaps::extent_of))]
+    pub fn bytes(&self, span: Span) -> &[u8]
+        requires { IsText (extent_of self.now) span }
+        ensures { result.now ≡ text_in (extent_of self.now) span }
+    {
+        self.strings.bytes(as_place(span))
+    }
+}
