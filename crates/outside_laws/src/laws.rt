@@ -1,0 +1,26 @@
+// What rows leave of the outside.
+ghost use Rattle.std.specs.Prelude.{ℕ, List};
+ghost use Rattle.icn_text.specs.declared.func.Func.{Func};
+ghost use Rattle.icn_text.specs.declared.op.Op.{Op};
+ghost use Rattle.icn_value.specs.Store.{Names, Setting};
+ghost use Rattle.icn_value.specs.Values.{Item};
+ghost use Rattle.icn_defs.specs.Applying.{again, function_row, operation_row};
+ghost use Rattle.icn_defs.specs.Interruptions.{IsOutsideOf};
+ghost use Rattle.icn_defs.specs.Rows.{Residual};
+ghost use Rattle.icn_defs.specs.Running.{Launch, Observed};
+ghost use Rattle.icn_meaning.specs.Meaning.{Means};
+ghost use Rattle.icn_meaning.specs.Program.{Program};
+ghost use Rattle.outside_laws.specs.Outsides.{LeavesOutside};
+
+/// Where the outside is one that a run with this input comes to, each operation, function and resumption leaves such a one, whatever it comes to.
+pub fn rows_leave()
+    ensures operations { (input : List ℕ) (op : Op) (items : List Item) (at : Setting) → IsOutsideOf input at.outside → LeavesOutside input (operation_row op items at) }
+    ensures functions { (input : List ℕ) (names : Names) (func : Func) (items : List Item) (at : Setting) → IsOutsideOf input at.outside → LeavesOutside input (function_row names func items at) }
+    ensures resumed { (input : List ℕ) (residual : Residual) (at : Setting) → IsOutsideOf input at.outside → LeavesOutside input (again residual at) }
+{}
+
+/// What a program means leaves such an outside: what is left is a rest of the input, and each reading of its history was made when no more was put
+/// than at the end, and found an input that holds what it takes and all that is left.
+pub fn meaning_leaves()
+    ensures { (input : List ℕ) (program : Program) (launch : Launch) (seen : Observed) → IsOutsideOf input launch.outside → Means program launch seen → IsOutsideOf input seen.outside }
+{}

@@ -1,0 +1,6 @@
+//! Laws of what rows and runs do to the input and the outputs.
+#![tactic(auto)]
+
+mod laws;
+
+pub use laws::{meaning_leaves, rows_leave};
