@@ -1,5 +1,5 @@
 // What rows leave of the outside.
-ghost use Rattle.std.specs.Prelude.{ℕ, List};
+ghost use Rattle.std.specs.Prelude.{ℕ, Bool, List};
 ghost use Rattle.icn_text.specs.declared.func.Func.{Func};
 ghost use Rattle.icn_text.specs.declared.op.Op.{Op};
 ghost use Rattle.icn_value.specs.Store.{Names, Setting};
@@ -8,6 +8,9 @@ ghost use Rattle.icn_defs.specs.Applying.{again, function_row, operation_row};
 ghost use Rattle.icn_defs.specs.Interruptions.{IsOutsideOf};
 ghost use Rattle.icn_defs.specs.Rows.{Residual};
 ghost use Rattle.icn_defs.specs.Running.{Launch, Observed};
+ghost use Rattle.icn_code.specs.Codes.{Tables};
+ghost use Rattle.icn_run.specs.FlatStep as Flat;
+ghost use Rattle.icn_run.specs.LinkedStep as Linked;
 ghost use Rattle.icn_meaning.specs.Meaning.{Means};
 ghost use Rattle.icn_meaning.specs.Program.{Program};
 ghost use Rattle.outside_laws.specs.Outsides.{LeavesOutside};
@@ -19,8 +22,11 @@ pub fn rows_leave()
     ensures resumed { (input : List ℕ) (residual : Residual) (at : Setting) → IsOutsideOf input at.outside → LeavesOutside input (again residual at) }
 {}
 
-/// What a program means leaves such an outside: what is left is a rest of the input, and each reading of its history was made when no more was put
-/// than at the end, and found an input that holds what it takes and all that is left.
-pub fn meaning_leaves()
-    ensures { (input : List ℕ) (program : Program) (launch : Launch) (seen : Observed) → IsOutsideOf input launch.outside → Means program launch seen → IsOutsideOf input seen.outside }
+/// What a program means, and what the run of any code comes to, on flat stacks and on linked marks, leaves such an outside: what is left is a rest of
+/// the input, and each reading of its history was made when no more was put than at the end, and found an input that holds what it takes and all
+/// that is left.
+pub fn runs_leave()
+    ensures meant { (input : List ℕ) (program : Program) (launch : Launch) (seen : Observed) → IsOutsideOf input launch.outside → Means program launch seen → IsOutsideOf input seen.outside }
+    ensures on_stacks { (input : List ℕ) (tables : Tables) (launch : Launch) (seen : Observed) → IsOutsideOf input launch.outside → Flat.Runs tables launch seen → IsOutsideOf input seen.outside }
+    ensures on_marks { (input : List ℕ) (repeats : ℕ → ℕ → Bool) (tables : Tables) (launch : Launch) (seen : Observed) → IsOutsideOf input launch.outside → Linked.Runs repeats tables launch seen → IsOutsideOf input seen.outside }
 {}

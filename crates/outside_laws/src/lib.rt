@@ -3,4 +3,4 @@
 
 mod laws;
 
-pub use laws::{meaning_leaves, rows_leave};
+pub use laws::{rows_leave, runs_leave};
