@@ -7,7 +7,7 @@ use Rattle.icn_tree.specs.declared.lines.SourceLine.{SourceLine}
 use Rattle.icn_tree.specs.declared.token.Token.{Token}
 use Rattle.icn_tree.specs.SourceTexts.{joined_len}
 use Rattle.icn_tree.specs.TokenBounds.{IsScanRule}
-use Rattle.icn_tree.proofs.Scanning.{all_sized, tokens_counted, tokens_sound}
+use Rattle.icn_tree.proofs.Scanning.{all_formed, all_sized, tokens_counted, tokens_sound}
 use Rattle.icn_decls.specs.Spelled.{AreScanned}
 use Rattle.icn_tree.specs.Tokens.{Outcome, Scanned, Fault, tokens_of}
 use Rattle.icn_prep.specs.declared.fault.PrepFault.{PrepFault}
@@ -38,7 +38,7 @@ not_absent rule name line answer scan (inr e) is = rw e at is
 pub are_scanned : (lines : List SourceLine) (tokens : List Token) → joined_len lines ≤ 16777216 → tokens_of lines ≡ Scanned tokens → AreScanned tokens
 are_scanned lines tokens within e =
     let count = tokens_counted lines tokens e in
-    record { few = omega arith; sized = all_sized tokens (tokens_sound lines tokens e) }
+    record { few = omega arith; sized = all_sized tokens (tokens_sound lines tokens e); formed = all_formed tokens (tokens_sound lines tokens e) }
 
 -- No job asks for a fault
 
