@@ -1,7 +1,7 @@
 use Rattle.std.proofs.Common.{is_ok, arith}
 use Rattle.icn_tree.specs.declared.lines.SourceLine.{SourceLine}
-use Rattle.parse_tests.proofs.Texts.{joined_by, named_by}
-use Rattle.parse_tests.proofs.text.Text.push.Goals as goal
+use Rattle.source_rows.proofs.Texts.{joined_by, named_by}
+use Rattle.source_rows.proofs.text.Text.push.Goals as goal
 
 pub invariant_of-self : goal.invariant_of-self
 invariant_of-self c =

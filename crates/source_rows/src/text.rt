@@ -2,10 +2,12 @@
 ghost use Rattle.std.specs.Prelude.{◌≡◌, ◌≤◌, ◌+◌, IsTrue, length, true};
 ghost use Rattle.icn_tree.specs.SourceTexts.{joined_len, names_files};
 
+use crate::bytes::cut;
+use crate::notation::BETWEEN;
+use crate::stop::Stop;
 use icn_lex::tokens;
 use icn_tree::{Bytes, Lines, SourceLine, Token};
 use std::alloc::{AllocError, Global};
-use std::process::Abort;
 
 // Lines that are put together one after another, of a file whose name is empty.
 #[derive(Drop)]
@@ -44,42 +46,51 @@ impl Text {
         }
         Ok(())
     }
+
+    fn whole(self) -> Lines {
+        let Text {
+            names,
+            lines,
+            len: _,
+        } = self;
+        Lines { names, lines }
+    }
 }
 
 /// The lines of a text, numbered from 1.
-pub fn lines_of(alloc: Global, text: &str) -> Result<Lines, AllocError> {
+pub fn lines_of(alloc: Global, text: &[u8]) -> Result<Lines, AllocError> {
     let mut lines = Text::new(alloc)?;
     let mut number = 0u32;
-    for line in text.as_bytes().split(|byte| *byte == b'\n') {
+    for line in text.split(|byte| *byte == b'\n') {
         number = number.saturating_add(1);
         lines.push(alloc, line, number)?;
     }
-    let Text {
-        names,
-        lines,
-        len: _,
-    } = lines;
-    Ok(Lines { names, lines })
+    Ok(lines.whole())
 }
 
-/// The tokens of a text that breaks no rule of tokens.
-pub fn scan(rt: &impl Abort, alloc: Global, text: &str) -> Result<Vec<Token>, AllocError> {
-    match tokens(alloc, &lines_of(alloc, text)?) {
-        Ok(found) => Ok(found),
-        Err(fault) => { panic!(rt; "{fault:?} in {text}") }
+/// The lines of a text, of which each begins with its number and a blank.
+pub fn numbered_lines(alloc: Global, text: &[u8]) -> Result<Lines, AllocError> {
+    let mut lines = Text::new(alloc)?;
+    for line in text.split(|byte| *byte == b'\n') {
+        let (number, line) = cut(line, b' ');
+        let number = String::from_utf8_lossy(alloc, number)?;
+        let number = number.as_str().parse::<u32>().unwrap_or(0);
+        lines.push(alloc, line, number)?;
     }
+    Ok(lines.whole())
 }
 
-/// The tokens of texts that stand in one file each, one behind another.
-pub fn scan_all(
-    rt: &impl Abort,
-    alloc: Global,
-    texts: &[&'static str],
-) -> Result<Vec<Token>, AllocError> {
+/// The tokens of a text.
+pub fn scan(alloc: Global, text: &[u8]) -> Result<Vec<Token>, Stop> {
+    Ok(tokens(alloc, &lines_of(alloc, text)?)?)
+}
+
+/// The tokens of texts of one file each, one behind another.
+pub fn scan_all(alloc: Global, texts: &[u8]) -> Result<Vec<Token>, Stop> {
     let mut all = Vec::new(alloc);
     let mut file = 0u32;
-    for text in texts {
-        for mut token in scan(rt, alloc, text)? {
+    for text in texts.split(|byte| *byte == BETWEEN) {
+        for mut token in scan(alloc, text)? {
             token.file = file;
             all.push(token)?;
         }
