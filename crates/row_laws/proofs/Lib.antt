@@ -4,3 +4,4 @@ pub mod InOrder
 pub mod Undone
 pub mod Charging
 pub mod Growing
+pub mod SortedOnce

@@ -10,8 +10,9 @@ use Rattle.std.proofs.lemmas.Map.Lookups.{exact_bytes, exact_signed, exact_unsig
 use Rattle.icn_value.specs.Values.{Value, Null, Integer, Text, Chars, Std, Procedure, ARecord, AList, ASet, ATable, ACoexp}
 use Rattle.icn_value.specs.Sameness.{Shape, shape_of, shape_cmp, same}
 use Rattle.icn_value.specs.Store.{Heap, Names}
-use Rattle.icn_value.proofs.SameValues.{same_self}
+use Rattle.icn_value.proofs.SameValues.{same_is, same_self}
 use Rattle.icn_defs.specs.Images.{value_cmp, sorted_shape}
+use Rattle.icn_defs.specs.Structures.{entry_cmp}
 
 shapes : IsTotalOrder shape_cmp
 shapes = then_total (on_total (λ (shape : Shape). shape.rank) nat_cmp_total)
@@ -63,3 +64,19 @@ pub ties : (names : Names) (heap : Heap) (a b : Value) → value_cmp names heap 
 ties names heap a b is =
     let one : shape_of a ≡ shape_of b = sym (unnamed_shape names heap a) ∙ (ap unnamed (tied_shapes _ _ is) ∙ unnamed_shape names heap b) in
     ap (λ shape. is_eq (shape_cmp (shape_of a) shape)) (sym one) ∙ same_self a
+
+-- by value and then by key, a tie is one pair
+pub total_entries : (names : Names) (heap : Heap) → IsTotalOrder (entry_cmp names heap)
+total_entries names heap =
+    then_total (on_total (λ (pair : Value × Value). pair.1) (total names heap)) (on_total (λ (pair : Value × Value). pair.0) (total names heap))
+
+pub ties_are_one : (names : Names) (heap : Heap) (a b : Value) → value_cmp names heap a b ≡ Equal → a ≡ b
+ties_are_one names heap a b is = same_is a b (ties names heap a b is)
+
+pub entries_are_one : (names : Names) (heap : Heap) (a b : Value × Value) → entry_cmp names heap a b ≡ Equal → a ≡ b
+entries_are_one names heap a b is =
+    let parts = both (value_cmp names heap a.1 b.1) (value_cmp names heap a.0 b.0) is in
+    pair_by (ties_are_one names heap a.0 b.0 parts.1) (ties_are_one names heap a.1 b.1 parts.0)
+  where
+    pair_by : a.0 ≡ b.0 → a.1 ≡ b.1 → a ≡ b
+    pair_by first second = ap (λ v. (v, a.1)) first ∙ ap (λ v. (b.0, v)) second

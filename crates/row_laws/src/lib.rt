@@ -3,12 +3,14 @@
 
 mod errors;
 mod growth;
+mod sorting;
 mod undoing;
 mod values;
 mod walks;
 
 pub use errors::errors_change_nothing;
 pub use growth::nothing_is_given_back;
+pub use sorting::{sorting_is_one, sorting_puts_in_order};
 pub use undoing::undoing_gives_back;
 pub use values::{
     equivalence_is_equality, integers_survive_texts, positions_are_places, sorting_is_total,

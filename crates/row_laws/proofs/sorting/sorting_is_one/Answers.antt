@@ -1,0 +1,11 @@
+use Rattle.row_laws.proofs.Sorted.{total, total_entries, ties_are_one, entries_are_one}
+use Rattle.row_laws.proofs.SortedOnce.{alone}
+use Rattle.icn_defs.specs.Images.{value_cmp}
+use Rattle.icn_defs.specs.Structures.{entry_cmp}
+use Rattle.row_laws.proofs.sorting.sorting_is_one.Goals as goal
+
+pub returns-clause-values : goal.returns-clause-values
+returns-clause-values c names heap xs ys = alone (value_cmp names heap) (total names heap) (ties_are_one names heap) xs ys
+
+pub returns-clause-entries : goal.returns-clause-entries
+returns-clause-entries c names heap xs ys = alone (entry_cmp names heap) (total_entries names heap) (entries_are_one names heap) xs ys
