@@ -2,12 +2,13 @@
 ghost use Rattle.std.specs.Prelude.{ℕ, Bool, List};
 ghost use Rattle.icn_text.specs.declared.func.Func.{Func};
 ghost use Rattle.icn_text.specs.declared.op.Op.{Op};
+ghost use Rattle.icn_value.specs.Limited.{Bounds};
 ghost use Rattle.icn_value.specs.Store.{Names, Setting};
 ghost use Rattle.icn_value.specs.Values.{Item};
 ghost use Rattle.icn_defs.specs.Applying.{again, function_row, operation_row};
-ghost use Rattle.icn_defs.specs.Interruptions.{IsOutsideOf};
+ghost use Rattle.icn_defs.specs.Interruptions.{Breaks, BreaksReading, IsOutsideOf, Streams};
 ghost use Rattle.icn_defs.specs.Rows.{Residual};
-ghost use Rattle.icn_defs.specs.Running.{Launch, Observed};
+ghost use Rattle.icn_defs.specs.Running.{Launch, Observed, launch_of};
 ghost use Rattle.icn_code.specs.Codes.{Tables};
 ghost use Rattle.icn_run.specs.FlatStep as Flat;
 ghost use Rattle.icn_run.specs.LinkedStep as Linked;
@@ -29,4 +30,12 @@ pub fn runs_leave()
     ensures meant { (input : List ℕ) (program : Program) (launch : Launch) (seen : Observed) → IsOutsideOf input launch.outside → Means program launch seen → IsOutsideOf input seen.outside }
     ensures on_stacks { (input : List ℕ) (tables : Tables) (launch : Launch) (seen : Observed) → IsOutsideOf input launch.outside → Flat.Runs tables launch seen → IsOutsideOf input seen.outside }
     ensures on_marks { (input : List ℕ) (repeats : ℕ → ℕ → Bool) (tables : Tables) (launch : Launch) (seen : Observed) → IsOutsideOf input launch.outside → Linked.Runs repeats tables launch seen → IsOutsideOf input seen.outside }
+{}
+
+/// A program's run that a failed reading broke off left a first part of what it puts and takes, as every run that was broken off.
+pub fn readings_break()
+    ensures meant { (program : Program) (words : List (List ℕ)) (bounds : Bounds) (input : List ℕ) (seen : Observed) (before after : Streams) →
+        Means program (launch_of words bounds input) seen → BreaksReading seen before after → Breaks input seen before after }
+    ensures on_stacks { (tables : Tables) (words : List (List ℕ)) (bounds : Bounds) (input : List ℕ) (seen : Observed) (before after : Streams) →
+        Flat.Runs tables (launch_of words bounds input) seen → BreaksReading seen before after → Breaks input seen before after }
 {}

@@ -1,8 +1,9 @@
 -- Each error of a form, and of the limits.
-use Rattle.std.specs.Prelude.{List, [], ◌∷◌, codes}
+use Rattle.std.specs.Prelude.{List, [], ◌∷◌, true, codes}
 use Rattle.icn_tree.specs.declared.token.Operator.TheVariants as Signs
-use Rattle.program_tests.specs.Words.{int, text, name, key, before, between, assign, call, write, field, list, to_by, when, every, globals, kind, procedure, main}
-use Rattle.program_tests.specs.Cases.{Case, case, under, started, done, stopped, most_strings, most_cells, most_levels}
+use Rattle.icn_tree.specs.Trees.{NoInitial}
+use Rattle.program_tests.specs.Words.{int, text, letters, name, key, before, between, assign, call, write, element, field, list, to_by, when, every, create, globals, kind, procedure_of, procedure, main}
+use Rattle.program_tests.specs.Cases.{Case, case, under, started, done, stopped, at_bound, most_turns, most_strings, most_cells, most_levels}
 
 abbrev pub errors : List Case
 errors =
@@ -137,4 +138,58 @@ errors =
     []
     60
     (stopped 307 "" "Run-time error 307\ninadequate space in block region\n" 0 2 0) ∷
+    -- procedure main(); ^5; end
+    case (main (before Signs.Caret (int 5) ∷ []) ∷ []) 40
+    (stopped 118 "" "Run-time error 118\nco-expression expected\noffending value: 5\n" 1 0 1) ∷
+    -- procedure main(); '1'(2); end
+    case (main (call (letters "1") (int 2 ∷ []) ∷ []) ∷ []) 40
+    (stopped 106 "" "Run-time error 106\nprocedure or integer expected\noffending value: '1'\n" 1 0 1) ∷
+    -- procedure main(); "x"(2); end
+    case (main (call (text "x") (int 2 ∷ []) ∷ []) ∷ []) 40
+    (stopped 106 "" "Run-time error 106\nprocedure or integer expected\noffending value: \"x\"\n" 1 0 1) ∷
+    -- procedure main(); 3 ! 4; end
+    case (main (between (int 3) Signs.Bang (int 4) ∷ []) ∷ []) 40
+    (stopped 126 "" "Run-time error 126\nlist or record expected\noffending value: 4\n" 1 0 1) ∷
+    -- procedure main(); write(1 / 0); end
+    case (main (write (between (int 1) Signs.Slash (int 0) ∷ []) ∷ []) ∷ [])
+    40
+    (stopped 201 "" "Run-time error 201\ndivision by zero\n" 1 0 1) ∷
+    -- procedure main(); [1, 2]; end
+    under (most_cells 3) (main (list (int 1 ∷ int 2 ∷ []) ∷ []) ∷ []) 40
+    (stopped 307 "" "Run-time error 307\ninadequate space in block region\n" 1 0 1) ∷
+    -- procedure main(); create 1; end
+    under (most_cells 1) (main (create (int 1) ∷ []) ∷ []) 40
+    (stopped 307 "" "Run-time error 307\ninadequate space in block region\n" 1 0 1) ∷
+    -- procedure p(a[]); a; end
+    -- procedure main(); p(1); end
+    under (most_cells 2)
+    (procedure_of "p" ("a" ∷ []) true [] NoInitial (name "a" ∷ []) ∷
+    main (call (name "p") (int 1 ∷ []) ∷ []) ∷
+    [])
+    40
+    (stopped 307 "" "Run-time error 307\ninadequate space in block region\n" 1 0 1) ∷
+    -- procedure main(); L := [1]; c := (create 1(L[1], pop(L))); @c; end
+    case
+    (main
+    (assign (name "L") (list (int 1 ∷ [])) ∷
+    assign (name "c")
+    (create
+    (call (int 1) (element (name "L") (int 1 ∷ []) ∷ call (name "pop") (name "L" ∷ []) ∷ []))) ∷
+    before Signs.At (name "c") ∷
+    []) ∷
+    [])
+    160
+    (stopped 205 "" "Run-time error 205\ninvalid value\n" 9 0 6) ∷
+    -- procedure main(); L := [1]; c := (create 1(L[1], pop(L))); @c; end
+    under (most_turns 8)
+    (main
+    (assign (name "L") (list (int 1 ∷ [])) ∷
+    assign (name "c")
+    (create
+    (call (int 1) (element (name "L") (int 1 ∷ []) ∷ call (name "pop") (name "L" ∷ []) ∷ []))) ∷
+    before Signs.At (name "c") ∷
+    []) ∷
+    [])
+    160
+    (at_bound "" 8 0 6) ∷
     []

@@ -2,7 +2,7 @@
 use Rattle.std.specs.Prelude.{List, [], ◌∷◌}
 use Rattle.icn_tree.specs.declared.token.Operator.TheVariants as Signs
 use Rattle.icn_tree.specs.Trees.{Empty}
-use Rattle.program_tests.specs.Words.{int, text, name, key, between, assign, update, call, write, to, all_of, block, when, while_do, every, every_do, break, next, return, fail, suspend, suspend_do, procedure, main}
+use Rattle.program_tests.specs.Words.{int, text, name, key, before, between, assign, update, call, write, to, all_of, block, when, while_do, every, every_do, break, next, return, fail, suspend, suspend_do, procedure, main}
 use Rattle.program_tests.specs.Cases.{Case, case, done}
 
 abbrev pub scans : List Case
@@ -220,4 +220,14 @@ scans =
     [])
     700
     (done "3 01233\nxyz\n0123 01233\nxyz\n012301233\n01233\n01233\n01233\n" 27 0 1) ∷
+    -- procedure main(); write(12 ? &subject); end
+    case
+    (main (write (between (int 12) Signs.Question (key "subject") ∷ []) ∷ []) ∷ [])
+    60
+    (done "\n" 1 2 1) ∷
+    -- procedure main(); write(12 ? .&subject); end
+    case
+    (main (write (between (int 12) Signs.Question (before Signs.Dot (key "subject")) ∷ []) ∷ []) ∷ [])
+    60
+    (done "12\n" 2 2 1) ∷
     []
