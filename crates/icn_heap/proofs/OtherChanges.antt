@@ -8,6 +8,7 @@ use Rattle.std.proofs.lemmas.List.{map-set, map-append, length-map, length-set, 
 use Rattle.std.proofs.lemmas.List.Elements.{All-push, All-set}
 use Rattle.icn_strings.specs.declared.region.Region.{Region}
 use Rattle.icn_strings.specs.Regions.{Keeps as KeepsTexts, sum_of}
+use Rattle.icn_structs.specs.Numbered.{Numbered}
 use Rattle.icn_structs.specs.PairLists.{value_of, stored, without, KeysDiffer}
 use Rattle.icn_value.specs.declared.full.Full.{Full}
 use Rattle.icn_value.specs.declared.val.Val.{Val}
@@ -24,7 +25,7 @@ use Rattle.icn_heap.specs.Extents.{Extent, IsLive, value_in, values_in}
 use Rattle.icn_heap.specs.Keys.{key_value, IsKey}
 use Rattle.icn_heap.specs.KeyTests.{key_eq}
 use Rattle.icn_heap.specs.Records.{HeldRecord, held_record, no_fields}
-use Rattle.icn_heap.specs.Parts.{Parts, member_in, set_in, pair_in, table_in, record_in, heap_over, extent_in, no_entries, member_val, entry_of, entry_value, entry_vals, table_with, table_without, IsSoundList, IsSoundMember, IsSoundPair, IsSoundTable, IsSoundRecord, IsCharged, IsSound}
+use Rattle.icn_heap.specs.Parts.{list_in, Parts, member_in, set_in, pair_in, table_in, record_in, heap_over, extent_in, no_entries, member_val, entry_of, entry_value, entry_vals, table_with, table_without, IsSoundList, IsSoundMember, IsSoundPair, IsSoundTable, IsSoundRecord, IsCharged, IsSound}
 use Rattle.icn_heap.specs.Heaps.{with_cells}
 use Rattle.icn_heap.proofs.Keeping.{lists_later, Becomes, becomes}
 use Rattle.icn_heap.proofs.ListChanges.{texts_stay, at_view, get_live, is_some_map}
@@ -317,3 +318,14 @@ texts_join parts is strings texts =
     (record { lists = is.structures.lists; sets = is.structures.sets; tables = is.structures.tables; records = is.structures.records; coexps = is.structures.coexps })
     (record { limit = texts.limit ∙ charged.limit; within = charged.within; counted = charged.counted; main = charged.main })
     refl
+
+-- How many elements there are
+
+pub items_count : (all : Extent) (list : Numbered Val) {values : Numbered Value} → list_in all list ≡ values → length list.items ≡ length values.items
+items_count all list same = sym (rw length-map refl) ∙ ap (λ (it : Numbered Value). length it.items) same
+
+pub members_count : (parts : Parts) (id : ℕ) → length (slice_index_or parts.sets id []) ≡ length (set_at (heap_over (extent_in parts) parts) id)
+members_count parts id = sym (ap length (set_view (extent_in parts) parts id) ∙ (rw length-map refl))
+
+pub pairs_count : (parts : Parts) (id : ℕ) → length (slice_index_or parts.tables id no_entries).pairs ≡ length (table_at (heap_over (extent_in parts) parts) id).pairs
+pairs_count parts id = sym (ap (λ (t : Table). length t.pairs) (table_view (extent_in parts) parts id) ∙ (rw length-map refl))

@@ -21,3 +21,11 @@ pub fn raise_at(counts: &mut Vec<u64>, id: u32)
 {
     counts[id as usize] += 1;
 }
+
+// A count.
+pub fn count_of_results(counts: &Vec<u64>, id: u32) -> u64
+    requires { id < vec_len counts.now }
+    ensures { result ≡ slice_index counts.now.items id }
+{
+    counts[id as usize]
+}

@@ -10,13 +10,16 @@ mod fields;
 mod heap;
 mod key;
 mod keys;
+mod laws;
 mod lists;
 mod members;
 mod records;
 mod sets;
+mod sizes;
 mod spans;
 mod tables;
 mod texts;
 
 pub use heap::Heap;
 pub use icn_value::Full;
+pub use laws::{empty_text, length_of_text, main_is_live, within_limit};

@@ -1,0 +1,8 @@
+use Rattle.std.proofs.Common.{◌∙◌}
+use Rattle.icn_heap.specs.Heaps.{heap_of, parts_of}
+use Rattle.icn_heap.proofs.OtherChanges.{pairs_count}
+use Rattle.icn_heap.proofs.heap.Heap.pair_count.Goals as goal
+
+pub returns-clause-count : goal.returns-clause-count
+unfolding heap_of
+returns-clause-count c = c.count_of.ensures.count ∙ pairs_count (parts_of c.args.self.now) c.args.id

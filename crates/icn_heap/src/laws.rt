@@ -1,0 +1,41 @@
+// What holds of every heap. A call does nothing: it tells a caller's proof the law.
+ghost use Rattle.std.specs.Prelude.{◌≡◌, ◌≤◌, [], length};
+ghost use Rattle.icn_value.specs.declared.val.Val.TheVariants.{Coexp};
+ghost use Rattle.icn_heap.specs.Extents.{IsLive, IsText, text_in};
+ghost use Rattle.icn_heap.specs.Heaps.{extent_of, heap_of};
+
+use crate::heap::Heap;
+use crate::spans::as_place;
+use icn_strings::{empty_place, length_of_bytes};
+use icn_value::Span;
+
+/// `&main` is of every heap.
+#[tactic(auto, unfolding(crate::specs::Heaps::extent_of))]
+pub fn main_is_live(heap: &Heap)
+    ensures { IsLive (extent_of heap.now) (Coexp 0) }
+{}
+
+/// A span of length 0 is a text of every heap, and has no bytes.
+#[tactic(auto, unfolding(crate::specs::Heaps::extent_of, crate::specs::Extents::text_in))]
+pub fn empty_text(heap: &Heap, span: Span)
+    requires { span.len ≡ 0 }
+    ensures live { IsText (extent_of heap.now) span }
+    ensures bytes { text_in (extent_of heap.now) span ≡ [] }
+{
+    empty_place(&heap.strings, as_place(span));
+}
+
+/// A text has as many bytes as its span says.
+#[tactic(auto, unfolding(crate::specs::Heaps::extent_of, crate::specs::Extents::text_in))]
+pub fn length_of_text(heap: &Heap, span: Span)
+    requires { IsText (extent_of heap.now) span }
+    ensures { length (text_in (extent_of heap.now) span) ≡ span.len }
+{
+    length_of_bytes(&heap.strings, as_place(span));
+}
+
+/// No heap has charged more cells than its limit.
+#[tactic(auto, unfolding(crate::specs::Heaps::heap_of))]
+pub fn within_limit(heap: &Heap)
+    ensures { (heap_of heap.now).cells ≤ (heap_of heap.now).bounds.cells }
+{}
