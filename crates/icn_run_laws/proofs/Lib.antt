@@ -18,3 +18,5 @@ pub mod LinkedEnds
 pub mod FlatEnds
 pub mod Ends
 pub mod Runs
+pub mod OthersStay
+pub mod StackLaws

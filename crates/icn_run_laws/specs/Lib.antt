@@ -5,3 +5,5 @@ pub mod SecondLaw
 pub mod Measure
 pub mod StackWeights
 pub mod ChainWeights
+pub mod OthersStay
+pub mod StackLaws

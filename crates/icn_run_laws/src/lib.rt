@@ -1,4 +1,4 @@
-//! Laws of the run of a code: its run on flat stacks and its run on linked marks agree, and each run ends.
+//! Laws of the run of a code: its runs on flat stacks and on linked marks agree, each run ends, and what suspending, resuming and activating leave.
 #![tactic(auto)]
 
 ghost use Rattle.std.specs.Prelude.{ℕ, Bool};
@@ -11,6 +11,8 @@ ghost use Rattle.icn_run.specs.Stacks.{flat};
 ghost use Rattle.icn_run.specs.Chains.{linked};
 ghost use Rattle.icn_run.specs.Step.{Program, Launch};
 ghost use Rattle.icn_run_laws.specs.Measure.{Forward, EndsFrom};
+ghost use Rattle.icn_run_laws.specs.OthersStay.{OthersStay};
+ghost use Rattle.icn_run_laws.specs.StackLaws.{Suspends, Resumes, Unmarks};
 
 /// The run of any code on flat stacks and its run on linked marks agree.
 pub fn second_law()
@@ -23,4 +25,18 @@ pub fn second_law()
 pub fn runs_end()
     ensures on_stacks { (most : ℕ) (code : Program) → Forward most code → (launch : Launch) → EndsFrom flat code (Flat.start code launch) }
     ensures on_marks { (repeats : ℕ → ℕ → Bool) (most : ℕ) (code : Program) → Forward most code → (launch : Launch) → EndsFrom (linked repeats) code (Linked.start repeats code launch) }
+{}
+
+/// An instruction that passes no control to another co-expression leaves the stack, the activator and the status of each as they were, on both machines; one
+/// that makes a co-expression adds it.
+pub fn others_stay()
+    ensures on_stacks { (code : Program) → OthersStay flat code }
+    ensures on_marks { (repeats : ℕ → ℕ → Bool) (code : Program) → OthersStay (linked repeats) code }
+{}
+
+/// What suspending, resuming and dropping a mark do to any flat stack.
+pub fn suspending()
+    ensures suspends { Suspends }
+    ensures resumes { Resumes }
+    ensures unmarks { Unmarks }
 {}
