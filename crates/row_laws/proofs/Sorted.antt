@@ -12,7 +12,7 @@ use Rattle.icn_value.specs.Sameness.{Shape, shape_of, shape_cmp, same}
 use Rattle.icn_value.specs.Store.{Heap, Names}
 use Rattle.icn_value.proofs.SameValues.{same_is, same_self}
 use Rattle.icn_defs.specs.Images.{value_cmp, sorted_shape}
-use Rattle.icn_defs.specs.Structures.{entry_cmp}
+use Rattle.icn_defs.specs.Structures.{entry_cmp, key_cmp}
 
 shapes : IsTotalOrder shape_cmp
 shapes = then_total (on_total (λ (shape : Shape). shape.rank) nat_cmp_total)
@@ -64,6 +64,10 @@ pub ties : (names : Names) (heap : Heap) (a b : Value) → value_cmp names heap 
 ties names heap a b is =
     let one : shape_of a ≡ shape_of b = sym (unnamed_shape names heap a) ∙ (ap unnamed (tied_shapes _ _ is) ∙ unnamed_shape names heap b) in
     ap (λ shape. is_eq (shape_cmp (shape_of a) shape)) (sym one) ∙ same_self a
+
+-- by key
+pub total_keys : (names : Names) (heap : Heap) → IsTotalOrder (key_cmp names heap)
+total_keys names heap = on_total (λ (pair : Value × Value). pair.0) (total names heap)
 
 -- by value and then by key, a tie is one pair
 pub total_entries : (names : Names) (heap : Heap) → IsTotalOrder (entry_cmp names heap)

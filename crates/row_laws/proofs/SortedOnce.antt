@@ -1,5 +1,5 @@
 -- A list that is sorted and has what another one has is that one sorted, where only one and the same item ties with an item.
-use Rattle.std.proofs.Common.{arith, ◌≡◌, ◌∙◌, refl, sym, ap, ℕ, zero, suc, ◌+◌, ◌<◌, ◌≤◌, Bool, true, false, true≢false, List, [], ◌∷◌, length, append-nil, if◌then◌else◌}
+use Rattle.std.proofs.Common.{arith, cond, Some, ◌≡◌, ◌∙◌, refl, sym, ap, ℕ, zero, suc, ◌+◌, ◌<◌, ◌≤◌, Bool, true, false, true≢false, List, [], ◌∷◌, length, append-nil, if◌then◌else◌}
 use Rattle.std.specs.Prelude.{fold, slice_index_or, ◌++◌}
 use Rattle.std.specs.List.{sum_by}
 use Rattle.std.specs.Cmp.{IsTotalOrder}
@@ -8,8 +8,16 @@ use Rattle.std.specs.declared.cmp.Ordering.{Ordering}
 use Rattle.std.specs.declared.cmp.Ordering.TheVariants.{Less, Equal, Greater}
 use Rattle.std.specs.List.Sorted.{IsPermutation, IsSorted}
 use Rattle.std.proofs.lemmas.Cmp.{tied_itself}
-use Rattle.std.proofs.lemmas.List.Sorted.{sum_by-IsPermutation, sorted_far, ranks_by, IsPermutation-refl, IsPermutation-trans, IsPermutation-sym, IsPermutation-cons, IsPermutation-middle, IsPermutation-append_left}
+use Rattle.std.proofs.lemmas.List.Sorted.{sum_by-IsPermutation, sorted_far, ranks_by, IsPermutation-refl, IsPermutation-trans, IsPermutation-sym, IsPermutation-cons, IsPermutation-middle, IsPermutation-append_left, All-permutation}
+use Rattle.std.proofs.lemmas.Map.Keys.{IsDistinct-head, IsDistinct-tail}
 use Rattle.std.proofs.lemmas.Map.Lookups.{CmpEqualImpliesEq}
+use Rattle.std.specs.List.{All, AllByRecursion}
+use Rattle.std.specs.Map.{keys_of}
+use Rattle.std.proofs.lemmas.Option.{same_Some}
+use Rattle.icn_structs.specs.PairLists.{value_of, KeysDiffer}
+use Rattle.icn_value.specs.Values.{Value}
+use Rattle.icn_value.specs.Sameness.{same}
+use Rattle.icn_value.proofs.SameValues.{same_equiv, same_self}
 use Rattle.icn_defs.specs.Conversions.{sorted_in, sorted_onto, sorted}
 
 -- each of the items is at or above x
@@ -43,12 +51,12 @@ not_lt : (o : Ordering) → is_lt o ≡ false → o ≡ Less → ⊥
 not_lt o is same = true≢false (sym (ap is_lt same) ∙ is)
 
 -- x is at or below y, and y at or below x
-tied : {A : Type 0} (cmp : A → A → Ordering) → IsTotalOrder cmp → CmpEqualImpliesEq cmp → (x y : A) → is_lt (cmp y x) ≡ false → is_lt (cmp x y) ≡ false → x ≡ y
-tied cmp total exact x y low high = by (cmp y x) refl
+tied : {A : Type 0} (cmp : A → A → Ordering) → IsTotalOrder cmp → (x y : A) → (cmp x y ≡ Equal → x ≡ y) → is_lt (cmp y x) ≡ false → is_lt (cmp x y) ≡ false → x ≡ y
+tied cmp total x y exact low high = by (cmp y x) refl
   where
     by : (o : Ordering) → cmp y x ≡ o → x ≡ y
     by Less e = absurd (not_lt (cmp y x) low e)
-    by Equal e = exact x y (total.antisymm x y ∙ ap ordering_reverse e)
+    by Equal e = exact (total.antisymm x y ∙ ap ordering_reverse e)
     by Greater e = absurd (not_lt (cmp x y) high (total.antisymm x y ∙ ap ordering_reverse e))
 
 -- x is below y, and y at or below z
@@ -91,16 +99,21 @@ cons_both {A} {x} {y} {xs} {ys} first rest = ap (λ z. z ∷ xs) first ∙ ap (�
 rest_sums : {A : Type 0} (f : A → ℕ) (x y : A) (xs ys : List A) → f x + sums f xs ≡ f y + sums f ys → x ≡ y → sums f xs ≡ sums f ys
 rest_sums f x y xs ys whole one = let same = ap f one in omega (arith, whole, same)
 
-one_list : {A : Type 0} (cmp : A → A → Ordering) → IsTotalOrder cmp → CmpEqualImpliesEq cmp → (xs ys : List A) → Ascends cmp xs → Ascends cmp ys → SameSums xs ys → xs ≡ ys
-unfolding Ascends SameSums sums
-one_list cmp total exact [] [] a b same = refl
-one_list cmp total exact [] (y ∷ ys) a b same = absurd (let no : 0 ≡ 1 + sums (λ z. 1) ys = same (λ z. 1) in omega (arith, no))
-one_list cmp total exact (x ∷ xs) [] a b same = absurd (let no : 1 + sums (λ z. 1) xs ≡ 0 = same (λ z. 1) in omega (arith, no))
-one_list cmp total exact (x ∷ xs) (y ∷ ys) a b same =
+AllOf : {A : Type 0} → (A → Type 0) → List A → Type 0
+AllOf P [] = Unit {0}
+AllOf P (x ∷ xs) = P x × AllOf P xs
+
+one_list : {A : Type 0} (P : A → Type 0) (cmp : A → A → Ordering) → IsTotalOrder cmp → ((x y : A) → P x → P y → cmp x y ≡ Equal → x ≡ y)
+    → (xs ys : List A) → AllOf P xs → AllOf P ys → Ascends cmp xs → Ascends cmp ys → SameSums xs ys → xs ≡ ys
+unfolding Ascends SameSums sums AllOf
+one_list P cmp total exact [] [] p q a b same = refl
+one_list P cmp total exact [] (y ∷ ys) p q a b same = absurd (let no : 0 ≡ 1 + sums (λ z. 1) ys = same (λ z. 1) in omega (arith, no))
+one_list P cmp total exact (x ∷ xs) [] p q a b same = absurd (let no : 1 + sums (λ z. 1) xs ≡ 0 = same (λ z. 1) in omega (arith, no))
+one_list P cmp total exact (x ∷ xs) (y ∷ ys) p q a b same =
     let high = not_below cmp total x y xs ys b.0 same in
     let low = not_below cmp total y x ys xs a.0 (λ f. sym (same f)) in
-    let first : x ≡ y = tied cmp total exact x y low high in
-    cons_both first (one_list cmp total exact xs ys a.1 b.1 (λ f. rest_sums f x y xs ys (same f) first))
+    let first : x ≡ y = tied cmp total x y (exact x y p.0 q.0) low high in
+    cons_both first (one_list P cmp total exact xs ys p.1 q.1 a.1 b.1 (λ f. rest_sums f x y xs ys (same f) first))
 
 -- Sorting
 
@@ -200,9 +213,65 @@ moved_onto cmp placed (item ∷ items) =
 pub moved : {A : Type 0} (cmp : A → A → Ordering) (xs : List A) → IsPermutation xs (sorted cmp xs)
 moved cmp xs = moved_onto cmp [] xs
 
-pub alone : {A : Type 0} (cmp : A → A → Ordering) → IsTotalOrder cmp → CmpEqualImpliesEq cmp → (xs ys : List A) → IsPermutation xs ys → IsSorted cmp ys → ys ≡ sorted cmp xs
+by_place : {A : Type 0} (P : A → Type 0) (xs : List A) → AllOf P xs → All P xs
+unfolding AllOf
+by_place P [] all = λ k d below. absurd (omega (arith, below))
+by_place P (x ∷ xs) all = λ k d below. at k d below (by_place P xs all.1)
+  where
+    at : (k : ℕ) (d : _) → k < length (x ∷ xs) → All P xs → P (slice_index_or (x ∷ xs) k d)
+    at zero d below rest = all.0
+    at (suc k) d below rest = rest k d (omega (arith, below))
+
+by_rest : {A : Type 0} (P : A → Type 0) (xs : List A) → All P xs → AllOf P xs
+unfolding AllOf
+by_rest P [] all = tt
+by_rest P (x ∷ xs) all = (all zero x (omega arith), by_rest P xs (λ k d below. all (suc k) d (omega (arith, below))))
+
+-- where the items of the list pass, and two that pass and tie are one
+alone_of : {A : Type 0} (P : A → Type 0) (cmp : A → A → Ordering) → IsTotalOrder cmp → ((x y : A) → P x → P y → cmp x y ≡ Equal → x ≡ y)
+    → (xs ys : List A) → AllOf P xs → IsPermutation xs ys → IsSorted cmp ys → ys ≡ sorted cmp xs
 unfolding Ascends SameSums sums
-alone cmp total exact xs ys moves up =
-    one_list cmp total exact ys (sorted cmp xs)
+alone_of P cmp total exact xs ys all moves up =
+    one_list P cmp total exact ys (sorted cmp xs)
+    (by_rest P ys (All-permutation P xs ys moves (by_place P xs all))) (by_rest P (sorted cmp xs) (All-permutation P xs (sorted cmp xs) (moved cmp xs) (by_place P xs all)))
     (ascends_by cmp ys (sorted_far (λ x y. is_lt (cmp x y)) (ranks_by total (λ x. x)) ys up)) (ascends_onto cmp total [] xs tt)
     (λ f. sym (summed f ys) ∙ (sum_by-IsPermutation f xs ys moves ∙ (summed f xs ∙ (sym (nothing_more (sums f xs)) ∙ sym (sums_onto cmp f [] xs)))))
+
+all_pass : {A : Type 0} (xs : List A) → AllOf (λ x. Unit {0}) xs
+unfolding AllOf
+all_pass [] = tt
+all_pass (x ∷ xs) = (tt, all_pass xs)
+
+pub alone : {A : Type 0} (cmp : A → A → Ordering) → IsTotalOrder cmp → CmpEqualImpliesEq cmp → (xs ys : List A) → IsPermutation xs ys → IsSorted cmp ys → ys ≡ sorted cmp xs
+alone cmp total exact xs ys = alone_of (λ x. Unit {0}) cmp total (λ x y p q. exact x y) xs ys (all_pass xs)
+
+-- Pairs whose keys differ, by key
+
+Fits : List (Value × Value) → Value × Value → Type 0
+Fits pairs pair = value_of same pairs pair.0 ≡ Some pair.1
+
+fits_more : (first : Value × Value) (pairs others : List (Value × Value)) → AllByRecursion (λ key. same first.0 key ≡ false) (keys_of others)
+    → AllOf (Fits pairs) others → AllOf (Fits (first ∷ pairs)) others
+unfolding AllOf Fits
+fits_more first pairs [] apart all = tt
+fits_more first pairs (pair ∷ others) apart all =
+    (ap (λ t. cond t (Some first.1) (value_of same pairs pair.0)) (same_equiv.symm pair.0 first.0 ∙ apart.0) ∙ all.0, fits_more first pairs others apart.1 all.1)
+
+fits_all : (pairs : List (Value × Value)) → KeysDiffer same pairs → AllOf (Fits pairs) pairs
+unfolding AllOf Fits
+fits_all [] differ = tt
+fits_all (pair ∷ pairs) differ = (
+  ap (λ t. cond t (Some pair.1) (value_of same pairs pair.0)) (same_self pair.0),
+  fits_more pair pairs pairs (IsDistinct-head same pair.0 (keys_of pairs) differ) (fits_all pairs (IsDistinct-tail same pair.0 (keys_of pairs) differ)),
+)
+
+pub keys_alone : (cmp : Value × Value → Value × Value → Ordering) → IsTotalOrder cmp → ((a b : Value × Value) → cmp a b ≡ Equal → a.0 ≡ b.0)
+    → (xs ys : List (Value × Value)) → KeysDiffer same xs → IsPermutation xs ys → IsSorted cmp ys → ys ≡ sorted cmp xs
+unfolding Fits
+keys_alone cmp total exact xs ys differ = alone_of (Fits xs) cmp total one xs ys (fits_all xs differ)
+  where
+    one : (a b : Value × Value) → value_of same xs a.0 ≡ Some a.1 → value_of same xs b.0 ≡ Some b.1 → cmp a b ≡ Equal → a ≡ b
+    one a b fits_a fits_b ties =
+        let key = exact a b ties in
+        let value = same_Some a.1 b.1 (sym fits_a ∙ (ap (value_of same xs) key ∙ fits_b)) in
+        ap (λ v. (v, a.1)) key ∙ ap (λ v. (b.0, v)) value

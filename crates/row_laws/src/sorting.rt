@@ -6,7 +6,9 @@ ghost use Rattle.std.specs.declared.cmp.Ordering.{Ordering};
 ghost use Rattle.std.specs.declared.cmp.Ordering.TheVariants.{Equal};
 ghost use Rattle.icn_defs.specs.Conversions.{sorted};
 ghost use Rattle.icn_defs.specs.Images.{value_cmp};
-ghost use Rattle.icn_defs.specs.Structures.{entry_cmp};
+ghost use Rattle.icn_defs.specs.Structures.{entry_cmp, key_cmp};
+ghost use Rattle.icn_structs.specs.PairLists.{KeysDiffer};
+ghost use Rattle.icn_value.specs.Sameness.{same};
 ghost use Rattle.icn_value.specs.Store.{Heap, Names};
 ghost use Rattle.icn_value.specs.Values.{Value};
 
@@ -18,8 +20,10 @@ pub fn sorting_puts_in_order<T>()
     ensures alone { (cmp : T → T → Ordering) → IsTotalOrder cmp → ((x y : T) → cmp x y ≡ Equal → x ≡ y) → (xs ys : List T) → IsPermutation xs ys → IsSorted cmp ys → ys ≡ sorted cmp xs }
 {}
 
-/// So a list that has the same values and ascends is the one that `sort` gives, and so are the pairs of a table by value and then by key.
+/// So a list that has the same values and ascends is the one that `sort` gives, and so are the pairs of a table by key, since its keys differ, or by
+/// value and then by key.
 pub fn sorting_is_one()
     ensures values { (names : Names) (heap : Heap) (xs ys : List Value) → IsPermutation xs ys → IsSorted (value_cmp names heap) ys → ys ≡ sorted (value_cmp names heap) xs }
+    ensures keys { (names : Names) (heap : Heap) (xs ys : List (Value × Value)) → KeysDiffer same xs → IsPermutation xs ys → IsSorted (key_cmp names heap) ys → ys ≡ sorted (key_cmp names heap) xs }
     ensures entries { (names : Names) (heap : Heap) (xs ys : List (Value × Value)) → IsPermutation xs ys → IsSorted (entry_cmp names heap) ys → ys ≡ sorted (entry_cmp names heap) xs }
 {}

@@ -1,7 +1,7 @@
-use Rattle.row_laws.proofs.Sorted.{total, total_entries, ties_are_one, entries_are_one}
-use Rattle.row_laws.proofs.SortedOnce.{alone}
+use Rattle.row_laws.proofs.Sorted.{total, total_keys, total_entries, ties_are_one, entries_are_one}
+use Rattle.row_laws.proofs.SortedOnce.{alone, keys_alone}
 use Rattle.icn_defs.specs.Images.{value_cmp}
-use Rattle.icn_defs.specs.Structures.{entry_cmp}
+use Rattle.icn_defs.specs.Structures.{entry_cmp, key_cmp}
 use Rattle.row_laws.proofs.sorting.sorting_is_one.Goals as goal
 
 pub returns-clause-values : goal.returns-clause-values
@@ -9,3 +9,6 @@ returns-clause-values c names heap xs ys = alone (value_cmp names heap) (total n
 
 pub returns-clause-entries : goal.returns-clause-entries
 returns-clause-entries c names heap xs ys = alone (entry_cmp names heap) (total_entries names heap) (entries_are_one names heap) xs ys
+
+pub returns-clause-keys : goal.returns-clause-keys
+returns-clause-keys c names heap xs ys = keys_alone (key_cmp names heap) (total_keys names heap) (λ a b is. ties_are_one names heap a.0 b.0 is) xs ys
