@@ -1,0 +1,103 @@
+-- A transfer changes at most the one that is left and the one that is entered; one is active.
+use Rattle.std.proofs.Common.{◌≡◌, ◌≢◌, ℕ, List, slice_get, Option, Some, None, refl, sym, ap, ◌∙◌, subst}
+use Rattle.std.specs.Option.{option_map}
+use Rattle.std.proofs.lemmas.Option.{slice_get-map}
+use Rattle.icn_value.specs.declared.val.Val.{Val}
+use Rattle.icn_frames.specs.Stacks.{FlatStack}
+use Rattle.icn_run.specs.Step as code
+use Rattle.icn_coexp.specs.declared.entries.Entry.{Entry}
+use Rattle.icn_coexp.specs.declared.entries.Status.{Status}
+use Rattle.icn_coexp.specs.declared.entries.Status.TheVariants.{Fresh, Active, Waiting, Exhausted}
+use Rattle.icn_coexp.specs.declared.entries.Running.{Running}
+use Rattle.icn_coexp.specs.declared.entries.Running.TheVariants.{On, HopDue}
+use Rattle.icn_coexp.specs.Transfers.{Coexp, Table, status_in, status_of, source, with_status, with_status_in, with_activator, with_activator_in, waiting, wait_on, begin_by, give_by, fail_by, enter_other, give, exhaust, active_status, OneIsActive, KeepsOthers}
+use Rattle.icn_coexp.specs.Keeping.{status_seen, coexp_seen, running_seen, table_seen, StatusFits, RunsAs, IsHere, Kept}
+use Rattle.icn_coexp.proofs.Puts.{put_other}
+use Rattle.icn_coexp.proofs.Moves.{here_entry}
+
+status_others : (n i : ℕ) (s : code.Status FlatStack) (coexps : List Coexp) → i ≢ n → slice_get (with_status n s coexps) i ≡ slice_get coexps i
+status_others n i s coexps d = by_coexp (slice_get coexps n)
+  where
+    by_coexp : (o : Option Coexp) → slice_get (with_status_in n s coexps o) i ≡ slice_get coexps i
+    by_coexp None = refl
+    by_coexp (Some coexp) = put_other Coexp coexps n i (record coexp { status = s }) d
+
+activator_others : (n i a : ℕ) (coexps : List Coexp) → i ≢ n → slice_get (with_activator n a coexps) i ≡ slice_get coexps i
+activator_others n i a coexps d = by_coexp (slice_get coexps n)
+  where
+    by_coexp : (o : Option Coexp) → slice_get (with_activator_in n a coexps o) i ≡ slice_get coexps i
+    by_coexp None = refl
+    by_coexp (Some coexp) = put_other Coexp coexps n i (record coexp { activator = a }) d
+
+wait_others : (t : Table) (i : ℕ) (r : Option FlatStack) → i ≢ t.active → slice_get (wait_on t r).coexps i ≡ slice_get t.coexps i
+wait_others t i None d = refl
+wait_others t i (Some m) d = status_others t.active i (code.Waiting m) t.coexps d
+
+begin_others : (n i : ℕ) (t : Table) (o : Option Coexp) → i ≢ n → slice_get (begin_by n t o).coexps i ≡ slice_get t.coexps i
+begin_others n i t None d = refl
+begin_others n i t (Some coexp) d = status_others n i code.Active t.coexps d
+
+-- the list of what an answer holds
+list_in : Option Table → List Coexp → List Coexp
+list_in (Some t) coexps = t.coexps
+list_in None coexps = coexps
+
+same_list : (t u : Table) → (let a : Option Table = Some t in let b : Option Table = Some u in a ≡ b) → t.coexps ≡ u.coexps
+unfolding list_in
+same_list t u e = ap (λ (w : Option Table). list_in w t.coexps) e
+
+give_others : (n i : ℕ) (v : Val) (t u : Table) (s : code.Status FlatStack) → give_by n v t s ≡ Some u → i ≢ n → slice_get u.coexps i ≡ slice_get t.coexps i
+give_others n i v t u code.Fresh e d = ap (λ (w : List Coexp). slice_get w i) (sym (same_list (begin_by n t (slice_get t.coexps n)) u e)) ∙ begin_others n i t (slice_get t.coexps n) d
+give_others n i v t u code.Active e d = cc
+give_others n i v t u (code.Waiting m) e d = ap (λ (w : List Coexp). slice_get w i) (sym (same_list _ u e)) ∙ status_others n i code.Active t.coexps d
+give_others n i v t u code.Exhausted e d = ap (λ (w : List Coexp). slice_get w i) (sym (same_list _ u e))
+
+fail_others : (n i : ℕ) (t u : Table) (s : code.Status FlatStack) → fail_by n t s ≡ Some u → i ≢ n → slice_get u.coexps i ≡ slice_get t.coexps i
+fail_others n i t u code.Fresh e d = cc
+fail_others n i t u code.Active e d = cc
+fail_others n i t u (code.Waiting m) e d = ap (λ (w : List Coexp). slice_get w i) (sym (same_list _ u e)) ∙ status_others n i code.Active t.coexps d
+fail_others n i t u code.Exhausted e d = ap (λ (w : List Coexp). slice_get w i) (sym (same_list _ u e))
+
+pub enter_keeps : (n : ℕ) (v : Val) (t u : Table) → enter_other n v t ≡ Some u → KeepsOthers t.active n t.coexps u.coexps
+enter_keeps n v t u e = λ i d f.
+    let left : Table = waiting t in
+    let next : Table = record left { coexps = with_activator n t.active left.coexps } in
+    give_others n i v next u (status_of n next) e f ∙ activator_others n i t.active left.coexps f ∙ wait_others t i t.running d
+
+pub give_keeps : (v : Val) (t u : Table) → give v t ≡ Some u → KeepsOthers t.active (source t) t.coexps u.coexps
+give_keeps v t u e = λ i d f. let left : Table = waiting t in give_others (source t) i v left u (status_of (source t) left) e f ∙ wait_others t i t.running d
+
+pub exhaust_keeps : (t u : Table) → exhaust t ≡ Some u → KeepsOthers t.active (source t) t.coexps u.coexps
+exhaust_keeps t u e = λ i d f.
+    let left : Table = record t { coexps = with_status t.active code.Exhausted t.coexps } in
+    fail_others (source t) i left u (status_of (source t) left) e f ∙ status_others t.active i code.Exhausted t.coexps d
+
+-- one is active
+
+here_case : (K : Type 0) (running : Running K) (s : Status K) → RunsAs running s → status_seen s ≡ active_status (running_seen running)
+here_case K (On stack) Active h = refl
+here_case K HopDue Exhausted h = refl
+here_case K (On stack) (Fresh f) h = absurd h
+here_case K (On stack) (Waiting f) h = absurd h
+here_case K (On stack) Exhausted h = absurd h
+here_case K HopDue (Fresh f) h = absurd h
+here_case K HopDue (Waiting f) h = absurd h
+here_case K HopDue Active h = absurd h
+
+alone_case : (K : Type 0) (a n : ℕ) (e : Entry K) (s : Status K) → StatusFits (Some a) n e s → status_seen s ≡ code.Active → n ≡ a
+alone_case K a n e (Fresh f) h x = cc
+alone_case K a n e Active h x = cc
+alone_case K a n e (Waiting f) h x = cc
+alone_case K a n e Exhausted h x = cc
+
+pub one_is : (K : Type 0) (es : List (Entry K)) (a : ℕ) (running : Running K) → Kept es a running → OneIsActive (table_seen es a running)
+one_is K es a running k =
+    let e = here_entry K running (slice_get es a) k.here in
+    record {
+      here = ap status_in (slice_get-map coexp_seen es a ∙ ap (option_map coexp_seen) e.1) ∙ here_case K running e.0.status (subst (IsHere running) e.1 k.here);
+      alone = λ n x. by_entry n (slice_get es n) refl (sym (ap status_in (slice_get-map coexp_seen es n)) ∙ x);
+    }
+  where
+    by_entry : (n : ℕ) (o : Option (Entry K)) → slice_get es n ≡ o → status_in (option_map coexp_seen o) ≡ code.Active → n ≡ a
+    by_entry n None g x = cc
+    by_entry n (Some e) g x = alone_case K a n e e.status (k.all n e g).status x
