@@ -1,5 +1,5 @@
 -- Each run of verified code comes to an end of which something is observed.
-use Rattle.std.proofs.Common.{◌≡◌, ℕ, zero, suc, ◌+◌, ◌<◌, ◌≤◌, ◌⊎◌, inl, inr, Bool, List, [], ◌∷◌, length, Option, Some, None, refl, sym, ap, ◌∙◌, subst, arith}
+use Rattle.std.proofs.Common.{◌≡◌, ℕ, zero, suc, ◌+◌, ◌<◌, ◌⊎◌, inl, inr, Bool, List, [], ◌∷◌, length, Option, Some, refl, sym, ap, ◌∙◌, subst, arith}
 use Rattle.std.specs.Prelude.{slice_get, IfSome}
 use Rattle.std.specs.Option.{option_map_or}
 use Rattle.icn_code.specs.declared.instr.Instr.{Instr}
@@ -9,16 +9,16 @@ use Rattle.icn_verify.specs.Shapes.{PlainShape}
 use Rattle.icn_verify.specs.Rows.{forward}
 use Rattle.icn_verify.specs.Given.{HaveShapes, IsFine}
 use Rattle.icn_run.specs.Chains.{Parked, Linked, linked, empty}
-use Rattle.icn_run.specs.Step.{Observed, Launch, Store, State, running, failing, hopping, over, stuck, instruction_at, instrs_of, step, steps, observed}
+use Rattle.icn_run.specs.Step.{Observed, Launch, Store, State, running, failing, hopping, over, stuck, instruction_at, instrs_of, observed}
 use Rattle.icn_run.specs.FlatStep as Flat
 use Rattle.icn_run.specs.LinkedStep as Marks
 use Rattle.icn_run.specs.LinkedStep.{repeats_anywhere}
 use Rattle.icn_run.proofs.Observing.{over_seen}
 use Rattle.icn_run_laws.specs.Measure.{IsForward, IsEnd, EndsFrom}
-use Rattle.icn_run_laws.specs.SecondLaw.{MissingCell, LinkedStuck, RunsAgreeAt}
+use Rattle.icn_run_laws.specs.SecondLaw.{MissingCell, LinkedStuck}
 use Rattle.icn_run_laws.proofs.Lists.{some_inj, no_some}
 use Rattle.icn_run_laws.proofs.LinkedEnds.{linked_weighs}
-use Rattle.icn_run_laws.proofs.Ends.{GoesForward, ends_by}
+use Rattle.icn_run_laws.proofs.Ends.{ends_by}
 use Rattle.icn_run_laws.proofs.SecondLaw.{everywhere, covered, told}
 use Rattle.icn_run_safe.specs.Within.{RowsStayWithin}
 use Rattle.icn_run_safe.specs.Shaped.{Safe, Shaped}

@@ -1,17 +1,16 @@
 -- What is known grows, and all that has its shape keeps it.
-use Rattle.std.proofs.Common.{◌≡◌, ℕ, ◌≤◌, Bool, List, Option, Some, arith}
-use Rattle.std.specs.Prelude.{slice_get}
+use Rattle.std.proofs.Common.{ℕ, ◌≤◌, Bool, List, Option, arith}
 use Rattle.icn_structs.specs.Numbered.{Numbered}
 use Rattle.icn_code.specs.Codes.{Tables}
 use Rattle.icn_verify.specs.declared.shape.Level.{Level}
 use Rattle.icn_verify.specs.declared.shape.LevelKind.{LevelKind}
 use Rattle.icn_verify.specs.Shapes.{PlainShape}
 use Rattle.icn_value.specs.Values.{Value, Null, Integer, Text, Chars, Std, Procedure, ARecord, AList, ASet, ATable, ACoexp, Root, Global, Static, Local, Element, Field, Key, Keyword, Variable, Whole, Part, Item, Val, Var}
-use Rattle.icn_value.specs.Store.{Table, Record, Heap, World}
+use Rattle.icn_value.specs.Store.{Table, Record}
 use Rattle.icn_defs.specs.Rows.{Residual, TextBytes, VariableBytes, ListItems, SetMembers, TableValues, TableKeys, RecordFields, InputLines, UndoAssign, UndoExchange, UndoPosition, Counting, Sequence, Balanced, Found, Among}
 use Rattle.icn_run.specs.Calls.{Alt, Op, Scan, Escan, Proc}
-use Rattle.icn_run.specs.Chains.{Label, fixed, flagged, Reason, because, scanning, Chain, chain, Suspensions, none, suspension, Outer, base, call, mark, limit, Frame, at_base, in_call, frame_of}
-use Rattle.icn_run_safe.specs.Within.{Each, ValueWithin, RootWithin, VariableWithin, ItemWithin, PairWithin, ListWithin, SetWithin, TableWithin, RecordWithin, ResidualWithin}
+use Rattle.icn_run.specs.Chains.{Label, fixed, flagged, Reason, because, scanning, Chain, chain, Suspensions, none, suspension, Outer, base, call, mark, limit, frame_of}
+use Rattle.icn_run_safe.specs.Within.{Each, ValueWithin, RootWithin, VariableWithin, ItemWithin, PairWithin, ListWithin, TableWithin, RecordWithin, ResidualWithin}
 use Rattle.icn_run_safe.specs.Shaped.{Known, IsOf, IsBefore, LabelOk, ReasonOk, level_shape, ChainOk, SuspsOk, OuterOk, FrameOk, LocalsOk, RelabelOk}
 use Rattle.icn_run_safe.proofs.Entries.{each_map}
 

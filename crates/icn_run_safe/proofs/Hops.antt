@@ -1,24 +1,22 @@
 -- Co-expressions and failing keep all shaped.
-use Rattle.std.proofs.Common.{◌≡◌, ◌≢◌, ℕ, zero, suc, ◌<◌, ◌⊎◌, inl, inr, Bool, true, false, List, [], ◌∷◌, ◌++◌, length, Option, Some, None, refl, sym, ap, ◌∙◌, subst, arith}
-use Rattle.std.specs.Prelude.{slice_get, slice_set, slice_index_or, ◌==◌, not, if◌then◌else◌}
-use Rattle.std.proofs.lemmas.Bool.{eqb-false}
+use Rattle.std.proofs.Common.{◌≡◌, ◌≢◌, ℕ, zero, suc, ◌<◌, Bool, true, false, List, length, Option, Some, None, refl, sym, ap, ◌∙◌, subst, arith}
+use Rattle.std.specs.Prelude.{slice_get, slice_set, ◌==◌, not}
 use Rattle.icn_value.specs.Values.{Std, ASet, ATable}
 use Rattle.icn_verify.specs.Shapes.{PlainShape, start_shape, with_more}
-use Rattle.icn_run.specs.Rows.{Value, Null, Integer, Text, Chars, Procedure as ProcedureValue, ARecord, AList, ACoexp, Item, Val, Var, Setting, Outcome, Fails, Gives, Suspends, Error, Ends, again, coexpression_row}
+use Rattle.icn_run.specs.Rows.{Value, Null, Integer, Text, Chars, Procedure as ProcedureValue, ARecord, AList, ACoexp, Val, Var, Outcome, Fails, Gives, Suspends, Error, Ends, again, coexpression_row}
 use Rattle.icn_run.specs.Calls.{Pair, Why, Alt, Op as Operation, Scan, Escan, Proc, Dropped, NoMark, Goes, Repeats, Outside as WithoutLabel}
 use Rattle.icn_run.specs.Chains as C
 use Rattle.icn_run.specs.Chains.{Chain, Linked, Parked}
 use Rattle.icn_run.specs.Step.{Program, Status, Fresh, Active, Waiting, Exhausted, Coexp, Store, running, failing, hopping, here, with_at, made, outcome, pushed, pair_now, with_pair, exchanged, maybe_exchanged, swapped_back, all_left, coexp_at, status_of, activator_of, with_coexp, with_status, with_activator, activated, fail_by, passed_failure, give_by, passed_value, hop, exhausted, counted_result, result_given, is_main, is_create_body, with_new, coexp_made, refreshed_from, refreshed, entered_by, entered_if, activation, returned, proc_fails, without_mark, mark_dropped, resumed, resumed_or_dropped, fails}
-use Rattle.icn_run_laws.proofs.Lists.{get_set_other}
 use Rattle.icn_run_laws.proofs.RowsKeep.{rows_keep}
-use Rattle.icn_run_safe.specs.Within.{Each, ValueWithin, HeapWithin, WorldWithin, CreatedWithin, RowsStayWithin}
-use Rattle.icn_run_safe.specs.Shaped.{Known, MemoryOf, LocalsOk, ParkedOk, StatusOk, IsFresh, Entered, StoreOk, Now, Shaped}
+use Rattle.icn_run_safe.specs.Within.{ValueWithin, CreatedWithin, RowsStayWithin}
+use Rattle.icn_run_safe.specs.Shaped.{Known, MemoryOf, LocalsOk, ParkedOk, StatusOk, IsFresh, Entered, StoreOk, Shaped}
 use Rattle.icn_run_safe.proofs.Entries.{stands, index_there, set_length}
 use Rattle.icn_run_safe.proofs.Growing.{grow_chain}
 use Rattle.icn_run_safe.proofs.Keeping.{with_activation, grow_activation, here_create, set_locals_ok, locals_ok}
-use Rattle.icn_run_safe.proofs.Marks.{not_true, IfThere, begin_ok, Caller, Left, leave_ok, Back, WhyOk, resume_ok, GoesOn, DroppedOk, drop_ok, Swapped, swap_oldest_ok, swap_newest_ok}
+use Rattle.icn_run_safe.proofs.Marks.{not_true, IfThere, begin_ok, Left, leave_ok, Back, WhyOk, resume_ok, DroppedOk, drop_ok, Swapped, swap_oldest_ok, swap_newest_ok}
 use Rattle.icn_run_safe.proofs.Stores.{grow_store, entered_set, set_status, set_activator, set_active, one_more, grow_one, memory_one, more_coexps}
-use Rattle.icn_run_safe.proofs.Steps.{M, St, Ok, Ready, ok_if, ok_found, ok_fails, ok_runs, ok_push, ready_world, here_within, ok_outcome, ok_turned, ok_turn, ready_pair}
+use Rattle.icn_run_safe.proofs.Steps.{M, St, Ok, Ready, ok_if, ok_fails, ok_runs, ok_push, here_within, ok_outcome, ok_turned, ok_turn, ready_pair}
 
 not_first : (n : ℕ) → n ≢ 0 → true ≡ not (is_main n)
 not_first zero d = absurd (d refl)

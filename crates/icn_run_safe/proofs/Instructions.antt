@@ -1,6 +1,6 @@
 -- Each instruction keeps all shaped.
-use Rattle.std.proofs.Common.{◌≡◌, ℕ, zero, suc, ◌+◌, ◌-◌, ◌<◌, ◌≤◌, Bool, true, false, List, [], ◌∷◌, ◌++◌, length, Option, Some, None, refl, sym, ap, ◌∙◌, subst, arith}
-use Rattle.std.specs.Prelude.{slice_get, slice_set, slice_index_or, ℤ, pos, negsuc, ◌&&◌, not, is_some, unwrap_or, nat_lt, if◌then◌else◌, IfSome}
+use Rattle.std.proofs.Common.{◌≡◌, ℕ, zero, suc, ◌+◌, ◌-◌, ◌<◌, ◌≤◌, Bool, true, false, List, [], ◌∷◌, length, Option, Some, None, refl, sym, ap, ◌∙◌, subst, arith}
+use Rattle.std.specs.Prelude.{slice_get, slice_set, slice_index_or, ℤ, pos, negsuc, ◌&&◌, not, is_some, unwrap_or, nat_lt, IfSome}
 use Rattle.std.specs.Option.{option_map_or}
 use Rattle.std.proofs.lemmas.Bool.{ltb-true, ltb-false}
 use Rattle.icn_text.specs.declared.op.Op.{Op}
@@ -14,16 +14,15 @@ use Rattle.icn_code.specs.declared.instr.Instr.TheVariants as Instrs
 use Rattle.icn_verify.specs.declared.shape.LevelKind.TheVariants as Levels
 use Rattle.icn_verify.specs.Shapes.{PlainShape, start_shape, with_more, with_fewer, with_mark, before_mark, with_scan, without_scan, same_kind}
 use Rattle.icn_verify.specs.Rows.{fits, next, forward, back, is_ended, has_operand, labeled}
-use Rattle.icn_run.specs.Rows as R
-use Rattle.icn_run.specs.Rows.{Value, Null, Integer, Text, Chars, Procedure as ProcedureValue, ARecord, AList, ACoexp, Item, Val, Var, Root, Global, Static, Local, Field, Variable, Whole, Part, Operation, apply, Standing, keyword_item, text_row, integer_of}
+use Rattle.icn_run.specs.Rows.{Value, Null, Integer, Text, Chars, Procedure as ProcedureValue, ARecord, AList, ACoexp, Item, Val, Var, Global, Static, Local, Field, Whole, Part, Operation, apply, Standing, keyword_item, text_row, integer_of}
 use Rattle.icn_run.specs.Calls as Cs
 use Rattle.icn_run.specs.Calls.{Pair}
 use Rattle.icn_run.specs.Chains as C
 use Rattle.icn_run.specs.Chains.{Chain, Linked, Parked, with_chain}
-use Rattle.icn_run.specs.Step.{Program, Store, running, failing, parted, with_found, turn, here, with_value, with_values, pushed, outcome, list_made, made, pair_now, with_pair, scans_left, exchanged, maybe_exchanged, returned, all_left, coexp_made, refreshed, field_applied, field_of, invoked_with, applied_to_elements, activation_of, activation, with_result, standing, pushed_or_fails, activator_of, unmarked, limited, limited_result, scan_opened, result_given, coexp_result, is_create_body, members_of, operated, initial_if, initial_done, instruction, statics_before}
+use Rattle.icn_run.specs.Step.{Program, Store, running, parted, with_found, turn, here, with_value, with_values, pushed, list_made, made, pair_now, with_pair, exchanged, maybe_exchanged, returned, all_left, coexp_made, refreshed, field_applied, field_of, invoked_with, applied_to_elements, activation_of, activation, with_result, standing, pushed_or_fails, activator_of, unmarked, limited, limited_result, scan_opened, result_given, is_create_body, members_of, operated, initial_if, instruction, statics_before}
 use Rattle.icn_run_laws.proofs.RowsKeep.{rows_keep}
 use Rattle.icn_run_safe.specs.Within.{Each, ItemWithin, RowsStayWithin}
-use Rattle.icn_run_safe.specs.Shaped.{Known, LabelTo, LocalsOk, StoreOk, Now, Shaped, InRange}
+use Rattle.icn_run_safe.specs.Shaped.{Known, LabelTo, LocalsOk, StoreOk, Shaped, InRange}
 use Rattle.icn_run_safe.proofs.Entries.{stands, within, index_there}
 use Rattle.icn_run_safe.proofs.Keeping.{with_flag, grow_flag, locals_ok, here_proc, here_create, mark_ok, limit_ok}
 use Rattle.icn_run_safe.proofs.Marks.{not_true, IfThere, outside_ok, below_ok, relabel_ok, suspend_alt, suspend_scan, suspend_escan, swap_oldest_ok, suspend_proc_ok, leave_ok, count_ok}

@@ -1,6 +1,6 @@
 -- What the calls on linked marks keep: what changes, the frame, operands, and new marks.
-use Rattle.std.proofs.Common.{◌≡◌, ◌≢◌, ℕ, zero, suc, ◌+◌, ◌-◌, ◌<◌, ◌≤◌, ◌⊎◌, inl, inr, Bool, true, false, List, [], ◌∷◌, ◌++◌, length, Option, Some, None, refl, sym, ap, ◌∙◌, subst, arith}
-use Rattle.std.specs.Prelude.{slice_get, slice_set, slice_index_or, pred, ◌&&◌, not}
+use Rattle.std.proofs.Common.{◌≡◌, ◌≢◌, ℕ, zero, suc, ◌+◌, ◌-◌, ◌<◌, ◌≤◌, ◌⊎◌, inl, inr, Bool, false, List, [], ◌∷◌, ◌++◌, length, Option, Some, refl, sym, ap, ◌∙◌, subst, arith}
+use Rattle.std.specs.Prelude.{slice_get, slice_set, pred, ◌&&◌, not}
 use Rattle.std.specs.Option.{option_map}
 use Rattle.icn_code.specs.Codes.{Tables}
 use Rattle.icn_verify.specs.declared.shape.LevelKind.TheVariants as Levels
@@ -11,9 +11,9 @@ use Rattle.icn_run.specs.Chains.{Label, fixed, flagged, Chain, chain, Suspension
 use Rattle.icn_run.specs.LinkedStep.{repeats_anywhere}
 use Rattle.icn_run.specs.Step.{is_main}
 use Rattle.icn_run_laws.proofs.Lists.{some_inj, get_more, get_seam, get_set_same, get_set_other}
-use Rattle.icn_run_safe.specs.Within.{Each, ItemWithin, ValueWithin}
-use Rattle.icn_run_safe.specs.Shaped.{Known, IsOf, IsBefore, local_count, LabelTo, ChainOk, OuterOk, FrameOk, LocalsOk, RelabelOk, MemoryOk, MemoryOf, Now}
-use Rattle.icn_run_safe.proofs.Entries.{each_map, got_more, more_length, set_length, is_same, index_there}
+use Rattle.icn_run_safe.specs.Within.{Each, ItemWithin}
+use Rattle.icn_run_safe.specs.Shaped.{Known, IsOf, IsBefore, LabelTo, ChainOk, OuterOk, FrameOk, LocalsOk, RelabelOk, MemoryOk, Now}
+use Rattle.icn_run_safe.proofs.Entries.{got_more, more_length, set_length, is_same, index_there}
 use Rattle.icn_run_safe.proofs.Growing.{Grow, grow_chain, grow_locals, grow_relabels, frame_ok}
 
 -- with one more activation, and with one more flag

@@ -11,3 +11,4 @@ pub mod NoStuck
 pub mod RowValues
 pub mod RowsWithin
 pub mod Ended
+pub mod Facts

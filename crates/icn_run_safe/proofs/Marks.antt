@@ -1,7 +1,7 @@
 -- What the calls on marks, suspensions, scans and frames keep.
-use Rattle.std.proofs.Common.{◌≡◌, ℕ, zero, suc, ◌<◌, Bool, true, false, List, [], ◌∷◌, ◌++◌, length, Option, Some, None, refl, sym, ap, ◌∙◌, subst, arith}
-use Rattle.std.specs.Prelude.{slice_get, slice_set, slice_index_or, pred, ◌==◌, not, is_some, if◌then◌else◌}
-use Rattle.std.specs.Option.{option_map, option_map_or}
+use Rattle.std.proofs.Common.{◌≡◌, ℕ, ◌<◌, Bool, true, false, List, [], ◌∷◌, length, Option, Some, None, refl, sym, ap, ◌∙◌, subst, arith}
+use Rattle.std.specs.Prelude.{slice_get, slice_set, slice_index_or, ◌==◌, not, is_some, if◌then◌else◌}
+use Rattle.std.specs.Option.{option_map_or}
 use Rattle.std.proofs.lemmas.Bool.{ltb-true, eqb-true}
 use Rattle.icn_code.specs.Codes.{Tables}
 use Rattle.icn_verify.specs.declared.shape.Level.{Level}
@@ -16,8 +16,7 @@ use Rattle.icn_run.specs.Chains.{Label, fixed, flagged, Reason, because, scannin
 use Rattle.icn_run.specs.Step.{is_main}
 use Rattle.icn_run_laws.proofs.Lists.{some_inj}
 use Rattle.icn_run_safe.specs.Within.{Each, ItemWithin, ResidualWithin}
-use Rattle.icn_run_safe.specs.Shaped.{Known, IsBefore, LabelTo, LabelOk, ReasonOk, level_shape, ChainOk, SuspsOk, OuterOk, FrameOk, LocalsOk, RelabelOk, MemoryOk, MemoryOf, Now}
-use Rattle.icn_run_safe.proofs.Entries.{set_length}
+use Rattle.icn_run_safe.specs.Shaped.{Known, IsBefore, LabelTo, LabelOk, ReasonOk, level_shape, ChainOk, SuspsOk, OuterOk, FrameOk, LocalsOk, RelabelOk, MemoryOf, Now}
 use Rattle.icn_run_safe.proofs.Growing.{grow_chain}
 use Rattle.icn_run_safe.proofs.Keeping.{with_activation, grow_activation, memory_activation, last_activation, memory_labels, outer_ok, the_frame}
 

@@ -1,29 +1,28 @@
 -- No run of verified code is stuck.
-use Rattle.std.proofs.Common.{◌≡◌, ℕ, zero, suc, ◌-◌, ◌<◌, Bool, true, false, List, [], ◌∷◌, ◌++◌, length, map, Option, Some, None, refl, sym, ap, ◌∙◌, subst, arith}
+use Rattle.std.proofs.Common.{◌≡◌, ℕ, zero, suc, ◌-◌, ◌<◌, Bool, true, false, List, [], ◌∷◌, ◌++◌, length, Option, Some, None, refl, sym, ap, ◌∙◌, subst, arith}
 use Rattle.std.specs.Prelude.{slice_get, slice_set, slice_index_or, replicate, drop, not, nat_le}
-use Rattle.std.specs.List.{sum_by}
 use Rattle.std.specs.Option.{option_map_or}
 use Rattle.icn_code.specs.Codes.{Tables, Proc as Procedure}
 use Rattle.icn_verify.specs.Shapes.{PlainShape, start_shape}
 use Rattle.icn_verify.specs.Given.{HaveShapes, HasShapes, IsFine}
-use Rattle.icn_run.specs.Rows.{Value, Null, Item, Val, Var, World, Setting, Outcome, Fails, Gives, Suspends, Error, Ends, list_row, words_row, first_world}
+use Rattle.icn_run.specs.Rows.{Value, Null, Val, Var, Outcome, Fails, Gives, Suspends, Error, Ends, list_row, words_row}
 use Rattle.icn_run.specs.Chains.{Parked, Linked, empty}
 use Rattle.icn_run.specs.Chains as C
-use Rattle.icn_run.specs.Step.{Program, Launch, Store, Coexp, Active, running, failing, hopping, over, stuck, here, with_at, made, list_made, collected, with_parameters, filled, begun_if, instruction, instruction_at, instrs_of, step, steps, start, start_of, first_store, first_globals, main_of, static_count, is_main}
+use Rattle.icn_run.specs.Step.{Program, Launch, Store, Coexp, Active, running, failing, hopping, over, stuck, here, with_at, made, collected, filled, begun_if, instruction, instruction_at, instrs_of, step, steps, start, start_of, first_store, main_of, static_count, is_main}
 use Rattle.icn_run.specs.LinkedStep.{repeats_anywhere}
 use Rattle.icn_run_laws.specs.SameStates.{IsMade}
 use Rattle.icn_run_laws.specs.SecondLaw.{LinkedStuck, FlatStuck}
 use Rattle.icn_run_laws.proofs.Lists.{some_inj, no_some}
 use Rattle.icn_run_laws.proofs.RowsKeep.{rows_keep}
 use Rattle.icn_run_laws.proofs.SecondLaw.{everywhere, covered}
-use Rattle.icn_run_safe.specs.Within.{Each, ValueWithin, WorldWithin, SettingWithin, OutcomeWithin, RowsStayWithin}
-use Rattle.icn_run_safe.specs.Shaped.{Known, LocalsOk, MemoryOk, MemoryOf, StatusOk, Entered, CoexpOk, StoreOk, Safe, Shaped}
+use Rattle.icn_run_safe.specs.Within.{Each, ValueWithin, SettingWithin, OutcomeWithin, RowsStayWithin}
+use Rattle.icn_run_safe.specs.Shaped.{Known, MemoryOk, MemoryOf, StatusOk, Entered, CoexpOk, StoreOk, Safe, Shaped}
 use Rattle.icn_run_safe.specs.NoStuck.{TablesOk, IsNeverStuck}
 use Rattle.icn_run_safe.proofs.Entries.{each_append, each_replicate, each_drop, stands, set_length}
 use Rattle.icn_run_safe.proofs.Keeping.{with_activation, grow_activation, here_proc}
 use Rattle.icn_run_safe.proofs.Marks.{begin_ok}
 use Rattle.icn_run_safe.proofs.Stores.{grow_store}
-use Rattle.icn_run_safe.proofs.Steps.{M, St, Ok, Ready, ok_found, ok_runs, Parameters, parameters_locals, filled_within, filled_length, joined_length}
+use Rattle.icn_run_safe.proofs.Steps.{M, St, Ok, ok_found, ok_runs, Parameters, parameters_locals, filled_within, filled_length, joined_length}
 use Rattle.icn_run_safe.proofs.Hops.{fails_ok, hop_ok}
 use Rattle.icn_run_safe.proofs.Instructions.{instruction_ok}
 

@@ -1,19 +1,19 @@
 -- Lists, structures and settings whose values name no co-expression but one that is there.
-use Rattle.std.proofs.Common.{◌≡◌, ℕ, zero, suc, Bool, true, false, List, [], ◌∷◌, ◌++◌, length, Option, Some, None, refl, sym, subst, if◌then◌else◌}
-use Rattle.std.specs.Prelude.{◌+◌, ◌-◌, ◌&&◌, ℤ, pos, negsuc, slice_get, slice_set, slice_range, unwrap_or, take, drop, filter, fold, replicate, flat_map, not, cond}
+use Rattle.std.proofs.Common.{◌≡◌, ℕ, zero, suc, Bool, true, false, List, [], ◌∷◌, ◌++◌, length, Some, if◌then◌else◌}
+use Rattle.std.specs.Prelude.{ℤ, pos, negsuc, slice_get, slice_set, unwrap_or, take, drop, filter, fold, replicate, flat_map, cond}
 use Rattle.std.specs.declared.cmp.Ordering.{Ordering}
 use Rattle.std.specs.Ordering.{is_lt}
 use Rattle.icn_structs.specs.Numbered.{Numbered, item_at, items_with, after_first, with_left, with_right}
-use Rattle.icn_structs.specs.PairLists.{value_of, stored, without}
-use Rattle.icn_value.specs.Values.{Value, Null, Integer, Text, Chars, Std, Procedure, ARecord, AList, ASet, ATable, ACoexp, File, Root, Global, Static, Local, Element, Field, Key, Keyword, KeywordVariable, Variable, Whole, Part, Item, Val, Var}
-use Rattle.icn_value.specs.Store.{Table, Record, Heap, World, Setting, new_list, list_at, set_at, table_at, record_at, value_at}
+use Rattle.icn_structs.specs.PairLists.{stored}
+use Rattle.icn_value.specs.Values.{Value, Null, Integer, Text, Chars, Std, ARecord, AList, ASet, ATable, File, Element, Field, Key, Variable, Whole, Part, Item, Val, Var}
+use Rattle.icn_value.specs.Store.{Table, Record, Setting, new_list, value_at}
 use Rattle.icn_defs.specs.Conversions.{same, has_value, with_member, sorted_in, sorted_onto, sorted}
-use Rattle.icn_defs.specs.Rows.{Row, Outcome, Residual}
+use Rattle.icn_defs.specs.Rows.{Outcome, Residual}
 use Rattle.icn_defs.specs.Elements.{part_of}
 use Rattle.icn_defs.specs.Structures.{or_null}
-use Rattle.icn_run_laws.proofs.Lists.{some_inj, no_some}
-use Rattle.icn_run_safe.specs.Within.{Each, ValueWithin, VariableWithin, ItemWithin, PairWithin, ListWithin, SetWithin, TableWithin, RecordWithin, HeapWithin, WorldWithin, SettingWithin, ResidualWithin, OutcomeWithin}
-use Rattle.icn_run_safe.proofs.Entries.{each_map, each_get, each_append, each_replicate, each_take, each_drop, each_set}
+use Rattle.icn_run_laws.proofs.Lists.{no_some}
+use Rattle.icn_run_safe.specs.Within.{Each, ValueWithin, VariableWithin, ItemWithin, PairWithin, ListWithin, SetWithin, TableWithin, RecordWithin, SettingWithin, ResidualWithin, OutcomeWithin}
+use Rattle.icn_run_safe.proofs.Entries.{each_get, each_append, each_replicate, each_take, each_drop, each_set}
 
 -- Each fact as a record, so that it is found by its name
 

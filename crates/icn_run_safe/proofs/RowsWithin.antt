@@ -1,18 +1,17 @@
 -- Rows make no value that names a co-expression but one that is there.
-use Rattle.std.proofs.Common.{◌≡◌, ℕ, zero, suc, ◌+◌, ◌≤◌, refl, ap, ◌∙◌, arith, Bool, true, false, List, [], ◌∷◌, ◌++◌, length, Option, Some, None, if◌then◌else◌}
-use Rattle.std.specs.Prelude.{ℤ, pos, negsuc, Result, Ok, Err, slice_get, slice_set, slice_range, unwrap_or, take, drop, cond, option_map}
+use Rattle.std.proofs.Common.{◌≡◌, ℕ, zero, suc, ◌+◌, ◌≤◌, refl, ap, ◌∙◌, arith, Bool, true, false, List, [], ◌∷◌, ◌++◌, length, Option, Some, None}
+use Rattle.std.specs.Prelude.{ℤ, pos, negsuc, Result, Ok, Err, unwrap_or, cond, option_map}
 use Rattle.std.specs.Map.{lookup, remove_entry}
 use Rattle.icn_text.specs.declared.arithmetic.Arith.{Arith}
 use Rattle.icn_text.specs.declared.op.Op.{Op}
 use Rattle.icn_text.specs.declared.op.Op.TheVariants as Ops
 use Rattle.icn_text.specs.declared.func.Func.{Func}
 use Rattle.icn_text.specs.declared.func.Func.TheVariants as Funcs
-use Rattle.icn_structs.specs.Numbered.{Numbered, item_numbered, with_numbered}
-use Rattle.icn_value.specs.Values.{Value, Null, Integer, Text, ACoexp, Root, Global, Static, Local, Element, Field, Key, Keyword, KeywordVariable, Subject, Position, Random, Variable, Whole, Part, Item, Val, Var}
-use Rattle.icn_value.specs.Store.{Setting, Heap, Names, Table, having_position, having_heap, list_at, table_at, record_at, set_at, with_set, with_table}
+use Rattle.icn_value.specs.Values.{Value, ACoexp, Root, Global, Static, Local, Element, Field, Key, Keyword, KeywordVariable, Subject, Position, Random, Variable, Whole, Part, Item, Val, Var}
+use Rattle.icn_value.specs.Store.{Setting, Heap, Names, having_position, having_heap, list_at, table_at, record_at}
 use Rattle.icn_defs.specs.Conversions.{same, integer_of, place_of, held_text, Group, Textual, Listed, Collected, Tabled, Recorded, Filed, Activated, Single}
-use Rattle.icn_defs.specs.Rows.{Row, Outcome, Fails, Gives, Suspends, Error, Ends, Residual, TextBytes, VariableBytes, ListItems, SetMembers, TableValues, TableKeys, RecordFields, InputLines, UndoAssign, UndoExchange, UndoPosition, Counting, Sequence, Balanced, Found, Among, Mover, Neither, Left, Right, check, present, computed, passing, found, natural, costs_made, gives_list, wrong}
-use Rattle.icn_defs.specs.Reading.{the_value, the_values, the_variable, assigns_keyword, assigns_root, assigns_or, assigns_both, moved, moved_by_left, moved_by_right, costs_unless, stores, reads, reads_root, root_value, keyword_value}
+use Rattle.icn_defs.specs.Rows.{Row, Outcome, Fails, Gives, Suspends, Error, Ends, Residual, TextBytes, VariableBytes, ListItems, SetMembers, TableValues, TableKeys, RecordFields, InputLines, UndoAssign, UndoExchange, UndoPosition, Counting, Sequence, Balanced, Found, Among, Mover, Neither, Left, Right, check, present, computed, passing, found, natural, costs_made}
+use Rattle.icn_defs.specs.Reading.{the_value, the_values, the_variable, assigns_keyword, assigns_root, assigns_or, assigns_both, moved, moved_by_left, moved_by_right, costs_unless, stores, reads, reads_root, root_value}
 use Rattle.icn_defs.specs.Arguments.{Keeper, SetKeeper, TableKeeper}
 use Rattle.icn_defs.specs.Arithmetic.{count_from}
 use Rattle.icn_defs.specs.Operations.{sets_or_csets}
@@ -20,15 +19,15 @@ use Rattle.icn_defs.specs.Elements.{text_elements, text_variable, part_item, ele
 use Rattle.icn_defs.specs.Variables.{subscript_of, section_of}
 use Rattle.icn_defs.specs.Structures.{copy_of, new_set_by, inserts, without_key, pair_lists, table_sorted, sorted_of}
 use Rattle.icn_defs.specs.InputOutput.{Piece, pieces}
-use Rattle.icn_defs.specs.Applying.{operation_on, operation_row, operand, function_of, function_row, again}
+use Rattle.icn_defs.specs.Applying.{operation_on, operand, function_of, again}
 use Rattle.icn_run.specs.Rows.{Operation, Function, apply, list_row, record_row, coexpression_row, text_row, words_row}
 use Rattle.icn_defs.specs.StepRows.{Applied}
 use Rattle.icn_defs.specs.Running.{text_values}
-use Rattle.icn_run_laws.proofs.Lists.{some_inj, no_some}
-use Rattle.icn_run_safe.specs.Within.{Each, ValueWithin, ItemWithin, PairWithin, ListWithin, SetWithin, TableWithin, RecordWithin, SettingWithin, WorldWithin, ResidualWithin, OutcomeWithin, CreatedWithin, RowsStayWithin}
+use Rattle.icn_run_laws.proofs.Lists.{some_inj}
+use Rattle.icn_run_safe.specs.Within.{Each, ValueWithin, ItemWithin, PairWithin, ListWithin, SetWithin, TableWithin, RecordWithin, SettingWithin, WorldWithin, OutcomeWithin, CreatedWithin, RowsStayWithin}
 use Rattle.icn_run_safe.proofs.Entries.{more_length, each_map}
 use Rattle.icn_run_safe.proofs.Growing.{list_more, values_more, table_more, record_more}
-use Rattle.icn_run_safe.proofs.RowValues.{V, X, I, Vs, Ps, Lists, Sets, Tables, Records, Count, S, R, O, v_null, v_integer, v_text, v_chars, v_file, v_record, v_list, v_set, v_table, x_element, x_field, x_key, x_part, i_val, i_var, vs_nil, vs_cons, vs_append, vs_set, vs_take, vs_drop, vs_replicate, vs_filter, vs_after, vs_with, vs_or_null, vs_member, vs_members, vs_left, vs_right, vs_sorted, ps_sorted, vs_pairs, v_at, v_got, v_key, v_numbered, ps_stored, items_at, members_at, pairs_at, default_at, fields_at, lists_set, lists_more, sets_set, sets_more, tables_set, tables_more, records_set, records_more, of_lists, of_sets, of_tables, of_records, of_count, of_globals, of_statics, of_locals, setting}
+use Rattle.icn_run_safe.proofs.RowValues.{V, X, I, Vs, Ps, S, R, O, v_null, v_integer, v_text, v_chars, v_file, v_record, v_list, v_set, v_table, x_element, x_field, x_key, x_part, i_val, i_var, vs_nil, vs_cons, vs_append, vs_set, vs_take, vs_drop, vs_replicate, vs_filter, vs_after, vs_with, vs_or_null, vs_member, vs_members, vs_left, vs_right, vs_sorted, ps_sorted, vs_pairs, v_at, v_got, v_key, v_numbered, ps_stored, items_at, members_at, pairs_at, default_at, fields_at, lists_set, lists_more, sets_set, sets_more, tables_set, tables_more, records_set, records_more, of_lists, of_sets, of_tables, of_records, of_count, of_globals, of_statics, of_locals, setting}
 
 module _ (n : ℕ) where
   -- Ends

@@ -1,13 +1,12 @@
 -- A step keeps all shaped: the parts of which instructions are made.
-use Rattle.std.proofs.Common.{◌≡◌, ℕ, zero, suc, ◌+◌, ◌-◌, ◌<◌, ◌≤◌, inl, inr, Bool, true, false, List, [], ◌∷◌, ◌++◌, length, map, Option, Some, None, refl, sym, ap, ◌∙◌, subst, arith, length-append}
-use Rattle.std.specs.Prelude.{slice_get, take, drop, replicate, ℤ, pos, negsuc, ◌==◌, is_some, unwrap_or, nat_lt, nat_le, if◌then◌else◌}
+use Rattle.std.proofs.Common.{◌≡◌, ℕ, zero, suc, ◌-◌, ◌<◌, ◌≤◌, Bool, true, false, List, [], ◌∷◌, ◌++◌, length, map, Option, Some, None, refl, sym, ap, ◌∙◌, subst, arith, length-append}
+use Rattle.std.specs.Prelude.{slice_get, take, drop, replicate, ℤ, is_some, unwrap_or, nat_lt, nat_le, if◌then◌else◌}
 use Rattle.std.specs.Option.{option_map_or}
-use Rattle.std.proofs.lemmas.Bool.{ltb-true, ltb-false}
 use Rattle.icn_text.specs.declared.func.Func.{Func}
 use Rattle.icn_text.specs.declared.op.Op.TheVariants as Ops
 use Rattle.icn_structs.specs.Numbered.{Numbered}
 use Rattle.icn_value.specs.Values.{Std, ASet, ATable}
-use Rattle.icn_value.specs.Store.{Heap, Record, new_list}
+use Rattle.icn_value.specs.Store.{Record, new_list}
 use Rattle.icn_defs.specs.Keeping.{KeepsIn, Keeps}
 use Rattle.icn_code.specs.Codes.{Tables, Proc as Procedure, RecordType}
 use Rattle.icn_verify.specs.Shapes.{PlainShape, start_shape, with_more, with_fewer, before_mark}
@@ -18,11 +17,10 @@ use Rattle.icn_run.specs.Calls as Cs
 use Rattle.icn_run.specs.Chains as C
 use Rattle.icn_run.specs.Chains.{Chain, Linked, Parked, linked, with_chain, outer_of}
 use Rattle.icn_run.specs.LinkedStep.{repeats_anywhere}
-use Rattle.icn_run.specs.Step.{Program, Store, State, running, failing, over, with_found, parted, turn_if, turn, here, with_world, with_at, valued, made, with_value, with_values, pushed, outcome, list_made, with_pair, scans_left, with_popped, with_taken, unmarked, filled, collected, with_parameters, entered, called_if, called, constructed, argument_at, chosen, pushed_or_fails, integer_called, Callee, IsProc, IsRecord, IsFunc, IsNothing, func_callee, record_among, callee_among, callee_of, callee_called, invoked, invoked_with, plain, elements_called, applied_to_elements, field_place, field_taken, field_of}
+use Rattle.icn_run.specs.Step.{Program, Store, State, running, failing, with_found, parted, turn_if, turn, here, with_world, with_at, valued, made, with_value, with_values, pushed, outcome, list_made, with_pair, scans_left, with_popped, with_taken, unmarked, filled, collected, with_parameters, entered, called_if, called, constructed, argument_at, chosen, pushed_or_fails, integer_called, Callee, IsProc, IsRecord, IsFunc, IsNothing, func_callee, record_among, callee_among, callee_of, callee_called, invoked, invoked_with, plain, elements_called, applied_to_elements, field_place, field_taken, field_of}
 use Rattle.icn_defs.specs.Numbers.{func_of}
 use Rattle.icn_run_laws.proofs.RowsKeep.{rows_keep}
-use Rattle.icn_run_laws.proofs.Lists.{some_inj}
-use Rattle.icn_run_safe.specs.Within.{Each, ValueWithin, ItemWithin, ListWithin, RecordWithin, HeapWithin, WorldWithin, SettingWithin, OutcomeWithin, RowsStayWithin}
+use Rattle.icn_run_safe.specs.Within.{Each, ValueWithin, ItemWithin, ListWithin, RecordWithin, WorldWithin, SettingWithin, OutcomeWithin, RowsStayWithin}
 use Rattle.icn_run_safe.specs.Shaped.{Known, local_count, locals_in, LocalsOk, StoreOk, Now, Safe, Shaped}
 use Rattle.icn_run_safe.proofs.Entries.{each_append, each_replicate, each_take, each_drop, within, replicate_length}
 use Rattle.icn_run_safe.proofs.Keeping.{with_activation, grow_activation, locals_ok, set_locals_ok, push_ok, pop_ok, take_ok}

@@ -1,14 +1,14 @@
 -- What changes of a store keep.
-use Rattle.std.proofs.Common.{◌≡◌, ◌≢◌, ℕ, zero, suc, ◌⊎◌, inl, inr, Bool, true, List, [], ◌∷◌, ◌++◌, length, Option, Some, None, refl, sym, ap, ◌∙◌, subst, arith}
+use Rattle.std.proofs.Common.{◌≡◌, ◌≢◌, ℕ, suc, ◌⊎◌, inl, inr, Bool, true, List, [], ◌∷◌, ◌++◌, length, Option, Some, refl, sym, ap, ◌∙◌, subst, arith}
 use Rattle.std.specs.Prelude.{slice_get, slice_set}
 use Rattle.icn_code.specs.Codes.{Tables}
 use Rattle.icn_verify.specs.Shapes.{PlainShape, start_shape}
-use Rattle.icn_run.specs.Rows.{Value, World}
+use Rattle.icn_run.specs.Rows.{Value}
 use Rattle.icn_run.specs.Chains.{Parked}
 use Rattle.icn_run.specs.Step.{Status, Fresh, Active, Waiting, Exhausted, Coexp, Store, with_coexp}
 use Rattle.icn_run_laws.proofs.Lists.{some_inj, get_more, get_set_same, get_set_other}
-use Rattle.icn_run_safe.specs.Within.{Each, WorldWithin}
-use Rattle.icn_run_safe.specs.Shaped.{Known, LocalsOk, RelabelOk, MemoryOk, ParkedOk, StatusOk, IsFresh, Entered, CoexpOk, CoexpsOk, StoreOk}
+use Rattle.icn_run_safe.specs.Within.{WorldWithin}
+use Rattle.icn_run_safe.specs.Shaped.{Known, LocalsOk, MemoryOk, ParkedOk, StatusOk, IsFresh, Entered, CoexpOk, CoexpsOk, StoreOk}
 use Rattle.icn_run_safe.proofs.Entries.{got_more, got_set, more_length, set_length, is_same, within}
 use Rattle.icn_run_safe.proofs.Growing.{Grow, grow_chain, grow_locals, grow_relabels}
 

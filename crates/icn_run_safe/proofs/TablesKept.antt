@@ -1,6 +1,6 @@
 -- Tables that keep their rules have what a run needs of them.
-use Rattle.std.proofs.Common.{◌≡◌, ℕ, zero, suc, ◌<◌, Bool, true, false, List, [], ◌∷◌, length, map, Option, Some, None, refl, subst, arith}
-use Rattle.std.specs.Prelude.{slice_get, nat_lt, find, cond, ◌||◌, not, ◌+◌}
+use Rattle.std.proofs.Common.{◌≡◌, ℕ, zero, suc, ◌<◌, Bool, true, false, List, [], ◌∷◌, length, map, Option, Some, None, refl, subst}
+use Rattle.std.specs.Prelude.{slice_get, nat_lt, find, cond, ◌||◌, not}
 use Rattle.std.specs.List.{list_all}
 use Rattle.std.specs.Option.{option_map_or, option_and_then}
 use Rattle.std.proofs.lemmas.Bool.{ltb-true}
@@ -10,7 +10,7 @@ use Rattle.icn_code.specs.declared.code.Global.{Global as GlobalEntry}
 use Rattle.icn_code.specs.declared.code.Start.{Start}
 use Rattle.icn_code.specs.declared.code.Start.TheVariants as Starts
 use Rattle.icn_code.specs.Codes.{Tables, Proc as Procedure}
-use Rattle.icn_code.specs.Rules.{keeps_rules, is_count, is_instr, is_head, is_proc, is_start, is_global}
+use Rattle.icn_code.specs.Rules.{keeps_rules, is_instr, is_head, is_proc, is_start, is_global}
 use Rattle.icn_run.specs.Step.{global_value, start_value, procedure_at}
 use Rattle.icn_run_laws.proofs.Lists.{some_inj, no_some}
 use Rattle.icn_run_safe.specs.Within.{Each, ValueWithin}

@@ -2,3 +2,4 @@ pub mod Within
 pub mod Shaped
 pub mod NoStuck
 pub mod Ended
+pub mod Facts

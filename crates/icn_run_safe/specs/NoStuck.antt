@@ -1,5 +1,5 @@
 -- Verified code is never stuck.
-use Rattle.std.specs.Prelude.{◌≡◌, ℕ, ◌<◌, Bool, true, List, Some, slice_get, map, length}
+use Rattle.std.specs.Prelude.{◌≡◌, ℕ, ◌<◌, Bool, true, Some, slice_get, map, length}
 use Rattle.icn_code.specs.declared.instr.Instr.{Instr}
 use Rattle.icn_code.specs.Codes.{Tables, Proc as Procedure}
 use Rattle.icn_run.specs.Step.{Launch, instrs_of, global_value, main_of}

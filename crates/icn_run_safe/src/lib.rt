@@ -1,4 +1,4 @@
-//! Verified code is never stuck.
+//! Verified code is never stuck, and each of its runs ends.
 #![tactic(auto)]
 
 ghost use Rattle.std.specs.Prelude.{◌≡◌, true};
@@ -8,12 +8,20 @@ ghost use Rattle.icn_verify.specs.Faults.{IsVerified};
 ghost use Rattle.icn_verify.specs.Given.{HaveShapes};
 ghost use Rattle.icn_run_safe.specs.Within.{RowsStayWithin};
 ghost use Rattle.icn_run_safe.specs.Ended.{AreOver};
+ghost use Rattle.icn_run_safe.specs.Facts.{HasFacts};
 ghost use Rattle.icn_run_safe.specs.NoStuck.{IsNeverStuck};
 
 /// No run of verified code lacks what an instruction needs.
 pub fn never_stuck()
     ensures verified { (tables : Tables) → keeps_rules tables ≡ true → IsVerified tables → IsNeverStuck tables }
     ensures shaped { (tables : Tables) → keeps_rules tables ≡ true → HaveShapes tables → IsNeverStuck tables }
+{}
+
+/// At each state in which a run of verified code has an instruction due, the stack has the shape of the place, the instruction finds what it wants, and the
+/// procedure has all its locals.
+pub fn reached_states()
+    ensures verified { (tables : Tables) → keeps_rules tables ≡ true → IsVerified tables → HasFacts tables }
+    ensures shaped { (tables : Tables) → keeps_rules tables ≡ true → HaveShapes tables → HasFacts tables }
 {}
 
 /// Where what a row is given names no co-expression but those that are there, nor does what it leaves and gives.

@@ -1,0 +1,55 @@
+-- What stands at each state that a run of verified code comes to, in the words of its shapes.
+use Rattle.std.specs.Prelude.{◌≡◌, ◌≢◌, ℕ, suc, ◌≤◌, List, length, Option, Some}
+use Rattle.icn_code.specs.declared.instr.Instr.{Instr}
+use Rattle.icn_code.specs.Codes.{Tables}
+use Rattle.icn_verify.specs.Shapes.{PlainShape}
+use Rattle.icn_verify.specs.Given.{IsFine}
+use Rattle.icn_run.specs.Rows.{Item}
+use Rattle.icn_run.specs.Stacks.{Frames, flat}
+use Rattle.icn_run.specs.Chains.{Chain, chain, Outer, base, call, mark, limit, Parked, Linked, linked, outer_of, scans_of}
+use Rattle.icn_run.specs.Step.{Launch, Store, running, stuck, instrs_of, instruction_at, instruction, is_create_body}
+use Rattle.icn_run.specs.FlatStep as Flat
+use Rattle.icn_run.specs.LinkedStep as Marks
+use Rattle.icn_run.specs.LinkedStep.{repeats_anywhere}
+use Rattle.icn_run.specs.Calls.{Calls}
+use Rattle.icn_run_safe.specs.Shaped.{local_count}
+
+-- the operands of the innermost mark
+abbrev pub operands_of : Chain → List Item
+operands_of (chain operands suspensions scans outer) = operands
+
+-- how many marks are open in the procedure that runs
+abbrev pub mark_count : Outer → ℕ
+mark_count (base proc activation) = 0
+mark_count (call proc activation level place caller) = 0
+mark_count (mark label (chain operands suspensions scans outer)) = suc (mark_count outer)
+mark_count (limit count (chain operands suspensions scans outer)) = suc (mark_count outer)
+
+abbrev pub marks : Calls Parked Linked
+marks = linked repeats_anywhere
+
+-- The stack has the shape of the place: as many operands and marks, its open scans, and a create body where the shape says so. The instruction there finds
+-- what it takes and asks for, each place to which it leads has its shape, and the procedure has all its locals.
+pub record IsShapedAt (tables : Tables) (shapes : ℕ → ℕ → Option PlainShape) (m : Linked) (st : Store Parked) : Type 0 where
+  pub shape : PlainShape
+  pub here : shapes (marks.proc m) m.place ≡ Some shape
+  pub fine : IsFine (instrs_of tables (marks.proc m)) (shapes (marks.proc m)) m.place shape
+  pub operands : length (operands_of m.chain) ≡ shape.inner.operands
+  pub open_marks : mark_count (outer_of m.chain) ≡ length shape.outer
+  pub scans : shape.inner.scans ≤ length (scans_of m.chain)
+  pub in_create : is_create_body marks m st ≡ shape.in_create
+  pub locals : length (marks.locals m) ≡ local_count tables (marks.proc m)
+
+-- an instruction stands there, and it lacks nothing
+pub record GoesOn {K M : Type 0} (C : Calls K M) (tables : Tables) (m : M) (st : Store K) : Type 0 where
+  pub instr : Instr
+  pub stands : instruction_at C tables m ≡ Some instr
+  pub lacks_nothing : instruction C tables instr (C.go (suc (C.place m)) m) st ≢ stuck
+
+-- of each state in which a run has an instruction due
+pub record AreShaped (tables : Tables) (shapes : ℕ → ℕ → Option PlainShape) : Type 0 where
+  pub on_marks : (launch : Launch) (n : ℕ) (m : Linked) (st : Store Parked) → Marks.steps repeats_anywhere tables n (Marks.start repeats_anywhere tables launch) ≡ running m st → IsShapedAt tables shapes m st
+  pub on_stacks : (launch : Launch) (n : ℕ) (m : Frames) (st : Store Frames) → Flat.steps tables n (Flat.start tables launch) ≡ running m st → GoesOn flat tables m st
+
+abbrev pub HasFacts : Tables → Type 0
+HasFacts tables = (shapes : ℕ → ℕ → Option PlainShape) × AreShaped tables shapes
