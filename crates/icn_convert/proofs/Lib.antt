@@ -1,0 +1,8 @@
+mod RecordCounts
+mod MemberLists
+mod SameTexts
+mod NamedRecords
+mod Ranges
+mod NamedProcedures
+mod RecordNumbers
+mod Compared

@@ -1,0 +1,4 @@
+pub mod Naming
+pub mod Texting
+pub mod SortTexts
+pub mod Numbering

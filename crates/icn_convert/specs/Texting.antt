@@ -1,0 +1,15 @@
+-- A value that becomes a text is charged for the bytes that are made.
+use Rattle.std.specs.Prelude.{ℕ, List, length, Option, None, Some, Ok}
+use Rattle.icn_value.specs.Values.{Value}
+use Rattle.icn_value.specs.Store.{Heap}
+use Rattle.icn_value.specs.Changes.{Changed, charged_strings}
+use Rattle.icn_defs.specs.Conversions.{form_of, text_made}
+
+-- a text that is made costs its length
+abbrev pub charged_made : Heap → Option (List ℕ) → Changed
+charged_made heap None = Ok heap
+charged_made heap (Some text) = charged_strings heap (length text)
+
+-- the heap once a value is a text: one that was none is made, and charged
+abbrev pub texted : Heap → Value → Changed
+texted heap value = charged_made heap (text_made (form_of value))
