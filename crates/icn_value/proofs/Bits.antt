@@ -115,7 +115,7 @@ range_more : (a n : ℕ) → range_with_len a (n + 1) ≡ range_with_len a n ++ 
 range_more a zero = search rules
 range_more a (suc n) = range_next a n (suc n + 1) (omega arith) (range_more (a + 1) n)
 
-below_more : (cset : Cset) (n : ℕ) → members_below cset (n + 1) ≡ members_below cset n ++ (if has cset n then n ∷ [] else [])
+pub below_more : (cset : Cset) (n : ℕ) → members_below cset (n + 1) ≡ members_below cset n ++ (if has cset n then n ∷ [] else [])
 unfolding members_below
 below_more cset n = ap (filter (has cset)) (range_more 0 n ∙ (let same : 0 + n ≡ n = omega arith in ap (λ k. range_with_len 0 n ++ k ∷ []) same)) ∙ filter-append (has cset) (range_with_len 0 n) (n ∷ [])
 
@@ -138,7 +138,7 @@ filtered a b from (suc n) same = step (same from (omega arith) (omega arith)) (f
     step here rest = rw here (rw rest refl)
 
 -- all 256 bytes are below 256
-all_below : (cset : Cset) → members_below cset 256 ≡ members_of cset
+pub all_below : (cset : Cset) → members_below cset 256 ≡ members_of cset
 unfolding members_below members_of
 all_below cset = refl
 
