@@ -593,9 +593,14 @@ module _ {K M K' M' : Type 0} (C' : Calls K' M') (C : Calls K M) (P : Program) (
 
   -- Failing
 
-  -- the first machine's state, and one that the second comes to after so many more steps
+  -- a mark is due that may be reached again
+  abbrev pub IsAtMark : State K M → Type 0
+  IsAtMark (running m st) = (label : Option ℕ) × Opens P (C.proc m) (C.place m) label
+  IsAtMark state = ⊥
+
+  -- the first machine's state, and that of the second, or the one after its next step, which opens a mark
   abbrev pub Reaches : State K' M' → State K M → Type 0
-  Reaches s' s = (d : ℕ) × Sm s' (steps C P d s)
+  Reaches s' s = Sm s' s ⊎ (IsAtMark s × Sm s' (step C P s))
 
   f_without : (m' : M') (m : M) (st : Store K) (ks' : List (Coexp K')) → Rd st.active m' m ks' st.coexps → Sm (without_mark C' P m' (lift st ks')) (without_mark C P m st)
   f_without m' m st ks' h = either_as (is_create_body C' m' (lift st ks')) (is_create_body C m st) _ _ _ _ (create_eq m' m st ks' h) (c_exhausted m' m st ks' h) (l_proc_fails m' m st ks' h)
@@ -610,16 +615,16 @@ module _ {K M K' M' : Type 0} (C' : Calls K' M') (C : Calls K M) (P : Program) (
   f_reopened label m' m st ks' e h = subst (λ o. Sm (running m' (lift st ks')) (with_found o (λ instr. instruction C P instr (C.go (suc (C.place m)) m) st))) (sym e) (open_label label m' m st ks' h)
 
   f_again : (b : Bool) (label : Option ℕ) (m' : M') (m : M) (st : Store K) (ks' : List (Coexp K')) → Opens P (C.proc m) (C.place m) label → Rd st.active m' (C.mark label (C.go (suc (C.place m)) m)) ks' st.coexps
-      → Sm (turn_if b (lift st ks') (running m')) (step C P (turn_if b st (running m)))
-  f_again false label m' m st ks' e h = same_over
-  f_again true label m' m st ks' e h = f_reopened label m' m (TurnOf st) ks' e h
+      → Reaches (turn_if b (lift st ks') (running m')) (turn_if b st (running m))
+  f_again false label m' m st ks' e h = inl same_over
+  f_again true label m' m st ks' e h = inr ((label, e), f_reopened label m' m (TurnOf st) ks' e h)
 
   f_dropped : (m' : M') (m : M) (st : Store K) (ks' : List (Coexp K')) → (h : Rd st.active m' m ks' st.coexps) → (d' : Dropped M') (d : Dropped M) → SameDropped C (Opens P) G.Next G.Now h.world st.active d' d → Reaches (mark_dropped C' P m' (lift st ks') d') (mark_dropped C P m st d)
-  f_dropped m' m st ks' h NoMark NoMark x = (0, f_without m' m st ks' h)
-  f_dropped m' m st ks' h (Goes a') (Goes a) x = (0, same_running st ks' (r_then st.active a' a ks' st.coexps h.world h.rests x))
-  f_dropped m' m st ks' h (WithoutLabel a') (WithoutLabel a) x = (0, same_failing st ks' (r_then st.active a' a ks' st.coexps h.world h.rests x))
-  f_dropped m' m st ks' h (Repeats a') (Repeats a) (inl x) = (0, w_turn st ks' (running a') (running a) (same_running (TurnOf st) ks' (r_then st.active a' a ks' st.coexps h.world h.rests x)))
-  f_dropped m' m st ks' h (Repeats a') (Repeats a) (inr x) = (1, f_again (nat_lt st.turns st.world.heap.bounds.turns) x.0 a' a st ks' x.1 (r_then st.active a' (C.mark x.0 (C.go (suc (C.place a)) a)) ks' st.coexps h.world h.rests x.2))
+  f_dropped m' m st ks' h NoMark NoMark x = inl (f_without m' m st ks' h)
+  f_dropped m' m st ks' h (Goes a') (Goes a) x = inl (same_running st ks' (r_then st.active a' a ks' st.coexps h.world h.rests x))
+  f_dropped m' m st ks' h (WithoutLabel a') (WithoutLabel a) x = inl (same_failing st ks' (r_then st.active a' a ks' st.coexps h.world h.rests x))
+  f_dropped m' m st ks' h (Repeats a') (Repeats a) (inl x) = inl (w_turn st ks' (running a') (running a) (same_running (TurnOf st) ks' (r_then st.active a' a ks' st.coexps h.world h.rests x)))
+  f_dropped m' m st ks' h (Repeats a') (Repeats a) (inr x) = (f_again (nat_lt st.turns st.world.heap.bounds.turns) x.0 a' a st ks' x.1 (r_then st.active a' (C.mark x.0 (C.go (suc (C.place a)) a)) ks' st.coexps h.world h.rests x.2))
   f_dropped m' m st ks' h NoMark (Goes a) x = absurd x
   f_dropped m' m st ks' h NoMark (Repeats a) x = absurd x
   f_dropped m' m st ks' h NoMark (WithoutLabel a) x = absurd x
@@ -646,7 +651,7 @@ module _ {K M K' M' : Type 0} (C' : Calls K' M') (C : Calls K M) (P : Program) (
   f_back m' m st ks' h None None b = f_dropped m' m st ks' h (C'.drop_mark m') (C.drop_mark m) (G.drop_mark h.world st.active m' m h.here)
   f_back m' m st ks' h None (Some x) b = absurd b
   f_back m' m st ks' h (Some x') None b = absurd b
-  f_back m' m st ks' h (Some x') (Some x) b = (0, subst (λ y. Sm (resumed C' P y x'.1 (lift st ks')) (resumed C P x.0 x.1 st)) (sym b.0) (f_resumed x.0 x'.1 x.1 st ks' b.1))
+  f_back m' m st ks' h (Some x') (Some x) b = inl (subst (λ y. Sm (resumed C' P y x'.1 (lift st ks')) (resumed C P x.0 x.1 st)) (sym b.0) (f_resumed x.0 x'.1 x.1 st ks' b.1))
 
   f_fails : (m' : M') (m : M) (st : Store K) (ks' : List (Coexp K')) → Rd st.active m' m ks' st.coexps → Reaches (fails C' P m' (lift st ks')) (fails C P m st)
   f_fails m' m st ks' h = f_back m' m st ks' h (C'.resume m') (C.resume m) (b_with st.active m' m ks' st.coexps (C'.resume m') (C.resume m) h (G.resume h.world st.active m' m h.here))
@@ -666,14 +671,21 @@ module _ {K M K' M' : Type 0} (C' : Calls K' M') (C : Calls K M) (P : Program) (
       (subst (λ q. Sm (with_found (slice_get (instrs_of P (C.proc m)) q) (λ instr. instruction C' P instr (C'.go (suc q) m') (lift st ks'))) (step C P (running m st))) (sym (G.place h.world st.active m' m h.here))
       (at_instruction m' m st ks' h (instruction_at C P m) refl))
 
-  -- one step of the first is one step of the second, or two
+  -- one step of the first is one step of the second, or two, where the next one opens a mark
+  pub one_step : {s' : State K' M'} {s : State K M} → Sm s' s → Reaches (step C' P s') (step C P s)
+  one_step (same_running {m'} {m} st ks' h) = inl (s_running m' m st ks' h)
+  one_step (same_failing {m'} {m} st ks' h) = f_fails m' m st ks' h
+  one_step (same_hopping {m'} {m} st ks' h) = inl (c_hop h.world m' m st ks' h.holds h.rests)
+  one_step same_over = inl same_over
+  one_step same_stuck = inl same_stuck
+  one_step (lost x) = inl (lost x)
+
+  counted : {s' : State K' M'} {s : State K M} → Reaches s' s → (d : ℕ) × Sm s' (steps C P d s)
+  counted (inl x) = (0, x)
+  counted (inr x) = (1, x.1)
+
   pub same_step : {s' : State K' M'} {s : State K M} → Sm s' s → (d : ℕ) × Sm (step C' P s') (steps C P (suc d) s)
-  same_step (same_running {m'} {m} st ks' h) = (0, s_running m' m st ks' h)
-  same_step (same_failing {m'} {m} st ks' h) = f_fails m' m st ks' h
-  same_step (same_hopping {m'} {m} st ks' h) = (0, c_hop h.world m' m st ks' h.holds h.rests)
-  same_step same_over = (0, same_over)
-  same_step same_stuck = (0, same_stuck)
-  same_step (lost x) = (0, lost x)
+  same_step h = counted (one_step h)
 
   -- The start
 

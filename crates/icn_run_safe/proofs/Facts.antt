@@ -1,5 +1,6 @@
 -- What stands at each state that a run of verified code comes to.
-use Rattle.std.proofs.Common.{◌≡◌, ◌≢◌, ℕ, zero, suc, ◌≤◌, Bool, List, length, Option, Some, None, refl, sym, ap, ◌∙◌, subst}
+use Rattle.std.proofs.Common.{◌≡◌, ◌≢◌, ◌⊎◌, inl, inr, ℕ, zero, suc, ◌≤◌, Bool, true, List, [], ◌∷◌, length, Option, Some, None, refl, sym, ap, ◌∙◌, subst}
+use Rattle.std.specs.Prelude.{is_some, not, ◌&&◌}
 use Rattle.icn_code.specs.declared.instr.Instr.{Instr}
 use Rattle.icn_code.specs.Codes.{Tables}
 use Rattle.icn_verify.specs.declared.shape.Level.{Level}
@@ -7,16 +8,26 @@ use Rattle.icn_verify.specs.declared.shape.LevelKind.{LevelKind}
 use Rattle.icn_verify.specs.Shapes.{PlainShape}
 use Rattle.icn_verify.specs.Given.{HaveShapes}
 use Rattle.icn_run.specs.Stacks.{Frames, flat}
-use Rattle.icn_run.specs.Chains.{Chain, chain, Outer, base, call, mark, limit, Parked, Linked, outer_of, scans_of}
-use Rattle.icn_run.specs.Step.{Launch, State, Store, running, stuck, instruction_at, instruction, with_found, step, steps}
+use Rattle.icn_run.specs.Chains.{Chain, chain, Outer, base, call, mark, limit, Parked, Linked, linked, outer_of, scans_of}
+use Rattle.icn_run.specs.Step.{Launch, State, Store, running, stuck, instrs_of, instruction_at, instruction, with_found, is_main, step, steps}
 use Rattle.icn_run.specs.FlatStep as Flat
+use Rattle.icn_run.specs.LinkedStep as Marks
+use Rattle.icn_run.specs.LinkedStep.{repeats_anywhere}
 use Rattle.icn_run.specs.Calls.{Calls}
+use Rattle.icn_run_laws.specs.Laws.{Both}
+use Rattle.icn_run_laws.specs.SameStates.{Opens, lift, same_running, same_failing, same_hopping, same_over, same_stuck, lost}
+use Rattle.icn_run_laws.proofs.RowsKeep.{rows_keep}
+use Rattle.icn_run_laws.proofs.OnLinked.{linked_agrees}
+use Rattle.icn_run_laws.proofs.OnMarks.{Lacks}
+use Rattle.icn_run_laws.proofs.OnSteps.{Sm, IsAtMark, one_step}
+use Rattle.icn_run_laws.proofs.SecondLaw.{starts}
 use Rattle.icn_run_safe.specs.Within.{RowsStayWithin}
 use Rattle.icn_run_safe.specs.Shaped.{Known, local_count, ChainOk, OuterOk, Safe, Shaped}
 use Rattle.icn_run_safe.specs.NoStuck.{TablesOk}
-use Rattle.icn_run_safe.specs.Facts.{operands_of, mark_count, marks, IsShapedAt, GoesOn, AreShaped}
-use Rattle.icn_run_safe.proofs.Keeping.{here_proc, here_create, locals_ok}
-use Rattle.icn_run_safe.proofs.NoStuck.{shapes_of, shaped, runs_ok, never_stuck}
+use Rattle.icn_run_safe.specs.Facts.{operands_of, mark_count, marks, IsShapedAt, IsFlatShapedAt, IsMarkDue, GoesOn, Stands, AreShaped}
+use Rattle.icn_run_safe.proofs.Keeping.{here_proc, here_create, locals_ok, take_ok}
+use Rattle.icn_run_safe.proofs.Marks.{not_true}
+use Rattle.icn_run_safe.proofs.NoStuck.{shapes_of, shaped, step_ok, start_safe, runs_ok, never_stuck}
 
 -- a step more is one after those that were made
 more_steps : {K M : Type 0} (C : Calls K M) (tables : Tables) (n : ℕ) (s : State K M) → steps C tables (suc n) s ≡ step C tables (steps C tables n s)
@@ -50,7 +61,7 @@ module _ (tables : Tables) (have : HaveShapes tables) (ok : TablesOk tables) (ke
   all_marks : (w : Known) (s p : ℕ) (S : PlainShape) (c : Chain) → ChainOk tables sh w s p S c → mark_count (outer_of c) ≡ length S.outer
   all_marks w s p S (chain items q scans o) h = outer_count w s p S.in_create S.inner.kind S.outer o h.4
 
-  facts_at : (m : Linked) (st : Store Parked) → Safe tables sh (running m st) → IsShapedAt tables sh m st
+  abbrev facts_at : (m : Linked) (st : Store Parked) → Safe tables sh (running m st) → IsShapedAt tables sh m st
   facts_at m st h =
       let same = here_proc tables sh h.0 st.active h.1 h.2 m h.3 in
       let there : sh (marks.proc m) m.place ≡ Some h.2 = ap (λ p. sh p m.place) same ∙ h.4 in
@@ -65,12 +76,87 @@ module _ (tables : Tables) (have : HaveShapes tables) (ok : TablesOk tables) (ke
         locals = (locals_ok tables sh h.0 st.active h.1 h.2 m h.3).count ∙ ap (local_count tables) (sym same);
       }
 
-  stacks_at : (launch : Launch) (n : ℕ) (m : Frames) (st : Store Frames) → Flat.steps tables n (Flat.start tables launch) ≡ running m st → GoesOn flat tables m st
-  stacks_at launch n m st e = goes_on flat tables m st (instruction_at flat tables m) refl (λ z.
-      (never_stuck tables have ok keep).flat launch (record { count = suc n; is = more_steps flat tables n (Flat.start tables launch) ∙ ap (step flat tables) e ∙ z }))
+  -- Flat stacks follow linked ones
+
+  abbrev Sames : State Parked Linked → State Frames Frames → Type 0
+  Sames l f = Sm (linked repeats_anywhere) flat tables (Lacks repeats_anywhere (Opens tables)) (linked_agrees repeats_anywhere (Opens tables)) rows_keep l f
+
+  record Near (f : State Frames Frames) : Type 0 where
+    state : State Parked Linked
+    safe : Safe tables sh state
+    same : Sames state f
+
+  abbrev IsDue : State Frames Frames → Type 0
+  IsDue f = IsAtMark (linked repeats_anywhere) flat tables (Lacks repeats_anywhere (Opens tables)) (linked_agrees repeats_anywhere (Opens tables)) rows_keep f
+
+  -- it follows one, or its next step, which opens a mark, leads to one that does
+  abbrev Follows : State Frames Frames → Type 0
+  Follows f = Near f ⊎ (IsDue f × Near (step flat tables f))
+
+  follows_next : (f : State Frames Frames) → Follows f → Follows (step flat tables f)
+  follows_next f (inr x) = inl x.1
+  follows_next f (inl x) = by (one_step (linked repeats_anywhere) flat tables (Lacks repeats_anywhere (Opens tables)) (linked_agrees repeats_anywhere (Opens tables)) rows_keep x.same)
+    where
+      next : State Parked Linked
+      next = step marks tables x.state
+
+      safe : Safe tables sh next
+      safe = step_ok tables sh given keep ok x.state x.safe
+
+      by : Sames next (step flat tables f) ⊎ (IsDue (step flat tables f) × Sames next (step flat tables (step flat tables f))) → Follows (step flat tables f)
+      by (inl y) = inl (record { state = next; safe = safe; same = y })
+      by (inr y) = inr (y.0, record { state = next; safe = safe; same = y.1 })
+
+  follows_all : (n : ℕ) (f : State Frames Frames) → Follows f → Follows (steps flat tables n f)
+  follows_all zero f h = h
+  follows_all (suc n) f h = follows_all n (step flat tables f) (follows_next f h)
+
+  both_there : {A B : Type 0} (R : A → B → Type 0) (o' : Option A) (o : Option B) → Both ⊥ R o' o → is_some o' ≡ true → is_some o ≡ true
+  both_there R None o h e = not_true e
+  both_there R (Some x) None h e = absurd h
+  both_there R (Some x) (Some y) h e = refl
+
+  abbrev ShapedIn : State Frames Frames → Type 0
+  ShapedIn (running m st) = IsFlatShapedAt tables sh m st
+  ShapedIn state = Unit {0}
+
+  shaped_in : (l : State Parked Linked) (f : State Frames Frames) → Sames l f → Safe tables sh l → ShapedIn f
+  shaped_in l f (same_running {m'} {m} st ks' h) safe =
+      let G = linked_agrees repeats_anywhere (Opens tables) in
+      let facts = facts_at m' (lift st ks') safe in
+      let proc = G.proc h.world st.active m' m h.here in
+      let place = G.place h.world st.active m' m h.here in
+      let there : sh (flat.proc m) m.place ≡ Some facts.shape = ap (λ p. sh p m.place) (sym proc) ∙ ap (sh (marks.proc m')) (sym place) ∙ facts.here in
+      record {
+        shape = facts.shape;
+        here = there;
+        fine = given.fine (flat.proc m) m.place facts.shape there;
+        operands = λ n l. both_there _ (marks.take n m') (flat.take n m) (G.take n h.world st.active m' m h.here) (some_taken m' (lift st ks') safe n l);
+        in_create = ap (λ b. b && not (is_main st.active)) (sym (G.is_base h.world st.active m' m h.here)) ∙ facts.in_create;
+        locals = ap length (sym (G.locals h.world st.active m' m h.here)) ∙ facts.locals ∙ ap (local_count tables) proc;
+      }
+    where
+      some_taken : (m : Linked) (st : Store Parked) (h : Safe tables sh (running m st)) (n : ℕ) → n ≤ h.2.inner.operands → is_some (marks.take n m) ≡ true
+      some_taken m st h n l = ap is_some (take_ok tables sh n h.0 st.active h.1 h.2 m h.3 l).2
+  shaped_in l f (same_failing st ks' h) safe = tt
+  shaped_in l f (same_hopping st ks' h) safe = tt
+  shaped_in l f same_over safe = tt
+  shaped_in l f same_stuck safe = tt
+  shaped_in l f (lost x) safe = absurd safe
+
+  stands_at : (launch : Launch) (n : ℕ) (m : Frames) (st : Store Frames) → Flat.steps tables n (Flat.start tables launch) ≡ running m st → Stands tables sh m st
+  stands_at launch n m st e = record {
+    goes_on = goes_on flat tables m st (instruction_at flat tables m) refl (λ z.
+        (never_stuck tables have ok keep).flat launch (record { count = suc n; is = more_steps flat tables n (Flat.start tables launch) ∙ ap (step flat tables) e ∙ z }));
+    shaped = by (running m st) (subst Follows e (follows_all n (Flat.start tables launch) (inl (record { state = Marks.start repeats_anywhere tables launch; safe = start_safe tables sh given keep ok launch; same = starts rows_keep repeats_anywhere tables launch })))) refl;
+  }
+    where
+      by : (f : State Frames Frames) → Follows f → f ≡ running m st → IsFlatShapedAt tables sh m st ⊎ IsMarkDue tables m
+      by f (inl x) q = inl (subst ShapedIn q (shaped_in x.state f x.same x.safe))
+      by f (inr x) q = inr (subst IsDue q x.0)
 
   pub are_shaped : AreShaped tables sh
   are_shaped = record {
     on_marks = λ launch n m st e. facts_at m st (subst (λ s. Safe tables sh s) e (runs_ok tables sh given keep ok launch n));
-    on_stacks = stacks_at;
+    on_stacks = stands_at;
   }

@@ -1,5 +1,5 @@
 -- What stands at each state that a run of verified code comes to, in the words of its shapes.
-use Rattle.std.specs.Prelude.{◌≡◌, ◌≢◌, ℕ, suc, ◌≤◌, List, length, Option, Some}
+use Rattle.std.specs.Prelude.{◌≡◌, ◌≢◌, ◌⊎◌, ℕ, suc, ◌≤◌, Bool, true, is_some, List, length, Option, Some}
 use Rattle.icn_code.specs.declared.instr.Instr.{Instr}
 use Rattle.icn_code.specs.Codes.{Tables}
 use Rattle.icn_verify.specs.Shapes.{PlainShape}
@@ -12,6 +12,7 @@ use Rattle.icn_run.specs.FlatStep as Flat
 use Rattle.icn_run.specs.LinkedStep as Marks
 use Rattle.icn_run.specs.LinkedStep.{repeats_anywhere}
 use Rattle.icn_run.specs.Calls.{Calls}
+use Rattle.icn_run_laws.specs.SameStates.{mark_of}
 use Rattle.icn_run_safe.specs.Shaped.{local_count}
 
 -- the operands of the innermost mark
@@ -46,10 +47,28 @@ pub record GoesOn {K M : Type 0} (C : Calls K M) (tables : Tables) (m : M) (st :
   pub stands : instruction_at C tables m ≡ Some instr
   pub lacks_nothing : instruction C tables instr (C.go (suc (C.place m)) m) st ≢ stuck
 
+-- The same of a flat stack: so many operands stand on top.
+pub record IsFlatShapedAt (tables : Tables) (shapes : ℕ → ℕ → Option PlainShape) (m : Frames) (st : Store Frames) : Type 0 where
+  pub shape : PlainShape
+  pub here : shapes (flat.proc m) m.place ≡ Some shape
+  pub fine : IsFine (instrs_of tables (flat.proc m)) (shapes (flat.proc m)) m.place shape
+  pub operands : (n : ℕ) → n ≤ shape.inner.operands → is_some (flat.take n m) ≡ true
+  pub in_create : is_create_body flat m st ≡ shape.in_create
+  pub locals : length (flat.locals m) ≡ local_count tables (flat.proc m)
+
+-- a mark is due that failure came back to
+abbrev pub IsMarkDue : Tables → Frames → Type 0
+IsMarkDue tables m = (label : Option ℕ) × (instruction_at flat tables m ≡ Some (mark_of label))
+
+-- an instruction is due that lacks nothing, and the stack has its shape, but where failure came back to a mark
+pub record Stands (tables : Tables) (shapes : ℕ → ℕ → Option PlainShape) (m : Frames) (st : Store Frames) : Type 0 where
+  pub goes_on : GoesOn flat tables m st
+  pub shaped : IsFlatShapedAt tables shapes m st ⊎ IsMarkDue tables m
+
 -- of each state in which a run has an instruction due
 pub record AreShaped (tables : Tables) (shapes : ℕ → ℕ → Option PlainShape) : Type 0 where
   pub on_marks : (launch : Launch) (n : ℕ) (m : Linked) (st : Store Parked) → Marks.steps repeats_anywhere tables n (Marks.start repeats_anywhere tables launch) ≡ running m st → IsShapedAt tables shapes m st
-  pub on_stacks : (launch : Launch) (n : ℕ) (m : Frames) (st : Store Frames) → Flat.steps tables n (Flat.start tables launch) ≡ running m st → GoesOn flat tables m st
+  pub on_stacks : (launch : Launch) (n : ℕ) (m : Frames) (st : Store Frames) → Flat.steps tables n (Flat.start tables launch) ≡ running m st → Stands tables shapes m st
 
 abbrev pub HasFacts : Tables → Type 0
 HasFacts tables = (shapes : ℕ → ℕ → Option PlainShape) × AreShaped tables shapes
