@@ -6,4 +6,5 @@ pub mod PairViews
 pub mod ListChanges
 pub mod OtherChanges
 pub mod TextChanges
+pub mod Differing
 pub mod Stepping

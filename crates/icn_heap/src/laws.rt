@@ -1,6 +1,9 @@
 // What holds of every heap. A call does nothing: it tells a caller's proof the law.
-ghost use Rattle.std.specs.Prelude.{◌≡◌, ◌≤◌, [], length};
+ghost use Rattle.std.specs.Prelude.{◌≡◌, ◌≢◌, ◌≤◌, ℕ, List, [], length, Ok};
 ghost use Rattle.icn_value.specs.declared.val.Val.TheVariants.{Coexp};
+ghost use Rattle.icn_value.specs.Values.{Value};
+ghost use Rattle.icn_value.specs.Store.{Heap as DefinedHeap};
+ghost use Rattle.icn_value.specs.Changes.{made_list, made_set, made_table, made_record, next_list, next_set, next_table, next_record};
 ghost use Rattle.icn_heap.specs.Extents.{IsLive, IsText, text_in};
 ghost use Rattle.icn_heap.specs.Heaps.{extent_of, heap_of};
 
@@ -38,4 +41,12 @@ pub fn length_of_text(heap: &Heap, span: Span)
 #[tactic(auto, unfolding(crate::specs::Heaps::heap_of))]
 pub fn within_limit(heap: &Heap)
     ensures { (heap_of heap.now).cells ≤ (heap_of heap.now).bounds.cells }
+{}
+
+/// Two structures that are made one after the other are two values.
+pub fn made_differ()
+    ensures lists { (heap made : DefinedHeap) (items : List Value) → made_list heap items ≡ Ok made → next_list made ≢ next_list heap }
+    ensures sets { (heap made : DefinedHeap) → made_set heap ≡ Ok made → next_set made ≢ next_set heap }
+    ensures tables { (heap made : DefinedHeap) (default : Value) → made_table heap default ≡ Ok made → next_table made ≢ next_table heap }
+    ensures records { (heap made : DefinedHeap) (kind : ℕ) (fields : List Value) → made_record heap kind fields ≡ Ok made → next_record made ≢ next_record heap }
 {}
