@@ -1,5 +1,5 @@
 // The table of co-expressions.
-ghost use Rattle.std.specs.Prelude.{◌≡◌, ◌<◌, ◌^◌, ℕ, Option, Some, length, slice_get, IsSome, IfOk, OnOk, OnErr};
+ghost use Rattle.std.specs.Prelude.{◌≡◌, ◌<◌, ◌^◌, ℕ, Option, Some, length, slice_get, IsSome, is_some, IfOk, OnOk, OnErr};
 ghost use Rattle.icn_coexp.specs.Transfers.{first_table, source, values_of, with_stack, with_new, with_copy, give, exhaust, went_to, Activates, KeepsRoom, OneIsActive};
 
 use crate::entries::{
@@ -86,6 +86,20 @@ impl<K: Stack<Cell> + Drop> Stacks<K> {
         ensures { result ≡ source self.now.table }
     {
         self.entries[self.active as usize].activator
+    }
+
+    /// How many co-expressions there are, `&main` among them.
+    pub fn len(&self) -> u64
+        ensures { result ≡ length self.now.table.coexps }
+    {
+        self.entries.len() as u64
+    }
+
+    /// Whether a stack runs, and no hop is due.
+    pub fn runs(&self) -> bool
+        ensures { result ≡ is_some self.now.table.running }
+    {
+        matches!(self.running, Running::On(_))
     }
 
     /// How many values a co-expression was made with.

@@ -15,8 +15,8 @@ use std::marker::Model;
 /// The stack of one co-expression.
 ///
 /// A clause sees the stack as cells, registers and a place in the code, and for how many more cells there is room. The base,
-/// and each procedure's frame, counts as the outermost mark of what runs in it. Only `new`, `mark`, `push`, `suspend` and
-/// `enter` take memory; after an error, which is want of memory, they leave all but the room as it was.
+/// and each procedure's frame, counts as the outermost mark of what runs in it. Only `new`, `reserve`, `mark`,
+/// `push`, `suspend` and `enter` take memory; after an error, which is want of memory, they leave all but the room as it was.
 #[derive(Drop)]
 pub struct Frames<K: Stack<Cell> + Drop> {
     cells: K,
@@ -127,6 +127,16 @@ impl<K: Stack<Cell> + Drop> Frames<K> {
         ensures spare { self.new.spare ≡ self.old.spare }
     {
         self.place = place;
+    }
+
+    /// Makes room for `n` more cells. Where there is so much room already it takes no memory.
+    pub fn reserve(&mut self, n: u64) -> Result<(), AllocError>
+        ensures flat { self.new.flat ≡ self.old.flat }
+        ensures spare { self.old.spare ≤ self.new.spare }
+        ensures ok { OnOk result (n ≤ self.new.spare) }
+        ensures succeeds { n ≤ self.old.spare → IsOk result }
+    {
+        self.cells.reserve(n)
     }
 
     /// Puts an operand on top.
