@@ -22,7 +22,7 @@ use Rattle.icn_run.proofs.Observing.{over_seen}
 use Rattle.icn_simulation.specs.Standing.{StandsRoutine, e_plain, e_initial}
 use Rattle.icn_simulation.specs.Relation.{v_main, r_end, a_frame, c_all, c_none, t_active, linked_of, store_of}
 use Rattle.icn_simulation.specs.Ground.{Ground, code_of, machine, OfCallee, o_routine}
-use Rattle.icn_simulation.specs.Law.{OfMain, no_main, a_main, Begins}
+use Rattle.icn_simulation.specs.Begins.{OfMain, no_main, a_main, Begins}
 use Rattle.icn_simulation.proofs.Basics.{LState, Reach, Live, run, then_reach, on_made, errored}
 use Rattle.icn_simulation.proofs.Acts.{on_rest}
 use Rattle.icn_simulation.proofs.Applied.{inits, fitted_filled}
@@ -44,59 +44,121 @@ module _ (G : Ground) where
     names = names;
   }
 
-  same_store : (launch : Launch) → Begins G.L → store_of (MM.first_store G.L.program launch) (record { status = S.Active; activator = zero; values = []; proc = zero; place = zero } ∷ []) ≡ S.first_store (code_of G) launch
-  same_store launch b = ap (λ g. made_store g G.L.program.statics (length G.L.program.routines) (MP.names_of G.L.program) launch) b.globals
-      ∙ ap (λ s. made_store (map (S.global_value G.L.tables) G.L.tables.globals) s (length G.L.program.routines) (MP.names_of G.L.program) launch) b.statics
-      ∙ ap (λ p. made_store (map (S.global_value G.L.tables) G.L.tables.globals) (sum_by S.statics_of G.L.tables.procs) p (MP.names_of G.L.program) launch) b.procs
-      ∙ ap (λ n. made_store (map (S.global_value G.L.tables) G.L.tables.globals) (sum_by S.statics_of G.L.tables.procs) (length G.L.tables.procs) n launch) b.names
+  same_store : (launch : Launch) → Begins G.L
+      → store_of (MM.first_store G.L.program launch)
+      (record { status = S.Active; activator = zero; values = []; proc = zero; place = zero } ∷ []) ≡
+      S.first_store (code_of G) launch
+  same_store launch b = ap (λ g. made_store g G.L.program.statics (length G.L.program.routines)
+      (MP.names_of G.L.program) launch) b.globals
+      ∙ ap (λ s. made_store (map (S.global_value G.L.tables) G.L.tables.globals) s
+      (length G.L.program.routines) (MP.names_of G.L.program) launch) b.statics
+      ∙ ap (λ p. made_store (map (S.global_value G.L.tables) G.L.tables.globals)
+      (sum_by S.statics_of G.L.tables.procs) p (MP.names_of G.L.program) launch) b.procs
+      ∙ ap (λ n. made_store (map (S.global_value G.L.tables) G.L.tables.globals)
+      (sum_by S.statics_of G.L.tables.procs) (length G.L.tables.procs) n launch) b.names
 
   -- `main` begins
-  main_begin : {initial : Initial} {body : Trees} (b : Bool) (n a : ℕ) (st : M.Store) (ls : List (S.Coexp Parked)) → Live G true st.active st.coexpressions ls → b ≡ slice_index_or st.begun n true → StandsRoutine G.L n initial body →
-      Reach G (MC.begun_if b n initial body (InCall (a_frame a n 1) Nothing NoChoice) NoChoice st) (run (chain [] none [] (base n a)) 0 st ls)
+  main_begin : {initial : Initial} {body : Trees} (b : Bool) (n a : ℕ) (st : M.Store)
+      (ls : List (S.Coexp Parked)) → Live G true st.active st.coexpressions ls
+      → b ≡ slice_index_or st.begun n true → StandsRoutine G.L n initial body →
+      Reach G (MC.begun_if b n initial body (InCall (a_frame a n 1) Nothing NoChoice) NoChoice st)
+      (run (chain [] none [] (base n a)) 0 st ls)
   main_begin true n a st ls live e (e_plain body) = on_rest G 0 st ls live body (v_main refl) (r_end refl)
   main_begin false n a st ls live e (e_plain body) = on_rest G 0 st ls live body (v_main refl) (r_end refl)
-  main_begin true n a st ls live e (e_initial h first rest) = then_reach G (inits G true st ls e h) (on_rest G _ st ls live rest (v_main refl) (r_end refl))
-  main_begin false n a st ls live e (e_initial h first rest) = then_reach G (inits G false st ls e h) (on_rest G 1 (record st { begun = slice_set st.begun n true }) ls live first (v_main refl) (r_end refl))
+  main_begin true n a st ls live e (e_initial h first rest) =
+      then_reach G (inits G true st ls e h) (on_rest G _ st ls live rest (v_main refl) (r_end refl))
+  main_begin false n a st ls live e (e_initial h first rest) =
+      then_reach G (inits G false st ls e h)
+      (on_rest G 1 (record st { begun = slice_set st.begun n true }) ls live first (v_main refl) (r_end refl))
 
-  main_enter : (n : ℕ) (routine : MP.Routine) (entry : Procedure) (ps ps' : List Value) (st : M.Store) (ls : List (S.Coexp Parked)) → Live G true st.active st.coexpressions ls → ps ≡ ps' → length routine.locals - routine.parameters ≡ entry.locals → StandsRoutine G.L n routine.initial routine.body →
-      Reach G (MC.enter n routine ps 1 Nothing NoChoice st) (run (chain [] none [] (base n (length st.activations))) 0 (record st { activations = st.activations ++ (ps' ++ replicate entry.locals Null) ∷ [] }) ls)
+  main_enter : (n : ℕ) (routine : MP.Routine) (entry : Procedure) (ps ps' : List Value) (st : M.Store)
+      (ls : List (S.Coexp Parked)) → Live G true st.active st.coexpressions ls → ps ≡ ps'
+      → length routine.locals - routine.parameters ≡ entry.locals
+      → StandsRoutine G.L n routine.initial routine.body →
+      Reach G (MC.enter n routine ps 1 Nothing NoChoice st)
+      (run (chain [] none [] (base n (length st.activations))) 0
+      (record st { activations = st.activations ++ (ps' ++ replicate entry.locals Null) ∷ [] }) ls)
   main_enter n routine entry ps ps' st ls live ep el stands =
-      subst (λ ps'. Reach G (MC.enter n routine ps 1 Nothing NoChoice st) (run (chain [] none [] (base n (length st.activations))) 0 (record st { activations = st.activations ++ (ps' ++ replicate entry.locals Null) ∷ [] }) ls)) ep
-      (subst (λ w. Reach G (MC.enter n routine ps 1 Nothing NoChoice st) (run (chain [] none [] (base n (length st.activations))) 0 (record st { activations = st.activations ++ (ps ++ replicate w Null) ∷ [] }) ls)) el
-      (main_begin (slice_index_or st.begun n true) n (length st.activations) (record st { activations = st.activations ++ (ps ++ replicate (length routine.locals - routine.parameters) Null) ∷ [] }) ls live refl stands))
+      subst (λ ps'. Reach G (MC.enter n routine ps 1 Nothing NoChoice st)
+      (run (chain [] none [] (base n (length st.activations))) 0
+      (record st { activations = st.activations ++ (ps' ++ replicate entry.locals Null) ∷ [] }) ls)) ep
+      (subst (λ w. Reach G (MC.enter n routine ps 1 Nothing NoChoice st)
+      (run (chain [] none [] (base n (length st.activations))) 0
+      (record st { activations = st.activations ++ (ps ++ replicate w Null) ∷ [] }) ls)) el
+      (main_begin (slice_index_or st.begun n true) n (length st.activations)
+      (record st {
+        activations = st.activations
+            ++ (ps ++ replicate (length routine.locals - routine.parameters) Null) ∷ [];
+      }) ls live refl stands))
 
   abbrev begins_at : ℕ → Procedure → List Value → Linked → S.Store Parked → LState
   begins_at n entry ps m st = S.running ((machine G).begin n (ps ++ replicate entry.locals Null) 0 m) st
 
-  main_collect : (b : Bool) (n : ℕ) (routine : MP.Routine) (entry : Procedure) (vs : List Value) (st : M.Store) (ls : List (S.Coexp Parked)) → Live G true st.active st.coexpressions ls → length routine.locals - routine.parameters ≡ entry.locals → StandsRoutine G.L n routine.initial routine.body →
-      Reach G (MC.collect b n routine vs 1 zero Nothing NoChoice st) (S.collected (machine G) b routine.parameters vs (linked_of (chain [] none [] (base 0 0)) 0 st) (store_of st ls) (begins_at n entry))
-  main_collect false n routine entry vs st ls live el stands = main_enter n routine entry _ _ st ls live (fitted_filled routine.parameters vs) el stands
-  main_collect true n routine entry vs st ls live el stands = on_made G 0 [] (list_row (drop (routine.parameters - 1) vs)) st ls _ _ refl live (r_end refl) (λ v seen.
-      main_enter n routine entry _ _ _ ls live (ap (λ l. l ++ v ∷ []) (fitted_filled (routine.parameters - 1) vs)) el stands)
+  main_collect : (b : Bool) (n : ℕ) (routine : MP.Routine) (entry : Procedure) (vs : List Value)
+      (st : M.Store) (ls : List (S.Coexp Parked)) → Live G true st.active st.coexpressions ls
+      → length routine.locals - routine.parameters ≡ entry.locals
+      → StandsRoutine G.L n routine.initial routine.body →
+      Reach G (MC.collect b n routine vs 1 zero Nothing NoChoice st)
+      (S.collected (machine G) b routine.parameters vs (linked_of (chain [] none [] (base 0 0)) 0 st)
+      (store_of st ls) (begins_at n entry))
+  main_collect false n routine entry vs st ls live el stands =
+      main_enter n routine entry _ _ st ls live (fitted_filled routine.parameters vs) el stands
+  main_collect true n routine entry vs st ls live el stands =
+      on_made G 0 [] (list_row (drop (routine.parameters - 1) vs)) st ls _ _ refl live (r_end refl) (λ v seen.
+      main_enter n routine entry _ _ _ ls live
+      (ap (λ l. l ++ v ∷ []) (fitted_filled (routine.parameters - 1) vs)) el stands)
 
-  main_call : (b : Bool) (n : ℕ) (routine : MP.Routine) (entry : Procedure) (vs : List Value) (st : M.Store) (ls : List (S.Coexp Parked)) → Live G true st.active st.coexpressions ls → OfCallee G.L n (MP.IsRoutine routine) (S.IsProc entry) →
-      Reach G (MC.call_if b n routine vs 1 zero Nothing NoChoice st) (S.begun_if (machine G) b n entry vs (linked_of (chain [] none [] (base 0 0)) 0 st) (store_of st ls))
+  main_call : (b : Bool) (n : ℕ) (routine : MP.Routine) (entry : Procedure) (vs : List Value) (st : M.Store)
+      (ls : List (S.Coexp Parked)) → Live G true st.active st.coexpressions ls
+      → OfCallee G.L n (MP.IsRoutine routine) (S.IsProc entry) →
+      Reach G (MC.call_if b n routine vs 1 zero Nothing NoChoice st)
+      (S.begun_if (machine G) b n entry vs (linked_of (chain [] none [] (base 0 0)) 0 st)
+      (store_of st ls))
   main_call false n routine entry vs st ls live c = errored G NoChoice 301 None st ls
   main_call true n routine entry vs st ls live (o_routine ep ec el stands) =
-      subst (λ b. Reach G (MC.collect routine.collects n routine vs 1 zero Nothing NoChoice st) (S.collected (machine G) b entry.parameters vs (linked_of (chain [] none [] (base 0 0)) 0 st) (store_of st ls) (begins_at n entry))) ec
-      (subst (λ w. Reach G (MC.collect routine.collects n routine vs 1 zero Nothing NoChoice st) (S.collected (machine G) routine.collects w vs (linked_of (chain [] none [] (base 0 0)) 0 st) (store_of st ls) (begins_at n entry))) ep
+      subst (λ b. Reach G (MC.collect routine.collects n routine vs 1 zero Nothing NoChoice st)
+      (S.collected (machine G) b entry.parameters vs (linked_of (chain [] none [] (base 0 0)) 0 st)
+      (store_of st ls) (begins_at n entry))) ec
+      (subst (λ w. Reach G (MC.collect routine.collects n routine vs 1 zero Nothing NoChoice st)
+      (S.collected (machine G) routine.collects w vs (linked_of (chain [] none [] (base 0 0)) 0 st)
+      (store_of st ls) (begins_at n entry))) ep
       (main_collect routine.collects n routine entry vs st ls live el stands))
 
-  start_at : {m : Option ℕ} {m' : Option ℕ} (words : List (List ℕ)) (st : M.Store) (ls : List (S.Coexp Parked)) → Live G true st.active st.coexpressions ls → OfMain G.L m m' →
-      Reach G (MM.main_at G.L.program m words st) (S.start_of (machine G) (code_of G) words (linked_of (chain [] none [] (base 0 0)) 0 st) (store_of st ls) m')
+  start_at : {m : Option ℕ} {m' : Option ℕ} (words : List (List ℕ)) (st : M.Store)
+      (ls : List (S.Coexp Parked)) → Live G true st.active st.coexpressions ls → OfMain G.L m m' →
+      Reach G (MM.main_at G.L.program m words st)
+      (S.start_of (machine G) (code_of G) words (linked_of (chain [] none [] (base 0 0)) 0 st)
+      (store_of st ls) m')
   start_at words st ls live no_main = errored G NoChoice 117 None st ls
   start_at words st ls live (a_main {n = n} {routine = routine} {entry = entry} er el c) =
-      subst (λ x. Reach G (MM.main_in x n words st) (S.start_of (machine G) (code_of G) words (linked_of (chain [] none [] (base 0 0)) 0 st) (store_of st ls) (Some n))) (sym er)
-      (subst (λ x. Reach G (MM.main_called n routine words st) (S.with_found x (λ (entry : Procedure). S.made (machine G) (words_row words (S.here (machine G) (linked_of (chain [] none [] (base 0 0)) 0 st) (store_of st ls))) (linked_of (chain [] none [] (base 0 0)) 0 st) (store_of st ls) (λ list m st. S.begun_if (machine G) (nat_le 1 st.world.heap.bounds.levels) n entry (list ∷ []) m st)))) (sym el)
-      (on_made G 0 [] (words_row words) st ls _ _ refl live (r_end refl) (λ v seen. main_call (nat_le 1 (MT.after zero seen st).world.heap.bounds.levels) n routine entry (v ∷ []) (MT.after zero seen st) ls live c)))
+      subst (λ x. Reach G (MM.main_in x n words st)
+      (S.start_of (machine G) (code_of G) words (linked_of (chain [] none [] (base 0 0)) 0 st)
+      (store_of st ls) (Some n))) (sym er)
+      (subst (λ x. Reach G (MM.main_called n routine words st)
+      (S.with_found x (λ (entry : Procedure).
+      S.made (machine G) (words_row words
+      (S.here (machine G) (linked_of (chain [] none [] (base 0 0)) 0 st) (store_of st ls)))
+      (linked_of (chain [] none [] (base 0 0)) 0 st) (store_of st ls)
+      (λ list m st. S.begun_if (machine G) (nat_le 1 st.world.heap.bounds.levels) n entry (list ∷ []) m
+      st)))) (sym el)
+      (on_made G 0 [] (words_row words) st ls _ _ refl live (r_end refl)
+      (λ v seen. main_call (nat_le 1 (MT.after zero seen st).world.heap.bounds.levels) n routine entry
+      (v ∷ []) (MT.after zero seen st) ls live c)))
 
-  pub starts : (launch : Launch) → Begins G.L → Reach G (MM.start G.L.program launch) (S.start (machine G) empty (code_of G) launch)
-  starts launch b = subst (λ st. Reach G (MM.start G.L.program launch) (S.start_of (machine G) (code_of G) launch.words empty st (S.main_of G.L.tables))) (same_store launch b)
-      (start_at launch.words (MM.first_store G.L.program launch) _ (refl, c_all (record { activator = refl; procedure = refl; values = refl; status = t_active }) c_none) b.main)
+  pub starts : (launch : Launch) → Begins G.L
+      → Reach G (MM.start G.L.program launch) (S.start (machine G) empty (code_of G) launch)
+  starts launch b = subst (λ st. Reach G (MM.start G.L.program launch)
+      (S.start_of (machine G) (code_of G) launch.words empty st (S.main_of G.L.tables))) (same_store launch b)
+      (start_at launch.words (MM.first_store G.L.program launch) _ (
+        refl,
+        c_all (record { activator = refl; procedure = refl; values = refl; status = t_active })
+            c_none,
+      ) b.main)
 
   -- Steps of the meaning
 
-  after_steps : (m n : ℕ) {s s' s'' : M.State} → MM.steps G.L.program m s ≡ s' → MM.steps G.L.program n s' ≡ s'' → (k : ℕ) × (MM.steps G.L.program k s ≡ s'')
+  after_steps : (m n : ℕ) {s s' s'' : M.State} → MM.steps G.L.program m s ≡ s'
+      → MM.steps G.L.program n s' ≡ s'' → (k : ℕ) × (MM.steps G.L.program k s ≡ s'')
   after_steps zero n e f = (n, ap (MM.steps G.L.program n) e ∙ f)
   after_steps (suc m) n e f = let a = after_steps m n e f in (suc a.0, a.1)
 
@@ -109,26 +171,37 @@ module _ (G : Ground) where
     pub outside_is : store.outside ≡ seen.outside
 
   seen_over : (s : M.State) (seen : Observed) → observed s ≡ Some seen → Seen s seen
-  seen_over (M.over ending st) seen e = let h : record_of ending st.outside ≡ seen = cc in record { store = st; is = ap (λ (o : Observed). M.over o.ending st) h; outside_is = ap (λ (o : Observed). o.outside) h }
+  seen_over (M.over ending st) seen e = let h : record_of ending st.outside ≡ seen = cc in
+      record {
+        store = st;
+        is = ap (λ (o : Observed). M.over o.ending st) h;
+        outside_is =
+            ap (λ (o : Observed). o.outside) h;
+      }
   seen_over s seen e = absurd (cc)
 
   -- what the meaning comes to, the code comes to
-  pub means_runs : (launch : Launch) (seen : Observed) → Begins G.L → Means G.L.program launch seen → Linked.Runs G.L.repeats G.L.tables launch seen
+  pub means_runs : (launch : Launch) (seen : Observed) → Begins G.L → Means G.L.program launch seen
+      → Linked.Runs G.L.repeats G.L.tables launch seen
   means_runs launch seen b m =
       let o = seen_over _ seen m.is in
       let g = starts launch b in
-      let f = forward G m.count (MM.start G.L.program launch) g.to seen.ending o.store (good_steps G g.turns _ g.comes (shadowed_start G.L.repeats G.L.tables launch)) g.rel o.is in
+      let f = forward G m.count (MM.start G.L.program launch) g.to seen.ending o.store
+      (good_steps G g.turns _ g.comes (shadowed_start G.L.repeats G.L.tables launch)) g.rel o.is in
       let a = after G g.turns f.0 g.comes f.1 in
       record { count = a.0; is = ap S.observed (a.1 ∙ ap (λ x. S.over seen.ending x) o.outside_is) }
 
   -- what the code comes to, the meaning comes to
-  pub runs_means : (launch : Launch) (seen : Observed) → Begins G.L → Linked.Runs G.L.repeats G.L.tables launch seen → Means G.L.program launch seen
+  pub runs_means : (launch : Launch) (seen : Observed) → Begins G.L
+      → Linked.Runs G.L.repeats G.L.tables launch seen → Means G.L.program launch seen
   runs_means launch seen b r =
       let z : LState = S.over seen.ending seen.outside in
       let s = MM.start G.L.program launch in
       let g = starts launch b in
-      let e = shift G z refl r.count g.turns (S.start (machine G) empty (code_of G) launch) (over_seen _ seen r.is) g.comes in
-      let back = backward G z refl r.count s g.to (good_steps G g.turns _ g.comes (shadowed_start G.L.repeats G.L.tables launch)) g.rel e in
+      let e = shift G z refl r.count g.turns (S.start (machine G) empty (code_of G) launch)
+      (over_seen _ seen r.is) g.comes in
+      let back = backward G z refl r.count s g.to
+      (good_steps G g.turns _ g.comes (shadowed_start G.L.repeats G.L.tables launch)) g.rel e in
       let o = was_over G {ending = seen.ending} {outside = seen.outside} back.1 in
       let a = after_steps back.0 o.count refl o.is in
       record { count = a.0; is = ap observed a.1 ∙ ap (λ x. Some (record_of seen.ending x)) o.outside_is }

@@ -53,36 +53,69 @@ same_argument (Some (suc p)) xs = refl
 
 module _ (G : Ground) where
   -- a co-expression is made
-  pub on_fresh : {first : Bool} {e : Tree} {place q j a : ℕ} {k : Works} {r : Choices} {xs : List Item} {s : Suspensions} {z : List ℕ} {o : Outer} (vs : List Value) (p : ℕ) (st : M.Store) (ls : List (S.Coexp Parked)) → Live G first st.active st.coexpressions ls → a ≡ activation_in o → StandsCreate G.L j e place q → OfWorks G.L first k p xs z o → OfChoices G.L first r s z o →
-      Reach G (MX.fresh e j vs a k r st) (S.coexp_made (machine G) vs j place (linked_of (chain xs s z o) p st) (store_of st ls))
-  on_fresh {xs = xs} vs p st ls live e stands k r = on_made G p xs (coexpression_row (length vs)) st ls _ _ e live r (λ v seen.
-      stay G (at_succeed live.0 (all_more G live.1 (record { activator = refl; procedure = refl; values = refl; status = t_fresh refl stands }) stands) k r))
+  pub on_fresh : {first : Bool} {e : Tree} {place q j a : ℕ} {k : Works} {r : Choices} {xs : List Item}
+      {s : Suspensions} {z : List ℕ} {o : Outer} (vs : List Value) (p : ℕ) (st : M.Store)
+      (ls : List (S.Coexp Parked)) → Live G first st.active st.coexpressions ls → a ≡ activation_in o
+      → StandsCreate G.L j e place q → OfWorks G.L first k p xs z o → OfChoices G.L first r s z o →
+      Reach G (MX.fresh e j vs a k r st)
+      (S.coexp_made (machine G) vs j place (linked_of (chain xs s z o) p st) (store_of st ls))
+  on_fresh {xs = xs} vs p st ls live e stands k r =
+      on_made G p xs (coexpression_row (length vs)) st ls _ _ e live r (λ v seen.
+      stay G (at_succeed live.0 (all_more G live.1
+      (record { activator = refl; procedure = refl; values = refl; status = t_fresh refl stands })
+      stands) k r))
 
-  refreshed_by : {first : Bool} {a : ℕ} {k : Works} {r : Choices} {xs : List Item} {s : Suspensions} {z : List ℕ} {o : Outer} {co : Option M.Coexpression} {l : Option (S.Coexp Parked)} (p : ℕ) (st : M.Store) (ls : List (S.Coexp Parked)) → Live G first st.active st.coexpressions ls → a ≡ activation_in o → Made G co l → OfWorks G.L first k p xs z o → OfChoices G.L first r s z o →
-      Reach G (MX.refreshed_from co a k r st) (S.refreshed_from (machine G) l (linked_of (chain xs s z o) p st) (store_of st ls))
+  refreshed_by : {first : Bool} {a : ℕ} {k : Works} {r : Choices} {xs : List Item} {s : Suspensions}
+      {z : List ℕ} {o : Outer} {co : Option M.Coexpression} {l : Option (S.Coexp Parked)} (p : ℕ)
+      (st : M.Store) (ls : List (S.Coexp Parked)) → Live G first st.active st.coexpressions ls
+      → a ≡ activation_in o → Made G co l → OfWorks G.L first k p xs z o → OfChoices G.L first r s z o →
+      Reach G (MX.refreshed_from co a k r st)
+      (S.refreshed_from (machine G) l (linked_of (chain xs s z o) p st) (store_of st ls))
   refreshed_by p st ls live e not_made k r = stay G at_lost
-  refreshed_by {a = a} {k = k'} {r = r'} {xs = xs} {s = s} {z = z} {o = o} p st ls live e (was_made {co = co} {l = l} h stands) k r =
-      subst (λ j. Reach G (MX.fresh co.body j co.values a k' r' st) (S.coexp_made (machine G) l.values l.proc l.place (linked_of (chain xs s z o) p st) (store_of st ls))) (sym h.procedure)
-      (subst (λ vs. Reach G (MX.fresh co.body l.proc vs a k' r' st) (S.coexp_made (machine G) l.values l.proc l.place (linked_of (chain xs s z o) p st) (store_of st ls))) (sym h.values) (on_fresh l.values p st ls live e stands k r))
+  refreshed_by {a = a} {k = k'} {r = r'} {xs = xs} {s = s} {z = z} {o = o} p st ls live e
+      (was_made {co = co} {l = l} h stands) k r =
+      subst (λ j. Reach G (MX.fresh co.body j co.values a k' r' st)
+      (S.coexp_made (machine G) l.values l.proc l.place (linked_of (chain xs s z o) p st)
+      (store_of st ls))) (sym h.procedure)
+      (subst (λ vs. Reach G (MX.fresh co.body l.proc vs a k' r' st)
+      (S.coexp_made (machine G) l.values l.proc l.place (linked_of (chain xs s z o) p st)
+      (store_of st ls))) (sym h.values) (on_fresh l.values p st ls live e stands k r))
 
-  made_at : {cos : List M.Coexpression} {ls : List (S.Coexp Parked)} → OfAll G.L cos ls → (n : ℕ) → Made G (slice_get cos (suc n)) (slice_get ls (suc n))
+  made_at : {cos : List M.Coexpression} {ls : List (S.Coexp Parked)} → OfAll G.L cos ls → (n : ℕ)
+      → Made G (slice_get cos (suc n)) (slice_get ls (suc n))
   made_at (c_all h t) n = find_made G t n
 
-  on_refreshed : {first : Bool} {a : ℕ} {k : Works} {r : Choices} {xs : List Item} {s : Suspensions} {z : List ℕ} {o : Outer} (v : Value) (p : ℕ) (st : M.Store) (ls : List (S.Coexp Parked)) → Live G first st.active st.coexpressions ls → a ≡ activation_in o → OfWorks G.L first k p xs z o → OfChoices G.L first r s z o →
-      Reach G (MX.refreshed v a k r st) (S.refreshed (machine G) v (linked_of (chain xs s z o) p st) (store_of st ls))
+  on_refreshed : {first : Bool} {a : ℕ} {k : Works} {r : Choices} {xs : List Item} {s : Suspensions}
+      {z : List ℕ} {o : Outer} (v : Value) (p : ℕ) (st : M.Store) (ls : List (S.Coexp Parked))
+      → Live G first st.active st.coexpressions ls → a ≡ activation_in o → OfWorks G.L first k p xs z o
+      → OfChoices G.L first r s z o →
+      Reach G (MX.refreshed v a k r st)
+      (S.refreshed (machine G) v (linked_of (chain xs s z o) p st) (store_of st ls))
   on_refreshed {r = r'} (V.ACoexp zero) p st ls live e k r = errored G r' 215 (Some (V.ACoexp zero)) st ls
   on_refreshed (V.ACoexp (suc n)) p st ls live e k r = refreshed_by p st ls live e (made_at live.1 n) k r
   on_refreshed {r = r'} v p st ls live e k r = errored G r' 118 (Some v) st ls
 
   -- an activation
-  on_sent : {first : Bool} {k : Works} {r : Choices} {xs : List Item} {s : Suspensions} {z : List ℕ} {o : Outer} (v : Value) (c p : ℕ) (st : M.Store) (ls : List (S.Coexp Parked)) → Live G first st.active st.coexpressions ls → OfWorks G.L first k p xs z o → OfChoices G.L first r s z o →
-      Reach G (MX.sent v c k r st) (S.entered_by (machine G) c v (linked_of (chain xs s z o) p st) (store_of st ls))
+  on_sent : {first : Bool} {k : Works} {r : Choices} {xs : List Item} {s : Suspensions} {z : List ℕ}
+      {o : Outer} (v : Value) (c p : ℕ) (st : M.Store) (ls : List (S.Coexp Parked))
+      → Live G first st.active st.coexpressions ls → OfWorks G.L first k p xs z o
+      → OfChoices G.L first r s z o →
+      Reach G (MX.sent v c k r st) (S.entered_by (machine G) c v (linked_of (chain xs s z o) p st)
+      (store_of st ls))
   on_sent {k = k'} {r = r'} {xs = xs} {s = s} {z = z} {o = o} v c p st ls live k r =
-      on_entered G c v (chain xs s z o) p (MX.with_activator c st.active (MX.with_status st.active (M.Waiting k' r') st)) _
-      (activator_all G (status_all G live.1 st.active (t_waiting (subst (λ b. OfWorks G.L b k' p xs z o) live.0 k) (subst (λ b. OfChoices G.L b r' s z o) live.0 r))) c st.active)
+      on_entered G c v (chain xs s z o) p
+      (MX.with_activator c st.active (MX.with_status st.active (M.Waiting k' r') st)) _
+      (activator_all G (status_all G live.1 st.active
+      (t_waiting (subst (λ b. OfWorks G.L b k' p xs z o) live.0 k)
+      (subst (λ b. OfChoices G.L b r' s z o) live.0 r))) c st.active)
 
-  sent_by : {first : Bool} {j place : ℕ} {e : Tree} {status : M.Status} {status' : S.Status Parked} {k : Works} {r : Choices} {xs : List Item} {s : Suspensions} {z : List ℕ} {o : Outer} (b b' : Bool) (v : Value) (c p : ℕ) (st : M.Store) (ls : List (S.Coexp Parked)) → Live G first st.active st.coexpressions ls → OfStatus G.L b' j e place status status' → OfWorks G.L first k p xs z o → OfChoices G.L first r s z o →
-      Reach G (MX.sent_if b status v c k r st) (S.entered_if (machine G) b status' c v (linked_of (chain xs s z o) p st) (store_of st ls))
+  sent_by : {first : Bool} {j place : ℕ} {e : Tree} {status : M.Status} {status' : S.Status Parked}
+      {k : Works} {r : Choices} {xs : List Item} {s : Suspensions} {z : List ℕ} {o : Outer} (b b' : Bool)
+      (v : Value) (c p : ℕ) (st : M.Store) (ls : List (S.Coexp Parked))
+      → Live G first st.active st.coexpressions ls → OfStatus G.L b' j e place status status'
+      → OfWorks G.L first k p xs z o → OfChoices G.L first r s z o →
+      Reach G (MX.sent_if b status v c k r st)
+      (S.entered_if (machine G) b status' c v (linked_of (chain xs s z o) p st) (store_of st ls))
   sent_by b b' v c p st ls live t_exhausted k r = stay G (at_fail live.0 live.1 r)
   sent_by true b' v c p st ls live (t_fresh e stands) k r = stay G (at_succeed live.0 live.1 k r)
   sent_by true b' v c p st ls live t_active k r = stay G (at_succeed live.0 live.1 k r)
@@ -93,78 +126,197 @@ module _ (G : Ground) where
   sent_by false b' v c p st ls live (t_waiting k' r') k r = on_sent v c p st ls live k r
   sent_by false b' v c p st ls live (t_after h r') k r = on_sent v c p st ls live k r
 
-  on_activate : {first : Bool} {k : Works} {r : Choices} {xs : List Item} {s : Suspensions} {z : List ℕ} {o : Outer} (v to : Value) (p : ℕ) (st : M.Store) (ls : List (S.Coexp Parked)) → Live G first st.active st.coexpressions ls → OfWorks G.L first k p xs z o → OfChoices G.L first r s z o →
-      Reach G (MX.activate v to k r st) (S.activation (machine G) v to (linked_of (chain xs s z o) p st) (store_of st ls))
-  on_activate v (V.ACoexp c) p st ls live k r = sent_by (c == st.active) (S.is_main c) v c p st ls live (look G live.1 c).status k r
+  on_activate : {first : Bool} {k : Works} {r : Choices} {xs : List Item} {s : Suspensions} {z : List ℕ}
+      {o : Outer} (v to : Value) (p : ℕ) (st : M.Store) (ls : List (S.Coexp Parked))
+      → Live G first st.active st.coexpressions ls → OfWorks G.L first k p xs z o
+      → OfChoices G.L first r s z o →
+      Reach G (MX.activate v to k r st)
+      (S.activation (machine G) v to (linked_of (chain xs s z o) p st) (store_of st ls))
+  on_activate v (V.ACoexp c) p st ls live k r =
+      sent_by (c == st.active) (S.is_main c) v c p st ls live (look G live.1 c).status k r
   on_activate {r = r'} v to p st ls live k r = errored G r' 118 (Some to) st ls
 
   -- A procedure is called
 
-  pub inits : {l : ℕ} {xs : List Item} {s : Suspensions} {z : List ℕ} {o : Outer} (b : Bool) (st : M.Store) (ls : List (S.Coexp Parked)) → b ≡ slice_index_or st.begun (proc_in o) true → At G.L o 0 (I.Init l) → To G (run (chain xs s z o) 0 st ls) (S.initial_if (machine G) b l (linked_of (chain xs s z o) 1 st) (store_of st ls))
-  inits {l} {xs} {s} {z} {o} b st ls e h = record { by = stepped G 0 (chain xs s z o) st ls h ∙ ap (λ b. S.initial_if (machine G) b l (linked_of (chain xs s z o) 1 st) (store_of st ls)) (sym e) }
+  pub inits : {l : ℕ} {xs : List Item} {s : Suspensions} {z : List ℕ} {o : Outer} (b : Bool) (st : M.Store)
+      (ls : List (S.Coexp Parked)) → b ≡ slice_index_or st.begun (proc_in o) true → At G.L o 0 (I.Init l)
+      → To G (run (chain xs s z o) 0 st ls)
+      (S.initial_if (machine G) b l (linked_of (chain xs s z o) 1 st) (store_of st ls))
+  inits {l} {xs} {s} {z} {o} b st ls e h =
+      record {
+        by = stepped G 0 (chain xs s z o) st ls h
+            ∙ ap (λ b. S.initial_if (machine G) b l (linked_of (chain xs s z o) 1 st) (store_of st ls)) (sym e);
+      }
 
-  on_begin : {first : Bool} {k : Works} {r : Choices} {initial : Initial} {body : Trees} {xs : List Item} {s : Suspensions} {z : List ℕ} {o : Outer} (b : Bool) (n a level p : ℕ) (st : M.Store) (ls : List (S.Coexp Parked)) → Live G first st.active st.coexpressions ls → b ≡ slice_index_or st.begun n true → StandsRoutine G.L n initial body → OfWorks G.L first k p xs z o → OfChoices G.L first r s z o →
-      Reach G (MC.begun_if b n initial body (InCall (a_frame a n level) k r) r st) (run (chain [] none [] (call n a level p (chain xs s z o))) 0 st ls)
-  on_begin true n a level p st ls live e (e_plain body) k r = on_rest G 0 st ls live body (v_call k r) (r_call r)
-  on_begin false n a level p st ls live e (e_plain body) k r = on_rest G 0 st ls live body (v_call k r) (r_call r)
-  on_begin true n a level p st ls live e (e_initial h first rest) k r = then_reach G (inits true st ls e h) (on_rest G _ st ls live rest (v_call k r) (r_call r))
-  on_begin false n a level p st ls live e (e_initial h first rest) k r = then_reach G (inits false st ls e h) (on_rest G 1 (record st { begun = slice_set st.begun n true }) ls live first (v_call k r) (r_call r))
+  on_begin : {first : Bool} {k : Works} {r : Choices} {initial : Initial} {body : Trees} {xs : List Item}
+      {s : Suspensions} {z : List ℕ} {o : Outer} (b : Bool) (n a level p : ℕ) (st : M.Store)
+      (ls : List (S.Coexp Parked)) → Live G first st.active st.coexpressions ls
+      → b ≡ slice_index_or st.begun n true → StandsRoutine G.L n initial body → OfWorks G.L first k p xs z o
+      → OfChoices G.L first r s z o →
+      Reach G (MC.begun_if b n initial body (InCall (a_frame a n level) k r) r st)
+      (run (chain [] none [] (call n a level p (chain xs s z o))) 0 st ls)
+  on_begin true n a level p st ls live e (e_plain body) k r =
+      on_rest G 0 st ls live body (v_call k r) (r_call r)
+  on_begin false n a level p st ls live e (e_plain body) k r =
+      on_rest G 0 st ls live body (v_call k r) (r_call r)
+  on_begin true n a level p st ls live e (e_initial h first rest) k r =
+      then_reach G (inits true st ls e h) (on_rest G _ st ls live rest (v_call k r) (r_call r))
+  on_begin false n a level p st ls live e (e_initial h first rest) k r =
+      then_reach G (inits false st ls e h)
+      (on_rest G 1 (record st { begun = slice_set st.begun n true }) ls live first (v_call k r) (r_call r))
 
-  on_enter : {first : Bool} {k : Works} {r : Choices} {xs : List Item} {s : Suspensions} {z : List ℕ} {o : Outer} (n : ℕ) (routine : MP.Routine) (entry : Procedure) (ps ps' : List Value) (p : ℕ) (st : M.Store) (ls : List (S.Coexp Parked)) → Live G first st.active st.coexpressions ls → ps ≡ ps' → length routine.locals - routine.parameters ≡ entry.locals → StandsRoutine G.L n routine.initial routine.body → OfWorks G.L first k p xs z o → OfChoices G.L first r s z o →
-      Reach G (MC.enter n routine ps (suc (level_in o)) k r st) (S.entered (machine G) n entry ps' (linked_of (chain xs s z o) p st) (store_of st ls))
-  on_enter {k = k'} {r = r'} {xs = xs} {s = s} {z = z} {o = o} n routine entry ps ps' p st ls live ep el stands k r =
-      subst (λ ps'. Reach G (MC.enter n routine ps (suc (level_in o)) k' r' st) (S.entered (machine G) n entry ps' (linked_of (chain xs s z o) p st) (store_of st ls))) ep
-      (subst (λ w. Reach G (MC.enter n routine ps (suc (level_in o)) k' r' st) (run (chain [] none [] (call n (length st.activations) (suc (level_in o)) p (chain xs s z o))) 0 (record st { activations = st.activations ++ (ps ++ replicate w Null) ∷ [] }) ls)) el
-      (on_begin (slice_index_or st.begun n true) n (length st.activations) (suc (level_in o)) p (record st { activations = st.activations ++ (ps ++ replicate (length routine.locals - routine.parameters) Null) ∷ [] }) ls live refl stands k r))
+  on_enter : {first : Bool} {k : Works} {r : Choices} {xs : List Item} {s : Suspensions} {z : List ℕ}
+      {o : Outer} (n : ℕ) (routine : MP.Routine) (entry : Procedure) (ps ps' : List Value) (p : ℕ)
+      (st : M.Store) (ls : List (S.Coexp Parked)) → Live G first st.active st.coexpressions ls → ps ≡ ps'
+      → length routine.locals - routine.parameters ≡ entry.locals
+      → StandsRoutine G.L n routine.initial routine.body → OfWorks G.L first k p xs z o
+      → OfChoices G.L first r s z o →
+      Reach G (MC.enter n routine ps (suc (level_in o)) k r st)
+      (S.entered (machine G) n entry ps' (linked_of (chain xs s z o) p st) (store_of st ls))
+  on_enter {k = k'} {r = r'} {xs = xs} {s = s} {z = z} {o = o} n routine entry ps ps' p st ls live ep el
+      stands k r =
+      subst (λ ps'. Reach G (MC.enter n routine ps (suc (level_in o)) k' r' st)
+      (S.entered (machine G) n entry ps' (linked_of (chain xs s z o) p st) (store_of st ls))) ep
+      (subst (λ w. Reach G (MC.enter n routine ps (suc (level_in o)) k' r' st)
+      (run (chain [] none [] (call n (length st.activations) (suc (level_in o)) p (chain xs s z o))) 0
+      (record st { activations = st.activations ++ (ps ++ replicate w Null) ∷ [] }) ls)) el
+      (on_begin (slice_index_or st.begun n true) n (length st.activations) (suc (level_in o)) p
+      (record st {
+        activations = st.activations
+            ++ (ps ++ replicate (length routine.locals - routine.parameters) Null) ∷ [];
+      }) ls live refl stands
+      k r))
 
-  on_collect : {first : Bool} {k : Works} {r : Choices} {a : ℕ} {xs : List Item} {s : Suspensions} {z : List ℕ} {o : Outer} (b : Bool) (n : ℕ) (routine : MP.Routine) (entry : Procedure) (vs : List Value) (p : ℕ) (st : M.Store) (ls : List (S.Coexp Parked)) → Live G first st.active st.coexpressions ls → a ≡ activation_in o → length routine.locals - routine.parameters ≡ entry.locals → StandsRoutine G.L n routine.initial routine.body → OfWorks G.L first k p xs z o → OfChoices G.L first r s z o →
-      Reach G (MC.collect b n routine vs (suc (level_in o)) a k r st) (S.collected (machine G) b routine.parameters vs (linked_of (chain xs s z o) p st) (store_of st ls) (λ ps m st. S.entered (machine G) n entry ps m st))
-  on_collect false n routine entry vs p st ls live e el stands k r = on_enter n routine entry _ _ p st ls live (fitted_filled routine.parameters vs) el stands k r
-  on_collect {xs = xs} true n routine entry vs p st ls live e el stands k r = on_made G p xs (list_row (drop (routine.parameters - 1) vs)) st ls _ _ e live r (λ v seen.
-      on_enter n routine entry _ _ p _ ls live (ap (λ l. l ++ v ∷ []) (fitted_filled (routine.parameters - 1) vs)) el stands k r)
+  on_collect : {first : Bool} {k : Works} {r : Choices} {a : ℕ} {xs : List Item} {s : Suspensions}
+      {z : List ℕ} {o : Outer} (b : Bool) (n : ℕ) (routine : MP.Routine) (entry : Procedure)
+      (vs : List Value) (p : ℕ) (st : M.Store) (ls : List (S.Coexp Parked))
+      → Live G first st.active st.coexpressions ls → a ≡ activation_in o
+      → length routine.locals - routine.parameters ≡ entry.locals
+      → StandsRoutine G.L n routine.initial routine.body → OfWorks G.L first k p xs z o
+      → OfChoices G.L first r s z o →
+      Reach G (MC.collect b n routine vs (suc (level_in o)) a k r st)
+      (S.collected (machine G) b routine.parameters vs (linked_of (chain xs s z o) p st)
+      (store_of st ls) (λ ps m st. S.entered (machine G) n entry ps m st))
+  on_collect false n routine entry vs p st ls live e el stands k r =
+      on_enter n routine entry _ _ p st ls live (fitted_filled routine.parameters vs) el stands k r
+  on_collect {xs = xs} true n routine entry vs p st ls live e el stands k r =
+      on_made G p xs (list_row (drop (routine.parameters - 1) vs)) st ls _ _ e live r (λ v seen.
+      on_enter n routine entry _ _ p _ ls live
+      (ap (λ l. l ++ v ∷ []) (fitted_filled (routine.parameters - 1) vs)) el stands k r)
 
-  call_by : {first : Bool} {k : Works} {r : Choices} {a : ℕ} {xs : List Item} {s : Suspensions} {z : List ℕ} {o : Outer} (b : Bool) (n : ℕ) (routine : MP.Routine) (entry : Procedure) (vs : List Value) (p : ℕ) (st : M.Store) (ls : List (S.Coexp Parked)) → Live G first st.active st.coexpressions ls → a ≡ activation_in o → routine.parameters ≡ entry.parameters → routine.collects ≡ entry.collects → length routine.locals - routine.parameters ≡ entry.locals → StandsRoutine G.L n routine.initial routine.body → OfWorks G.L first k p xs z o → OfChoices G.L first r s z o →
-      Reach G (MC.call_if b n routine vs (suc (level_in o)) a k r st) (S.called_if (machine G) b n entry vs (linked_of (chain xs s z o) p st) (store_of st ls))
+  call_by : {first : Bool} {k : Works} {r : Choices} {a : ℕ} {xs : List Item} {s : Suspensions} {z : List ℕ}
+      {o : Outer} (b : Bool) (n : ℕ) (routine : MP.Routine) (entry : Procedure) (vs : List Value) (p : ℕ)
+      (st : M.Store) (ls : List (S.Coexp Parked)) → Live G first st.active st.coexpressions ls
+      → a ≡ activation_in o → routine.parameters ≡ entry.parameters → routine.collects ≡ entry.collects
+      → length routine.locals - routine.parameters ≡ entry.locals
+      → StandsRoutine G.L n routine.initial routine.body → OfWorks G.L first k p xs z o
+      → OfChoices G.L first r s z o →
+      Reach G (MC.call_if b n routine vs (suc (level_in o)) a k r st)
+      (S.called_if (machine G) b n entry vs (linked_of (chain xs s z o) p st) (store_of st ls))
   call_by {r = r'} false n routine entry vs p st ls live e ep ec el stands k r = errored G r' 301 None st ls
-  call_by {k = k'} {r = r'} {a = a} {xs = xs} {s = s} {z = z} {o = o} true n routine entry vs p st ls live e ep ec el stands k r =
-      subst (λ b. Reach G (MC.collect routine.collects n routine vs (suc (level_in o)) a k' r' st) (S.collected (machine G) b entry.parameters vs (linked_of (chain xs s z o) p st) (store_of st ls) (λ ps m st. S.entered (machine G) n entry ps m st))) ec
-      (subst (λ w. Reach G (MC.collect routine.collects n routine vs (suc (level_in o)) a k' r' st) (S.collected (machine G) routine.collects w vs (linked_of (chain xs s z o) p st) (store_of st ls) (λ ps m st. S.entered (machine G) n entry ps m st))) ep
+  call_by {k = k'} {r = r'} {a = a} {xs = xs} {s = s} {z = z} {o = o} true n routine entry vs p st ls live e
+      ep ec el stands k r =
+      subst (λ b. Reach G (MC.collect routine.collects n routine vs (suc (level_in o)) a k' r' st)
+      (S.collected (machine G) b entry.parameters vs (linked_of (chain xs s z o) p st) (store_of st ls)
+      (λ ps m st. S.entered (machine G) n entry ps m st))) ec
+      (subst (λ w. Reach G (MC.collect routine.collects n routine vs (suc (level_in o)) a k' r' st)
+      (S.collected (machine G) routine.collects w vs (linked_of (chain xs s z o) p st) (store_of st ls)
+      (λ ps m st. S.entered (machine G) n entry ps m st))) ep
       (on_collect routine.collects n routine entry vs p st ls live e el stands k r))
 
-  on_call : {first : Bool} {k : Works} {r : Choices} {a level : ℕ} {xs : List Item} {s : Suspensions} {z : List ℕ} {o : Outer} (n : ℕ) (routine : MP.Routine) (entry : Procedure) (vs : List Value) (p : ℕ) (st : M.Store) (ls : List (S.Coexp Parked)) → Live G first st.active st.coexpressions ls → a ≡ activation_in o → level ≡ level_in o → routine.parameters ≡ entry.parameters → routine.collects ≡ entry.collects → length routine.locals - routine.parameters ≡ entry.locals → StandsRoutine G.L n routine.initial routine.body → OfWorks G.L first k p xs z o → OfChoices G.L first r s z o →
-      Reach G (MC.call n routine vs (suc level) a k r st) (S.called (machine G) n entry vs (linked_of (chain xs s z o) p st) (store_of st ls))
-  on_call {k = k'} {r = r'} {a = a} {xs = xs} {s = s} {z = z} {o = o} n routine entry vs p st ls live e el' ep ec el stands k r =
-      subst (λ level. Reach G (MC.call n routine vs (suc level) a k' r' st) (S.called (machine G) n entry vs (linked_of (chain xs s z o) p st) (store_of st ls))) (sym el')
-      (call_by (nat_le (suc (level_in o)) st.world.heap.bounds.levels) n routine entry vs p st ls live e ep ec el stands k r)
+  on_call : {first : Bool} {k : Works} {r : Choices} {a level : ℕ} {xs : List Item} {s : Suspensions}
+      {z : List ℕ} {o : Outer} (n : ℕ) (routine : MP.Routine) (entry : Procedure) (vs : List Value) (p : ℕ)
+      (st : M.Store) (ls : List (S.Coexp Parked)) → Live G first st.active st.coexpressions ls
+      → a ≡ activation_in o → level ≡ level_in o → routine.parameters ≡ entry.parameters
+      → routine.collects ≡ entry.collects → length routine.locals - routine.parameters ≡ entry.locals
+      → StandsRoutine G.L n routine.initial routine.body → OfWorks G.L first k p xs z o
+      → OfChoices G.L first r s z o →
+      Reach G (MC.call n routine vs (suc level) a k r st)
+      (S.called (machine G) n entry vs (linked_of (chain xs s z o) p st) (store_of st ls))
+  on_call {k = k'} {r = r'} {a = a} {xs = xs} {s = s} {z = z} {o = o} n routine entry vs p st ls live e el'
+      ep ec el stands k r =
+      subst (λ level. Reach G (MC.call n routine vs (suc level) a k' r' st)
+      (S.called (machine G) n entry vs (linked_of (chain xs s z o) p st) (store_of st ls))) (sym el')
+      (call_by (nat_le (suc (level_in o)) st.world.heap.bounds.levels) n routine entry vs p st ls live e ep
+      ec el stands k r)
 
-  on_callee : {first : Bool} {n' : Nest} {v : Surroundings} {k : Works} {r : Choices} {c : MP.Callee} {c' : S.Callee} {xs : List Item} {s : Suspensions} {z : List ℕ} {o : Outer} (n : ℕ) (items : List Item) (p : ℕ) (st : M.Store) (ls : List (S.Coexp Parked)) → Live G first st.active st.coexpressions ls → OfCallee G.L n c c' → OfSurroundings G.L first n' v z o → OfWorks G.L first k p xs z o → OfChoices G.L first r s z o →
-      Reach G (MC.invoke_callee c n items v k r st) (S.callee_called (machine G) c' n items (linked_of (chain xs s z o) p st) (store_of st ls))
-  on_callee {xs = xs} n items p st ls live (o_routine {routine = routine} {entry = entry} ep ec el stands) v k r = on_values G p xs items st ls _ _ (same_activation G v) live r (λ vs. on_call n routine entry vs p st ls live (same_activation G v) (same_level G v) ep ec el stands k r)
-  on_callee {v = v'} {k = k'} {r = r'} {xs = xs} {s = s} {z = z} {o = o} n items p st ls live (o_kind {number = number} {kind = kind} {entry = entry} e) v k r = on_values G p xs items st ls _ _ (same_activation G v) live r (λ vs.
-      subst (λ fields. Reach G (MC.construct number kind vs (M.activation_of v') k' r' st) (S.made (machine G) (record_row number fields (S.here (machine G) (linked_of (chain xs s z o) p st) (store_of st ls))) (linked_of (chain xs s z o) p st) (store_of st ls) (λ value m st. S.pushed (machine G) (Val value) m st))) (fitted_filled (length kind.fields) vs ∙ ap (λ w. S.filled w vs) e)
-      (on_made G p xs (record_row number (MC.fitted (length kind.fields) vs)) st ls _ _ (same_activation G v) live r (λ v seen. stay G (at_succeed live.0 live.1 k r))))
-  on_callee {k = k'} {r = r'} {xs = xs} {s = s} {z = z} {o = o} n items p st ls live (o_function {f = f}) v k r = subst (λ a. Reach G (MT.answer (apply st.names (Function f) items (MT.within a st)) a k' r' st) (S.callee_called (machine G) (S.IsFunc f) n items (linked_of (chain xs s z o) p st) (store_of st ls))) (sym (same_activation G v)) (on_answer G (apply st.names (Function f) items (MT.within (activation_in o) st)) st ls live k r)
+  on_callee : {first : Bool} {n' : Nest} {v : Surroundings} {k : Works} {r : Choices} {c : MP.Callee}
+      {c' : S.Callee} {xs : List Item} {s : Suspensions} {z : List ℕ} {o : Outer} (n : ℕ)
+      (items : List Item) (p : ℕ) (st : M.Store) (ls : List (S.Coexp Parked))
+      → Live G first st.active st.coexpressions ls → OfCallee G.L n c c' → OfSurroundings G.L first n' v z o
+      → OfWorks G.L first k p xs z o → OfChoices G.L first r s z o →
+      Reach G (MC.invoke_callee c n items v k r st)
+      (S.callee_called (machine G) c' n items (linked_of (chain xs s z o) p st) (store_of st ls))
+  on_callee {xs = xs} n items p st ls live (o_routine {routine = routine} {entry = entry} ep ec el stands) v
+      k r = on_values G p xs items st ls _ _ (same_activation G v) live r
+      (λ vs. on_call n routine entry vs p st ls live (same_activation G v) (same_level G v) ep ec el stands
+      k r)
+  on_callee {v = v'} {k = k'} {r = r'} {xs = xs} {s = s} {z = z} {o = o} n items p st ls live
+      (o_kind {number = number} {kind = kind} {entry = entry} e) v k r =
+      on_values G p xs items st ls _ _ (same_activation G v) live r (λ vs.
+      subst (λ fields. Reach G (MC.construct number kind vs (M.activation_of v') k' r' st)
+      (S.made (machine G) (record_row number fields
+      (S.here (machine G) (linked_of (chain xs s z o) p st) (store_of st ls)))
+      (linked_of (chain xs s z o) p st) (store_of st ls)
+      (λ value m st. S.pushed (machine G) (Val value) m st)))
+      (fitted_filled (length kind.fields) vs ∙ ap (λ w. S.filled w vs) e)
+      (on_made G p xs (record_row number (MC.fitted (length kind.fields) vs)) st ls _ _
+      (same_activation G v) live r (λ v seen. stay G (at_succeed live.0 live.1 k r))))
+  on_callee {k = k'} {r = r'} {xs = xs} {s = s} {z = z} {o = o} n items p st ls live (o_function {f = f}) v
+      k r = subst (λ a. Reach G (MT.answer (apply st.names (Function f) items (MT.within a st)) a k' r' st)
+      (S.callee_called (machine G) (S.IsFunc f) n items (linked_of (chain xs s z o) p st) (store_of st ls)))
+      (sym (same_activation G v)) (on_answer G
+      (apply st.names (Function f) items (MT.within (activation_in o) st)) st ls live k r)
   on_callee {r = r'} n items p st ls live o_nothing v k r = errored G r' 106 (Some (V.Procedure n)) st ls
 
-  on_chosen : {first : Bool} {k : Works} {r : Choices} {xs : List Item} {s : Suspensions} {z : List ℕ} {o : Outer} (x : Option Item) (p : ℕ) (st : M.Store) (ls : List (S.Coexp Parked)) → Live G first st.active st.coexpressions ls → OfWorks G.L first k p xs z o → OfChoices G.L first r s z o →
-      Reach G (MC.chosen x k r st) (S.pushed_or_fails (machine G) x (linked_of (chain xs s z o) p st) (store_of st ls))
+  on_chosen : {first : Bool} {k : Works} {r : Choices} {xs : List Item} {s : Suspensions} {z : List ℕ}
+      {o : Outer} (x : Option Item) (p : ℕ) (st : M.Store) (ls : List (S.Coexp Parked))
+      → Live G first st.active st.coexpressions ls → OfWorks G.L first k p xs z o
+      → OfChoices G.L first r s z o →
+      Reach G (MC.chosen x k r st) (S.pushed_or_fails (machine G) x (linked_of (chain xs s z o) p st)
+      (store_of st ls))
   on_chosen (Some x) p st ls live k r = stay G (at_succeed live.0 live.1 k r)
   on_chosen None p st ls live k r = stay G (at_fail live.0 live.1 r)
 
-  on_choose : {first : Bool} {k : Works} {r : Choices} {xs : List Item} {s : Suspensions} {z : List ℕ} {o : Outer} (i : Option ℤ) (v : Value) (items : List Item) (p : ℕ) (st : M.Store) (ls : List (S.Coexp Parked)) → Live G first st.active st.coexpressions ls → OfWorks G.L first k p xs z o → OfChoices G.L first r s z o →
-      Reach G (MC.choose i v items k r st) (S.integer_called (machine G) v i items (linked_of (chain xs s z o) p st) (store_of st ls))
-  on_choose {k = k'} {r = r'} {xs = xs} {s = s} {z = z} {o = o} (Some i) v items p st ls live k r = subst (λ x. Reach G (MC.chosen (MC.argument_at (place_of i (length items)) items) k' r' st) (S.pushed_or_fails (machine G) x (linked_of (chain xs s z o) p st) (store_of st ls))) (same_argument (place_of i (length items)) items) (on_chosen (MC.argument_at (place_of i (length items)) items) p st ls live k r)
+  on_choose : {first : Bool} {k : Works} {r : Choices} {xs : List Item} {s : Suspensions} {z : List ℕ}
+      {o : Outer} (i : Option ℤ) (v : Value) (items : List Item) (p : ℕ) (st : M.Store)
+      (ls : List (S.Coexp Parked)) → Live G first st.active st.coexpressions ls
+      → OfWorks G.L first k p xs z o → OfChoices G.L first r s z o →
+      Reach G (MC.choose i v items k r st)
+      (S.integer_called (machine G) v i items (linked_of (chain xs s z o) p st) (store_of st ls))
+  on_choose {k = k'} {r = r'} {xs = xs} {s = s} {z = z} {o = o} (Some i) v items p st ls live k r =
+      subst (λ x. Reach G (MC.chosen (MC.argument_at (place_of i (length items)) items) k' r' st)
+      (S.pushed_or_fails (machine G) x (linked_of (chain xs s z o) p st) (store_of st ls)))
+      (same_argument (place_of i (length items)) items)
+      (on_chosen (MC.argument_at (place_of i (length items)) items) p st ls live k r)
   on_choose {r = r'} None v items p st ls live k r = errored G r' 106 (Some v) st ls
 
-  on_invoke : {first : Bool} {n' : Nest} {v : Surroundings} {k : Works} {r : Choices} {xs : List Item} {s : Suspensions} {z : List ℕ} {o : Outer} (f : Value) (items : List Item) (p : ℕ) (st : M.Store) (ls : List (S.Coexp Parked)) → Live G first st.active st.coexpressions ls → OfSurroundings G.L first n' v z o → OfWorks G.L first k p xs z o → OfChoices G.L first r s z o →
-      Reach G (MC.invoke G.L.program f items v k r st) (S.invoked (machine G) (code_of G) f items (linked_of (chain xs s z o) p st) (store_of st ls))
+  on_invoke : {first : Bool} {n' : Nest} {v : Surroundings} {k : Works} {r : Choices} {xs : List Item}
+      {s : Suspensions} {z : List ℕ} {o : Outer} (f : Value) (items : List Item) (p : ℕ) (st : M.Store)
+      (ls : List (S.Coexp Parked)) → Live G first st.active st.coexpressions ls
+      → OfSurroundings G.L first n' v z o → OfWorks G.L first k p xs z o → OfChoices G.L first r s z o →
+      Reach G (MC.invoke G.L.program f items v k r st)
+      (S.invoked (machine G) (code_of G) f items (linked_of (chain xs s z o) p st) (store_of st ls))
   on_invoke (V.Procedure n) items p st ls live v k r = on_callee n items p st ls live (G.callees n) v k r
   on_invoke f items p st ls live v k r = on_choose (number_of f) f items p st ls live k r
 
-  on_spread : {first : Bool} {n' : Nest} {v : Surroundings} {k : Works} {r : Choices} {xs : List Item} {s : Suspensions} {z : List ℕ} {o : Outer} (f from : Value) (p : ℕ) (st : M.Store) (ls : List (S.Coexp Parked)) → Live G first st.active st.coexpressions ls → OfSurroundings G.L first n' v z o → OfWorks G.L first k p xs z o → OfChoices G.L first r s z o →
-      Reach G (MC.spread G.L.program f from v k r st) (S.elements_called (machine G) (code_of G) f from (linked_of (chain xs s z o) p st) (store_of st ls))
-  on_spread {v = v'} {k = k'} {r = r'} {xs = xs} {s = s} {z = z} {o = o} f (V.AList l) p st ls live v k r = let vs = (list_at st.world.heap l).items in subst (λ items. Reach G (MC.invoke G.L.program f (MC.items vs) v' k' r' st) (S.invoked (machine G) (code_of G) f items (linked_of (chain xs s z o) p st) (store_of st ls))) (same_items vs) (on_invoke f (MC.items vs) p st ls live v k r)
-  on_spread {v = v'} {k = k'} {r = r'} {xs = xs} {s = s} {z = z} {o = o} f (V.ARecord l) p st ls live v k r = let vs = (record_at st.world.heap l).fields in subst (λ items. Reach G (MC.invoke G.L.program f (MC.items vs) v' k' r' st) (S.invoked (machine G) (code_of G) f items (linked_of (chain xs s z o) p st) (store_of st ls))) (same_items vs) (on_invoke f (MC.items vs) p st ls live v k r)
+  on_spread : {first : Bool} {n' : Nest} {v : Surroundings} {k : Works} {r : Choices} {xs : List Item}
+      {s : Suspensions} {z : List ℕ} {o : Outer} (f from : Value) (p : ℕ) (st : M.Store)
+      (ls : List (S.Coexp Parked)) → Live G first st.active st.coexpressions ls
+      → OfSurroundings G.L first n' v z o → OfWorks G.L first k p xs z o → OfChoices G.L first r s z o →
+      Reach G (MC.spread G.L.program f from v k r st)
+      (S.elements_called (machine G) (code_of G) f from (linked_of (chain xs s z o) p st)
+      (store_of st ls))
+  on_spread {v = v'} {k = k'} {r = r'} {xs = xs} {s = s} {z = z} {o = o} f (V.AList l) p st ls live v k r =
+      let vs = (list_at st.world.heap l).items in
+      subst (λ items. Reach G (MC.invoke G.L.program f (MC.items vs) v' k' r' st)
+      (S.invoked (machine G) (code_of G) f items (linked_of (chain xs s z o) p st) (store_of st ls)))
+      (same_items vs) (on_invoke f (MC.items vs) p st ls live v k r)
+  on_spread {v = v'} {k = k'} {r = r'} {xs = xs} {s = s} {z = z} {o = o} f (V.ARecord l) p st ls live v k
+      r = let vs = (record_at st.world.heap l).fields in
+      subst (λ items. Reach G (MC.invoke G.L.program f (MC.items vs) v' k' r' st)
+      (S.invoked (machine G) (code_of G) f items (linked_of (chain xs s z o) p st) (store_of st ls)))
+      (same_items vs) (on_invoke f (MC.items vs) p st ls live v k r)
   on_spread {r = r'} f from p st ls live v k r = errored G r' 126 (Some from) st ls
 
   -- The operands that an instruction takes
@@ -174,67 +326,176 @@ module _ (G : Ground) where
   taken_of [] (y ∷ ys) found = refl
   taken_of (x ∷ xs) ys found = taken_of xs ys (x ∷ found)
 
-  takes : {n : ℕ} {zs : List Item} {s : Suspensions} {z : List ℕ} {o : Outer} (xs ys : List Item) (p : ℕ) (st : M.Store) (next : List Item → Linked → LState) → n ≡ length xs → zs ≡ xs ++ ys → S.with_taken (machine G) n (linked_of (chain zs s z o) p st) next ≡ next (reverse xs) (linked_of (chain ys s z o) p st)
-  takes {n} {zs} {s} {z} {o} xs ys p st next en ez = ap (λ n. S.with_taken (machine G) n (linked_of (chain zs s z o) p st) next) en ∙ ap (λ zs. S.with_taken (machine G) (length xs) (linked_of (chain zs s z o) p st) next) ez
-      ∙ ap (λ found. S.with_found (option_map (λ (parts : List Item × List Item). (parts.0, with_chain (chain parts.1 s z o) (linked_of (chain (xs ++ ys) s z o) p st))) found) (S.parted next)) (taken_of xs ys [])
+  takes : {n : ℕ} {zs : List Item} {s : Suspensions} {z : List ℕ} {o : Outer} (xs ys : List Item) (p : ℕ)
+      (st : M.Store) (next : List Item → Linked → LState) → n ≡ length xs → zs ≡ xs ++ ys
+      → S.with_taken (machine G) n (linked_of (chain zs s z o) p st) next ≡ next (reverse xs)
+      (linked_of (chain ys s z o) p st)
+  takes {n} {zs} {s} {z} {o} xs ys p st next en ez =
+      ap (λ n. S.with_taken (machine G) n (linked_of (chain zs s z o) p st) next) en
+      ∙ ap (λ zs. S.with_taken (machine G) (length xs) (linked_of (chain zs s z o) p st) next) ez
+      ∙ ap (λ found. S.with_found (option_map
+      (λ (parts : List Item × List Item).
+      (parts.0, with_chain (chain parts.1 s z o) (linked_of (chain (xs ++ ys) s z o) p st))) found)
+      (S.parted next)) (taken_of xs ys [])
 
-  on_operated : {first : Bool} {n' : Nest} {v : Surroundings} {k : Works} {r : Choices} {xs : List Item} {s : Suspensions} {z : List ℕ} {o : Outer} (op : Op) (items : List Item) (p : ℕ) (st : M.Store) (ls : List (S.Coexp Parked)) → Live G first st.active st.coexpressions ls → OfSurroundings G.L first n' v z o → OfWorks G.L first k p xs z o → OfChoices G.L first r s z o →
-      Reach G (MC.applied G.L.program (Operating op) items v k r st) (S.operated (machine G) op items (linked_of (chain xs s z o) p st) (store_of st ls))
-  on_operated {xs = xs} Ops.Refresh (x ∷ items) p st ls live v k r = on_value G p xs x st ls _ _ (same_activation G v) live r (λ v1. on_refreshed v1 p st ls live (same_activation G v) k r)
-  on_operated {k = k'} {r = r'} {xs = xs} {s = s} {z = z} {o = o} op items p st ls live v k r = subst (λ a. Reach G (MT.answer (apply st.names (Operation op) items (MT.within a st)) a k' r' st) (S.outcome (machine G) (apply st.names (Operation op) items (S.here (machine G) (linked_of (chain xs s z o) p st) (store_of st ls))) (linked_of (chain xs s z o) p st) (store_of st ls))) (sym (same_activation G v)) (on_answer G (apply st.names (Operation op) items (MT.within (activation_in o) st)) st ls live k r)
+  on_operated : {first : Bool} {n' : Nest} {v : Surroundings} {k : Works} {r : Choices} {xs : List Item}
+      {s : Suspensions} {z : List ℕ} {o : Outer} (op : Op) (items : List Item) (p : ℕ) (st : M.Store)
+      (ls : List (S.Coexp Parked)) → Live G first st.active st.coexpressions ls
+      → OfSurroundings G.L first n' v z o → OfWorks G.L first k p xs z o → OfChoices G.L first r s z o →
+      Reach G (MC.applied G.L.program (Operating op) items v k r st)
+      (S.operated (machine G) op items (linked_of (chain xs s z o) p st) (store_of st ls))
+  on_operated {xs = xs} Ops.Refresh (x ∷ items) p st ls live v k r =
+      on_value G p xs x st ls _ _ (same_activation G v) live r
+      (λ v1. on_refreshed v1 p st ls live (same_activation G v) k r)
+  on_operated {k = k'} {r = r'} {xs = xs} {s = s} {z = z} {o = o} op items p st ls live v k r =
+      subst (λ a. Reach G (MT.answer (apply st.names (Operation op) items (MT.within a st)) a k' r' st)
+      (S.outcome (machine G) (apply st.names (Operation op) items
+      (S.here (machine G) (linked_of (chain xs s z o) p st) (store_of st ls)))
+      (linked_of (chain xs s z o) p st) (store_of st ls))) (sym (same_activation G v))
+      (on_answer G (apply st.names (Operation op) items (MT.within (activation_in o) st)) st ls live k r)
 
-  on_calling : {first : Bool} {n' : Nest} {v : Surroundings} {k : Works} {r : Choices} {n : ℕ} {xs : List Item} {s : Suspensions} {z : List ℕ} {o : Outer} (items : List Item) (p : ℕ) (st : M.Store) (ls : List (S.Coexp Parked)) → suc n ≡ length items → Live G first st.active st.coexpressions ls → OfSurroundings G.L first n' v z o → OfWorks G.L first k p xs z o → OfChoices G.L first r s z o →
-      Reach G (MC.applied G.L.program Calling items v k r st) (S.invoked_with (machine G) (code_of G) items (linked_of (chain xs s z o) p st) (store_of st ls))
+  on_calling : {first : Bool} {n' : Nest} {v : Surroundings} {k : Works} {r : Choices} {n : ℕ}
+      {xs : List Item} {s : Suspensions} {z : List ℕ} {o : Outer} (items : List Item) (p : ℕ) (st : M.Store)
+      (ls : List (S.Coexp Parked)) → suc n ≡ length items → Live G first st.active st.coexpressions ls
+      → OfSurroundings G.L first n' v z o → OfWorks G.L first k p xs z o → OfChoices G.L first r s z o →
+      Reach G (MC.applied G.L.program Calling items v k r st)
+      (S.invoked_with (machine G) (code_of G) items (linked_of (chain xs s z o) p st) (store_of st ls))
   on_calling [] p st ls e live v k r = absurd (omega arith)
-  on_calling {xs = xs} (x ∷ items) p st ls e live v k r = on_value G p xs x st ls _ _ (same_activation G v) live r (λ f. on_invoke f items p st ls live v k r)
+  on_calling {xs = xs} (x ∷ items) p st ls e live v k r =
+      on_value G p xs x st ls _ _ (same_activation G v) live r (λ f. on_invoke f items p st ls live v k r)
 
-  on_spreading : {first : Bool} {n' : Nest} {v : Surroundings} {k : Works} {r : Choices} {xs : List Item} {s : Suspensions} {z : List ℕ} {o : Outer} (items : List Item) (p : ℕ) (st : M.Store) (ls : List (S.Coexp Parked)) → 2 ≡ length items → Live G first st.active st.coexpressions ls → OfSurroundings G.L first n' v z o → OfWorks G.L first k p xs z o → OfChoices G.L first r s z o →
-      Reach G (MC.applied G.L.program Spreading items v k r st) (S.applied_to_elements (machine G) (code_of G) items (linked_of (chain xs s z o) p st) (store_of st ls))
+  on_spreading : {first : Bool} {n' : Nest} {v : Surroundings} {k : Works} {r : Choices} {xs : List Item}
+      {s : Suspensions} {z : List ℕ} {o : Outer} (items : List Item) (p : ℕ) (st : M.Store)
+      (ls : List (S.Coexp Parked)) → 2 ≡ length items → Live G first st.active st.coexpressions ls
+      → OfSurroundings G.L first n' v z o → OfWorks G.L first k p xs z o → OfChoices G.L first r s z o →
+      Reach G (MC.applied G.L.program Spreading items v k r st)
+      (S.applied_to_elements (machine G) (code_of G) items (linked_of (chain xs s z o) p st)
+      (store_of st ls))
   on_spreading [] p st ls e live v k r = absurd (omega arith)
   on_spreading (x ∷ []) p st ls e live v k r = absurd (omega arith)
-  on_spreading {xs = xs} (x ∷ y ∷ []) p st ls e live v k r = on_value G p xs x st ls _ _ (same_activation G v) live r (λ f. on_value G p xs y st ls _ _ (same_activation G v) live r (λ from. on_spread f from p st ls live v k r))
+  on_spreading {xs = xs} (x ∷ y ∷ []) p st ls e live v k r =
+      on_value G p xs x st ls _ _ (same_activation G v) live r
+      (λ f. on_value G p xs y st ls _ _ (same_activation G v) live r
+      (λ from. on_spread f from p st ls live v k r))
   on_spreading (x ∷ y ∷ u ∷ items) p st ls e live v k r = absurd (omega arith)
 
-  on_activating : {first : Bool} {n' : Nest} {v : Surroundings} {k : Works} {r : Choices} {xs : List Item} {s : Suspensions} {z : List ℕ} {o : Outer} (items : List Item) (p : ℕ) (st : M.Store) (ls : List (S.Coexp Parked)) → 2 ≡ length items → Live G first st.active st.coexpressions ls → OfSurroundings G.L first n' v z o → OfWorks G.L first k p xs z o → OfChoices G.L first r s z o →
-      Reach G (MC.applied G.L.program Activating items v k r st) (S.activation_of (machine G) items (linked_of (chain xs s z o) p st) (store_of st ls))
+  on_activating : {first : Bool} {n' : Nest} {v : Surroundings} {k : Works} {r : Choices} {xs : List Item}
+      {s : Suspensions} {z : List ℕ} {o : Outer} (items : List Item) (p : ℕ) (st : M.Store)
+      (ls : List (S.Coexp Parked)) → 2 ≡ length items → Live G first st.active st.coexpressions ls
+      → OfSurroundings G.L first n' v z o → OfWorks G.L first k p xs z o → OfChoices G.L first r s z o →
+      Reach G (MC.applied G.L.program Activating items v k r st)
+      (S.activation_of (machine G) items (linked_of (chain xs s z o) p st) (store_of st ls))
   on_activating [] p st ls e live v k r = absurd (omega arith)
   on_activating (x ∷ []) p st ls e live v k r = absurd (omega arith)
-  on_activating {xs = xs} (x ∷ y ∷ []) p st ls e live v k r = on_value G p xs x st ls _ _ (same_activation G v) live r (λ f. on_value G p xs y st ls _ _ (same_activation G v) live r (λ to. on_activate f to p st ls live k r))
+  on_activating {xs = xs} (x ∷ y ∷ []) p st ls e live v k r =
+      on_value G p xs x st ls _ _ (same_activation G v) live r
+      (λ f. on_value G p xs y st ls _ _ (same_activation G v) live r
+      (λ to. on_activate f to p st ls live k r))
   on_activating (x ∷ y ∷ u ∷ items) p st ls e live v k r = absurd (omega arith)
 
-  on_field_at : {first : Bool} {k : Works} {r : Choices} {xs : List Item} {s : Suspensions} {z : List ℕ} {o : Outer} (place : Option ℕ) (x p : ℕ) (st : M.Store) (ls : List (S.Coexp Parked)) → Live G first st.active st.coexpressions ls → OfWorks G.L first k p xs z o → OfChoices G.L first r s z o →
-      Reach G (MC.field_at place x k r st) (S.field_taken (machine G) place x (linked_of (chain xs s z o) p st) (store_of st ls))
+  on_field_at : {first : Bool} {k : Works} {r : Choices} {xs : List Item} {s : Suspensions} {z : List ℕ}
+      {o : Outer} (place : Option ℕ) (x p : ℕ) (st : M.Store) (ls : List (S.Coexp Parked))
+      → Live G first st.active st.coexpressions ls → OfWorks G.L first k p xs z o
+      → OfChoices G.L first r s z o →
+      Reach G (MC.field_at place x k r st)
+      (S.field_taken (machine G) place x (linked_of (chain xs s z o) p st) (store_of st ls))
   on_field_at (Some n) x p st ls live k r = stay G (at_succeed live.0 live.1 k r)
   on_field_at {r = r'} None x p st ls live k r = errored G r' 207 (Some (V.ARecord x)) st ls
 
-  on_take : {first : Bool} {k : Works} {r : Choices} {xs : List Item} {s : Suspensions} {z : List ℕ} {o : Outer} (name : List ℕ) (field : ℕ) (x : Value) (p : ℕ) (st : M.Store) (ls : List (S.Coexp Parked)) → ((kind : ℕ) → MP.place_of name (MC.fields_in (slice_get G.L.program.kinds kind)) ≡ S.field_place G.L.tables field kind) → Live G first st.active st.coexpressions ls → OfWorks G.L first k p xs z o → OfChoices G.L first r s z o →
-      Reach G (MC.take_field G.L.program name x k r st) (S.field_of (machine G) (code_of G) field x (linked_of (chain xs s z o) p st) (store_of st ls))
-  on_take {k = k'} {r = r'} {xs = xs} {s = s} {z = z} {o = o} name field (V.ARecord x) p st ls e live k r = let kind = (record_at st.world.heap x).kind in subst (λ place. Reach G (MC.take_field G.L.program name (V.ARecord x) k' r' st) (S.field_taken (machine G) place x (linked_of (chain xs s z o) p st) (store_of st ls))) (e kind) (on_field_at (MP.place_of name (MC.fields_in (slice_get G.L.program.kinds kind))) x p st ls live k r)
+  on_take : {first : Bool} {k : Works} {r : Choices} {xs : List Item} {s : Suspensions} {z : List ℕ}
+      {o : Outer} (name : List ℕ) (field : ℕ) (x : Value) (p : ℕ) (st : M.Store)
+      (ls : List (S.Coexp Parked)) → ((kind : ℕ)
+      → MP.place_of name (MC.fields_in (slice_get G.L.program.kinds kind)) ≡ S.field_place G.L.tables field
+      kind) → Live G first st.active st.coexpressions ls → OfWorks G.L first k p xs z o
+      → OfChoices G.L first r s z o →
+      Reach G (MC.take_field G.L.program name x k r st)
+      (S.field_of (machine G) (code_of G) field x (linked_of (chain xs s z o) p st) (store_of st ls))
+  on_take {k = k'} {r = r'} {xs = xs} {s = s} {z = z} {o = o} name field (V.ARecord x) p st ls e live k r =
+      let kind = (record_at st.world.heap x).kind in
+      subst (λ place. Reach G (MC.take_field G.L.program name (V.ARecord x) k' r' st)
+      (S.field_taken (machine G) place x (linked_of (chain xs s z o) p st) (store_of st ls))) (e kind)
+      (on_field_at (MP.place_of name (MC.fields_in (slice_get G.L.program.kinds kind))) x p st ls live k r)
   on_take {r = r'} name field x p st ls e live k r = errored G r' 107 (Some x) st ls
 
-  on_taking : {first : Bool} {n' : Nest} {v : Surroundings} {k : Works} {r : Choices} {xs : List Item} {s : Suspensions} {z : List ℕ} {o : Outer} (name : List ℕ) (field : ℕ) (items : List Item) (p : ℕ) (st : M.Store) (ls : List (S.Coexp Parked)) → 1 ≡ length items → ((kind : ℕ) → MP.place_of name (MC.fields_in (slice_get G.L.program.kinds kind)) ≡ S.field_place G.L.tables field kind) → Live G first st.active st.coexpressions ls → OfSurroundings G.L first n' v z o → OfWorks G.L first k p xs z o → OfChoices G.L first r s z o →
-      Reach G (MC.applied G.L.program (Taking name) items v k r st) (S.field_applied (machine G) (code_of G) field items (linked_of (chain xs s z o) p st) (store_of st ls))
+  on_taking : {first : Bool} {n' : Nest} {v : Surroundings} {k : Works} {r : Choices} {xs : List Item}
+      {s : Suspensions} {z : List ℕ} {o : Outer} (name : List ℕ) (field : ℕ) (items : List Item) (p : ℕ)
+      (st : M.Store) (ls : List (S.Coexp Parked)) → 1 ≡ length items
+      → ((kind : ℕ) → MP.place_of name (MC.fields_in (slice_get G.L.program.kinds kind)) ≡ S.field_place
+      G.L.tables field kind) → Live G first st.active st.coexpressions ls
+      → OfSurroundings G.L first n' v z o → OfWorks G.L first k p xs z o → OfChoices G.L first r s z o →
+      Reach G (MC.applied G.L.program (Taking name) items v k r st)
+      (S.field_applied (machine G) (code_of G) field items (linked_of (chain xs s z o) p st)
+      (store_of st ls))
   on_taking name field [] p st ls e f live v k r = absurd (omega arith)
-  on_taking {xs = xs} name field (x ∷ items) p st ls e f live v k r = on_value G p xs x st ls _ _ (same_activation G v) live r (λ x. on_take name field x p st ls f live k r)
+  on_taking {xs = xs} name field (x ∷ items) p st ls e f live v k r =
+      on_value G p xs x st ls _ _ (same_activation G v) live r (λ x. on_take name field x p st ls f live k r)
 
-  on_collecting : {first : Bool} {n' : Nest} {v : Surroundings} {k : Works} {r : Choices} {xs : List Item} {s : Suspensions} {z : List ℕ} {o : Outer} (items : List Item) (p : ℕ) (st : M.Store) (ls : List (S.Coexp Parked)) → Live G first st.active st.coexpressions ls → OfSurroundings G.L first n' v z o → OfWorks G.L first k p xs z o → OfChoices G.L first r s z o →
-      Reach G (MC.applied G.L.program Collecting items v k r st) (S.with_values (machine G) items (linked_of (chain xs s z o) p st) (store_of st ls) (λ values. S.list_made (machine G) values (linked_of (chain xs s z o) p st) (store_of st ls) (λ list m st. S.pushed (machine G) (Val list) m st)))
-  on_collecting {xs = xs} items p st ls live v k r = on_values G p xs items st ls _ _ (same_activation G v) live r (λ vs. on_made G p xs (list_row vs) st ls _ _ (same_activation G v) live r (λ v seen. stay G (at_succeed live.0 live.1 k r)))
+  on_collecting : {first : Bool} {n' : Nest} {v : Surroundings} {k : Works} {r : Choices} {xs : List Item}
+      {s : Suspensions} {z : List ℕ} {o : Outer} (items : List Item) (p : ℕ) (st : M.Store)
+      (ls : List (S.Coexp Parked)) → Live G first st.active st.coexpressions ls
+      → OfSurroundings G.L first n' v z o → OfWorks G.L first k p xs z o → OfChoices G.L first r s z o →
+      Reach G (MC.applied G.L.program Collecting items v k r st)
+      (S.with_values (machine G) items (linked_of (chain xs s z o) p st) (store_of st ls)
+      (λ values. S.list_made (machine G) values (linked_of (chain xs s z o) p st) (store_of st ls)
+      (λ list m st. S.pushed (machine G) (Val list) m st)))
+  on_collecting {xs = xs} items p st ls live v k r =
+      on_values G p xs items st ls _ _ (same_activation G v) live r
+      (λ vs. on_made G p xs (list_row vs) st ls _ _ (same_activation G v) live r
+      (λ v seen. stay G (at_succeed live.0 live.1 k r)))
 
   reversed : {n : ℕ} (xs : List Item) → n ≡ length xs → n ≡ length (reverse xs)
   reversed xs e = e ∙ sym (length-reverse xs)
 
   -- all operands are there, and the form is applied to them
-  pub on_applied : {first : Bool} {n' : Nest} {form : Form} {v : Surroundings} {k : Works} {r : Choices} {i : Instr} {n : ℕ} {ys zs : List Item} {s : Suspensions} {z : List ℕ} {o : Outer} (xs : List Item) (w q : ℕ) (st : M.Store) (ls : List (S.Coexp Parked)) → Live G first st.active st.coexpressions ls → Applies G.L form n i → n ≡ length xs → zs ≡ xs ++ ys → At G.L o q i → OfSurroundings G.L first n' v z o → OfWorks G.L first k (suc q) ys z o → OfChoices G.L first r s z o → Goes G w (MC.operands G.L.program form xs NoTrees v k r st) (run (chain zs s z o) q st ls)
-  on_applied {ys = ys} {zs = zs} {s = s} {z = z} {o = o} xs w q st ls live (f_operation {o = op}) en ez h v k r = goes G w (record { by = stepped G q (chain zs s z o) st ls h ∙ takes xs ys (suc q) st (λ items m. S.turn (code_of G) (store_of st ls) (S.operated (machine G) op items m)) en ez })
+  pub on_applied : {first : Bool} {n' : Nest} {form : Form} {v : Surroundings} {k : Works} {r : Choices}
+      {i : Instr} {n : ℕ} {ys zs : List Item} {s : Suspensions} {z : List ℕ} {o : Outer} (xs : List Item)
+      (w q : ℕ) (st : M.Store) (ls : List (S.Coexp Parked)) → Live G first st.active st.coexpressions ls
+      → Applies G.L form n i → n ≡ length xs → zs ≡ xs ++ ys → At G.L o q i
+      → OfSurroundings G.L first n' v z o → OfWorks G.L first k (suc q) ys z o → OfChoices G.L first r s z o
+      → Goes G w (MC.operands G.L.program form xs NoTrees v k r st) (run (chain zs s z o) q st ls)
+  on_applied {ys = ys} {zs = zs} {s = s} {z = z} {o = o} xs w q st ls live (f_operation {o = op}) en ez h v
+      k r = goes G w (record {
+        by = stepped G q (chain zs s z o) st ls h
+            ∙ takes xs ys (suc q) st (λ items m.
+            S.turn (code_of G) (store_of st ls) (S.operated (machine G) op items m)) en ez;
+      })
       (on_turn G st ls _ _ (on_operated op (reverse xs) (suc q) _ ls live v k r))
-  on_applied {ys = ys} {zs = zs} {s = s} {z = z} {o = o} xs w q st ls live f_call en ez h v k r = goes G w (record { by = stepped G q (chain zs s z o) st ls h ∙ takes xs ys (suc q) st (λ items m. S.turn (code_of G) (store_of st ls) (S.invoked_with (machine G) (code_of G) items m)) en ez })
+  on_applied {ys = ys} {zs = zs} {s = s} {z = z} {o = o} xs w q st ls live f_call en ez h v k r =
+      goes G w (record {
+        by = stepped G q (chain zs s z o) st ls h
+            ∙ takes xs ys (suc q) st (λ items m.
+            S.turn (code_of G) (store_of st ls) (S.invoked_with (machine G) (code_of G) items m)) en ez;
+      })
       (on_turn G st ls _ _ (on_calling (reverse xs) (suc q) _ ls (reversed xs en) live v k r))
-  on_applied {ys = ys} {zs = zs} {s = s} {z = z} {o = o} xs w q st ls live f_spread en ez h v k r = goes G w (record { by = stepped G q (chain zs s z o) st ls h ∙ takes xs ys (suc q) st (λ items m. S.turn (code_of G) (store_of st ls) (S.applied_to_elements (machine G) (code_of G) items m)) en ez })
+  on_applied {ys = ys} {zs = zs} {s = s} {z = z} {o = o} xs w q st ls live f_spread en ez h v k r =
+      goes G w (record {
+        by = stepped G q (chain zs s z o) st ls h
+            ∙ takes xs ys (suc q) st (λ items m.
+            S.turn (code_of G) (store_of st ls) (S.applied_to_elements (machine G) (code_of G) items m)) en ez;
+      })
       (on_turn G st ls _ _ (on_spreading (reverse xs) (suc q) _ ls (reversed xs en) live v k r))
-  on_applied {ys = ys} {zs = zs} {s = s} {z = z} {o = o} xs w q st ls live f_list en ez h v k r = goes G w (record { by = stepped G q (chain zs s z o) st ls h ∙ takes xs ys (suc q) st (λ items m. S.turn (code_of G) (store_of st ls) (λ st. S.with_values (machine G) items m st (λ values. S.list_made (machine G) values m st (λ list m st. S.pushed (machine G) (Val list) m st)))) en ez })
+  on_applied {ys = ys} {zs = zs} {s = s} {z = z} {o = o} xs w q st ls live f_list en ez h v k r =
+      goes G w (record {
+        by = stepped G q (chain zs s z o) st ls h
+            ∙ takes xs ys (suc q) st (λ items m.
+            S.turn (code_of G) (store_of st ls)
+            (λ st. S.with_values (machine G) items m st
+            (λ values. S.list_made (machine G) values m st (λ list m st. S.pushed (machine G) (Val list) m st))))
+            en ez;
+      })
       (on_turn G st ls _ _ (on_collecting (reverse xs) (suc q) _ ls live v k r))
-  on_applied {ys = ys} {zs = zs} {s = s} {z = z} {o = o} xs w q st ls live (f_field {name = name} {k = field} f) en ez h v k r = goes G w (record { by = stepped G q (chain zs s z o) st ls h ∙ takes xs ys (suc q) st (λ items m. S.turn (code_of G) (store_of st ls) (S.field_applied (machine G) (code_of G) field items m)) en ez })
+  on_applied {ys = ys} {zs = zs} {s = s} {z = z} {o = o} xs w q st ls live
+      (f_field {name = name} {k = field} f) en ez h v k r =
+      goes G w (record {
+        by = stepped G q (chain zs s z o) st ls h
+            ∙ takes xs ys (suc q) st (λ items m.
+            S.turn (code_of G) (store_of st ls) (S.field_applied (machine G) (code_of G) field items m)) en ez;
+      })
       (on_turn G st ls _ _ (on_taking name field (reverse xs) (suc q) _ ls (reversed xs en) f live v k r))
-  on_applied {ys = ys} {zs = zs} {s = s} {z = z} {o = o} xs w q st ls live f_activate en ez h v k r = goes G w (record { by = stepped G q (chain zs s z o) st ls h ∙ takes xs ys (suc q) st (λ items m. S.turn (code_of G) (store_of st ls) (S.activation_of (machine G) items m)) en ez })
+  on_applied {ys = ys} {zs = zs} {s = s} {z = z} {o = o} xs w q st ls live f_activate en ez h v k r =
+      goes G w (record {
+        by = stepped G q (chain zs s z o) st ls h
+            ∙ takes xs ys (suc q) st (λ items m.
+            S.turn (code_of G) (store_of st ls) (S.activation_of (machine G) items m)) en ez;
+      })
       (on_turn G st ls _ _ (on_activating (reverse xs) (suc q) _ ls (reversed xs en) live v k r))

@@ -1,4 +1,5 @@
--- The words that the steps of the first law are proved with: what the code comes to, turns, and what outcomes of rows become.
+-- The words that the steps of the first law are proved with: what the code comes to, turns, and what
+-- outcomes of rows become.
 use Rattle.std.proofs.Common.{◌≡◌, ℕ, suc, ◌+◌, Bool, true, false, ◌<◌, ◌≤◌, ◌⊎◌, inl, inr, List, [], ◌∷◌, ◌++◌, length, Option, Some, None, refl, sym, ap, ◌∙◌, subst, arith}
 use Rattle.std.specs.Prelude.{nat_lt, if◌then◌else◌}
 use Rattle.icn_code.specs.declared.instr.Instr.{Instr}
@@ -99,64 +100,139 @@ module _ (G : Ground) where
   silent w h lt = record { reach = stay h; less = inr lt }
 
   pub goes : {s : M.State} {l l' : LState} (w : ℕ) → To G l l' → Reach G s l' → Goes G w s l
-  goes w e g = record { reach = record { turns = suc g.turns; to = g.to; comes = ap (l_steps G g.turns) e.by ∙ g.comes; rel = g.rel }; less = inl (omega arith) }
+  goes w e g = record {
+    reach = record
+        { turns = suc g.turns; to = g.to; comes = ap (l_steps G g.turns) e.by ∙ g.comes; rel = g.rel };
+    less =
+        inl (omega arith);
+  }
 
   pub then_reach : {s : M.State} {l l' : LState} → To G l l' → Reach G s l' → Reach G s l
   then_reach e g = (goes 0 e g).reach
 
-  pub stepped : {i : Instr} (p : ℕ) (m : Chain) (st : M.Store) (ls : List (S.Coexp Parked)) → Here G.L (proc_of (frame_of (outer_of m))) p i → l_step G (run m p st ls) ≡ S.instruction (machine G) (code_of G) i (linked_of m (suc p) st) (store_of st ls)
-  stepped p m st ls h = ap (λ i. S.with_found i (λ i. S.instruction (machine G) (code_of G) i (linked_of m (suc p) st) (store_of st ls))) h
+  pub stepped : {i : Instr} (p : ℕ) (m : Chain) (st : M.Store) (ls : List (S.Coexp Parked))
+      → Here G.L (proc_of (frame_of (outer_of m))) p i
+      → l_step G (run m p st ls) ≡ S.instruction (machine G) (code_of G) i (linked_of m (suc p) st)
+      (store_of st ls)
+  stepped p m st ls h = ap (λ i. S.with_found i
+      (λ i. S.instruction (machine G) (code_of G) i (linked_of m (suc p) st) (store_of st ls))) h
 
-  pub at_step : {i : Instr} (p : ℕ) (m : Chain) (st : M.Store) (ls : List (S.Coexp Parked)) → Here G.L (proc_of (frame_of (outer_of m))) p i → To G (run m p st ls) (S.instruction (machine G) (code_of G) i (linked_of m (suc p) st) (store_of st ls))
+  pub at_step : {i : Instr} (p : ℕ) (m : Chain) (st : M.Store) (ls : List (S.Coexp Parked))
+      → Here G.L (proc_of (frame_of (outer_of m))) p i
+      → To G (run m p st ls) (S.instruction (machine G) (code_of G) i (linked_of m (suc p) st)
+      (store_of st ls))
   at_step p m st ls h = record { by = stepped p m st ls h }
 
   -- a mark is opened
-  open_if : (b : Bool) (label : Option ℕ) (m : Chain) (p : ℕ) (st : M.Store) (ls : List (S.Coexp Parked)) → b ≡ false → ran (if b then record (opened (flagged label (length st.flags) p) (linked_of m (suc p) st)) { flags = st.flags ++ false ∷ [] } else opened (fixed label) (linked_of m (suc p) st)) (store_of st ls) ≡ ran (opened (fixed label) (linked_of m (suc p) st)) (store_of st ls)
-  open_if b label m p st ls e = ap (λ (b : Bool). ran (if b then record (opened (flagged label (length st.flags) p) (linked_of m (suc p) st)) { flags = st.flags ++ false ∷ [] } else opened (fixed label) (linked_of m (suc p) st)) (store_of st ls)) e
+  open_if : (b : Bool) (label : Option ℕ) (m : Chain) (p : ℕ) (st : M.Store) (ls : List (S.Coexp Parked))
+      → b ≡ false → ran (if b then record
+      (opened (flagged label (length st.flags) p) (linked_of m (suc p) st))
+      { flags = st.flags ++ false ∷ [] } else opened (fixed label) (linked_of m (suc p) st))
+      (store_of st ls) ≡ ran (opened (fixed label) (linked_of m (suc p) st)) (store_of st ls)
+  open_if b label m p st ls e = ap
+      (λ (b : Bool). ran (if b then record
+      (opened (flagged label (length st.flags) p) (linked_of m (suc p) st))
+      { flags = st.flags ++ false ∷ [] } else opened (fixed label) (linked_of m (suc p) st))
+      (store_of st ls)) e
 
-  pub opens : {xs : List Item} {s : Suspensions} {z : List ℕ} {o : Outer} {label : Option ℕ} (p : ℕ) (st : M.Store) (ls : List (S.Coexp Parked)) → Opens G.L (proc_in o) p label → To G (run (chain xs s z o) p st ls) (run (chain [] none z (mark (fixed label) (chain xs s z o))) (suc p) st ls)
-  opens {xs} {s} {z} {o} p st ls (o_mark {l = l} h e) = record { by = stepped p (chain xs s z o) st ls h ∙ open_if (G.L.repeats (proc_in o) p) (Some l) (chain xs s z o) p st ls e }
-  opens {xs} {s} {z} {o} p st ls (o_mark0 h e) = record { by = stepped p (chain xs s z o) st ls h ∙ open_if (G.L.repeats (proc_in o) p) None (chain xs s z o) p st ls e }
+  pub opens : {xs : List Item} {s : Suspensions} {z : List ℕ} {o : Outer} {label : Option ℕ} (p : ℕ)
+      (st : M.Store) (ls : List (S.Coexp Parked)) → Opens G.L (proc_in o) p label
+      → To G (run (chain xs s z o) p st ls)
+      (run (chain [] none z (mark (fixed label) (chain xs s z o))) (suc p) st ls)
+  opens {xs} {s} {z} {o} p st ls (o_mark {l = l} h e) =
+      record {
+        by = stepped p (chain xs s z o) st ls h
+            ∙ open_if (G.L.repeats (proc_in o) p) (Some l) (chain xs s z o) p st ls e;
+      }
+  opens {xs} {s} {z} {o} p st ls (o_mark0 h e) =
+      record {
+        by = stepped p (chain xs s z o) st ls h
+            ∙ open_if (G.L.repeats (proc_in o) p) None (chain xs s z o) p st ls e;
+      }
 
-  pub opens_flagged : {xs : List Item} {s : Suspensions} {z : List ℕ} {o : Outer} (p : ℕ) (st : M.Store) (ls : List (S.Coexp Parked)) → Here G.L (proc_in o) p I.Mark0 → G.L.repeats (proc_in o) p ≡ true →
-      To G (run (chain xs s z o) p st ls) (run (chain [] none z (mark (flagged None (length st.flags) p) (chain xs s z o))) (suc p) (record st { flags = st.flags ++ false ∷ [] }) ls)
-  opens_flagged {xs} {s} {z} {o} p st ls h e = let m = chain xs s z o in record { by = stepped p m st ls h ∙ ap (λ (b : Bool). ran (if b then record (opened (flagged None (length st.flags) p) (linked_of m (suc p) st)) { flags = st.flags ++ false ∷ [] } else opened (fixed None) (linked_of m (suc p) st)) (store_of st ls)) e }
+  pub opens_flagged : {xs : List Item} {s : Suspensions} {z : List ℕ} {o : Outer} (p : ℕ) (st : M.Store)
+      (ls : List (S.Coexp Parked)) → Here G.L (proc_in o) p I.Mark0 → G.L.repeats (proc_in o) p ≡ true →
+      To G (run (chain xs s z o) p st ls)
+      (run (chain [] none z (mark (flagged None (length st.flags) p) (chain xs s z o))) (suc p)
+      (record st { flags = st.flags ++ false ∷ [] }) ls)
+  opens_flagged {xs} {s} {z} {o} p st ls h e = let m = chain xs s z o in
+      record {
+        by = stepped p m st ls h
+            ∙ ap (λ (b : Bool). ran (if b then record
+            (opened (flagged None (length st.flags) p) (linked_of m (suc p) st))
+            { flags = st.flags ++ false ∷ [] } else opened (fixed None) (linked_of m (suc p) st))
+            (store_of st ls)) e;
+      }
 
   -- an item is pushed
-  loaded : {j : ℕ} {i : Instr} {x : Item} {xs : List Item} {s : Suspensions} {z : List ℕ} {o : Outer} (p : ℕ) (st : M.Store) (ls : List (S.Coexp Parked)) → j ≡ proc_in o → Loads G.L j i x → S.instruction (machine G) (code_of G) i (linked_of (chain xs s z o) p st) (store_of st ls) ≡ run (chain (x ∷ xs) s z o) p st ls
+  loaded : {j : ℕ} {i : Instr} {x : Item} {xs : List Item} {s : Suspensions} {z : List ℕ} {o : Outer}
+      (p : ℕ) (st : M.Store) (ls : List (S.Coexp Parked)) → j ≡ proc_in o → Loads G.L j i x
+      → S.instruction (machine G) (code_of G) i (linked_of (chain xs s z o) p st) (store_of st ls) ≡ run
+      (chain (x ∷ xs) s z o) p st ls
   loaded p st ls e l_null = refl
-  loaded {xs = xs} {s = s} {z = z} {o = o} p st ls e (l_integer h) = ap (λ n. S.with_found n (λ n. S.pushed (machine G) (Val (Integer n)) (linked_of (chain xs s z o) p st) (store_of st ls))) h
-  loaded {xs = xs} {s = s} {z = z} {o = o} p st ls e (l_string h) = ap (λ n. S.with_found n (λ n. S.pushed (machine G) (Val (Text n)) (linked_of (chain xs s z o) p st) (store_of st ls))) h
-  loaded {xs = xs} {s = s} {z = z} {o = o} p st ls e (l_cset h) = ap (λ n. S.with_found n (λ n. S.pushed (machine G) (Val (Chars (S.members_of n))) (linked_of (chain xs s z o) p st) (store_of st ls))) h
+  loaded {xs = xs} {s = s} {z = z} {o = o} p st ls e (l_integer h) =
+      ap (λ n. S.with_found n (λ n. S.pushed (machine G) (Val (Integer n)) (linked_of (chain xs s z o) p st)
+      (store_of st ls))) h
+  loaded {xs = xs} {s = s} {z = z} {o = o} p st ls e (l_string h) =
+      ap (λ n. S.with_found n (λ n. S.pushed (machine G) (Val (Text n)) (linked_of (chain xs s z o) p st)
+      (store_of st ls))) h
+  loaded {xs = xs} {s = s} {z = z} {o = o} p st ls e (l_cset h) =
+      ap (λ n. S.with_found n (λ n. S.pushed (machine G) (Val (Chars (S.members_of n)))
+      (linked_of (chain xs s z o) p st) (store_of st ls))) h
   loaded p st ls e l_local = refl
-  loaded {xs = xs} {s = s} {z = z} {o = o} p st ls e (l_static {k = k}) = ap (λ j. S.pushed (machine G) (Var (Whole (Static (S.statics_before G.L.tables j + k)))) (linked_of (chain xs s z o) p st) (store_of st ls)) (sym e)
+  loaded {xs = xs} {s = s} {z = z} {o = o} p st ls e (l_static {k = k}) =
+      ap (λ j. S.pushed (machine G) (Var (Whole (Static (S.statics_before G.L.tables j + k))))
+      (linked_of (chain xs s z o) p st) (store_of st ls)) (sym e)
   loaded p st ls e l_global = refl
 
-  pub loads : {i : Instr} {x : Item} {xs : List Item} {s : Suspensions} {z : List ℕ} {o : Outer} (p : ℕ) (st : M.Store) (ls : List (S.Coexp Parked)) → Here G.L (proc_in o) p i → Loads G.L (proc_in o) i x → To G (run (chain xs s z o) p st ls) (run (chain (x ∷ xs) s z o) (suc p) st ls)
-  loads {xs = xs} {s = s} {z = z} {o = o} p st ls h l = record { by = stepped p (chain xs s z o) st ls h ∙ loaded (suc p) st ls refl l }
+  pub loads : {i : Instr} {x : Item} {xs : List Item} {s : Suspensions} {z : List ℕ} {o : Outer} (p : ℕ)
+      (st : M.Store) (ls : List (S.Coexp Parked)) → Here G.L (proc_in o) p i → Loads G.L (proc_in o) i x
+      → To G (run (chain xs s z o) p st ls) (run (chain (x ∷ xs) s z o) (suc p) st ls)
+  loads {xs = xs} {s = s} {z = z} {o = o} p st ls h l =
+      record { by = stepped p (chain xs s z o) st ls h ∙ loaded (suc p) st ls refl l }
 
   -- A turn
 
-  turn_by : (b : Bool) (st : M.Store) (ls : List (S.Coexp Parked)) (f : M.Store → M.State) (g : S.Store Parked → LState) → Reach G (f (record st { turns = suc st.turns })) (g (store_of (record st { turns = suc st.turns }) ls)) → Reach G (MT.turn_if b st f) (S.turn_if b (store_of st ls) g)
+  turn_by : (b : Bool) (st : M.Store) (ls : List (S.Coexp Parked)) (f : M.Store → M.State)
+      (g : S.Store Parked → LState) → Reach G (f (record st { turns = suc st.turns }))
+      (g (store_of (record st { turns = suc st.turns }) ls))
+      → Reach G (MT.turn_if b st f) (S.turn_if b (store_of st ls) g)
   turn_by true st ls f g h = h
   turn_by false st ls f g h = stay at_over
 
-  pub on_turn : (st : M.Store) (ls : List (S.Coexp Parked)) (f : M.Store → M.State) (g : S.Store Parked → LState) → Reach G (f (record st { turns = suc st.turns })) (g (store_of (record st { turns = suc st.turns }) ls)) → Reach G (MT.turn st f) (S.turn (code_of G) (store_of st ls) g)
+  pub on_turn : (st : M.Store) (ls : List (S.Coexp Parked)) (f : M.Store → M.State)
+      (g : S.Store Parked → LState) → Reach G (f (record st { turns = suc st.turns }))
+      (g (store_of (record st { turns = suc st.turns }) ls))
+      → Reach G (MT.turn st f) (S.turn (code_of G) (store_of st ls) g)
   on_turn st ls f g h = turn_by (nat_lt st.turns st.world.heap.bounds.turns) st ls f g h
 
   -- What an outcome becomes
 
-  pub errored : (r : Choices) (n : ℕ) (v : Option Value) (st : M.Store) (ls : List (S.Coexp Parked)) → Reach G (MT.errs n v r st) (S.errs n v (store_of st ls))
-  errored r n v st ls = let rel : Rel G.L (MT.errs n v r st) (S.errs n v (store_of st ls)) = at_over {ending = M.Errored n} {st = record st { outside = record st.outside { errors = st.outside.errors ++ error_report st.names st.world.heap n v } }} in stay rel
+  pub errored : (r : Choices) (n : ℕ) (v : Option Value) (st : M.Store) (ls : List (S.Coexp Parked))
+      → Reach G (MT.errs n v r st) (S.errs n v (store_of st ls))
+  errored r n v st ls = let rel : Rel G.L (MT.errs n v r st) (S.errs n v (store_of st ls)) =
+      at_over {ending = M.Errored n} {st =
+      record st {
+        outside = record st.outside
+            { errors = st.outside.errors ++ error_report st.names st.world.heap n v };
+      }} in stay rel
 
-  pub on_answer : {first : Bool} {k : Works} {r : Choices} {p : ℕ} {xs : List Item} {s : Suspensions} {z : List ℕ} {o : Outer} (out : Outcome) (st : M.Store) (ls : List (S.Coexp Parked)) → Live G first st.active st.coexpressions ls → OfWorks G.L first k p xs z o → OfChoices G.L first r s z o → Reach G (MT.answer out (activation_in o) k r st) (S.outcome (machine G) out (linked_of (chain xs s z o) p st) (store_of st ls))
+  pub on_answer : {first : Bool} {k : Works} {r : Choices} {p : ℕ} {xs : List Item} {s : Suspensions}
+      {z : List ℕ} {o : Outer} (out : Outcome) (st : M.Store) (ls : List (S.Coexp Parked))
+      → Live G first st.active st.coexpressions ls → OfWorks G.L first k p xs z o
+      → OfChoices G.L first r s z o → Reach G (MT.answer out (activation_in o) k r st)
+      (S.outcome (machine G) out (linked_of (chain xs s z o) p st) (store_of st ls))
   on_answer (Fails seen) st ls a k r = stay (at_fail a.0 a.1 r)
   on_answer (Gives x seen) st ls a k r = stay (at_succeed a.0 a.1 k r)
   on_answer (Suspends x m seen) st ls a k r = stay (at_succeed a.0 a.1 k (r_resume k r))
   on_answer (Error n v seen) st ls a k r = stay at_over
   on_answer (Ends n seen) st ls a k r = stay at_over
 
-  pub on_valued : {first : Bool} {r : Choices} {s : Suspensions} {z : List ℕ} {o : Outer} (p : ℕ) (xs : List Item) (out : Outcome) (st : M.Store) (ls : List (S.Coexp Parked)) (f : Value → M.State) (g : Value → LState) → Live G first st.active st.coexpressions ls → OfChoices G.L first r s z o → ((v : Value) → Reach G (f v) (g v)) → Reach G (MT.valued out r st f) (S.valued out (linked_of (chain xs s z o) p st) (store_of st ls) g)
+  pub on_valued : {first : Bool} {r : Choices} {s : Suspensions} {z : List ℕ} {o : Outer} (p : ℕ)
+      (xs : List Item) (out : Outcome) (st : M.Store) (ls : List (S.Coexp Parked)) (f : Value → M.State)
+      (g : Value → LState) → Live G first st.active st.coexpressions ls → OfChoices G.L first r s z o
+      → ((v : Value) → Reach G (f v) (g v))
+      → Reach G (MT.valued out r st f) (S.valued out (linked_of (chain xs s z o) p st) (store_of st ls) g)
   on_valued p xs (Fails seen) st ls f g a r h = stay (at_fail a.0 a.1 r)
   on_valued p xs (Gives (Val v) seen) st ls f g a r h = h v
   on_valued p xs (Gives (Var x) seen) st ls f g a r h = stay (at_fail a.0 a.1 r)
@@ -165,25 +241,64 @@ module _ (G : Ground) where
   on_valued p xs (Ends n seen) st ls f g a r h = stay (at_fail a.0 a.1 r)
 
   -- an item is dereferenced in the activation that runs
-  pub on_value : {first : Bool} {r : Choices} {a : ℕ} {s : Suspensions} {z : List ℕ} {o : Outer} (p : ℕ) (xs : List Item) (x : Item) (st : M.Store) (ls : List (S.Coexp Parked)) (f : Value → M.State) (g : Value → LState) → a ≡ activation_in o → Live G first st.active st.coexpressions ls → OfChoices G.L first r s z o → ((v : Value) → Reach G (f v) (g v)) → Reach G (MT.value x a r st f) (S.with_value (machine G) x (linked_of (chain xs s z o) p st) (store_of st ls) g)
+  pub on_value : {first : Bool} {r : Choices} {a : ℕ} {s : Suspensions} {z : List ℕ} {o : Outer} (p : ℕ)
+      (xs : List Item) (x : Item) (st : M.Store) (ls : List (S.Coexp Parked)) (f : Value → M.State)
+      (g : Value → LState) → a ≡ activation_in o → Live G first st.active st.coexpressions ls
+      → OfChoices G.L first r s z o → ((v : Value) → Reach G (f v) (g v))
+      → Reach G (MT.value x a r st f)
+      (S.with_value (machine G) x (linked_of (chain xs s z o) p st) (store_of st ls) g)
   on_value {r = r} {a = a} {s = s} {z = z} {o = o} p xs x st ls f g e live r' h =
-      subst (λ a. Reach G (MT.value x a r st f) (S.with_value (machine G) x (linked_of (chain xs s z o) p st) (store_of st ls) g)) (sym e) (on_valued p xs (value_row x (MT.within (activation_in o) st)) st ls f g live r' h)
+      subst (λ a. Reach G (MT.value x a r st f)
+      (S.with_value (machine G) x (linked_of (chain xs s z o) p st) (store_of st ls) g)) (sym e)
+      (on_valued p xs (value_row x (MT.within (activation_in o) st)) st ls f g live r' h)
 
-  pub on_values : {first : Bool} {r : Choices} {a : ℕ} {s : Suspensions} {z : List ℕ} {o : Outer} (p : ℕ) (xs : List Item) (items : List Item) (st : M.Store) (ls : List (S.Coexp Parked)) (f : List Value → M.State) (g : List Value → LState) → a ≡ activation_in o → Live G first st.active st.coexpressions ls → OfChoices G.L first r s z o → ((vs : List Value) → Reach G (f vs) (g vs)) → Reach G (MT.values items a r st f) (S.with_values (machine G) items (linked_of (chain xs s z o) p st) (store_of st ls) g)
+  pub on_values : {first : Bool} {r : Choices} {a : ℕ} {s : Suspensions} {z : List ℕ} {o : Outer} (p : ℕ)
+      (xs : List Item) (items : List Item) (st : M.Store) (ls : List (S.Coexp Parked))
+      (f : List Value → M.State) (g : List Value → LState) → a ≡ activation_in o
+      → Live G first st.active st.coexpressions ls → OfChoices G.L first r s z o
+      → ((vs : List Value) → Reach G (f vs) (g vs))
+      → Reach G (MT.values items a r st f)
+      (S.with_values (machine G) items (linked_of (chain xs s z o) p st) (store_of st ls) g)
   on_values p xs [] st ls f g e live r h = h []
-  on_values {r = r'} {a = a} {s = s} {z = z} {o = o} p xs (x ∷ items) st ls f g e live r h = on_value p xs x st ls (λ v. MT.values items a r' st (λ vs. f (v ∷ vs))) (λ v. S.with_values (machine G) items (linked_of (chain xs s z o) p st) (store_of st ls) (λ vs. g (v ∷ vs))) e live r
+  on_values {r = r'} {a = a} {s = s} {z = z} {o = o} p xs (x ∷ items) st ls f g e live r h =
+      on_value p xs x st ls (λ v. MT.values items a r' st (λ vs. f (v ∷ vs)))
+      (λ v. S.with_values (machine G) items (linked_of (chain xs s z o) p st) (store_of st ls)
+      (λ vs. g (v ∷ vs))) e live r
       (λ v. on_values p xs items st ls (λ vs. f (v ∷ vs)) (λ vs. g (v ∷ vs)) e live r (λ vs. h (v ∷ vs)))
 
   -- something is made in the activation that runs
-  made_by : {first : Bool} {r : Choices} {s : Suspensions} {z : List ℕ} {o : Outer} (p : ℕ) (xs : List Item) (out : Outcome) (st : M.Store) (ls : List (S.Coexp Parked)) (f : Value → M.Store → M.State) (g : Value → Linked → S.Store Parked → LState) → Live G first st.active st.coexpressions ls → OfChoices G.L first r s z o → ((v : Value) (seen : Setting) → Reach G (f v (MT.after (activation_in o) seen st)) (g v (linked_of (chain xs s z o) p (MT.after (activation_in o) seen st)) (store_of (MT.after (activation_in o) seen st) ls))) → Reach G (MT.made out (activation_in o) r st f) (S.made (machine G) out (linked_of (chain xs s z o) p st) (store_of st ls) g)
+  made_by : {first : Bool} {r : Choices} {s : Suspensions} {z : List ℕ} {o : Outer} (p : ℕ) (xs : List Item)
+      (out : Outcome) (st : M.Store) (ls : List (S.Coexp Parked)) (f : Value → M.Store → M.State)
+      (g : Value → Linked → S.Store Parked → LState) → Live G first st.active st.coexpressions ls
+      → OfChoices G.L first r s z o → ((v : Value) (seen : Setting)
+      → Reach G (f v (MT.after (activation_in o) seen st))
+      (g v (linked_of (chain xs s z o) p (MT.after (activation_in o) seen st))
+      (store_of (MT.after (activation_in o) seen st) ls)))
+      → Reach G (MT.made out (activation_in o) r st f)
+      (S.made (machine G) out (linked_of (chain xs s z o) p st) (store_of st ls) g)
   made_by p xs (Fails seen) st ls f g a r h = stay (at_fail a.0 a.1 r)
   made_by p xs (Gives (Val v) seen) st ls f g a r h = h v seen
   made_by p xs (Gives (Var x) seen) st ls f g a r h = stay (at_fail a.0 a.1 r)
   made_by p xs (Suspends x m seen) st ls f g a r h = stay (at_fail a.0 a.1 r)
-  made_by {r = r} {o = o} p xs (Error n v seen) st ls f g a r1 h = errored r n v (MT.after (activation_in o) seen st) ls
+  made_by {r = r} {o = o} p xs (Error n v seen) st ls f g a r1 h =
+      errored r n v (MT.after (activation_in o) seen st) ls
   made_by p xs (Ends n seen) st ls f g a r h = stay (at_fail a.0 a.1 r)
 
-  pub on_made : {first : Bool} {r : Choices} {a : ℕ} {s : Suspensions} {z : List ℕ} {o : Outer} (p : ℕ) (xs : List Item) (row : Setting → Outcome) (st : M.Store) (ls : List (S.Coexp Parked)) (f : Value → M.Store → M.State) (g : Value → Linked → S.Store Parked → LState) → a ≡ activation_in o → Live G first st.active st.coexpressions ls → OfChoices G.L first r s z o → ((v : Value) (seen : Setting) → Reach G (f v (MT.after a seen st)) (g v (linked_of (chain xs s z o) p (MT.after a seen st)) (store_of (MT.after a seen st) ls))) → Reach G (MT.made (row (MT.within a st)) a r st f) (S.made (machine G) (row (S.here (machine G) (linked_of (chain xs s z o) p st) (store_of st ls))) (linked_of (chain xs s z o) p st) (store_of st ls) g)
+  pub on_made : {first : Bool} {r : Choices} {a : ℕ} {s : Suspensions} {z : List ℕ} {o : Outer} (p : ℕ)
+      (xs : List Item) (row : Setting → Outcome) (st : M.Store) (ls : List (S.Coexp Parked))
+      (f : Value → M.Store → M.State) (g : Value → Linked → S.Store Parked → LState) → a ≡ activation_in o
+      → Live G first st.active st.coexpressions ls → OfChoices G.L first r s z o
+      → ((v : Value) (seen : Setting)
+      → Reach G (f v (MT.after a seen st))
+      (g v (linked_of (chain xs s z o) p (MT.after a seen st)) (store_of (MT.after a seen st) ls)))
+      → Reach G (MT.made (row (MT.within a st)) a r st f)
+      (S.made (machine G) (row (S.here (machine G) (linked_of (chain xs s z o) p st) (store_of st ls)))
+      (linked_of (chain xs s z o) p st) (store_of st ls) g)
   on_made {r = r} {a = a} {s = s} {z = z} {o = o} p xs row st ls f g e live r' h =
-      let P : ℕ → Type 0 = λ a. ((v : Value) (seen : Setting) → Reach G (f v (MT.after a seen st)) (g v (linked_of (chain xs s z o) p (MT.after a seen st)) (store_of (MT.after a seen st) ls))) → Reach G (MT.made (row (MT.within a st)) a r st f) (S.made (machine G) (row (S.here (machine G) (linked_of (chain xs s z o) p st) (store_of st ls))) (linked_of (chain xs s z o) p st) (store_of st ls) g) in
+      let P : ℕ → Type 0 = λ a. ((v : Value) (seen : Setting)
+      → Reach G (f v (MT.after a seen st))
+      (g v (linked_of (chain xs s z o) p (MT.after a seen st)) (store_of (MT.after a seen st) ls)))
+      → Reach G (MT.made (row (MT.within a st)) a r st f)
+      (S.made (machine G) (row (S.here (machine G) (linked_of (chain xs s z o) p st) (store_of st ls)))
+      (linked_of (chain xs s z o) p st) (store_of st ls) g) in
       subst P (sym e) (λ h. made_by p xs (row (MT.within (activation_in o) st)) st ls f g live r' h) h

@@ -27,43 +27,105 @@ use Rattle.icn_defs.specs.Applying.{again}
 use Rattle.icn_run.specs.Chains.{repeated}
 
 module _ (G : Ground) where
-  on_exhaust : {first : Bool} {j a : ℕ} {xs : List Item} {s : Suspensions} {z : List ℕ} (p : ℕ) (st : M.Store) (ls : List (S.Coexp Parked)) → Live G first st.active st.coexpressions ls → first ≡ false → Here G.L j p I.Cofail → Reach G (MX.exhaust st) (run (chain xs s z (base j a)) p st ls)
-  on_exhaust {first = first} {j = j} {a = a} {xs = xs} {s = s} {z = z} p st ls live e h = let m = chain xs s z (base j a) in
-      then_reach G (record { by = stepped G p m st ls h ∙ ap (λ b. if (true && not b) then S.exhausted (machine G) (code_of G) (linked_of m (suc p) st) (store_of st ls) else S.stuck) (sym live.0 ∙ e) })
+  on_exhaust : {first : Bool} {j a : ℕ} {xs : List Item} {s : Suspensions} {z : List ℕ} (p : ℕ)
+      (st : M.Store) (ls : List (S.Coexp Parked)) → Live G first st.active st.coexpressions ls
+      → first ≡ false → Here G.L j p I.Cofail
+      → Reach G (MX.exhaust st) (run (chain xs s z (base j a)) p st ls)
+  on_exhaust {first = first} {j = j} {a = a} {xs = xs} {s = s} {z = z} p st ls live e h = let m =
+      chain xs s z (base j a) in
+      then_reach G (record {
+        by = stepped G p m st ls h
+            ∙ ap (λ b. if (true && not b) then S.exhausted (machine G) (code_of G) (linked_of m (suc p) st)
+            (store_of st ls) else S.stuck) (sym live.0 ∙ e);
+      })
       (on_turn G st ls _ _ (failed (record st { turns = suc st.turns }) live))
     where
-      failed : (st : M.Store) → Live G first st.active st.coexpressions ls → Reach G (MX.failed (MX.activator_of st.active st) (MX.with_status st.active M.Exhausted st)) (S.passed_failure (machine G) (S.activator_of st.active (store_of st ls)) (linked_of (chain xs s z (base j a)) (suc p) st) (S.with_status st.active S.Exhausted (store_of st ls)))
+      failed : (st : M.Store) → Live G first st.active st.coexpressions ls
+          → Reach G (MX.failed (MX.activator_of st.active st) (MX.with_status st.active M.Exhausted st))
+          (S.passed_failure (machine G) (S.activator_of st.active (store_of st ls))
+          (linked_of (chain xs s z (base j a)) (suc p) st)
+          (S.with_status st.active S.Exhausted (store_of st ls)))
       failed st live = let ST = MX.with_status st.active M.Exhausted st in
-          subst (λ n. Reach G (MX.failed n ST) (S.passed_failure (machine G) (S.activator_of st.active (store_of st ls)) (linked_of (chain xs s z (base j a)) (suc p) st) (S.with_status st.active S.Exhausted (store_of st ls)))) (sym (look G live.1 st.active).activator)
-          (on_failed G (S.activator_of st.active (store_of st ls)) (chain xs s z (base j a)) (suc p) ST _ (status_all G live.1 st.active t_exhausted))
+          subst (λ n. Reach G (MX.failed n ST)
+          (S.passed_failure (machine G) (S.activator_of st.active (store_of st ls))
+          (linked_of (chain xs s z (base j a)) (suc p) st)
+          (S.with_status st.active S.Exhausted (store_of st ls))))
+          (sym (look G live.1 st.active).activator)
+          (on_failed G (S.activator_of st.active (store_of st ls)) (chain xs s z (base j a)) (suc p) ST _
+          (status_all G live.1 st.active t_exhausted))
 
-  on_again : {first : Bool} {n : Nest} {e : Tree} {v : Surroundings} {k : Works} {r : Choices} {q : ℕ} {xs : List Item} {s : Suspensions} {z : List ℕ} {o : Outer} (f : ℕ) (ys : List Item) (z' : List ℕ) (b : Bool) (p p' : ℕ) (st : M.Store) (ls : List (S.Coexp Parked)) → Live G first st.active st.coexpressions ls → Stands G.L (proc_in o) (in_mark n) e (suc p) q → At G.L o q (I.Chfail p) → At G.L o (suc q) I.Esusp → OfSurroundings G.L first n v z o → OfWorks G.L first k (suc (suc q)) xs z o → OfChoices G.L first r s z o →
-      Reach G (MF.again_if b e v f k r st) (S.mark_dropped (machine G) (code_of G) (linked_of (chain ys none z' (mark (flagged None f p) (chain xs s z o))) p' st) (store_of st ls) (repeated None f p (chain xs s z o) (linked_of (chain ys none z' (mark (flagged None f p) (chain xs s z o))) p' st) b))
+  on_again : {first : Bool} {n : Nest} {e : Tree} {v : Surroundings} {k : Works} {r : Choices} {q : ℕ}
+      {xs : List Item} {s : Suspensions} {z : List ℕ} {o : Outer} (f : ℕ) (ys : List Item) (z' : List ℕ)
+      (b : Bool) (p p' : ℕ) (st : M.Store) (ls : List (S.Coexp Parked))
+      → Live G first st.active st.coexpressions ls → Stands G.L (proc_in o) (in_mark n) e (suc p) q
+      → At G.L o q (I.Chfail p) → At G.L o (suc q) I.Esusp → OfSurroundings G.L first n v z o
+      → OfWorks G.L first k (suc (suc q)) xs z o → OfChoices G.L first r s z o →
+      Reach G (MF.again_if b e v f k r st)
+      (S.mark_dropped (machine G) (code_of G)
+      (linked_of (chain ys none z' (mark (flagged None f p) (chain xs s z o))) p' st) (store_of st ls)
+      (repeated None f p (chain xs s z o)
+      (linked_of (chain ys none z' (mark (flagged None f p) (chain xs s z o))) p' st) b))
   on_again f ys z' false p p' st ls live e h1 h2 v k r = stay G (at_fail live.0 live.1 r)
-  on_again {xs = xs} {s = s} {z = z} {o = o} f ys z' true p p' st ls live e h1 h2 v k r = on_turn G st ls _ (λ st'. ran (linked_of (chain [] none z (mark (flagged None f p) (chain xs s z o))) (suc p) (record st { flags = slice_set st.flags f false })) st')
-      (stay G (at_eval live.0 live.1 e (v_mark (m_plain v)) (k_raise h1 (k_esusp h2 k)) (r_again e h1 h2 v k r)))
+  on_again {xs = xs} {s = s} {z = z} {o = o} f ys z' true p p' st ls live e h1 h2 v k r =
+      on_turn G st ls _ (λ st'. ran (linked_of (chain [] none z (mark (flagged None f p) (chain xs s z o)))
+      (suc p) (record st { flags = slice_set st.flags f false })) st')
+      (stay G (at_eval live.0 live.1 e (v_mark (m_plain v)) (k_raise h1 (k_esusp h2 k))
+      (r_again e h1 h2 v k r)))
 
-  on_back : {first : Bool} {n : Nest} {b : MaybeTree} {v : Surroundings} {r : Choices} {q : ℕ} {xs : List Item} {s : Suspensions} {z : List ℕ} {o : Outer} (p : ℕ) (st : M.Store) (ls : List (S.Coexp Parked)) → Live G first st.active st.coexpressions ls → StandsMaybe G.L (proc_in o) n b p q → At G.L o q I.Efail → OfSurroundings G.L first n v z o → OfChoices G.L first r s z o →
+  on_back : {first : Bool} {n : Nest} {b : MaybeTree} {v : Surroundings} {r : Choices} {q : ℕ}
+      {xs : List Item} {s : Suspensions} {z : List ℕ} {o : Outer} (p : ℕ) (st : M.Store)
+      (ls : List (S.Coexp Parked)) → Live G first st.active st.coexpressions ls
+      → StandsMaybe G.L (proc_in o) n b p q → At G.L o q I.Efail → OfSurroundings G.L first n v z o
+      → OfChoices G.L first r s z o →
       Reach G (MF.back b v r st) (run (chain xs s z o) p st ls)
   on_back p st ls live s_absent h v r = then_reach G (efails G p st ls h) (stay G (at_fail live.0 live.1 r))
-  on_back p st ls live (s_present o b u) h v r = then_reach G (opens G p st ls o) (stay G (at_eval live.0 live.1 b (v_mark (m_plain v)) (k_cut u r (a_fail h)) (r_efail h r)))
+  on_back p st ls live (s_present o b u) h v r =
+      then_reach G (opens G p st ls o)
+      (stay G (at_eval live.0 live.1 b (v_mark (m_plain v)) (k_cut u r (a_fail h)) (r_efail h r)))
 
-  pub on_choices : {first : Bool} {r : Choices} {xs : List Item} {s : Suspensions} {z : List ℕ} {o : Outer} (p : ℕ) (st : M.Store) (ls : List (S.Coexp Parked)) → Live G first st.active st.coexpressions ls → OfChoices G.L first r s z o → Goes G 0 (MF.on_fail r st) (fails (chain xs s z o) p st ls)
-  on_choices {xs = xs} p st ls live (r_end {j = j} {a = a} e) = goes G 0 (record { by = ap (λ b. if (true && not b) then S.exhausted (machine G) (code_of G) (linked_of (chain xs none [] (base j a)) p st) (store_of st ls) else (if b then S.over M.Done st.outside else S.stuck)) (sym live.0 ∙ e) }) (stay G at_over)
+  pub on_choices : {first : Bool} {r : Choices} {xs : List Item} {s : Suspensions} {z : List ℕ} {o : Outer}
+      (p : ℕ) (st : M.Store) (ls : List (S.Coexp Parked)) → Live G first st.active st.coexpressions ls
+      → OfChoices G.L first r s z o → Goes G 0 (MF.on_fail r st) (fails (chain xs s z o) p st ls)
+  on_choices {xs = xs} p st ls live (r_end {j = j} {a = a} e) =
+      goes G 0 (record {
+        by = ap (λ b.
+            if (true && not b) then S.exhausted (machine G) (code_of G)
+            (linked_of (chain xs none [] (base j a)) p st)
+            (store_of st ls) else (if b then S.over M.Done st.outside else S.stuck)) (sym live.0 ∙ e);
+      })
+      (stay G at_over)
   on_choices p st ls live (r_call r) = goes G 0 (record { by = refl }) (on_choices _ st ls live r).reach
   on_choices p st ls live (r_exhaust e h) = goes G 0 (record { by = refl }) (on_exhaust _ st ls live e h)
   on_choices p st ls live (r_alt r) = goes G 0 (record { by = refl }) (on_choices _ st ls live r).reach
   on_choices p st ls live (r_mark0 r) = goes G 0 (record { by = refl }) (on_choices p st ls live r).reach
   on_choices p st ls live (r_limit r) = goes G 0 (record { by = refl }) (on_choices p st ls live r).reach
-  on_choices p st ls live (r_efail h r) = goes G 0 (record { by = refl }) (then_reach G (efails G _ st ls h) (on_choices _ st ls live r).reach)
+  on_choices p st ls live (r_efail h r) =
+      goes G 0 (record { by = refl }) (then_reach G (efails G _ st ls h) (on_choices _ st ls live r).reach)
   on_choices p st ls live (r_do a r) = goes G 0 (record { by = refl }) (on_action G _ st ls live a r)
-  on_choices p st ls live (r_again {f = f} e h1 h2 v k r) = goes G 0 (record { by = refl }) (on_again f _ _ (slice_index_or st.flags f false) _ p st ls live e h1 h2 v k r)
-  on_choices p st ls live (r_resume {m = m} {o = o} k r) = goes G 0 (record { by = refl }) (on_turn G st ls _ _ (on_answer G (again m (MT.within (activation_in o) (record st { turns = suc st.turns }))) (record st { turns = suc st.turns }) ls live k r))
+  on_choices p st ls live (r_again {f = f} e h1 h2 v k r) =
+      goes G 0 (record { by = refl })
+      (on_again f _ _ (slice_index_or st.flags f false) _ p st ls live e h1 h2 v k r)
+  on_choices p st ls live (r_resume {m = m} {o = o} k r) =
+      goes G 0 (record { by = refl })
+      (on_turn G st ls _ _ (on_answer G
+      (again m (MT.within (activation_in o) (record st { turns = suc st.turns })))
+      (record st { turns = suc st.turns }) ls live k r))
   on_choices p st ls live (r_restore r) = goes G 0 (record { by = refl }) (stay G (at_fail live.0 live.1 r))
   on_choices p st ls live (r_reenter r) = goes G 0 (record { by = refl }) (stay G (at_fail live.0 live.1 r))
-  on_choices {first = first} p st ls live (r_back {b = b'} {v = v'} {r = r'} {p = q} {x = x} {xs = xs} {s = s} {z = z} {o = o} h b h2 v r) = let m = chain (x ∷ xs) s z o in goes G 0 (record { by = refl }) (on_turn G st ls _ _ (returns (record st { turns = suc st.turns }) live))
+  on_choices {first = first} p st ls live
+      (r_back {b = b'} {v = v'} {r = r'} {p = q} {x = x} {xs = xs} {s = s} {z = z} {o = o} h b h2 v r) =
+      let m = chain (x ∷ xs) s z o in
+      goes G 0 (record { by = refl })
+      (on_turn G st ls _ _ (returns (record st { turns = suc st.turns }) live))
     where
-      returns : (st : M.Store) → Live G first st.active st.coexpressions ls → Reach G (MF.back b' v' r' (MS.exchanged_oldest v' st)) (S.maybe_exchanged (swap_at (S.pair_now (store_of st ls)) (linked_of (chain (x ∷ xs) s z o) q st) (oldest z)) (linked_of (chain (x ∷ xs) s z o) q st) (store_of st ls) ran)
+      returns : (st : M.Store) → Live G first st.active st.coexpressions ls
+          → Reach G (MF.back b' v' r' (MS.exchanged_oldest v' st))
+          (S.maybe_exchanged (swap_at (S.pair_now (store_of st ls)) (linked_of (chain (x ∷ xs) s z o) q st)
+          (oldest z)) (linked_of (chain (x ∷ xs) s z o) q st) (store_of st ls) ran)
       returns st live = let m = chain (x ∷ xs) s z o in
-          subst (λ st'. Reach G (MF.back b' v' r' st') (S.maybe_exchanged (swap_at (S.pair_now (store_of st ls)) (linked_of m q st) (oldest z)) (linked_of m q st) (store_of st ls) ran)) (sym (ap (λ z. MS.exchanged_if z st) (sym (same_scans G v)) ∙ exchanged_of z st))
-          (on_exchanged G (oldest z) m q st ls (λ st. MF.back b' v' r' st) ran live (λ st live. then_reach G (pops G x q st ls h) (on_back _ st ls live b h2 v r)))
+          subst (λ st'. Reach G (MF.back b' v' r' st')
+          (S.maybe_exchanged (swap_at (S.pair_now (store_of st ls)) (linked_of m q st) (oldest z))
+          (linked_of m q st) (store_of st ls) ran))
+          (sym (ap (λ z. MS.exchanged_if z st) (sym (same_scans G v)) ∙ exchanged_of z st))
+          (on_exchanged G (oldest z) m q st ls (λ st. MF.back b' v' r' st) ran live
+          (λ st live. then_reach G (pops G x q st ls h) (on_back _ st ls live b h2 v r)))

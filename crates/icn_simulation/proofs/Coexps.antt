@@ -15,7 +15,14 @@ use Rattle.icn_simulation.proofs.Basics.{Reach, Live, run, stay, then_reach, ope
 use Rattle.icn_simulation.proofs.Acts.{efails}
 
 abbrev no_coexpression : M.Coexpression
-no_coexpression = record { status = M.Exhausted; activator = zero; body = Empty; procedure = zero; values = [] }
+no_coexpression = record {
+  status = M.Exhausted;
+  activator = zero;
+  body = Empty;
+  procedure = zero;
+  values =
+      [];
+}
 
 abbrev no_coexp : S.Coexp Parked
 no_coexp = record { status = S.Exhausted; activator = zero; values = []; proc = zero; place = zero }
@@ -30,76 +37,132 @@ module _ (G : Ground) where
   nothing_there : (first : Bool) → OfCoexp G.L first no_coexpression no_coexp
   nothing_there first = record { activator = refl; procedure = refl; values = refl; status = t_exhausted }
 
-  look_others : {cos : List M.Coexpression} {ls : List (S.Coexp Parked)} → OfOthers G.L cos ls → (n : ℕ) → OfCoexp G.L false (co_at cos n) (l_at ls n)
+  look_others : {cos : List M.Coexpression} {ls : List (S.Coexp Parked)} → OfOthers G.L cos ls → (n : ℕ)
+      → OfCoexp G.L false (co_at cos n) (l_at ls n)
   look_others c_none n = nothing_there false
   look_others (c_more h s t) zero = h
   look_others (c_more h s t) (suc n) = look_others t n
 
-  pub look : {cos : List M.Coexpression} {ls : List (S.Coexp Parked)} → OfAll G.L cos ls → (n : ℕ) → OfCoexp G.L (S.is_main n) (co_at cos n) (l_at ls n)
+  pub look : {cos : List M.Coexpression} {ls : List (S.Coexp Parked)} → OfAll G.L cos ls → (n : ℕ)
+      → OfCoexp G.L (S.is_main n) (co_at cos n) (l_at ls n)
   look (c_all h t) zero = h
   look (c_all h t) (suc n) = look_others t n
 
   -- one that was made
   pub data Made : Option M.Coexpression → Option (S.Coexp Parked) → Type 0 where
     not_made : Made None None
-    was_made : {co : M.Coexpression} {l : S.Coexp Parked} {q : ℕ} → OfCoexp G.L false co l → StandsCreate G.L l.proc co.body l.place q → Made (Some co) (Some l)
+    was_made : {co : M.Coexpression} {l : S.Coexp Parked} {q : ℕ} → OfCoexp G.L false co l
+        → StandsCreate G.L l.proc co.body l.place q → Made (Some co) (Some l)
 
-  pub find_made : {cos : List M.Coexpression} {ls : List (S.Coexp Parked)} → OfOthers G.L cos ls → (n : ℕ) → Made (slice_get cos n) (slice_get ls n)
+  pub find_made : {cos : List M.Coexpression} {ls : List (S.Coexp Parked)} → OfOthers G.L cos ls → (n : ℕ)
+      → Made (slice_get cos n) (slice_get ls n)
   find_made c_none n = not_made
   find_made (c_more h s t) zero = was_made h s
   find_made (c_more h s t) (suc n) = find_made t n
 
-  pub others_more : {cos : List M.Coexpression} {ls : List (S.Coexp Parked)} {co : M.Coexpression} {l : S.Coexp Parked} {q : ℕ} → OfOthers G.L cos ls → OfCoexp G.L false co l → StandsCreate G.L l.proc co.body l.place q → OfOthers G.L (cos ++ co ∷ []) (ls ++ l ∷ [])
+  pub others_more : {cos : List M.Coexpression} {ls : List (S.Coexp Parked)} {co : M.Coexpression}
+      {l : S.Coexp Parked} {q : ℕ} → OfOthers G.L cos ls → OfCoexp G.L false co l
+      → StandsCreate G.L l.proc co.body l.place q → OfOthers G.L (cos ++ co ∷ []) (ls ++ l ∷ [])
   others_more c_none h s = c_more h s c_none
   others_more (c_more h' s' t) h s = c_more h' s' (others_more t h s)
 
-  pub all_more : {cos : List M.Coexpression} {ls : List (S.Coexp Parked)} {co : M.Coexpression} {l : S.Coexp Parked} {q : ℕ} → OfAll G.L cos ls → OfCoexp G.L false co l → StandsCreate G.L l.proc co.body l.place q → OfAll G.L (cos ++ co ∷ []) (ls ++ l ∷ [])
+  pub all_more : {cos : List M.Coexpression} {ls : List (S.Coexp Parked)} {co : M.Coexpression}
+      {l : S.Coexp Parked} {q : ℕ} → OfAll G.L cos ls → OfCoexp G.L false co l
+      → StandsCreate G.L l.proc co.body l.place q → OfAll G.L (cos ++ co ∷ []) (ls ++ l ∷ [])
   all_more (c_all h' t) h s = c_all h' (others_more t h s)
 
   -- a status is changed
-  status_others : {cos : List M.Coexpression} {ls : List (S.Coexp Parked)} {status : M.Status} {status' : S.Status Parked} → OfOthers G.L cos ls → (n : ℕ) → OfStatus G.L false (l_at ls n).proc (co_at cos n).body (l_at ls n).place status status' → OfOthers G.L (slice_set cos n (record (co_at cos n) { status = status })) (slice_set ls n (record (l_at ls n) { status = status' }))
+  status_others : {cos : List M.Coexpression} {ls : List (S.Coexp Parked)} {status : M.Status}
+      {status' : S.Status Parked} → OfOthers G.L cos ls → (n : ℕ)
+      → OfStatus G.L false (l_at ls n).proc (co_at cos n).body (l_at ls n).place status status'
+      → OfOthers G.L (slice_set cos n (record (co_at cos n) { status = status }))
+      (slice_set ls n (record (l_at ls n) { status = status' }))
   status_others c_none n h = c_none
-  status_others (c_more h' s t) zero h = c_more (record { activator = h'.activator; procedure = h'.procedure; values = h'.values; status = h }) s t
+  status_others (c_more h' s t) zero h =
+      c_more (record { activator = h'.activator; procedure = h'.procedure; values = h'.values; status = h })
+      s t
   status_others (c_more h' s t) (suc n) h = c_more h' s (status_others t n h)
 
-  pub status_all : {cos : List M.Coexpression} {ls : List (S.Coexp Parked)} {status : M.Status} {status' : S.Status Parked} → OfAll G.L cos ls → (n : ℕ) → OfStatus G.L (S.is_main n) (l_at ls n).proc (co_at cos n).body (l_at ls n).place status status' → OfAll G.L (slice_set cos n (record (co_at cos n) { status = status })) (slice_set ls n (record (l_at ls n) { status = status' }))
-  status_all (c_all h' t) zero h = c_all (record { activator = h'.activator; procedure = h'.procedure; values = h'.values; status = h }) t
+  pub status_all : {cos : List M.Coexpression} {ls : List (S.Coexp Parked)} {status : M.Status}
+      {status' : S.Status Parked} → OfAll G.L cos ls → (n : ℕ)
+      → OfStatus G.L (S.is_main n) (l_at ls n).proc (co_at cos n).body (l_at ls n).place status status'
+      → OfAll G.L (slice_set cos n (record (co_at cos n) { status = status }))
+      (slice_set ls n (record (l_at ls n) { status = status' }))
+  status_all (c_all h' t) zero h =
+      c_all (record { activator = h'.activator; procedure = h'.procedure; values = h'.values; status = h }) t
   status_all (c_all h' t) (suc n) h = c_all h' (status_others t n h)
 
   -- an activator is changed
-  activator_others : {cos : List M.Coexpression} {ls : List (S.Coexp Parked)} → OfOthers G.L cos ls → (n a : ℕ) → OfOthers G.L (slice_set cos n (record (co_at cos n) { activator = a })) (slice_set ls n (record (l_at ls n) { activator = a }))
+  activator_others : {cos : List M.Coexpression} {ls : List (S.Coexp Parked)} → OfOthers G.L cos ls
+      → (n a : ℕ) → OfOthers G.L (slice_set cos n (record (co_at cos n) { activator = a }))
+      (slice_set ls n (record (l_at ls n) { activator = a }))
   activator_others c_none n a = c_none
-  activator_others (c_more h' s t) zero a = c_more (record { activator = refl; procedure = h'.procedure; values = h'.values; status = h'.status }) s t
+  activator_others (c_more h' s t) zero a =
+      c_more (record { activator = refl; procedure = h'.procedure; values = h'.values; status = h'.status })
+      s t
   activator_others (c_more h' s t) (suc n) a = c_more h' s (activator_others t n a)
 
-  pub activator_all : {cos : List M.Coexpression} {ls : List (S.Coexp Parked)} → OfAll G.L cos ls → (n a : ℕ) → OfAll G.L (slice_set cos n (record (co_at cos n) { activator = a })) (slice_set ls n (record (l_at ls n) { activator = a }))
-  activator_all (c_all h' t) zero a = c_all (record { activator = refl; procedure = h'.procedure; values = h'.values; status = h'.status }) t
+  pub activator_all : {cos : List M.Coexpression} {ls : List (S.Coexp Parked)} → OfAll G.L cos ls
+      → (n a : ℕ) → OfAll G.L (slice_set cos n (record (co_at cos n) { activator = a }))
+      (slice_set ls n (record (l_at ls n) { activator = a }))
+  activator_all (c_all h' t) zero a =
+      c_all (record { activator = refl; procedure = h'.procedure; values = h'.values; status = h'.status }) t
   activator_all (c_all h' t) (suc n) a = c_all h' (activator_others t n a)
 
   -- a fresh one begins
-  on_begins : {first : Bool} {e : Tree} {place q j j' : ℕ} {vs vs' : List Value} (a n : ℕ) (status : M.Status) (m : Chain) (p : ℕ) (st : M.Store) (ls : List (S.Coexp Parked)) → Live G first st.active st.coexpressions ls → first ≡ false → j' ≡ j → vs' ≡ vs → StandsCreate G.L j e place q →
-      Reach G (MX.begins (record { status = status; activator = n; body = e; procedure = j'; values = vs' }) (length st.activations) st) (run (chain [] none [] (base j (length st.activations))) place (record st { activations = st.activations ++ vs ∷ [] }) ls)
-  on_begins {e = t} {place = place} {j = j} {vs = vs} {vs' = vs'} a n status m p st ls live e ej ev (s_body o b h1 h2 h3) =
-      subst (λ j'. Reach G (MX.begins (record { status = status; activator = n; body = t; procedure = j'; values = vs' }) (length st.activations) st) (run (chain [] none [] (base j (length st.activations))) place (record st { activations = st.activations ++ vs ∷ [] }) ls)) (sym ej)
-      (subst (λ ws. Reach G (MX.begins (record { status = status; activator = n; body = t; procedure = j; values = ws }) (length st.activations) st) (run (chain [] none [] (base j (length st.activations))) place (record st { activations = st.activations ++ vs ∷ [] }) ls)) (sym ev)
-      (then_reach G (opens G place (record st { activations = st.activations ++ vs ∷ [] }) ls o) (stay G (at_eval live.0 live.1 b (v_mark (m_plain (v_create e))) (k_result e h1 h2) (r_exhaust e h3)))))
+  on_begins : {first : Bool} {e : Tree} {place q j j' : ℕ} {vs vs' : List Value} (a n : ℕ)
+      (status : M.Status) (m : Chain) (p : ℕ) (st : M.Store) (ls : List (S.Coexp Parked))
+      → Live G first st.active st.coexpressions ls → first ≡ false → j' ≡ j → vs' ≡ vs
+      → StandsCreate G.L j e place q →
+      Reach G (MX.begins (record { status = status; activator = n; body = e; procedure = j'; values = vs' })
+      (length st.activations) st) (run (chain [] none [] (base j (length st.activations))) place
+      (record st { activations = st.activations ++ vs ∷ [] }) ls)
+  on_begins {e = t} {place = place} {j = j} {vs = vs} {vs' = vs'} a n status m p st ls live e ej ev
+      (s_body o b h1 h2 h3) =
+      subst (λ j'. Reach G (MX.begins
+      (record { status = status; activator = n; body = t; procedure = j'; values = vs' })
+      (length st.activations) st) (run (chain [] none [] (base j (length st.activations))) place
+      (record st { activations = st.activations ++ vs ∷ [] }) ls)) (sym ej)
+      (subst (λ ws. Reach G (MX.begins
+      (record { status = status; activator = n; body = t; procedure = j; values = ws })
+      (length st.activations) st) (run (chain [] none [] (base j (length st.activations))) place
+      (record st { activations = st.activations ++ vs ∷ [] }) ls)) (sym ev)
+      (then_reach G (opens G place (record st { activations = st.activations ++ vs ∷ [] }) ls o)
+      (stay G (at_eval live.0 live.1 b (v_mark (m_plain (v_create e))) (k_result e h1 h2)
+      (r_exhaust e h3)))))
 
-  on_entered_in : {status : M.Status} {status' : S.Status Parked} (c : ℕ) (v : Value) (m : Chain) (p : ℕ) (st : M.Store) (ls : List (S.Coexp Parked)) → OfAll G.L st.coexpressions ls → OfStatus G.L (S.is_main c) (l_at ls c).proc (co_at st.coexpressions c).body (l_at ls c).place status status' → Reach G (MX.entered_in status c v st) (S.give_by (machine G) status' c v (linked_of m p st) (store_of st ls))
-  on_entered_in c v m p st ls all (t_fresh e s) = let l = look all c in on_begins (length st.activations) (co_at st.coexpressions c).activator (co_at st.coexpressions c).status m p (MX.activated c st) _ (sym e, status_all all c t_active) refl l.procedure l.values s
+  on_entered_in : {status : M.Status} {status' : S.Status Parked} (c : ℕ) (v : Value) (m : Chain) (p : ℕ)
+      (st : M.Store) (ls : List (S.Coexp Parked)) → OfAll G.L st.coexpressions ls
+      → OfStatus G.L (S.is_main c) (l_at ls c).proc (co_at st.coexpressions c).body (l_at ls c).place status
+      status' → Reach G (MX.entered_in status c v st)
+      (S.give_by (machine G) status' c v (linked_of m p st) (store_of st ls))
+  on_entered_in c v m p st ls all (t_fresh e s) = let l = look all c in
+      on_begins (length st.activations) (co_at st.coexpressions c).activator
+      (co_at st.coexpressions c).status m p (MX.activated c st) _ (sym e, status_all all c t_active) refl
+      l.procedure l.values s
   on_entered_in c v m p st ls all t_active = stay G at_lost
   on_entered_in c v m p st ls all (t_waiting k r) = stay G (at_succeed refl (status_all all c t_active) k r)
-  on_entered_in c v m p st ls all (t_after h r) = then_reach G (efails G _ (MX.activated c st) _ h) (stay G (at_fail refl (status_all all c t_active) r))
+  on_entered_in c v m p st ls all (t_after h r) =
+      then_reach G (efails G _ (MX.activated c st) _ h) (stay G (at_fail refl (status_all all c t_active) r))
   on_entered_in c v m p st ls all t_exhausted = stay G (at_hop refl all)
 
-  pub on_entered : (c : ℕ) (v : Value) (m : Chain) (p : ℕ) (st : M.Store) (ls : List (S.Coexp Parked)) → OfAll G.L st.coexpressions ls → Reach G (MX.entered c v st) (S.passed_value (machine G) c v (linked_of m p st) (store_of st ls))
+  pub on_entered : (c : ℕ) (v : Value) (m : Chain) (p : ℕ) (st : M.Store) (ls : List (S.Coexp Parked))
+      → OfAll G.L st.coexpressions ls
+      → Reach G (MX.entered c v st) (S.passed_value (machine G) c v (linked_of m p st) (store_of st ls))
   on_entered c v m p st ls all = on_entered_in c v m p st ls all (look all c).status
 
-  on_failed_in : {status : M.Status} {status' : S.Status Parked} (c : ℕ) (m : Chain) (p : ℕ) (st : M.Store) (ls : List (S.Coexp Parked)) → OfAll G.L st.coexpressions ls → OfStatus G.L (S.is_main c) (l_at ls c).proc (co_at st.coexpressions c).body (l_at ls c).place status status' → Reach G (MX.failed_in status c st) (S.fail_by (machine G) status' c (linked_of m p st) (store_of st ls))
+  on_failed_in : {status : M.Status} {status' : S.Status Parked} (c : ℕ) (m : Chain) (p : ℕ) (st : M.Store)
+      (ls : List (S.Coexp Parked)) → OfAll G.L st.coexpressions ls
+      → OfStatus G.L (S.is_main c) (l_at ls c).proc (co_at st.coexpressions c).body (l_at ls c).place status
+      status' → Reach G (MX.failed_in status c st)
+      (S.fail_by (machine G) status' c (linked_of m p st) (store_of st ls))
   on_failed_in c m p st ls all (t_fresh e s) = stay G at_lost
   on_failed_in c m p st ls all t_active = stay G at_lost
   on_failed_in c m p st ls all (t_waiting k r) = stay G (at_fail refl (status_all all c t_active) r)
   on_failed_in c m p st ls all (t_after h r) = stay G (at_fail refl (status_all all c t_active) r)
   on_failed_in c m p st ls all t_exhausted = stay G (at_hop refl all)
 
-  pub on_failed : (c : ℕ) (m : Chain) (p : ℕ) (st : M.Store) (ls : List (S.Coexp Parked)) → OfAll G.L st.coexpressions ls → Reach G (MX.failed c st) (S.passed_failure (machine G) c (linked_of m p st) (store_of st ls))
+  pub on_failed : (c : ℕ) (m : Chain) (p : ℕ) (st : M.Store) (ls : List (S.Coexp Parked))
+      → OfAll G.L st.coexpressions ls
+      → Reach G (MX.failed c st) (S.passed_failure (machine G) c (linked_of m p st) (store_of st ls))
   on_failed c m p st ls all = on_failed_in c m p st ls all (look all c).status

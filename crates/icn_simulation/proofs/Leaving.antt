@@ -1,4 +1,5 @@
--- What is found through marks, scans and loops: the call that runs, and the way out by `break`, `next` and the end of a call.
+-- What is found through marks, scans and loops: the call that runs, and the way out by `break`, `next` and
+-- the end of a call.
 use Rattle.std.proofs.Common.{◌≡◌, ℕ, ◌&&◌, not, Bool, true, false, List, [], ◌∷◌, ◌++◌, Option, Some, None, option_map, refl, sym, ap, ◌∙◌, subst}
 use Rattle.std.specs.Prelude.{if◌then◌else◌}
 use Rattle.icn_tree.specs.Trees as T
@@ -29,7 +30,10 @@ position_by None st = st.world.position
 position_by (Some n) st = (MS.saved_in n st).position
 
 abbrev pub away_by : Option ℕ → M.Store → M.Store
-away_by scan st = record st { world = record st.world { subject = subject_by scan st; position = position_by scan st } }
+away_by scan st = record st {
+  world =
+      record st.world { subject = subject_by scan st; position = position_by scan st };
+}
 
 -- the oldest of all scans
 abbrev pub oldest : List ℕ → Option ℕ
@@ -48,7 +52,8 @@ old i (j ∷ z) = old j z
 
 pub away_scan : (i : ℕ) (z : List ℕ) (st : M.Store) → away z (MS.restored i st) ≡ away (i ∷ z) st
 away_scan i [] st = refl
-away_scan i (j ∷ z) st = subst (λ scan. away_by scan (MS.restored i st) ≡ away_by scan st) (sym (old j z).1) refl
+away_scan i (j ∷ z) st = subst (λ scan. away_by scan (MS.restored i st) ≡ away_by scan st) (sym (old j z).1)
+    refl
 
 oldest_snoc : (os : List ℕ) (i : ℕ) → oldest (os ++ i ∷ []) ≡ Some i
 oldest_snoc [] i = refl
@@ -67,11 +72,15 @@ last_is (i ∷ j ∷ os) = last_is (j ∷ os)
 pub front_of : (os z : List ℕ) → Apart (first_scan z) os → oldest_until (first_scan z) (os ++ z) ≡ oldest os
 front_of os z d = oldest_behind z os d ∙ last_is os
 
-pub left_by : (scan : Option ℕ) (m : Chain) (p : ℕ) (st : M.Store) (ls : List (S.Coexp Parked)) → S.scans_left (option_map (saved_at (linked_of m p st)) scan) (store_of st ls) ≡ store_of (away_by scan st) ls
+pub left_by : (scan : Option ℕ) (m : Chain) (p : ℕ) (st : M.Store) (ls : List (S.Coexp Parked))
+    → S.scans_left (option_map (saved_at (linked_of m p st)) scan) (store_of st ls) ≡ store_of
+    (away_by scan st) ls
 left_by None m p st ls = refl
 left_by (Some n) m p st ls = refl
 
-pub all_by : (scan : Option ℕ) (m : Chain) (p : ℕ) (st : M.Store) (ls : List (S.Coexp Parked)) → S.swapped_back (swap_at (S.pair_now (store_of st ls)) (linked_of m p st) scan) (store_of st ls) ≡ store_of (away_by scan st) ls
+pub all_by : (scan : Option ℕ) (m : Chain) (p : ℕ) (st : M.Store) (ls : List (S.Coexp Parked))
+    → S.swapped_back (swap_at (S.pair_now (store_of st ls)) (linked_of m p st) scan) (store_of st ls) ≡
+    store_of (away_by scan st) ls
 all_by None m p st ls = refl
 all_by (Some n) m p st ls = refl
 
@@ -79,14 +88,17 @@ abbrev pub level_in : Outer → ℕ
 level_in o = level_of (frame_of o)
 
 -- the expressions of a body, where the first is not empty
-pub rest_of : (e : Tree) (es : Trees) (v : Surroundings) (r : Choices) (st : M.Store) → is_empty e ≡ false → MA.rest (More e es) v r st ≡ M.eval e v (M.Cut r (M.Rest es v) and_then Nothing) (M.Do (M.Rest es v) or_else r) st
+pub rest_of : (e : Tree) (es : Trees) (v : Surroundings) (r : Choices) (st : M.Store) → is_empty e ≡ false
+    → MA.rest (More e es) v r st ≡ M.eval e v (M.Cut r (M.Rest es v) and_then Nothing)
+    (M.Do (M.Rest es v) or_else r) st
 rest_of T.Empty es v r st h = absurd (cc)
 rest_of e es v r st h = refl
 
 module _ (G : Ground) where
   -- the call that runs is the same on both sides
   mutual
-    pub same : {first : Bool} {n : Nest} {v : Surroundings} {z : List ℕ} {o : Outer} → OfSurroundings G.L first n v z o → M.frame_of v ≡ a_frame (activation_in o) (proc_in o) (level_in o)
+    pub same : {first : Bool} {n : Nest} {v : Surroundings} {z : List ℕ} {o : Outer}
+        → OfSurroundings G.L first n v z o → M.frame_of v ≡ a_frame (activation_in o) (proc_in o) (level_in o)
     same (v_main e) = refl
     same (v_create e) = refl
     same (v_call k r) = refl
@@ -94,24 +106,30 @@ module _ (G : Ground) where
     same (v_mark m) = same_in m
     same (v_limit m) = same_in m
 
-    same_in : {first : Bool} {n : Nest} {v : Surroundings} {xs : List Item} {s : Suspensions} {z : List ℕ} {o : Outer} → OfMark G.L first n v xs s z o → M.frame_of v ≡ a_frame (activation_in o) (proc_in o) (level_in o)
+    same_in : {first : Bool} {n : Nest} {v : Surroundings} {xs : List Item} {s : Suspensions} {z : List ℕ}
+        {o : Outer} → OfMark G.L first n v xs s z o
+        → M.frame_of v ≡ a_frame (activation_in o) (proc_in o) (level_in o)
     same_in (m_plain v) = same v
     same_in (m_loop k r a rn v) = same v
     same_in (m_control k r v) = same v
     same_in (m_each h k r rn v) = same v
 
-  pub same_activation : {first : Bool} {n : Nest} {v : Surroundings} {z : List ℕ} {o : Outer} → OfSurroundings G.L first n v z o → M.activation_of v ≡ activation_in o
+  pub same_activation : {first : Bool} {n : Nest} {v : Surroundings} {z : List ℕ} {o : Outer}
+      → OfSurroundings G.L first n v z o → M.activation_of v ≡ activation_in o
   same_activation v = ap (λ (f : M.Frame). f.activation) (same v)
 
-  pub same_procedure : {first : Bool} {n : Nest} {v : Surroundings} {z : List ℕ} {o : Outer} → OfSurroundings G.L first n v z o → (M.frame_of v).procedure ≡ proc_in o
+  pub same_procedure : {first : Bool} {n : Nest} {v : Surroundings} {z : List ℕ} {o : Outer}
+      → OfSurroundings G.L first n v z o → (M.frame_of v).procedure ≡ proc_in o
   same_procedure v = ap (λ (f : M.Frame). f.procedure) (same v)
 
-  pub same_level : {first : Bool} {n : Nest} {v : Surroundings} {z : List ℕ} {o : Outer} → OfSurroundings G.L first n v z o → (M.frame_of v).level ≡ level_in o
+  pub same_level : {first : Bool} {n : Nest} {v : Surroundings} {z : List ℕ} {o : Outer}
+      → OfSurroundings G.L first n v z o → (M.frame_of v).level ≡ level_in o
   same_level v = ap (λ (f : M.Frame). f.level) (same v)
 
   -- the open scans are those of the surroundings
   mutual
-    pub same_scans : {first : Bool} {n : Nest} {v : Surroundings} {z : List ℕ} {o : Outer} → OfSurroundings G.L first n v z o → z ≡ MS.scans_of v
+    pub same_scans : {first : Bool} {n : Nest} {v : Surroundings} {z : List ℕ} {o : Outer}
+        → OfSurroundings G.L first n v z o → z ≡ MS.scans_of v
     same_scans (v_main e) = refl
     same_scans (v_create e) = refl
     same_scans (v_call k r) = refl
@@ -119,24 +137,42 @@ module _ (G : Ground) where
     same_scans (v_mark m) = same_scans_in m
     same_scans (v_limit m) = same_scans_in m
 
-    same_scans_in : {first : Bool} {n : Nest} {v : Surroundings} {xs : List Item} {s : Suspensions} {z : List ℕ} {o : Outer} → OfMark G.L first n v xs s z o → z ≡ MS.scans_of v
+    same_scans_in : {first : Bool} {n : Nest} {v : Surroundings} {xs : List Item} {s : Suspensions}
+        {z : List ℕ} {o : Outer} → OfMark G.L first n v xs s z o → z ≡ MS.scans_of v
     same_scans_in (m_plain v) = same_scans v
     same_scans_in (m_loop k r a rn v) = same_scans v
     same_scans_in (m_control k r v) = same_scans v
     same_scans_in (m_each h k r rn v) = same_scans v
 
-  finished : {s : M.State} (active : ℕ) (st : M.Store) (ls : List (S.Coexp Parked)) → (S.is_main active) ≡ true → st.active ≡ active → Rel G.L s (S.over M.Done st.outside) → Reach G s (S.finished (store_of st ls))
-  finished {s} active st ls e e' rel = subst (λ b. Reach G s (if b then S.over M.Done st.outside else S.stuck)) (sym (ap S.is_main e' ∙ e)) (stay G rel)
+  finished : {s : M.State} (active : ℕ) (st : M.Store) (ls : List (S.Coexp Parked))
+      → (S.is_main active) ≡ true → st.active ≡ active → Rel G.L s (S.over M.Done st.outside)
+      → Reach G s (S.finished (store_of st ls))
+  finished {s} active st ls e e' rel =
+      subst (λ b. Reach G s (if b then S.over M.Done st.outside else S.stuck)) (sym (ap S.is_main e' ∙ e))
+      (stay G rel)
 
   -- the contexts of the innermost call, found through marks, loops and scans
   pub record Called (first : Bool) (v : Surroundings) (z : List ℕ) (t : Frame) : Type 0 where
-    pub no_body : (active : ℕ) → first ≡ (S.is_main active) → (is_base_frame t && not (S.is_main active)) ≡ false
-    pub gone : (m : Chain) (p : ℕ) (st : M.Store) (ls : List (S.Coexp Parked)) → Live G first st.active st.coexpressions ls → Reach G (MA.off v st) (S.returned (leave_frame (linked_of m p st) t) S.failing (store_of (away z st) ls))
-    pub came : (x : Item) (m : Chain) (p : ℕ) (st : M.Store) (ls : List (S.Coexp Parked)) → Live G first st.active st.coexpressions ls → Reach G (MC.returned x v st) (S.returned (leave_frame (linked_of m p st) t) (S.pushed (machine G) x) (store_of (away z st) ls))
-    pub left : (x : Item) (b : MaybeTree) (v' : Surroundings) (r : Choices) (m : Chain) (p : ℕ) (st : M.Store) (ls : List (S.Coexp Parked)) → Live G first st.active st.coexpressions ls → ((z : List ℕ) (o : Outer) → OfChoices G.L first (M.Back b v' or_else r) (suspension (because Proc) p m) z o) → Reach G (MC.suspended x b v' v r st) (S.returned (suspend_frame (linked_of m p st) t) (S.pushed (machine G) x) (store_of st ls))
+    pub no_body : (active : ℕ) → first ≡ (S.is_main active)
+        → (is_base_frame t && not (S.is_main active)) ≡ false
+    pub gone : (m : Chain) (p : ℕ) (st : M.Store) (ls : List (S.Coexp Parked))
+        → Live G first st.active st.coexpressions ls
+        → Reach G (MA.off v st) (S.returned (leave_frame (linked_of m p st) t) S.failing
+        (store_of (away z st) ls))
+    pub came : (x : Item) (m : Chain) (p : ℕ) (st : M.Store) (ls : List (S.Coexp Parked))
+        → Live G first st.active st.coexpressions ls
+        → Reach G (MC.returned x v st) (S.returned (leave_frame (linked_of m p st) t)
+        (S.pushed (machine G) x) (store_of (away z st) ls))
+    pub left : (x : Item) (b : MaybeTree) (v' : Surroundings) (r : Choices) (m : Chain) (p : ℕ)
+        (st : M.Store) (ls : List (S.Coexp Parked)) → Live G first st.active st.coexpressions ls
+        → ((z : List ℕ) (o : Outer) → OfChoices G.L first (M.Back b v' or_else r)
+        (suspension (because Proc) p m) z o)
+        → Reach G (MC.suspended x b v' v r st)
+        (S.returned (suspend_frame (linked_of m p st) t) (S.pushed (machine G) x) (store_of st ls))
 
   mutual
-    pub called : {first : Bool} {n : Nest} {v : Surroundings} {z : List ℕ} {o : Outer} → Proper n → OfSurroundings G.L first n v z o → Called first v z (frame_of o)
+    pub called : {first : Bool} {n : Nest} {v : Surroundings} {z : List ℕ} {o : Outer} → Proper n
+        → OfSurroundings G.L first n v z o → Called first v z (frame_of o)
     called w (v_main e) = record {
       no_body = λ active l. ap not (sym l ∙ e);
       gone = λ m p st ls live. finished st.active st ls (sym live.0 ∙ e) refl at_end;
@@ -152,15 +188,25 @@ module _ (G : Ground) where
     }
     called (w_scan w) (v_scan {v = v'} {i = i} {z = z} {o = o} v) = let d = called w v in record {
       no_body = d.no_body;
-      gone = λ m p st ls live. subst (λ y. Reach G (MA.off v' (MS.restored i st)) (S.returned (leave_frame (linked_of m p st) (frame_of o)) S.failing (store_of y ls))) (away_scan i z st) (d.gone m p (MS.restored i st) ls live);
-      came = λ x m p st ls live. subst (λ y. Reach G (MC.returned x v' (MS.restored i st)) (S.returned (leave_frame (linked_of m p st) (frame_of o)) (S.pushed (machine G) x) (store_of y ls))) (away_scan i z st) (d.came x m p (MS.restored i st) ls live);
+      gone = λ m p st ls live. subst (λ y.
+          Reach G (MA.off v' (MS.restored i st))
+          (S.returned (leave_frame (linked_of m p st) (frame_of o)) S.failing (store_of y ls)))
+          (away_scan i z st) (d.gone m p (MS.restored i st) ls live);
+      came = λ x m p st ls live. subst
+          (λ y. Reach G (MC.returned x v' (MS.restored i st))
+          (S.returned (leave_frame (linked_of m p st) (frame_of o)) (S.pushed (machine G) x)
+          (store_of y ls))) (away_scan i z st) (d.came x m p (MS.restored i st) ls live);
       left = λ x b v' r m p st ls live h. d.left x b v' r m p st ls live h;
     }
     called (w_mark w) (v_mark m) = called_in w m
     called (w_mark w) (v_limit m) = called_in w m
 
-    called_in : {first : Bool} {n : Nest} {v : Surroundings} {xs : List Item} {s : Suspensions} {z : List ℕ} {o : Outer} → Proper n → OfMark G.L first n v xs s z o → Called first v z (frame_of o)
+    called_in : {first : Bool} {n : Nest} {v : Surroundings} {xs : List Item} {s : Suspensions} {z : List ℕ}
+        {o : Outer} → Proper n → OfMark G.L first n v xs s z o → Called first v z (frame_of o)
     called_in w (m_plain v) = called w v
-    called_in (w_loop w) (m_loop k r a rn v) = let d = called w v in record { no_body = d.no_body; gone = d.gone; came = d.came; left = d.left }
-    called_in (w_control w) (m_control k r v) = let d = called w v in record { no_body = d.no_body; gone = d.gone; came = d.came; left = d.left }
-    called_in (w_each w) (m_each h k r rn v) = let d = called w v in record { no_body = d.no_body; gone = d.gone; came = d.came; left = d.left }
+    called_in (w_loop w) (m_loop k r a rn v) = let d = called w v in
+        record { no_body = d.no_body; gone = d.gone; came = d.came; left = d.left }
+    called_in (w_control w) (m_control k r v) = let d = called w v in
+        record { no_body = d.no_body; gone = d.gone; came = d.came; left = d.left }
+    called_in (w_each w) (m_each h k r rn v) = let d = called w v in
+        record { no_body = d.no_body; gone = d.gone; came = d.came; left = d.left }

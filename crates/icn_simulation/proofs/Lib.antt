@@ -12,5 +12,10 @@ pub mod Segments
 pub mod Stand
 pub mod Routines
 pub mod Example
-pub mod Composed
+pub mod Files
 mod Sizes
+pub mod FirstMentions
+pub mod Formed
+pub mod Fitting
+pub mod Checked
+pub mod Joining

@@ -33,12 +33,18 @@ use Rattle.icn_simulation.proofs.Choices.{on_choices}
 
 -- Forms that are something applied to operands
 
-before_of : (program : _) (o : Operator) (e : Tree) (v : Surroundings) (k : Works) (r : Choices) (st : M.Store) → is_prefix o ≡ true → ME.before program o e v k r st ≡ MC.operands program (Operating (prefix_op o)) [] (More e NoTrees) v k r st
+before_of : (program : _) (o : Operator) (e : Tree) (v : Surroundings) (k : Works) (r : Choices)
+    (st : M.Store) → is_prefix o ≡ true
+    → ME.before program o e v k r st ≡ MC.operands program (Operating (prefix_op o)) [] (More e NoTrees) v k
+    r st
 before_of program Signs.Bar e v k r st h = absurd (cc)
 before_of program Signs.At e v k r st h = absurd (cc)
 before_of program o e v k r st h = refl
 
-between_of : (program : _) (o : Operator) (a b : Tree) (v : Surroundings) (k : Works) (r : Choices) (st : M.Store) → is_infix o ≡ true → ME.between program o a b v k r st ≡ MC.operands program (Operating (infix_op o)) [] (More a (More b NoTrees)) v k r st
+between_of : (program : _) (o : Operator) (a b : Tree) (v : Surroundings) (k : Works) (r : Choices)
+    (st : M.Store) → is_infix o ≡ true
+    → ME.between program o a b v k r st ≡ MC.operands program (Operating (infix_op o)) []
+    (More a (More b NoTrees)) v k r st
 between_of program Signs.Ampersand a b v k r st h = absurd (cc)
 between_of program Signs.Question a b v k r st h = absurd (cc)
 between_of program Signs.Bar a b v k r st h = absurd (cc)
@@ -47,7 +53,9 @@ between_of program Signs.At a b v k r st h = absurd (cc)
 between_of program Signs.Bang a b v k r st h = absurd (cc)
 between_of program o a b v k r st h = refl
 
-applied_of : {e : Tree} {form : Form} {es : Trees} (program : _) (v : Surroundings) (k : Works) (r : Choices) (st : M.Store) → IsApplied e form es → ME.on_eval program e v k r st ≡ MC.operands program form [] es v k r st
+applied_of : {e : Tree} {form : Form} {es : Trees} (program : _) (v : Surroundings) (k : Works)
+    (r : Choices) (st : M.Store) → IsApplied e form es
+    → ME.on_eval program e v k r st ≡ MC.operands program form [] es v k r st
 applied_of program v k r st i_listing = refl
 applied_of program v k r st i_call = refl
 applied_of program v k r st i_cocall = refl
@@ -82,8 +90,11 @@ first_first i_at = omega arith
 first_first i_bang = omega arith
 first_first i_to = omega arith
 
-compound_of : (place : Place) (d e : Tree) (es : Trees) (v : Surroundings) (k : Works) (r : Choices) (st : M.Store) → is_empty d ≡ false →
-    ME.compound place (More d (More e es)) v k r st ≡ M.eval d v (M.Cut r (M.Go (T.Compound place (More e es)) v k) and_then Nothing) (M.Do (M.Go (T.Compound place (More e es)) v k) or_else r) st
+compound_of : (place : Place) (d e : Tree) (es : Trees) (v : Surroundings) (k : Works) (r : Choices)
+    (st : M.Store) → is_empty d ≡ false →
+    ME.compound place (More d (More e es)) v k r st ≡ M.eval d v
+    (M.Cut r (M.Go (T.Compound place (More e es)) v k) and_then Nothing)
+    (M.Do (M.Go (T.Compound place (More e es)) v k) or_else r) st
 compound_of place T.Empty e es v k r st h = absurd (cc)
 compound_of place d e es v k r st h = refl
 
@@ -94,71 +105,161 @@ module _ (G : Ground) where
   weaken : {s : M.State} {l : LState} {w w' : ℕ} → Goes G w s l → w ≤ w' → Goes G w' s l
   weaken g le = record { reach = g.reach; less = ⊎_elim (λ a. inl a) (λ a. inr (omega arith)) g.less }
 
-  under : {first : Bool} {n : Nest} {v : Surroundings} {l : Label} {xs : List Item} {s : Suspensions} {z : List ℕ} {o : Outer} → OfSurroundings G.L first n v z o → OfSurroundings G.L first (in_mark n) v z (mark l (chain xs s z o))
+  under : {first : Bool} {n : Nest} {v : Surroundings} {l : Label} {xs : List Item} {s : Suspensions}
+      {z : List ℕ} {o : Outer} → OfSurroundings G.L first n v z o
+      → OfSurroundings G.L first (in_mark n) v z (mark l (chain xs s z o))
   under v = v_mark (m_plain v)
 
-  on_keyword : {first : Bool} {k : Works} {r : Choices} {xs : List Item} {s : Suspensions} {z : List ℕ} {o : Outer} (x : Option Item) (p : ℕ) (st : M.Store) (ls : List (S.Coexp Parked)) → Live G first st.active st.coexpressions ls → OfWorks G.L first k p xs z o → OfChoices G.L first r s z o →
-      Reach G (ME.item_or_failure x k r st) (S.pushed_or_fails (machine G) x (linked_of (chain xs s z o) p st) (store_of st ls))
+  on_keyword : {first : Bool} {k : Works} {r : Choices} {xs : List Item} {s : Suspensions} {z : List ℕ}
+      {o : Outer} (x : Option Item) (p : ℕ) (st : M.Store) (ls : List (S.Coexp Parked))
+      → Live G first st.active st.coexpressions ls → OfWorks G.L first k p xs z o
+      → OfChoices G.L first r s z o →
+      Reach G (ME.item_or_failure x k r st)
+      (S.pushed_or_fails (machine G) x (linked_of (chain xs s z o) p st) (store_of st ls))
   on_keyword (Some x) p st ls live k r = stay G (at_succeed live.0 live.1 k r)
   on_keyword None p st ls live k r = stay G (at_fail live.0 live.1 r)
 
-  pub sim_eval : {first : Bool} {o : Outer} {n : Nest} {e : Tree} {v : Surroundings} {k : Works} {r : Choices} {q : ℕ} {xs : List Item} {s : Suspensions} {z : List ℕ} (p j : ℕ) (st : M.Store) (ls : List (S.Coexp Parked)) → Good G (run (chain xs s z o) p st ls) → Live G first st.active st.coexpressions ls → Stands G.L (proc_in o) n e p q → OfSurroundings G.L first n v z o → OfWorks G.L first k q xs z o → OfChoices G.L first r s z o → Goes G (weigh e) (ME.on_eval G.L.program e v k r st) (run (chain xs s z o) p st ls)
-  sim_eval p j st ls good live (s_empty h) v k r = goes G _ (loads G p st ls h l_null) (stay G (at_succeed live.0 live.1 k r))
-  sim_eval p j st ls good live (s_constant h l) v k r = goes G _ (loads G p st ls h l) (stay G (at_succeed live.0 live.1 k r))
-  sim_eval {o = o} {k = k'} {r = r'} {xs = xs} {s = s} {z = z} p j st ls good live (s_identifier {name = name} h l) v k r = subst (λ j. Goes G 0 (M.succeed (Var (V.Whole (meaning_of G.L.program j name.text))) k' r' st) (run (chain xs s z o) p st ls)) (sym (same_procedure G v)) (goes G _ (loads G p st ls h l) (stay G (at_succeed live.0 live.1 k r)))
-  sim_eval {o = o} {v = v'} {k = k'} {r = r'} {xs = xs} {s = s} {z = z} p j st ls good live (s_keyword {word = word} e h) v k r = subst (λ w. Goes G 0 (ME.keyword w v' k' r' st) (run (chain xs s z o) p st ls)) (sym e)
-      (goes G _ (at_step G p _ st ls h) (let there = S.standing (machine G) (linked_of (chain xs s z o) (suc p) st) (store_of st ls) in
-      subst (λ level. Reach G (ME.item_or_failure (keyword_item (a_standing level st.active (MX.activator_of st.active st)) word) k' r' st) (S.pushed_or_fails (machine G) (keyword_item there word) (linked_of (chain xs s z o) (suc p) st) (store_of st ls))) (sym (same_level G v))
-      (subst (λ source. Reach G (ME.item_or_failure (keyword_item (a_standing (level_in o) st.active source) word) k' r' st) (S.pushed_or_fails (machine G) (keyword_item there word) (linked_of (chain xs s z o) (suc p) st) (store_of st ls))) (sym (look G live.1 st.active).activator)
+  pub sim_eval : {first : Bool} {o : Outer} {n : Nest} {e : Tree} {v : Surroundings} {k : Works}
+      {r : Choices} {q : ℕ} {xs : List Item} {s : Suspensions} {z : List ℕ} (p j : ℕ) (st : M.Store)
+      (ls : List (S.Coexp Parked)) → Good G (run (chain xs s z o) p st ls)
+      → Live G first st.active st.coexpressions ls → Stands G.L (proc_in o) n e p q
+      → OfSurroundings G.L first n v z o → OfWorks G.L first k q xs z o → OfChoices G.L first r s z o
+      → Goes G (weigh e) (ME.on_eval G.L.program e v k r st) (run (chain xs s z o) p st ls)
+  sim_eval p j st ls good live (s_empty h) v k r =
+      goes G _ (loads G p st ls h l_null) (stay G (at_succeed live.0 live.1 k r))
+  sim_eval p j st ls good live (s_constant h l) v k r =
+      goes G _ (loads G p st ls h l) (stay G (at_succeed live.0 live.1 k r))
+  sim_eval {o = o} {k = k'} {r = r'} {xs = xs} {s = s} {z = z} p j st ls good live
+      (s_identifier {name = name} h l) v k r =
+      subst (λ j. Goes G 0 (M.succeed (Var (V.Whole (meaning_of G.L.program j name.text))) k' r' st)
+      (run (chain xs s z o) p st ls)) (sym (same_procedure G v))
+      (goes G _ (loads G p st ls h l) (stay G (at_succeed live.0 live.1 k r)))
+  sim_eval {o = o} {v = v'} {k = k'} {r = r'} {xs = xs} {s = s} {z = z} p j st ls good live
+      (s_keyword {word = word} e h) v k r =
+      subst (λ w. Goes G 0 (ME.keyword w v' k' r' st) (run (chain xs s z o) p st ls)) (sym e)
+      (goes G _ (at_step G p _ st ls h)
+      (let there = S.standing (machine G) (linked_of (chain xs s z o) (suc p) st) (store_of st ls) in
+      subst (λ level. Reach G (ME.item_or_failure
+      (keyword_item (a_standing level st.active (MX.activator_of st.active st)) word) k' r' st)
+      (S.pushed_or_fails (machine G) (keyword_item there word) (linked_of (chain xs s z o) (suc p) st)
+      (store_of st ls))) (sym (same_level G v))
+      (subst (λ source. Reach G (ME.item_or_failure
+      (keyword_item (a_standing (level_in o) st.active source) word) k' r' st)
+      (S.pushed_or_fails (machine G) (keyword_item there word) (linked_of (chain xs s z o) (suc p) st)
+      (store_of st ls))) (sym (look G live.1 st.active).activator)
       (on_keyword (keyword_item there word) (suc p) st ls live k r))))
-  sim_eval {o = o} {v = v'} {k = k'} {r = r'} {xs = xs} {s = s} {z = z} p j st ls good live (s_fail_keyword e h) v k r = subst (λ w. Goes G 0 (ME.keyword w v' k' r' st) (run (chain xs s z o) p st ls)) (sym e) (goes G _ (efails G p st ls h) (stay G (at_fail live.0 live.1 r)))
-  sim_eval {o = o} {v = v'} {k = k'} {r = r'} {xs = xs} {s = s} {z = z} p j st ls good live (s_applied {e = e} {form = form} a s_nil h f) v k r = subst (λ y. Goes G (weigh e) y (run (chain xs s z o) p st ls)) (sym (applied_of G.L.program v' k' r' st a)) (on_applied G [] (weigh e) p st ls live f refl refl h v k r)
-  sim_eval {o = o} {v = v'} {k = k'} {r = r'} {xs = xs} {s = s} {z = z} p j st ls good live (s_applied {e = e} {form = form} a (s_cons d es) h f) v k r = let le = first_first a in subst (λ y. Goes G (weigh e) y (run (chain xs s z o) p st ls)) (sym (applied_of G.L.program v' k' r' st a)) (silent G _ (at_eval live.0 live.1 d v (k_args {xs = []} es h f (omega arith) refl v k) r) (omega arith))
+  sim_eval {o = o} {v = v'} {k = k'} {r = r'} {xs = xs} {s = s} {z = z} p j st ls good live
+      (s_fail_keyword e h) v k r = subst
+      (λ w. Goes G 0 (ME.keyword w v' k' r' st) (run (chain xs s z o) p st ls)) (sym e)
+      (goes G _ (efails G p st ls h) (stay G (at_fail live.0 live.1 r)))
+  sim_eval {o = o} {v = v'} {k = k'} {r = r'} {xs = xs} {s = s} {z = z} p j st ls good live
+      (s_applied {e = e} {form = form} a s_nil h f) v k r =
+      subst (λ y. Goes G (weigh e) y (run (chain xs s z o) p st ls))
+      (sym (applied_of G.L.program v' k' r' st a))
+      (on_applied G [] (weigh e) p st ls live f refl refl h v k r)
+  sim_eval {o = o} {v = v'} {k = k'} {r = r'} {xs = xs} {s = s} {z = z} p j st ls good live
+      (s_applied {e = e} {form = form} a (s_cons d es) h f) v k r = let le = first_first a in
+      subst (λ y. Goes G (weigh e) y (run (chain xs s z o) p st ls))
+      (sym (applied_of G.L.program v' k' r' st a))
+      (silent G _ (at_eval live.0 live.1 d v (k_args {xs = []} es h f (omega arith) refl v k) r)
+      (omega arith))
   sim_eval p j st ls good live (s_last e) v k r = silent G _ (at_eval live.0 live.1 e v k r) (omega arith)
-  sim_eval p j st ls good live (s_before d h e) v k r = silent G _ (at_eval live.0 live.1 d v (k_then h e v k) r) (omega arith)
+  sim_eval p j st ls good live (s_before d h e) v k r =
+      silent G _ (at_eval live.0 live.1 d v (k_then h e v k) r) (omega arith)
   sim_eval p j st ls good live (s_final e) v k r = silent G _ (at_eval live.0 live.1 e v k r) (omega arith)
-  sim_eval p j st ls good live (s_passed c) v k r = weaken (sim_eval p j st ls good live c v k r) (omega arith)
-  sim_eval {o = o'} {v = v'} {k = k'} {r = r'} {xs = xs} {s = s} {z = z} p j st ls good live (s_bounded {place = place} {d = d'} {e = e'} {es = es} ne o d u e) v k r = subst (λ y. Goes G (suc (total (More d' (More e' es)))) y (run (chain xs s z o') p st ls)) (sym (compound_of place d' e' es v' k' r' st ne))
-      (goes G _ (opens G p st ls o) (stay G (at_eval live.0 live.1 d (under v) (k_cut u r (a_go e v k)) (r_do (a_go e v k) r))))
-  sim_eval p j st ls good live (s_repeated h e0 e h2 h3) v k r = goes G _ (opens_flagged G p st ls h e0) (stay G (at_eval live.0 live.1 e (under v) (k_raise h2 (k_esusp h3 k)) (r_again e h2 h3 v k r)))
-  sim_eval p j st ls good live (s_not o e u h2 h3) v k r = goes G _ (opens G p st ls o) (stay G (at_eval live.0 live.1 e (under v) (k_cut u r (a_fail h2)) (r_do (a_give h3 l_null k) r)))
-  sim_eval p j st ls good live (s_both a h b) v k r = silent G _ (at_eval live.0 live.1 a v (k_then h b v k) r) (omega arith)
-  sim_eval p j st ls good live (s_scan a h b h2) v k r = silent G _ (at_eval live.0 live.1 a v (k_scan h b h2 v k) r) (omega arith)
-  sim_eval p j st ls good live (s_or o a h g b) v k r = goes G _ (opens G p st ls o) (stay G (at_eval live.0 live.1 a (under v) (k_esusp h (k_goto g k)) (r_do (a_go b v k) r)))
-  sim_eval p j st ls good live (s_limit b h a h2) v k r = silent G _ (at_eval live.0 live.1 b v (k_limit h a h2 v k) r) (omega arith)
-  sim_eval p j st ls good live (s_update_both x y h) v k r = silent G _ (at_eval live.0 live.1 x v (k_update_both y h v k) r) (omega arith)
-  sim_eval p j st ls good live (s_update_scan x h h1 y h2 h3) v k r = silent G _ (at_eval live.0 live.1 x v (k_update_scan h h1 y h2 h3 v k) r) (omega arith)
-  sim_eval p j st ls good live (s_update d x h y h1 f h2) v k r = silent G _ (at_eval live.0 live.1 x v (k_update d h y h1 f h2 v k) r) (omega arith)
-  sim_eval p j st ls good live (s_if o c u a) v k r = goes G _ (opens G p st ls o) (stay G (at_eval live.0 live.1 c (under v) (k_cut u r (a_go a v k)) (r_mark0 r)))
-  sim_eval p j st ls good live (s_if_else o c u a g b) v k r = goes G _ (opens G p st ls o) (stay G (at_eval live.0 live.1 c (under v) (k_cut u r (a_go a v (k_goto g k))) (r_do (a_go b v k) r)))
-  sim_eval p j st ls good live (s_case o e h c) v k r = goes G _ (opens G p st ls o) (stay G (at_eval live.0 live.1 e (under v) (k_select h c v k r) (r_mark0 r)))
-  sim_eval p j st ls good live (s_while o c u b h) v k r = let pass = a_pass h (s_while o c u b h) v k in let i = m_loop k r pass r v in
-      goes G _ (opens G p st ls o) (stay G (at_eval live.0 live.1 c (v_mark i) (k_cut u r (a_body b pass i)) (r_mark0 r)))
-  sim_eval p j st ls good live (s_until o c u h0 b h) v k r = let pass = a_pass h (s_until o c u h0 b h) v k in let i = m_loop k r pass r v in
-      goes G _ (opens G p st ls o) (stay G (at_eval live.0 live.1 c (v_mark i) (k_cut u r (a_fail h0)) (r_do (a_body b pass i) r)))
-  sim_eval p j st ls good live (s_every o e h b h2) v k r = goes G _ (opens G p st ls o) (stay G (at_eval live.0 live.1 e (v_mark (m_control k r v)) (k_each h b h2 v k r) (r_mark0 r)))
-  sim_eval p j st ls good live (s_repeat (s_present o b u) h) v k r = let pass = a_pass h (s_repeat (s_present o b u) h) v k in let i = m_loop k r pass r v in
-      goes G _ (opens G p st ls o) (stay G (at_eval live.0 live.1 b (v_mark i) (k_cut u r pass) (r_do pass r)))
-  sim_eval {o = o} {v = v'} {k = k'} {r = r'} {xs = xs} {s = s} {z = z} p j st ls good live (s_create {e = e} {q = q} h stands) v k r = let st1 = record st { turns = suc st.turns } in
-      goes G _ (at_step G p _ st ls h) (on_turn G st ls _ (S.coexp_made (machine G) (MT.locals_of (activation_in o) st) (proc_in o) (suc p) (linked_of (chain xs s z o) q st))
-      (subst (λ j. Reach G (MX.fresh e j (MT.locals_of (M.activation_of v') st1) (M.activation_of v') k' r' st1) (S.coexp_made (machine G) (MT.locals_of (activation_in o) st1) (proc_in o) (suc p) (linked_of (chain xs s z o) q st1) (store_of st1 ls))) (sym (same_procedure G v))
-      (subst (λ a. Reach G (MX.fresh e (proc_in o) (MT.locals_of a st1) (M.activation_of v') k' r' st1) (S.coexp_made (machine G) (MT.locals_of (activation_in o) st1) (proc_in o) (suc p) (linked_of (chain xs s z o) q st1) (store_of st1 ls))) (sym (same_activation G v))
+  sim_eval p j st ls good live (s_passed c) v k r =
+      weaken (sim_eval p j st ls good live c v k r) (omega arith)
+  sim_eval {o = o'} {v = v'} {k = k'} {r = r'} {xs = xs} {s = s} {z = z} p j st ls good live
+      (s_bounded {place = place} {d = d'} {e = e'} {es = es} ne o d u e) v k r =
+      subst (λ y. Goes G (suc (total (More d' (More e' es)))) y (run (chain xs s z o') p st ls))
+      (sym (compound_of place d' e' es v' k' r' st ne))
+      (goes G _ (opens G p st ls o) (stay G
+      (at_eval live.0 live.1 d (under v) (k_cut u r (a_go e v k)) (r_do (a_go e v k) r))))
+  sim_eval p j st ls good live (s_repeated h e0 e h2 h3) v k r =
+      goes G _ (opens_flagged G p st ls h e0)
+      (stay G (at_eval live.0 live.1 e (under v) (k_raise h2 (k_esusp h3 k)) (r_again e h2 h3 v k r)))
+  sim_eval p j st ls good live (s_not o e u h2 h3) v k r =
+      goes G _ (opens G p st ls o) (stay G
+      (at_eval live.0 live.1 e (under v) (k_cut u r (a_fail h2)) (r_do (a_give h3 l_null k) r)))
+  sim_eval p j st ls good live (s_both a h b) v k r =
+      silent G _ (at_eval live.0 live.1 a v (k_then h b v k) r) (omega arith)
+  sim_eval p j st ls good live (s_scan a h b h2) v k r =
+      silent G _ (at_eval live.0 live.1 a v (k_scan h b h2 v k) r) (omega arith)
+  sim_eval p j st ls good live (s_or o a h g b) v k r =
+      goes G _ (opens G p st ls o) (stay G
+      (at_eval live.0 live.1 a (under v) (k_esusp h (k_goto g k)) (r_do (a_go b v k) r)))
+  sim_eval p j st ls good live (s_limit b h a h2) v k r =
+      silent G _ (at_eval live.0 live.1 b v (k_limit h a h2 v k) r) (omega arith)
+  sim_eval p j st ls good live (s_update_both x y h) v k r =
+      silent G _ (at_eval live.0 live.1 x v (k_update_both y h v k) r) (omega arith)
+  sim_eval p j st ls good live (s_update_scan x h h1 y h2 h3) v k r =
+      silent G _ (at_eval live.0 live.1 x v (k_update_scan h h1 y h2 h3 v k) r) (omega arith)
+  sim_eval p j st ls good live (s_update d x h y h1 f h2) v k r =
+      silent G _ (at_eval live.0 live.1 x v (k_update d h y h1 f h2 v k) r) (omega arith)
+  sim_eval p j st ls good live (s_if o c u a) v k r =
+      goes G _ (opens G p st ls o) (stay G
+      (at_eval live.0 live.1 c (under v) (k_cut u r (a_go a v k)) (r_mark0 r)))
+  sim_eval p j st ls good live (s_if_else o c u a g b) v k r =
+      goes G _ (opens G p st ls o) (stay G
+      (at_eval live.0 live.1 c (under v) (k_cut u r (a_go a v (k_goto g k))) (r_do (a_go b v k) r)))
+  sim_eval p j st ls good live (s_case o e h c) v k r =
+      goes G _ (opens G p st ls o) (stay G
+      (at_eval live.0 live.1 e (under v) (k_select h c v k r) (r_mark0 r)))
+  sim_eval p j st ls good live (s_while o c u b h) v k r = let pass = a_pass h (s_while o c u b h) v k in
+      let i = m_loop k r pass r v in
+      goes G _ (opens G p st ls o) (stay G
+      (at_eval live.0 live.1 c (v_mark i) (k_cut u r (a_body b pass i)) (r_mark0 r)))
+  sim_eval p j st ls good live (s_until o c u h0 b h) v k r = let pass =
+      a_pass h (s_until o c u h0 b h) v k in let i = m_loop k r pass r v in
+      goes G _ (opens G p st ls o) (stay G
+      (at_eval live.0 live.1 c (v_mark i) (k_cut u r (a_fail h0)) (r_do (a_body b pass i) r)))
+  sim_eval p j st ls good live (s_every o e h b h2) v k r =
+      goes G _ (opens G p st ls o) (stay G
+      (at_eval live.0 live.1 e (v_mark (m_control k r v)) (k_each h b h2 v k r) (r_mark0 r)))
+  sim_eval p j st ls good live (s_repeat (s_present o b u) h) v k r = let pass =
+      a_pass h (s_repeat (s_present o b u) h) v k in let i = m_loop k r pass r v in
+      goes G _ (opens G p st ls o) (stay G
+      (at_eval live.0 live.1 b (v_mark i) (k_cut u r pass) (r_do pass r)))
+  sim_eval {o = o} {v = v'} {k = k'} {r = r'} {xs = xs} {s = s} {z = z} p j st ls good live
+      (s_create {e = e} {q = q} h stands) v k r = let st1 = record st { turns = suc st.turns } in
+      goes G _ (at_step G p _ st ls h)
+      (on_turn G st ls _ (S.coexp_made (machine G) (MT.locals_of (activation_in o) st) (proc_in o)
+      (suc p) (linked_of (chain xs s z o) q st))
+      (subst (λ j. Reach G (MX.fresh e j (MT.locals_of (M.activation_of v') st1) (M.activation_of v') k' r'
+      st1) (S.coexp_made (machine G) (MT.locals_of (activation_in o) st1) (proc_in o) (suc p)
+      (linked_of (chain xs s z o) q st1) (store_of st1 ls))) (sym (same_procedure G v))
+      (subst (λ a. Reach G (MX.fresh e (proc_in o) (MT.locals_of a st1) (M.activation_of v') k' r' st1)
+      (S.coexp_made (machine G) (MT.locals_of (activation_in o) st1) (proc_in o) (suc p)
+      (linked_of (chain xs s z o) q st1) (store_of st1 ls))) (sym (same_activation G v))
       (on_fresh G (MT.locals_of (activation_in o) st1) q st1 ls live (same_activation G v) stands k r))))
   sim_eval p j st ls good live (s_next u g) v k r = on_next_at G [] _ p st ls good live refl u v g
   sim_eval p j st ls good live (s_fail w h) v k r = off_goes G _ p st ls live w h v
   sim_eval p j st ls good live (s_break u e g) v k r = on_break_at G [] _ p st ls good live refl u v e g
-  sim_eval p j st ls good live (s_return w o e h1 h2) v k r = goes G _ (opens G p st ls o) (stay G (at_eval live.0 live.1 e (under v) (k_return (w_mark w) h1 (under v)) (r_do (a_off w h2 v) r)))
-  sim_eval p j st ls good live (s_suspend w o e h1 h2 b h3) v k r = goes G _ (opens G p st ls o) (stay G (at_eval live.0 live.1 e (under v) (k_suspend (w_mark w) h1 h2 b h3 (under v)) (r_mark0 r)))
+  sim_eval p j st ls good live (s_return w o e h1 h2) v k r =
+      goes G _ (opens G p st ls o) (stay G
+      (at_eval live.0 live.1 e (under v) (k_return (w_mark w) h1 (under v)) (r_do (a_off w h2 v) r)))
+  sim_eval p j st ls good live (s_suspend w o e h1 h2 b h3) v k r =
+      goes G _ (opens G p st ls o) (stay G
+      (at_eval live.0 live.1 e (under v) (k_suspend (w_mark w) h1 h2 b h3 (under v)) (r_mark0 r)))
 
-  on_hop : (m : Chain) (p : ℕ) (st : M.Store) (ls : List (S.Coexp Parked)) → OfAll G.L st.coexpressions ls → Reach G (MX.failed (MX.activator_of st.active st) st) (S.passed_failure (machine G) (S.activator_of st.active (store_of st ls)) (linked_of m p st) (store_of st ls))
-  on_hop m p st ls a = subst (λ n. Reach G (MX.failed n st) (S.passed_failure (machine G) (S.activator_of st.active (store_of st ls)) (linked_of m p st) (store_of st ls))) (sym (look G a st.active).activator) (on_failed G (S.activator_of st.active (store_of st ls)) m p st ls a)
+  on_hop : (m : Chain) (p : ℕ) (st : M.Store) (ls : List (S.Coexp Parked)) → OfAll G.L st.coexpressions ls
+      → Reach G (MX.failed (MX.activator_of st.active st) st)
+      (S.passed_failure (machine G) (S.activator_of st.active (store_of st ls)) (linked_of m p st)
+      (store_of st ls))
+  on_hop m p st ls a = subst (λ n.
+      Reach G (MX.failed n st) (S.passed_failure (machine G) (S.activator_of st.active (store_of st ls))
+      (linked_of m p st) (store_of st ls))) (sym (look G a st.active).activator)
+      (on_failed G (S.activator_of st.active (store_of st ls)) m p st ls a)
 
   pub sim : {s : M.State} {l : LState} → Good G l → Rel G.L s l → Goes G (weight s) (MM.step G.L.program s) l
   sim good (at_eval {p = p} {st = st} {ls = ls} f a e v k r) = sim_eval p 0 st ls good (f, a) e v k r
   sim good (at_succeed {x = x} {p = p} {st = st} {ls = ls} f a k r) = on_works G x p st ls (f, a) k r
   sim good (at_fail {p = p} {st = st} {ls = ls} f a r) = on_choices G p st ls (f, a) r
-  sim good (at_hop {c = c} {p = p} {m = m} {st = st} {ls = ls} e a) = subst (λ c. Goes G 0 (MX.hopped c st) (S.hopping (linked_of m p st) (store_of st ls))) (sym e)
-      (goes G 0 (record { by = refl }) (on_turn G st ls _ (λ st'. S.passed_failure (machine G) (S.activator_of st'.active st') (linked_of m p st) st') (on_hop m p (record st { turns = suc st.turns }) ls a)))
+  sim good (at_hop {c = c} {p = p} {m = m} {st = st} {ls = ls} e a) =
+      subst (λ c. Goes G 0 (MX.hopped c st) (S.hopping (linked_of m p st) (store_of st ls))) (sym e)
+      (goes G 0 (record { by = refl })
+      (on_turn G st ls _ (λ st'. S.passed_failure (machine G) (S.activator_of st'.active st')
+      (linked_of m p st) st') (on_hop m p (record st { turns = suc st.turns }) ls a)))
   sim good at_done = goes G 0 (record { by = refl }) (stay G at_over)
   sim good at_end = goes G 0 (record { by = refl }) (stay G at_over)
   sim good at_over = goes G 0 (record { by = refl }) (stay G at_over)

@@ -12,7 +12,8 @@ use Rattle.icn_simulation.proofs.Acts.{Good}
 use Rattle.icn_simulation.proofs.Moves.{sim}
 
 module _ (G : Ground) where
-  pub after : (m n : ℕ) {l l' l'' : LState} → l_steps G m l ≡ l' → l_steps G n l' ≡ l'' → (k : ℕ) × (l_steps G k l ≡ l'')
+  pub after : (m n : ℕ) {l l' l'' : LState} → l_steps G m l ≡ l' → l_steps G n l' ≡ l'' → (k : ℕ)
+      × (l_steps G k l ≡ l'')
   after zero n e f = (n, ap (l_steps G n) e ∙ f)
   after (suc m) n e f = let a = after m n e f in (suc a.0, a.1)
 
@@ -24,7 +25,8 @@ module _ (G : Ground) where
   swap_steps zero m l = refl
   swap_steps (suc d) m l = swap_steps d m (l_step G l) ∙ ap (l_steps G d) (one m l)
 
-  pub is_over : {l : LState} {ending : M.Ending} {st : M.Store} → Rel G.L (M.over ending st) l → l ≡ S.over ending st.outside
+  pub is_over : {l : LState} {ending : M.Ending} {st : M.Store} → Rel G.L (M.over ending st) l
+      → l ≡ S.over ending st.outside
   is_over at_over = refl
 
   -- a state that corresponds to an end of the code comes to an end
@@ -44,18 +46,22 @@ module _ (G : Ground) where
   ended_at (at_end {st = st}) = record { count = 1; store = st; is = refl; outside_is = refl }
   ended_at h = tt
 
-  pub was_over : {s : M.State} {ending : M.Ending} {outside : Outside} → Rel G.L s (S.over ending outside) → Ended s ending outside
+  pub was_over : {s : M.State} {ending : M.Ending} {outside : Outside} → Rel G.L s (S.over ending outside)
+      → Ended s ending outside
   was_over h = ended_at h
 
   pub good_steps : (n : ℕ) (l : LState) {l' : LState} → l_steps G n l ≡ l' → Good G l → Good G l'
   good_steps zero l e g = subst (Good G) e g
   good_steps (suc n) l e g = good_steps n (l_step G l) e (shadowed_step G.L.repeats G.L.tables l g)
 
-  pub forward : (n : ℕ) (s : M.State) (l : LState) (ending : M.Ending) (st : M.Store) → Good G l → Rel G.L s l → MM.steps G.L.program n s ≡ M.over ending st → (m : ℕ) × (l_steps G m l ≡ S.over ending st.outside)
+  pub forward : (n : ℕ) (s : M.State) (l : LState) (ending : M.Ending) (st : M.Store) → Good G l
+      → Rel G.L s l → MM.steps G.L.program n s ≡ M.over ending st → (m : ℕ)
+      × (l_steps G m l ≡ S.over ending st.outside)
   forward zero s l ending st good h e = (0, is_over (subst (λ s. Rel G.L s l) e h))
   forward (suc n) s l ending st good h e =
       let g = sim G good h in
-      let a = forward n (MM.step G.L.program s) g.reach.to ending st (good_steps g.reach.turns l g.reach.comes good) g.reach.rel e in
+      let a = forward n (MM.step G.L.program s) g.reach.to ending st
+      (good_steps g.reach.turns l g.reach.comes good) g.reach.rel e in
       after g.reach.turns a.0 g.reach.comes a.1
 
   -- where the code comes to a state z at which it stays, the meaning comes to one that corresponds to z
@@ -64,24 +70,36 @@ module _ (G : Ground) where
     stays zero = refl
     stays (suc m) = ap (l_steps G m) fixed ∙ stays m
 
-    pub shift : (m d : ℕ) (l : LState) {l' : LState} → l_steps G m l ≡ z → l_steps G d l ≡ l' → l_steps G m l' ≡ z
+    pub shift : (m d : ℕ) (l : LState) {l' : LState} → l_steps G m l ≡ z → l_steps G d l ≡ l'
+        → l_steps G m l' ≡ z
     shift m d l e f = ap (l_steps G m) (sym f) ∙ swap_steps d m l ∙ ap (l_steps G d) e ∙ stays d
 
-    progress : (m d : ℕ) (l : LState) {l' : LState} → 1 ≤ d → l_steps G (suc m) l ≡ z → l_steps G d l ≡ l' → l_steps G m l' ≡ z
+    progress : (m d : ℕ) (l : LState) {l' : LState} → 1 ≤ d → l_steps G (suc m) l ≡ z → l_steps G d l ≡ l'
+        → l_steps G m l' ≡ z
     progress m zero l le e f = absurd (omega arith)
     progress m (suc d) l le e f = shift m d (l_step G l) e f
 
-    inner : (m : ℕ) → ((s : M.State) (l : LState) → Good G l → Rel G.L s l → l_steps G m l ≡ z → (n : ℕ) × Rel G.L (MM.steps G.L.program n s) z) → (w : ℕ) (s : M.State) (l : LState) → weight s ≤ w → Good G l → Rel G.L s l → l_steps G (suc m) l ≡ z → (n : ℕ) × Rel G.L (MM.steps G.L.program n s) z
+    inner : (m : ℕ) → ((s : M.State) (l : LState) → Good G l → Rel G.L s l → l_steps G m l ≡ z → (n : ℕ)
+        × Rel G.L (MM.steps G.L.program n s) z) → (w : ℕ) (s : M.State) (l : LState) → weight s ≤ w
+        → Good G l → Rel G.L s l → l_steps G (suc m) l ≡ z → (n : ℕ) × Rel G.L (MM.steps G.L.program n s) z
     inner m ih zero s l le good h e =
         let g = sim G good h in
         let lt : 1 ≤ g.reach.turns = ⊎_elim (λ a. a) (λ a. absurd (omega arith)) g.less in
-        let a = ih (MM.step G.L.program s) g.reach.to (good_steps g.reach.turns l g.reach.comes good) g.reach.rel (progress m g.reach.turns l lt e g.reach.comes) in
+        let a = ih (MM.step G.L.program s) g.reach.to (good_steps g.reach.turns l g.reach.comes good)
+        g.reach.rel (progress m g.reach.turns l lt e g.reach.comes) in
         (suc a.0, a.1)
     inner m ih (suc w) s l le good h e =
         let g = sim G good h in
-        let a = ⊎_elim (λ lt. ih (MM.step G.L.program s) g.reach.to (good_steps g.reach.turns l g.reach.comes good) g.reach.rel (progress m g.reach.turns l lt e g.reach.comes)) (λ lt. inner m ih w (MM.step G.L.program s) g.reach.to (omega arith) (good_steps g.reach.turns l g.reach.comes good) g.reach.rel (shift (suc m) g.reach.turns l e g.reach.comes)) g.less in
+        let a = ⊎_elim (λ lt. ih (MM.step G.L.program s) g.reach.to
+        (good_steps g.reach.turns l g.reach.comes good) g.reach.rel
+        (progress m g.reach.turns l lt e g.reach.comes))
+        (λ lt. inner m ih w (MM.step G.L.program s) g.reach.to (omega arith)
+        (good_steps g.reach.turns l g.reach.comes good) g.reach.rel
+        (shift (suc m) g.reach.turns l e g.reach.comes)) g.less in
         (suc a.0, a.1)
 
-    pub backward : (m : ℕ) (s : M.State) (l : LState) → Good G l → Rel G.L s l → l_steps G m l ≡ z → (n : ℕ) × Rel G.L (MM.steps G.L.program n s) z
+    pub backward : (m : ℕ) (s : M.State) (l : LState) → Good G l → Rel G.L s l → l_steps G m l ≡ z → (n : ℕ)
+        × Rel G.L (MM.steps G.L.program n s) z
     backward zero s l good h e = (0, subst (λ l. Rel G.L s l) e h)
-    backward (suc m) s l good h e = inner m (λ s l good h e. backward m s l good h e) (weight s) s l (omega arith) good h e
+    backward (suc m) s l good h e =
+        inner m (λ s l good h e. backward m s l good h e) (weight s) s l (omega arith) good h e

@@ -10,8 +10,11 @@ use Rattle.icn_simulation.specs.Linkage.{Linkage}
 use Rattle.icn_simulation.specs.Standing.{StandsRoutine}
 
 pub data OfCallee (L : Linkage) (n : ℕ) : M.Callee → S.Callee → Type 0 where
-  o_routine : {routine : M.Routine} {entry : Procedure} → routine.parameters ≡ entry.parameters → routine.collects ≡ entry.collects → length routine.locals - routine.parameters ≡ entry.locals → StandsRoutine L n routine.initial routine.body → OfCallee L n (M.IsRoutine routine) (S.IsProc entry)
-  o_kind : {number : ℕ} {kind : M.Kind} {entry : RecordType} → length kind.fields ≡ length entry.fields → OfCallee L n (M.IsKind number kind) (S.IsRecord number entry)
+  o_routine : {routine : M.Routine} {entry : Procedure} → routine.parameters ≡ entry.parameters
+      → routine.collects ≡ entry.collects → length routine.locals - routine.parameters ≡ entry.locals
+      → StandsRoutine L n routine.initial routine.body → OfCallee L n (M.IsRoutine routine) (S.IsProc entry)
+  o_kind : {number : ℕ} {kind : M.Kind} {entry : RecordType} → length kind.fields ≡ length entry.fields
+      → OfCallee L n (M.IsKind number kind) (S.IsRecord number entry)
   o_function : {f : Func} → OfCallee L n (M.IsFunction f) (S.IsFunc f)
   o_nothing : OfCallee L n M.IsNothing S.IsNothing
 

@@ -1,33 +1,66 @@
--- What the first law says.
-use Rattle.std.specs.Prelude.{◌<◌, ◌≡◌, ℕ, length, map, Option, Some, None, codes, slice_get}
-use Rattle.std.specs.List.{sum_by}
-use Rattle.icn_code.specs.Codes.{Proc as Procedure}
-use Rattle.icn_meaning.specs.Program as MP
-use Rattle.icn_defs.specs.Running.{Launch, Observed}
-use Rattle.icn_meaning.specs.Contexts.{AtBound}
-use Rattle.icn_run.specs.Step as S
-use Rattle.icn_simulation.specs.Linkage.{Linkage}
-use Rattle.icn_simulation.specs.Ground.{OfCallee}
+-- What the first law speaks of.
+use Rattle.std.specs.Prelude.{◌<◌, ◌≡◌, ℕ, All, List}
+use Rattle.icn_tree.specs.Trees.{Declaration}
+use Rattle.icn_code.specs.Codes.{Tables}
+use Rattle.icn_defs.specs.Running.{Launch, Observed, Ending, Errored, AtBound}
+use Rattle.icn_defs.specs.Interruptions.{Streams, Breaks}
+use Rattle.icn_meaning.specs.Program.{program}
+use Rattle.icn_meaning.specs.Meaning.{Means}
+use Rattle.icn_run.specs.LinkedStep as Linked
+use Rattle.icn_run.specs.LinkedStep.{repeats_of}
+use Rattle.icn_run.specs.FlatStep as Flat
+use Rattle.icn_simulation.specs.Joined.{Joined}
+use Rattle.icn_simulation.specs.Faultless.{IsFaultless}
 
--- `main` on both sides
-pub data OfMain (L : Linkage) : Option ℕ → Option ℕ → Type 0 where
-  no_main : OfMain L None None
-  a_main : {n : ℕ} {routine : MP.Routine} {entry : Procedure} → slice_get L.program.routines n ≡ Some routine → slice_get L.tables.procs n ≡ Some entry → OfCallee L n (MP.IsRoutine routine) (S.IsProc entry) → OfMain L (Some n) (Some n)
+-- These files break no rule, and these tables are their joined code.
+pub record IsLinked (files : List (List Declaration)) (tables : Tables) : Type 0 where
+  pub faultless : All IsFaultless files
+  pub code : Joined files tables
 
--- the tables of a code begin as the program does
-pub record Begins (L : Linkage) : Type 0 where
-  pub globals : L.program.starts ≡ map (S.global_value L.tables) L.tables.globals
-  pub statics : L.program.statics ≡ sum_by S.statics_of L.tables.procs
-  pub procs : length L.program.routines ≡ length L.tables.procs
-  pub names : MP.names_of L.program ≡ S.all_names L.tables
-  pub main : OfMain L (MP.place_of (codes "main") (MP.routine_names L.program.routines)) (S.main_of L.tables)
+-- the program of these files, begun so, means an end of which this is observed
+abbrev pub FilesMean : List (List Declaration) → Launch → Observed → Type 0
+FilesMean files launch seen = Means (program files) launch seen
 
--- the same launch with another bound of turns
+-- the run of this code, begun so, comes to an end of which this is observed: on linked marks, and on flat
+-- stacks
+abbrev pub RunsLinked : Tables → Launch → Observed → Type 0
+RunsLinked tables launch seen = Linked.Runs (repeats_of tables) tables launch seen
+
+abbrev pub RunsFlat : Tables → Launch → Observed → Type 0
+RunsFlat tables launch seen = Flat.Runs tables launch seen
+
+-- Broken off, what comes to some end leaves these streams so.
+pub record BrokenOff (Sees : Launch → Observed → Type 0) (launch : Launch) (before after : Streams) : Type 0
+  where
+    pub seen : Observed
+    pub sees : Sees launch seen
+    pub breaks : Breaks launch.outside.left seen before after
+
+-- the same launch with another bound of turns, another limit of string bytes, and another one of cells
 abbrev pub with_turns : ℕ → Launch → Launch
 with_turns n launch = record launch { bounds = record launch.bounds { turns = n } }
 
--- It is seen so after exactly so many turns: where so many are allowed it ends so, and not at the bound; and where fewer are, at the bound.
-pub record Exactly (Sees : Launch → Observed → Type 0) (launch : Launch) (turns : ℕ) (seen : Observed) : Type 0 where
-  pub ends : Sees (with_turns turns launch) seen
-  pub not_bound : seen.ending ≡ AtBound → ⊥
-  pub bound : (fewer : ℕ) → fewer < turns → (other : Observed) × Sees (with_turns fewer launch) other × (other.ending ≡ AtBound)
+abbrev pub with_strings : ℕ → Launch → Launch
+with_strings n launch = record launch { bounds = record launch.bounds { strings = n } }
+
+abbrev pub with_cells : ℕ → Launch → Launch
+with_cells n launch = record launch { bounds = record launch.bounds { cells = n } }
+
+-- What is seen takes exactly so much of what is limited: with so much it ends so, and not for want of it; and with
+-- less it ends for want of it.
+pub record Takes (limited : ℕ → Launch → Launch) (want : Ending) (Sees : Launch → Observed → Type 0)
+    (launch : Launch) (amount : ℕ) (seen : Observed) : Type 0 where
+  pub ends : Sees (limited amount launch) seen
+  pub other : seen.ending ≡ want → ⊥
+  pub short : (less : ℕ) → less < amount
+      → (end : Observed) × Sees (limited less launch) end × (end.ending ≡ want)
+
+-- exactly so many turns, string bytes, and cells
+abbrev pub TakesTurns : (Launch → Observed → Type 0) → Launch → ℕ → Observed → Type 0
+TakesTurns Sees launch amount seen = Takes with_turns AtBound Sees launch amount seen
+
+abbrev pub TakesStrings : (Launch → Observed → Type 0) → Launch → ℕ → Observed → Type 0
+TakesStrings Sees launch amount seen = Takes with_strings (Errored 306) Sees launch amount seen
+
+abbrev pub TakesCells : (Launch → Observed → Type 0) → Launch → ℕ → Observed → Type 0
+TakesCells Sees launch amount seen = Takes with_cells (Errored 307) Sees launch amount seen

@@ -6,4 +6,7 @@ pub mod Law
 pub mod Translatable
 pub mod Translated
 pub mod Translation
-pub mod Naming
+pub mod Mentions
+pub mod Joined
+pub mod Faultless
+pub mod Begins

@@ -25,8 +25,10 @@ Here L j p i = slice_get (instrs_of L.tables j) p ≡ Some i
 pub data Loads (L : Linkage) (j : ℕ) : Instr → Item → Type 0 where
   l_null : Loads L j I.Pnull (Val Null)
   l_integer : {k : ℕ} {n : _} → slice_get L.tables.integers k ≡ Some n → Loads L j (I.Int k) (Val (Integer n))
-  l_string : {k : ℕ} {bytes : List ℕ} → slice_get L.tables.strings k ≡ Some bytes → Loads L j (I.Str k) (Val (Text bytes))
-  l_cset : {k : ℕ} {set : _} → slice_get L.tables.csets k ≡ Some set → Loads L j (I.Cset k) (Val (Chars (members_of set)))
+  l_string : {k : ℕ} {bytes : List ℕ} → slice_get L.tables.strings k ≡ Some bytes
+      → Loads L j (I.Str k) (Val (Text bytes))
+  l_cset : {k : ℕ} {set : _} → slice_get L.tables.csets k ≡ Some set
+      → Loads L j (I.Cset k) (Val (Chars (members_of set)))
   l_local : {k : ℕ} → Loads L j (I.Local k) (Var (Whole (Local k)))
   l_static : {k : ℕ} → Loads L j (I.Static k) (Var (Whole (Static (statics_before L.tables j + k))))
   l_global : {k : ℕ} → Loads L j (I.Global k) (Var (Whole (Global k)))
@@ -37,7 +39,9 @@ pub data Applies (L : Linkage) : Form → ℕ → Instr → Type 0 where
   f_call : {n : ℕ} → Applies L Calling (suc n) (I.Invoke n)
   f_spread : Applies L Spreading 2 I.Appl
   f_list : {n : ℕ} → Applies L Collecting n (I.Llist n)
-  f_field : {name : List ℕ} {k : ℕ} → ((kind : ℕ) → place_of name (fields_in (slice_get L.program.kinds kind)) ≡ field_place L.tables k kind) → Applies L (Taking name) 1 (I.Field k)
+  f_field : {name : List ℕ} {k : ℕ}
+      → ((kind : ℕ) → place_of name (fields_in (slice_get L.program.kinds kind)) ≡ field_place L.tables k
+      kind) → Applies L (Taking name) 1 (I.Field k)
   f_activate : Applies L Activating 2 I.Coact
 
 -- the instruction at p opens a mark with this label and without a flag

@@ -1,4 +1,5 @@
--- The trees whose translation stands: names and literals are in the tables, operators have their instructions, and `break`, `next`, `return`, `fail` and
+-- The trees whose translation stands: names and literals are in the tables, operators have their
+-- instructions, and `break`, `next`, `return`, `fail` and
 -- `suspend` stand where they may.
 use Rattle.std.specs.Prelude.{Bool, ◌≡◌, ℕ, true, false, List, [], ◌∷◌, Some, codes, slice_get}
 use Rattle.std.specs.Str.{bytes_eq}
@@ -114,83 +115,143 @@ is_infix_sign Signs.ReversibleSwap = true
 is_infix_sign o = false
 
 mutual
-  pub data Ok (L : Linkage) (N : Names) (j : ℕ) : Nest → Tree → Type 0 where
-    ok_empty : {n : Nest} → Ok L N j n T.Empty
-    ok_constant : {n : Nest} {place : Place} {v : Literal} → Loads L j (literal_code N v) (Val (literal v)) → Ok L N j n (T.Constant place v)
-    ok_identifier : {n : Nest} {name : Name} → Loads L j (N.variable name.text) (Var (Whole (meaning_of L.program j name.text))) → Ok L N j n (T.Identifier name)
-    ok_keyword : {n : Nest} {place : Place} {name : Name} → keyword_among name.text keywords ≡ Some (N.keyword name.text) → bytes_eq name.text (codes "fail") ≡ false → Ok L N j n (T.Keyword place name)
-    ok_fail_keyword : {n : Nest} {place : Place} {name : Name} → keyword_among name.text keywords ≡ Some Keywords.Fail → bytes_eq name.text (codes "fail") ≡ true → Ok L N j n (T.Keyword place name)
-    ok_last : {n : Nest} {place : Place} {e : Tree} → Ok L N j n e → Ok L N j n (T.Parentheses place (More e NoTrees))
-    ok_before : {n : Nest} {place : Place} {d e : Tree} {es : Trees} → Ok L N j n d → Ok L N j n (T.Parentheses place (More e es)) → Ok L N j n (T.Parentheses place (More d (More e es)))
-    ok_final : {n : Nest} {place : Place} {e : Tree} → Ok L N j n e → Ok L N j n (T.Compound place (More e NoTrees))
-    ok_passed : {n : Nest} {place : Place} {e : Tree} {es : Trees} → Ok L N j n (T.Compound place (More e es)) → Ok L N j n (T.Compound place (More T.Empty (More e es)))
-    ok_bounded : {n : Nest} {place : Place} {d e : Tree} {es : Trees} → is_empty d ≡ false → Ok L N j (in_mark n) d → Ok L N j n (T.Compound place (More e es)) → Ok L N j n (T.Compound place (More d (More e es)))
-    ok_listing : {n : Nest} {place : Place} {es : Trees} → OkAll L N j n (elements_of es) → Ok L N j n (T.Listing place es)
-    ok_call : {n : Nest} {place : Place} {f : Tree} {es : Trees} → Ok L N j n f → OkAll L N j n (elements_of es) → Ok L N j n (T.Call place f es)
-    ok_cocall : {n : Nest} {place : Place} {f : Tree} {es : Trees} → Ok L N j n f → OkBodies L N j (elements_of es) → Ok L N j n (T.CoCall place f es)
-    ok_subscript : {n : Nest} {place : Place} {x i : Tree} {is : Trees} → Ok L N j n x → OkAll L N j n (More i is) → Ok L N j n (T.Subscript place x (More i is))
-    ok_section : {n : Nest} {place : Place} {kind : SectionKind} {x i e : Tree} → Ok L N j n x → Ok L N j n i → Ok L N j n e → Ok L N j n (T.Section place kind x i e)
-    ok_field : {n : Nest} {place : Place} {x : Tree} {name : Name} → Ok L N j n x → ((kind : ℕ) → place_of name.text (fields_in (slice_get L.program.kinds kind)) ≡ field_place L.tables (N.field name.text) kind) → Ok L N j n (T.Field place x name)
-    ok_prefix : {n : Nest} {place : Place} {o : Operator} {e : Tree} → is_prefix_sign o ≡ true → Ok L N j n e → Ok L N j n (T.Prefix place o e)
-    ok_activate : {n : Nest} {place : Place} {e : Tree} → Ok L N j n e → Ok L N j n (T.Prefix place Signs.At e)
-    ok_repeated : {n : Nest} {place : Place} {e : Tree} → Ok L N j (in_mark n) e → Ok L N j n (T.Prefix place Signs.Bar e)
-    ok_not : {n : Nest} {place : Place} {e : Tree} → Ok L N j (in_mark n) e → Ok L N j n (T.Not place e)
-    ok_both : {n : Nest} {place : Place} {a b : Tree} → Ok L N j n a → Ok L N j n b → Ok L N j n (T.Binary place (Plain Signs.Ampersand) a b)
-    ok_scan : {n : Nest} {place : Place} {a b : Tree} → Ok L N j n a → Ok L N j (in_scan n) b → Ok L N j n (T.Binary place (Plain Signs.Question) a b)
-    ok_or : {n : Nest} {place : Place} {a b : Tree} → Ok L N j (in_mark n) a → Ok L N j n b → Ok L N j n (T.Binary place (Plain Signs.Bar) a b)
-    ok_limit : {n : Nest} {place : Place} {a b : Tree} → Ok L N j (in_mark n) a → Ok L N j n b → Ok L N j n (T.Binary place (Plain Signs.Backslash) a b)
-    ok_infix : {n : Nest} {place : Place} {o : Operator} {a b : Tree} → is_infix_sign o ≡ true → Ok L N j n a → Ok L N j n b → Ok L N j n (T.Binary place (Plain o) a b)
-    ok_at : {n : Nest} {place : Place} {a b : Tree} → Ok L N j n a → Ok L N j n b → Ok L N j n (T.Binary place (Plain Signs.At) a b)
-    ok_bang : {n : Nest} {place : Place} {a b : Tree} → Ok L N j n a → Ok L N j n b → Ok L N j n (T.Binary place (Plain Signs.Bang) a b)
-    ok_update_both : {n : Nest} {place : Place} {x y : Tree} → Ok L N j n x → Ok L N j n y → Ok L N j n (T.Binary place (Augmented Signs.Ampersand) x y)
-    ok_update_scan : {n : Nest} {place : Place} {x y : Tree} → Ok L N j n x → Ok L N j (in_scan n) y → Ok L N j n (T.Binary place (Augmented Signs.Question) x y)
-    ok_update_at : {n : Nest} {place : Place} {x y : Tree} → Ok L N j n x → Ok L N j n y → Ok L N j n (T.Binary place (Augmented Signs.At) x y)
-    ok_update : {n : Nest} {place : Place} {o : Operator} {x y : Tree} → is_infix_sign o ≡ true → Ok L N j n x → Ok L N j n y → Ok L N j n (T.Binary place (Augmented o) x y)
-    ok_to : {n : Nest} {place : Place} {a b : Tree} {by : MaybeTree} → Ok L N j n a → Ok L N j n b → Ok L N j n (step_of place by) → Ok L N j n (T.To place a b by)
-    ok_if : {n : Nest} {place : Place} {c a : Tree} → Ok L N j (in_mark n) c → Ok L N j n a → Ok L N j n (T.If place c a Absent)
-    ok_if_else : {n : Nest} {place : Place} {c a b : Tree} → Ok L N j (in_mark n) c → Ok L N j n a → Ok L N j n b → Ok L N j n (T.If place c a (Present b))
-    ok_case : {n : Nest} {place : Place} {e : Tree} {cases : Clauses} → Ok L N j (in_mark n) e → OkCases L N j n cases → OkDefault L N j n (default_of cases) → Ok L N j n (T.Case place e cases)
-    ok_while : {n : Nest} {place : Place} {c : Tree} {b : MaybeTree} → ((l g : ℕ) → Ok L N j (in_mark (in_loop l g n)) c) → ((l g : ℕ) → OkMaybe L N j (in_mark (in_loop l g n)) b) → Ok L N j n (T.Loop place While c b)
-    ok_until : {n : Nest} {place : Place} {c : Tree} {b : MaybeTree} → ((l g : ℕ) → Ok L N j (in_mark (in_loop l g n)) c) → ((l g : ℕ) → OkMaybe L N j (in_mark (in_loop l g n)) b) → Ok L N j n (T.Loop place Until c b)
-    ok_every : {n : Nest} {place : Place} {c : Tree} {b : MaybeTree} → ((l g : ℕ) → Ok L N j (in_mark (in_control l g n)) c) → ((l g : ℕ) → OkMaybe L N j (in_mark (in_each l g n)) b) → Ok L N j n (T.Loop place Every c b)
-    ok_repeat : {n : Nest} {place : Place} {b : Tree} → ((l g : ℕ) → Ok L N j (in_mark (in_loop l g n)) b) → Ok L N j n (T.Repeat place b)
-    ok_create : {n : Nest} {place : Place} {e : Tree} → Ok L N j (in_mark in_create) e → Ok L N j n (T.Create place e)
-    ok_next : {n : Nest} {place : Place} → HasNext n → Ok L N j n (T.Next place)
-    ok_fail : {n : Nest} {place : Place} → Proper n → Ok L N j n (T.Fail place)
-    ok_break : {n : Nest} {place : Place} {e : Tree} → HasLoop n → Ok L N j (outside n) e → Ok L N j n (T.Break place e)
-    ok_return : {n : Nest} {place : Place} {e : Tree} → Proper n → Ok L N j (in_mark n) e → Ok L N j n (T.Return place e)
-    ok_suspend : {n : Nest} {place : Place} {e : Tree} {b : MaybeTree} → Proper n → Ok L N j (in_mark n) e → OkMaybe L N j (in_mark (in_mark n)) b → Ok L N j n (T.Suspend place e b)
+  pub data Fits (L : Linkage) (N : Names) (j : ℕ) : Nest → Tree → Type 0 where
+    fits_empty : {n : Nest} → Fits L N j n T.Empty
+    fits_constant : {n : Nest} {place : Place} {v : Literal}
+        → Loads L j (literal_code N v) (Val (literal v)) → Fits L N j n (T.Constant place v)
+    fits_identifier : {n : Nest} {name : Name}
+        → Loads L j (N.variable name.text) (Var (Whole (meaning_of L.program j name.text)))
+        → Fits L N j n (T.Identifier name)
+    fits_keyword : {n : Nest} {place : Place} {name : Name}
+        → keyword_among name.text keywords ≡ Some (N.keyword name.text)
+        → bytes_eq name.text (codes "fail") ≡ false → Fits L N j n (T.Keyword place name)
+    fits_fail_keyword : {n : Nest} {place : Place} {name : Name}
+        → keyword_among name.text keywords ≡ Some Keywords.Fail → bytes_eq name.text (codes "fail") ≡ true
+        → Fits L N j n (T.Keyword place name)
+    fits_last : {n : Nest} {place : Place} {e : Tree} → Fits L N j n e
+        → Fits L N j n (T.Parentheses place (More e NoTrees))
+    fits_before : {n : Nest} {place : Place} {d e : Tree} {es : Trees} → Fits L N j n d
+        → Fits L N j n (T.Parentheses place (More e es))
+        → Fits L N j n (T.Parentheses place (More d (More e es)))
+    fits_final : {n : Nest} {place : Place} {e : Tree} → Fits L N j n e
+        → Fits L N j n (T.Compound place (More e NoTrees))
+    fits_passed : {n : Nest} {place : Place} {e : Tree} {es : Trees}
+        → Fits L N j n (T.Compound place (More e es))
+        → Fits L N j n (T.Compound place (More T.Empty (More e es)))
+    fits_bounded : {n : Nest} {place : Place} {d e : Tree} {es : Trees} → is_empty d ≡ false
+        → Fits L N j (in_mark n) d → Fits L N j n (T.Compound place (More e es))
+        → Fits L N j n (T.Compound place (More d (More e es)))
+    fits_listing : {n : Nest} {place : Place} {es : Trees} → FitsAll L N j n (elements_of es)
+        → Fits L N j n (T.Listing place es)
+    fits_call : {n : Nest} {place : Place} {f : Tree} {es : Trees} → Fits L N j n f
+        → FitsAll L N j n (elements_of es) → Fits L N j n (T.Call place f es)
+    fits_cocall : {n : Nest} {place : Place} {f : Tree} {es : Trees} → Fits L N j n f
+        → FitsBodies L N j (elements_of es) → Fits L N j n (T.CoCall place f es)
+    fits_subscript : {n : Nest} {place : Place} {x i : Tree} {is : Trees} → Fits L N j n x
+        → FitsAll L N j n (More i is) → Fits L N j n (T.Subscript place x (More i is))
+    fits_section : {n : Nest} {place : Place} {kind : SectionKind} {x i e : Tree} → Fits L N j n x
+        → Fits L N j n i → Fits L N j n e → Fits L N j n (T.Section place kind x i e)
+    fits_field : {n : Nest} {place : Place} {x : Tree} {name : Name} → Fits L N j n x
+        → ((kind : ℕ) → place_of name.text (fields_in (slice_get L.program.kinds kind)) ≡ field_place
+        L.tables (N.field name.text) kind) → Fits L N j n (T.Field place x name)
+    fits_prefix : {n : Nest} {place : Place} {o : Operator} {e : Tree} → is_prefix_sign o ≡ true
+        → Fits L N j n e → Fits L N j n (T.Prefix place o e)
+    fits_activate : {n : Nest} {place : Place} {e : Tree} → Fits L N j n e
+        → Fits L N j n (T.Prefix place Signs.At e)
+    fits_repeated : {n : Nest} {place : Place} {e : Tree} → Fits L N j (in_mark n) e
+        → Fits L N j n (T.Prefix place Signs.Bar e)
+    fits_not : {n : Nest} {place : Place} {e : Tree} → Fits L N j (in_mark n) e → Fits L N j n (T.Not place e)
+    fits_both : {n : Nest} {place : Place} {a b : Tree} → Fits L N j n a → Fits L N j n b
+        → Fits L N j n (T.Binary place (Plain Signs.Ampersand) a b)
+    fits_scan : {n : Nest} {place : Place} {a b : Tree} → Fits L N j n a → Fits L N j (in_scan n) b
+        → Fits L N j n (T.Binary place (Plain Signs.Question) a b)
+    fits_or : {n : Nest} {place : Place} {a b : Tree} → Fits L N j (in_mark n) a → Fits L N j n b
+        → Fits L N j n (T.Binary place (Plain Signs.Bar) a b)
+    fits_limit : {n : Nest} {place : Place} {a b : Tree} → Fits L N j (in_mark n) a → Fits L N j n b
+        → Fits L N j n (T.Binary place (Plain Signs.Backslash) a b)
+    fits_infix : {n : Nest} {place : Place} {o : Operator} {a b : Tree} → is_infix_sign o ≡ true
+        → Fits L N j n a → Fits L N j n b → Fits L N j n (T.Binary place (Plain o) a b)
+    fits_at : {n : Nest} {place : Place} {a b : Tree} → Fits L N j n a → Fits L N j n b
+        → Fits L N j n (T.Binary place (Plain Signs.At) a b)
+    fits_bang : {n : Nest} {place : Place} {a b : Tree} → Fits L N j n a → Fits L N j n b
+        → Fits L N j n (T.Binary place (Plain Signs.Bang) a b)
+    fits_update_both : {n : Nest} {place : Place} {x y : Tree} → Fits L N j n x → Fits L N j n y
+        → Fits L N j n (T.Binary place (Augmented Signs.Ampersand) x y)
+    fits_update_scan : {n : Nest} {place : Place} {x y : Tree} → Fits L N j n x → Fits L N j (in_scan n) y
+        → Fits L N j n (T.Binary place (Augmented Signs.Question) x y)
+    fits_update_at : {n : Nest} {place : Place} {x y : Tree} → Fits L N j n x → Fits L N j n y
+        → Fits L N j n (T.Binary place (Augmented Signs.At) x y)
+    fits_update : {n : Nest} {place : Place} {o : Operator} {x y : Tree} → is_infix_sign o ≡ true
+        → Fits L N j n x → Fits L N j n y → Fits L N j n (T.Binary place (Augmented o) x y)
+    fits_to : {n : Nest} {place : Place} {a b : Tree} {by : MaybeTree} → Fits L N j n a → Fits L N j n b
+        → Fits L N j n (step_of place by) → Fits L N j n (T.To place a b by)
+    fits_if : {n : Nest} {place : Place} {c a : Tree} → Fits L N j (in_mark n) c → Fits L N j n a
+        → Fits L N j n (T.If place c a Absent)
+    fits_if_else : {n : Nest} {place : Place} {c a b : Tree} → Fits L N j (in_mark n) c → Fits L N j n a
+        → Fits L N j n b → Fits L N j n (T.If place c a (Present b))
+    fits_case : {n : Nest} {place : Place} {e : Tree} {cases : Clauses} → Fits L N j (in_mark n) e
+        → FitsCases L N j n cases → FitsDefault L N j n (default_of cases)
+        → Fits L N j n (T.Case place e cases)
+    fits_while : {n : Nest} {place : Place} {c : Tree} {b : MaybeTree}
+        → ((l g : ℕ) → Fits L N j (in_mark (in_loop l g n)) c)
+        → ((l g : ℕ) → FitsMaybe L N j (in_mark (in_loop l g n)) b) → Fits L N j n (T.Loop place While c b)
+    fits_until : {n : Nest} {place : Place} {c : Tree} {b : MaybeTree}
+        → ((l g : ℕ) → Fits L N j (in_mark (in_loop l g n)) c)
+        → ((l g : ℕ) → FitsMaybe L N j (in_mark (in_loop l g n)) b) → Fits L N j n (T.Loop place Until c b)
+    fits_every : {n : Nest} {place : Place} {c : Tree} {b : MaybeTree}
+        → ((l g : ℕ) → Fits L N j (in_mark (in_control l g n)) c)
+        → ((l g : ℕ) → FitsMaybe L N j (in_mark (in_each l g n)) b) → Fits L N j n (T.Loop place Every c b)
+    fits_repeat : {n : Nest} {place : Place} {b : Tree}
+        → ((l g : ℕ) → Fits L N j (in_mark (in_loop l g n)) b) → Fits L N j n (T.Repeat place b)
+    fits_create : {n : Nest} {place : Place} {e : Tree} → Fits L N j (in_mark in_create) e
+        → Fits L N j n (T.Create place e)
+    fits_next : {n : Nest} {place : Place} → HasNext n → Fits L N j n (T.Next place)
+    fits_fail : {n : Nest} {place : Place} → Proper n → Fits L N j n (T.Fail place)
+    fits_break : {n : Nest} {place : Place} {e : Tree} → HasLoop n → Fits L N j (outside n) e
+        → Fits L N j n (T.Break place e)
+    fits_return : {n : Nest} {place : Place} {e : Tree} → Proper n → Fits L N j (in_mark n) e
+        → Fits L N j n (T.Return place e)
+    fits_suspend : {n : Nest} {place : Place} {e : Tree} {b : MaybeTree} → Proper n
+        → Fits L N j (in_mark n) e → FitsMaybe L N j (in_mark (in_mark n)) b
+        → Fits L N j n (T.Suspend place e b)
 
-  pub data OkAll (L : Linkage) (N : Names) (j : ℕ) : Nest → Trees → Type 0 where
-    ok_nil : {n : Nest} → OkAll L N j n NoTrees
-    ok_cons : {n : Nest} {e : Tree} {es : Trees} → Ok L N j n e → OkAll L N j n es → OkAll L N j n (More e es)
+  pub data FitsAll (L : Linkage) (N : Names) (j : ℕ) : Nest → Trees → Type 0 where
+    fits_nil : {n : Nest} → FitsAll L N j n NoTrees
+    fits_cons : {n : Nest} {e : Tree} {es : Trees} → Fits L N j n e → FitsAll L N j n es
+        → FitsAll L N j n (More e es)
 
   -- the elements of `p{ }`
-  pub data OkBodies (L : Linkage) (N : Names) (j : ℕ) : Trees → Type 0 where
-    ok_no_body : OkBodies L N j NoTrees
-    ok_body : {e : Tree} {es : Trees} → Ok L N j (in_mark in_create) e → OkBodies L N j es → OkBodies L N j (More e es)
+  pub data FitsBodies (L : Linkage) (N : Names) (j : ℕ) : Trees → Type 0 where
+    fits_no_body : FitsBodies L N j NoTrees
+    fits_body : {e : Tree} {es : Trees} → Fits L N j (in_mark in_create) e → FitsBodies L N j es
+        → FitsBodies L N j (More e es)
 
-  pub data OkMaybe (L : Linkage) (N : Names) (j : ℕ) : Nest → MaybeTree → Type 0 where
-    ok_absent : {n : Nest} → OkMaybe L N j n Absent
-    ok_present : {n : Nest} {b : Tree} → Ok L N j n b → OkMaybe L N j n (Present b)
+  pub data FitsMaybe (L : Linkage) (N : Names) (j : ℕ) : Nest → MaybeTree → Type 0 where
+    fits_absent : {n : Nest} → FitsMaybe L N j n Absent
+    fits_present : {n : Nest} {b : Tree} → Fits L N j n b → FitsMaybe L N j n (Present b)
 
-  pub data OkDefault (L : Linkage) (N : Names) (j : ℕ) : Nest → MaybeTree → Type 0 where
-    ok_no_default : {n : Nest} → OkDefault L N j n Absent
-    ok_default : {n : Nest} {b : Tree} → Ok L N j n b → OkDefault L N j n (Present b)
+  pub data FitsDefault (L : Linkage) (N : Names) (j : ℕ) : Nest → MaybeTree → Type 0 where
+    fits_no_default : {n : Nest} → FitsDefault L N j n Absent
+    fits_default : {n : Nest} {b : Tree} → Fits L N j n b → FitsDefault L N j n (Present b)
 
-  pub data OkCases (L : Linkage) (N : Names) (j : ℕ) : Nest → Clauses → Type 0 where
-    ok_no_case : {n : Nest} → OkCases L N j n NoClauses
-    ok_other : {n : Nest} {place : Place} {e : Tree} {cases : Clauses} → OkCases L N j n cases → OkCases L N j n (MoreClauses (Default place e) cases)
-    ok_guard : {n : Nest} {place : Place} {c b : Tree} {cases : Clauses} → Ok L N j (in_mark n) c → Ok L N j n b → OkCases L N j n cases → OkCases L N j n (MoreClauses (Guarded place c b) cases)
+  pub data FitsCases (L : Linkage) (N : Names) (j : ℕ) : Nest → Clauses → Type 0 where
+    fits_no_case : {n : Nest} → FitsCases L N j n NoClauses
+    fits_other : {n : Nest} {place : Place} {e : Tree} {cases : Clauses} → FitsCases L N j n cases
+        → FitsCases L N j n (MoreClauses (Default place e) cases)
+    fits_guard : {n : Nest} {place : Place} {c b : Tree} {cases : Clauses} → Fits L N j (in_mark n) c
+        → Fits L N j n b → FitsCases L N j n cases → FitsCases L N j n (MoreClauses (Guarded place c b) cases)
 
 -- the expressions of a body
-pub data OkRest (L : Linkage) (N : Names) (j : ℕ) : Trees → Type 0 where
-  ok_end : OkRest L N j NoTrees
-  ok_skipped : {es : Trees} → OkRest L N j es → OkRest L N j (More T.Empty es)
-  ok_more : {e : Tree} {es : Trees} → is_empty e ≡ false → Ok L N j (in_mark top) e → OkRest L N j es → OkRest L N j (More e es)
+pub data FitsRest (L : Linkage) (N : Names) (j : ℕ) : Trees → Type 0 where
+  fits_end : FitsRest L N j NoTrees
+  fits_skipped : {es : Trees} → FitsRest L N j es → FitsRest L N j (More T.Empty es)
+  fits_more : {e : Tree} {es : Trees} → is_empty e ≡ false → Fits L N j (in_mark top) e → FitsRest L N j es
+      → FitsRest L N j (More e es)
 
 -- a procedure
-pub data OkRoutine (L : Linkage) (N : Names) (j : ℕ) : Initial → Trees → Type 0 where
-  ok_plain : {es : Trees} → OkRest L N j es → OkRoutine L N j NoInitial es
-  ok_blank : {place : Place} {es : Trees} → OkRest L N j es → OkRoutine L N j (Initially place T.Empty) es
-  ok_initial : {place : Place} {e : Tree} {es : Trees} → is_empty e ≡ false → Ok L N j (in_mark top) e → OkRest L N j es → OkRoutine L N j (Initially place e) es
+pub data FitsRoutine (L : Linkage) (N : Names) (j : ℕ) : Initial → Trees → Type 0 where
+  fits_plain : {es : Trees} → FitsRest L N j es → FitsRoutine L N j NoInitial es
+  fits_blank : {place : Place} {es : Trees} → FitsRest L N j es
+      → FitsRoutine L N j (Initially place T.Empty) es
+  fits_initial : {place : Place} {e : Tree} {es : Trees} → is_empty e ≡ false → Fits L N j (in_mark top) e
+      → FitsRest L N j es → FitsRoutine L N j (Initially place e) es

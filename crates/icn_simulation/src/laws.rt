@@ -1,37 +1,42 @@
-// The first law.
-ghost use Rattle.std.specs.Prelude.{ℕ};
+// The first law, for files that break no rule and the tables of their joined code.
+ghost use Rattle.std.specs.Prelude.{ℕ, List, ◌↔◌};
+ghost use Rattle.icn_tree.specs.Trees.{Declaration};
 ghost use Rattle.icn_code.specs.Codes.{Tables};
-ghost use Rattle.icn_meaning.specs.Program.{Program};
-ghost use Rattle.icn_meaning.specs.Meaning.{Means};
 ghost use Rattle.icn_defs.specs.Running.{Launch, Observed};
-ghost use Rattle.icn_run.specs.FlatStep as Flat;
-ghost use Rattle.icn_run.specs.LinkedStep as Linked;
-ghost use Rattle.icn_run.specs.LinkedStep.{repeats_of};
-ghost use Rattle.icn_simulation.specs.Translated.{linkage, Translated};
-ghost use Rattle.icn_simulation.specs.Law.{Begins, Exactly};
+ghost use Rattle.icn_defs.specs.Interruptions.{Streams};
+ghost use Rattle.icn_simulation.specs.Law.{IsLinked, FilesMean, RunsLinked, RunsFlat, BrokenOff, TakesTurns, TakesStrings, TakesCells};
 
-/// Where the code of each procedure is its translation and the tables begin as the program does, what the meaning of the program comes to, with some
-/// words, limits and input, the linked run of the code comes to.
-pub fn means_then_runs()
-    ensures { (program : Program) (tables : Tables) (launch : Launch) (seen : Observed) → Translated program tables → Begins (linkage program tables) → Means program launch seen → Linked.Runs (repeats_of tables) tables launch seen }
+/// What a program means, with some words, limits and input, is what its linked code comes to: how it ends, with its report, what is put on
+/// both outputs, the input that is left, and the readings that were made.
+pub fn same_ends()
+    ensures { (files : List (List Declaration)) (tables : Tables) (launch : Launch) (seen : Observed)
+        → IsLinked files tables → FilesMean files launch seen ↔ RunsLinked tables launch seen }
 {}
 
-/// And the other way round.
-pub fn runs_then_means()
-    ensures { (program : Program) (tables : Tables) (launch : Launch) (seen : Observed) → Translated program tables → Begins (linkage program tables) → Linked.Runs (repeats_of tables) tables launch seen → Means program launch seen }
+/// Both take the same number of turns, and the same sums of string bytes and of cells are charged: each is told by its limit.
+pub fn same_amounts()
+    ensures turns { (files : List (List Declaration)) (tables : Tables) (launch : Launch) (amount : ℕ) (seen : Observed)
+        → IsLinked files tables → TakesTurns (FilesMean files) launch amount seen ↔ TakesTurns (RunsLinked tables) launch amount seen }
+    ensures strings { (files : List (List Declaration)) (tables : Tables) (launch : Launch) (amount : ℕ) (seen : Observed)
+        → IsLinked files tables → TakesStrings (FilesMean files) launch amount seen ↔ TakesStrings (RunsLinked tables) launch amount seen }
+    ensures cells { (files : List (List Declaration)) (tables : Tables) (launch : Launch) (amount : ℕ) (seen : Observed)
+        → IsLinked files tables → TakesCells (FilesMean files) launch amount seen ↔ TakesCells (RunsLinked tables) launch amount seen }
 {}
 
-/// And they make the same number of turns.
-pub fn same_turns()
-    ensures { (program : Program) (tables : Tables) (launch : Launch) (turns : ℕ) (seen : Observed) → Translated program tables → Begins (linkage program tables) → (Exactly (λ launch seen. Means program launch seen) launch turns seen → Exactly (λ launch seen. Linked.Runs (repeats_of tables) tables launch seen) launch turns seen) × (Exactly (λ launch seen. Linked.Runs (repeats_of tables) tables launch seen) launch turns seen → Exactly (λ launch seen. Means program launch seen) launch turns seen) }
+/// Broken off by a fault, both leave the same.
+pub fn same_broken_off()
+    ensures { (files : List (List Declaration)) (tables : Tables) (launch : Launch) (before after : Streams)
+        → IsLinked files tables → BrokenOff (FilesMean files) launch before after ↔ BrokenOff (RunsLinked tables) launch before after }
 {}
 
-/// What the meaning comes to, the run on flat stacks comes to.
+/// What a program means, the run of its code on flat stacks comes to.
 pub fn means_then_flat()
-    ensures { (program : Program) (tables : Tables) (launch : Launch) (seen : Observed) → Translated program tables → Begins (linkage program tables) → Means program launch seen → Flat.Runs tables launch seen }
+    ensures { (files : List (List Declaration)) (tables : Tables) (launch : Launch) (seen : Observed)
+        → IsLinked files tables → FilesMean files launch seen → RunsFlat tables launch seen }
 {}
 
-/// And where the meaning comes to anything, the run on flat stacks comes to nothing else.
+/// And where a program means anything, the run on flat stacks comes to nothing else.
 pub fn flat_then_means()
-    ensures { (program : Program) (tables : Tables) (launch : Launch) (meant seen : Observed) → Translated program tables → Begins (linkage program tables) → Means program launch meant → Flat.Runs tables launch seen → Means program launch seen }
+    ensures { (files : List (List Declaration)) (tables : Tables) (launch : Launch) (meant seen : Observed)
+        → IsLinked files tables → FilesMean files launch meant → RunsFlat tables launch seen → FilesMean files launch seen }
 {}

@@ -178,4 +178,4 @@ wanted_seen w =
 
 -- all that is seen is as is wanted
 abbrev pub Holds : Case → Type 0
-Holds c = seen_with c (tables_of (program c.files)) ≡ wanted_seen c.wanted
+Holds c = seen_with c (tables_of c.files) ≡ wanted_seen c.wanted

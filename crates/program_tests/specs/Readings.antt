@@ -48,8 +48,8 @@ left_by launch program tables =
 -- the meaning and both runs of the code leave this outside
 abbrev pub Reads : Read → Type 0
 Reads r =
-    let p = program (r.file ∷ []) in
-    left_by (launch_of [] default_limits r.input) p (tables_of p)
+    let files = r.file ∷ [] in
+    left_by (launch_of [] default_limits r.input) (program files) (tables_of files)
     ≡ record { meant = Some r.outside; on_stacks = Some r.outside; on_marks = Some r.outside }
 
 abbrev pub line_of : List ℕ → ℕ → ℕ → Reading

@@ -1,4 +1,4 @@
-use Rattle.icn_simulation.proofs.Composed.{flat_means}
+use Rattle.icn_simulation.proofs.Files.{flat_means}
 use Rattle.icn_simulation.proofs.laws.flat_then_means.Goals as goal
 
 pub returns : goal.returns

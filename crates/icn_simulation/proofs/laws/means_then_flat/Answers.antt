@@ -1,4 +1,4 @@
-use Rattle.icn_simulation.proofs.Composed.{means_flat}
+use Rattle.icn_simulation.proofs.Files.{means_flat}
 use Rattle.icn_simulation.proofs.laws.means_then_flat.Goals as goal
 
 pub returns : goal.returns
