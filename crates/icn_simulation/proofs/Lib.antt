@@ -13,7 +13,7 @@ pub mod Stand
 pub mod Routines
 pub mod Example
 pub mod Files
-mod Sizes
+pub mod Sizes
 pub mod FirstMentions
 pub mod Formed
 pub mod Fitting

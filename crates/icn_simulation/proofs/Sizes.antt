@@ -228,7 +228,7 @@ mutual
       operands_len N es D W (p + size D e) in let a =
       la (code N D W p e) (operands N D W (p + size D e) es) in omega arith
 
-  elements_len : (N : Names) (es : Trees) (D : List Depth) (W : List Ways) (p : ℕ)
+  pub elements_len : (N : Names) (es : Trees) (D : List Depth) (W : List Ways) (p : ℕ)
       → length (elements_code N D W p es) ≡ elements_size D es
   elements_len N NoTrees D W p = refl
   elements_len N (More e es) D W p = if_len (is_no_element (More e es)) [] _ 0 _ refl
@@ -262,7 +262,7 @@ mutual
           la (code N (deeper D) W (p + 1) e) (I.Unmark ∷ compound N D W (p + size (deeper D) e + 2) es) in
           omega arith
 
-  bodies_len : (N : Names) (es : Trees) (D : List Depth) (p : ℕ)
+  pub bodies_len : (N : Names) (es : Trees) (D : List Depth) (p : ℕ)
       → length (bodies_code N p es) ≡ bodies_size D es
   bodies_len N NoTrees D p = refl
   bodies_len N (More e es) D p = if_len (is_no_element (More e es)) [] _ 0 _ refl
@@ -287,7 +287,7 @@ mutual
       subscripts_len N es D W (p + size D e + 1) in let a =
       la (code N D W p e) (I.Op Ops.Subscript ∷ subscripts N D W (p + size D e + 1) es) in omega arith
 
-  by_len : (N : Names) (by : MaybeTree) (D : List Depth) (W : List Ways) (p : ℕ)
+  pub by_len : (N : Names) (by : MaybeTree) (D : List Depth) (W : List Ways) (p : ℕ)
       → length (by_code N D W p by) ≡ by_size D by
   by_len N Absent D W p = refl
   by_len N (Present e) D W p = code_size N e D W p
@@ -300,13 +300,13 @@ mutual
       let y = la a (I.Goto (p + n + 3 + size D b) ∷ code N D W (p + n + 3) b) in let z =
       code_size N b D W (p + n + 3) in omega arith
 
-  body_len : (N : Names) (b : MaybeTree) (D : List Depth) (W : List Ways) (p : ℕ)
+  pub body_len : (N : Names) (b : MaybeTree) (D : List Depth) (W : List Ways) (p : ℕ)
       → length (body_code N D W p b) ≡ body_size D b
   body_len N Absent D W p = refl
   body_len N (Present b) D W p = let x = code_size N b D W (p + 1) in let a =
       la (code N D W (p + 1) b) (I.Unmark ∷ []) in omega arith
 
-  clauses_len : (N : Names) (cs : Clauses) (D : List Depth) (W : List Ways) (p last : ℕ)
+  pub clauses_len : (N : Names) (cs : Clauses) (D : List Depth) (W : List Ways) (p last : ℕ)
       → length (clauses_code N D W p last cs) ≡ clauses_size D cs
   clauses_len N NoClauses D W p last = refl
   clauses_len N (MoreClauses c cs) D W p last = let x = clause_len N c D W p last in let y =
@@ -314,7 +314,7 @@ mutual
       let a = la (clause_code N D W p last c) (clauses_code N D W (p + clause_size D c) last cs) in
       omega arith
 
-  clause_len : (N : Names) (c : Clause) (D : List Depth) (W : List Ways) (p last : ℕ)
+  pub clause_len : (N : Names) (c : Clause) (D : List Depth) (W : List Ways) (p last : ℕ)
       → length (clause_code N D W p last c) ≡ clause_size D c
   clause_len N (Default place e) D W p last = refl
   clause_len N (Guarded place s b) D W p last = let n = size (deeper D) s in let x =

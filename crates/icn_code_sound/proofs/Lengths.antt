@@ -1,0 +1,17 @@
+-- How long the pieces are that the translation puts round an expression.
+use Rattle.std.proofs.Common.{◌≡◌, ℕ, ◌+◌, List, [], ◌∷◌, ◌++◌, length, false, true, arith, length-append}
+use Rattle.icn_code.specs.declared.instr.Instr.TheVariants as I
+use Rattle.icn_tree.specs.Trees.{Tree}
+use Rattle.icn_simulation.specs.Translation.{Names, size}
+use Rattle.icn_code_sound.specs.Noted.{Shape, Note, o, more, marked, start, created, code}
+use Rattle.icn_code_sound.proofs.Notes.{len}
+
+-- the body of a `create`
+pub created_len : (p n : ℕ) (s : Shape) (xs : List Note) → length xs ≡ n → length (created p n s xs) ≡ n + 5
+created_len p n s xs e = let a = length-append xs (o (more (marked (start true))) I.Coret ∷ o (more (marked (start true))) I.Efail ∷ o (start true) I.Cofail ∷ []) in omega arith
+
+-- a bounded expression of a body
+pub bounded_len : (N : Names) (p : ℕ) (x : Tree) → length (o (start false) (I.Mark (p + size [] x + 2)) ∷ code N [] [] (p + 1) (marked (start false)) x ++ o (more (marked (start false))) I.Unmark ∷ []) ≡ size [] x + 2
+bounded_len N p x =
+    let a = length-append (code N [] [] (p + 1) (marked (start false)) x) (o (more (marked (start false))) I.Unmark ∷ []) in
+    let b = len N x [] [] (p + 1) (marked (start false)) in omega arith

@@ -1,0 +1,14 @@
+pub mod Basics
+pub mod Notes
+pub mod Lengths
+pub mod Shaped
+pub mod LawB
+pub mod Verifies
+pub mod Bridges
+pub mod Sound
+pub mod Neat
+pub mod LawC
+pub mod Entries
+pub mod Findings
+pub mod Fitted
+pub mod Joining

@@ -1,0 +1,5 @@
+pub mod Noted
+pub mod Verified
+pub mod Fit
+pub mod Laws
+pub mod Bridge
