@@ -8,3 +8,5 @@ pub mod OtherChanges
 pub mod TextChanges
 pub mod Differing
 pub mod Stepping
+pub mod ListItems
+pub mod Limiting

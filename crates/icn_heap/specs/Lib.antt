@@ -5,3 +5,4 @@ pub mod Records
 pub mod Parts
 pub mod Heaps
 pub mod Fulls
+pub mod Texts

@@ -5,16 +5,18 @@ use icn_value::Val;
 use std::alloc::AllocError;
 
 impl Heap {
-    ghost use Rattle.std.specs.Prelude.{◌≡◌, IfOk};
+    ghost use Rattle.std.specs.Prelude.{◌≡◌, false, IfOk, IsOk};
     ghost use Rattle.icn_heap.specs.Extents.{IsLive, value_in};
     ghost use Rattle.icn_heap.specs.Keys.{key_value, IsKey};
+    ghost use Rattle.icn_heap.specs.Texts.{is_text};
     ghost use Rattle.icn_heap.specs.Heaps.{extent_of};
 
-    // A value as a key, which holds its bytes.
+    // A value as a key, which holds its bytes. The error is want of memory for a copy of a text.
     pub(crate) fn key_of(&self, val: Val) -> Result<Key, AllocError>
         requires { IsLive (extent_of self.now) val }
         ensures value { IfOk result (λ key. key_value key ≡ value_in (extent_of self.now) val) }
         ensures formed { IfOk result IsKey }
+        ensures succeeds { is_text val ≡ false → IsOk result }
     {
         match val {
             Val::Null => Ok(Key::Null),

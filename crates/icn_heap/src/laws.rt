@@ -1,5 +1,5 @@
 // What holds of every heap. A call does nothing: it tells a caller's proof the law.
-ghost use Rattle.std.specs.Prelude.{◌≡◌, ◌≢◌, ◌≤◌, ℕ, List, [], length, Ok};
+ghost use Rattle.std.specs.Prelude.{◌≡◌, ◌≢◌, ◌-◌, ◌<◌, ◌≤◌, ◌^◌, ℕ, List, [], length, Ok};
 ghost use Rattle.icn_value.specs.declared.val.Val.TheVariants.{Coexp};
 ghost use Rattle.icn_value.specs.Values.{Value};
 ghost use Rattle.icn_value.specs.Store.{Heap as DefinedHeap};
@@ -9,7 +9,7 @@ ghost use Rattle.icn_heap.specs.Heaps.{extent_of, heap_of};
 
 use crate::heap::Heap;
 use crate::spans::as_place;
-use icn_strings::{empty_place, length_of_bytes};
+use icn_strings::{empty_place, length_of_bytes, short_string};
 use icn_value::Span;
 
 /// `&main` is of every heap.
@@ -35,6 +35,15 @@ pub fn length_of_text(heap: &Heap, span: Span)
     ensures { length (text_in (extent_of heap.now) span) ≡ span.len }
 {
     length_of_bytes(&heap.strings, as_place(span));
+}
+
+/// A text has so few bytes that each position in it is an `i64`, the one behind its last byte too.
+#[tactic(auto, unfolding(crate::specs::Heaps::extent_of, crate::specs::Extents::text_in))]
+pub fn short_text(heap: &Heap, span: Span)
+    requires { IsText (extent_of heap.now) span }
+    ensures { length (text_in (extent_of heap.now) span) < 2 ^ 63 - 1 }
+{
+    short_string(&heap.strings, as_place(span));
 }
 
 /// No heap has charged more cells than its limit.

@@ -22,4 +22,4 @@ mod texts;
 
 pub use heap::Heap;
 pub use icn_value::Full;
-pub use laws::{empty_text, length_of_text, made_differ, main_is_live, within_limit};
+pub use laws::{empty_text, length_of_text, made_differ, main_is_live, short_text, within_limit};

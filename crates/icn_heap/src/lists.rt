@@ -124,6 +124,16 @@ impl Heap {
         set_at(&mut self.lists, list, n, val)
     }
 
+    /// The item of a list with this number. `None` comes exactly where no item has it. It takes no memory.
+    #[tactic(auto, unfolding(crate::specs::Heaps::extent_of, crate::specs::Heaps::heap_of))]
+    pub fn item(&self, list: u32, n: i64) -> Option<Val>
+        requires { IsLive (extent_of self.now) (List list) }
+        ensures item { option_map (value_in (extent_of self.now)) result ≡ item_numbered (list_at (heap_of self.now) list) n }
+        ensures live { IfSome result (IsLive (extent_of self.now)) }
+    {
+        list_ref(&self.lists, list).by_number(n)
+    }
+
     /// A list. It takes no memory.
     #[tactic(auto, unfolding(crate::specs::Heaps::extent_of, crate::specs::Heaps::heap_of))]
     pub fn list(&self, id: u32) -> &Deque<Val>

@@ -8,7 +8,7 @@ use icn_value::{Full, Val};
 use std::alloc::AllocError;
 
 impl Heap {
-    ghost use Rattle.std.specs.Prelude.{◌≡◌, MatchResult, IfOk, OnErr, IfSome, not, filter, slice_get, Ok};
+    ghost use Rattle.std.specs.Prelude.{◌≡◌, false, MatchResult, IfOk, IsOk, OnErr, IfSome, not, filter, slice_get, Ok};
     ghost use Rattle.std.specs.Option.{option_map};
     ghost use Rattle.icn_value.specs.declared.val.Val.TheVariants.{Set};
     ghost use Rattle.icn_value.specs.Sameness.{same, has_value};
@@ -16,6 +16,7 @@ impl Heap {
     ghost use Rattle.icn_value.specs.Changes.{made_set, next_set, added_in, Refuses, LimitsFirst};
     ghost use Rattle.icn_heap.specs.Extents.{IsLive, value_in, Keeps};
     ghost use Rattle.icn_heap.specs.Keys.{key_value, IsKey};
+    ghost use Rattle.icn_heap.specs.Texts.{is_text};
     ghost use Rattle.icn_heap.specs.Heaps.{extent_of, heap_of};
 
     /// Makes a set without members. It costs a cell.
@@ -39,7 +40,8 @@ impl Heap {
     pub fn has(&self, set: u32, val: Val) -> Result<bool, AllocError>
         requires set { IsLive (extent_of self.now) (Set set) }
         requires live { IsLive (extent_of self.now) val }
-        ensures { IfOk result (λ found. found ≡ has_value (set_at (heap_of self.now) set) (value_in (extent_of self.now) val)) }
+        ensures found { IfOk result (λ found. found ≡ has_value (set_at (heap_of self.now) set) (value_in (extent_of self.now) val)) }
+        ensures succeeds { is_text val ≡ false → IsOk result }
     {
         let key = self.key_of(val)?;
         Ok(self.has_member(set, &key))
@@ -51,6 +53,7 @@ impl Heap {
         requires set { IsLive (extent_of self.old) (Set set) }
         requires live { IsLive (extent_of self.old) val }
         ensures step { MatchResult result (λ _. added_in (heap_of self.old) set (value_in (extent_of self.old) val) ≡ Ok (heap_of self.new)) (Refuses (added_in (heap_of self.old) set (value_in (extent_of self.old) val))) }
+        ensures limits { is_text val ≡ false → LimitsFirst (added_in (heap_of self.old) set (value_in (extent_of self.old) val)) result }
         ensures kept { Keeps (extent_of self.old) (extent_of self.new) }
         ensures unchanged { OnErr result (heap_of self.new ≡ heap_of self.old) }
     {

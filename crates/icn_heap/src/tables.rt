@@ -9,7 +9,7 @@ use icn_value::{Full, Val};
 use std::alloc::AllocError;
 
 impl Heap {
-    ghost use Rattle.std.specs.Prelude.{◌≡◌, MatchResult, IfOk, OnErr, OnOk, IfSome, is_some, slice_get, Ok};
+    ghost use Rattle.std.specs.Prelude.{◌≡◌, false, MatchResult, IfOk, IsOk, OnErr, OnOk, IfSome, is_some, slice_get, Ok};
     ghost use Rattle.std.specs.Option.{option_map};
     ghost use Rattle.icn_structs.specs.PairLists.{without};
     ghost use Rattle.icn_value.specs.declared.val.Val.TheVariants.{Table};
@@ -18,6 +18,7 @@ impl Heap {
     ghost use Rattle.icn_value.specs.Changes.{made_table, next_table, looked, stored_in, has_key, without_key, Refuses, LimitsFirst};
     ghost use Rattle.icn_heap.specs.Extents.{IsLive, value_in, values_in, Keeps};
     ghost use Rattle.icn_heap.specs.Keys.{key_value, IsKey};
+    ghost use Rattle.icn_heap.specs.Texts.{is_text};
     ghost use Rattle.icn_heap.specs.Heaps.{extent_of, heap_of};
 
     /// Makes a table without pairs, with this value for keys that are not there. It costs a cell.
@@ -45,6 +46,7 @@ impl Heap {
         requires key { IsLive (extent_of self.now) key }
         ensures live { IfOk result (λ found. IfSome found (IsLive (extent_of self.now))) }
         ensures value { IfOk result (λ found. option_map (value_in (extent_of self.now)) found ≡ looked (heap_of self.now) table (value_in (extent_of self.now) key)) }
+        ensures succeeds { is_text key ≡ false → IsOk result }
     {
         let held = self.key_of(key)?;
         Ok(self.value_at(table, &held))
@@ -80,6 +82,7 @@ impl Heap {
         requires key { IsLive (extent_of self.old) key }
         requires live { IsLive (extent_of self.old) val }
         ensures step { MatchResult result (λ _. stored_in (heap_of self.old) table (value_in (extent_of self.old) key) (value_in (extent_of self.old) val) ≡ Ok (heap_of self.new)) (Refuses (stored_in (heap_of self.old) table (value_in (extent_of self.old) key) (value_in (extent_of self.old) val))) }
+        ensures limits { is_text key ≡ false → LimitsFirst (stored_in (heap_of self.old) table (value_in (extent_of self.old) key) (value_in (extent_of self.old) val)) result }
         ensures kept { Keeps (extent_of self.old) (extent_of self.new) }
         ensures unchanged { OnErr result (heap_of self.new ≡ heap_of self.old) }
     {
@@ -97,6 +100,7 @@ impl Heap {
         requires key { IsLive (extent_of self.old) key }
         ensures found { IfOk result (λ found. found ≡ has_key (heap_of self.old) (value_in (extent_of self.old) from) (value_in (extent_of self.old) key)) }
         ensures step { OnOk result (heap_of self.new ≡ without_key (value_in (extent_of self.old) from) (value_in (extent_of self.old) key) (heap_of self.old)) }
+        ensures succeeds { is_text key ≡ false → IsOk result }
         ensures kept { Keeps (extent_of self.old) (extent_of self.new) }
         ensures unchanged { OnErr result (heap_of self.new ≡ heap_of self.old) }
     {
