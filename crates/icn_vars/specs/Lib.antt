@@ -1,0 +1,4 @@
+pub mod Facts
+pub mod Stops
+pub mod Worlds
+pub mod Finding

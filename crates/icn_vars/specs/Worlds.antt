@@ -1,0 +1,125 @@
+-- What a program's world stands for, and which variables and items are of it.
+use Rattle.std.specs.Prelude.{◌≡◌, ℕ, ◌<◌, ◌≤◌, List, map, length, slice_index, ⊤}
+use Rattle.std.specs.List.{All}
+use Rattle.icn_value.specs.declared.val.Val.{Val}
+use Rattle.icn_value.specs.declared.val.Val.TheVariants.{List as ListVal, Table as TableVal, Rec as RecVal}
+use Rattle.icn_value.specs.declared.item.KeywordVariable.{KeywordVariable as HeldWord}
+use Rattle.icn_value.specs.declared.item.KeywordVariable.TheVariants.{Subject as HeldSubject, Position as HeldPosition, Random as HeldRandom}
+use Rattle.icn_value.specs.declared.item.Root.{Root as HeldRoot}
+use Rattle.icn_value.specs.declared.item.Root.TheVariants.{Global as HeldGlobal, Static as HeldStatic, Local as HeldLocal, Element as HeldElement, Field as HeldField, Key as HeldKey, Keyword as HeldKeyword}
+use Rattle.icn_value.specs.declared.item.VarRef.{VarRef}
+use Rattle.icn_value.specs.declared.item.VarRef.TheVariants.{Whole as HeldWhole, Part as HeldPart}
+use Rattle.icn_value.specs.declared.item.Item.{Item as HeldItem}
+use Rattle.icn_value.specs.declared.item.Item.TheVariants.{Val as HeldVal, Var as HeldVar}
+use Rattle.icn_value.specs.Values.{Value, KeywordVariable, Subject, Position, Random, Root, Global, Static, Local, Element, Field, Key, Keyword, Variable, Whole, Part, Item, Val as ItemVal, Var as ItemVar}
+use Rattle.icn_value.specs.Store.{Heap, Record, Outside, Setting, World as StoreWorld}
+use Rattle.icn_heap.specs.Extents.{Extent, IsLive, Keeps, text_in, value_in}
+use Rattle.icn_heap.specs.Heaps.{extent_of, heap_of}
+use Rattle.icn_vars.specs.declared.world.World.{World}
+
+-- the world, whose values hold their bytes
+abbrev pub world_of : World → StoreWorld
+world_of world = record {
+  heap = heap_of world.heap;
+  subject = text_in (extent_of world.heap) world.pair.subject;
+  position = world.pair.position;
+  random = world.random;
+  globals = map (value_in (extent_of world.heap)) world.globals.items;
+  statics = map (value_in (extent_of world.heap)) world.statics.items;
+}
+
+-- the setting of this world, these locals, and an outside
+abbrev pub setting_of : Outside → World → List Val → Setting
+setting_of outside world locals = record {
+  world = world_of world;
+  locals = map (value_in (extent_of world.heap)) locals;
+  outside = outside;
+}
+
+-- Variables and items as values that hold their bytes
+
+abbrev pub word_of : HeldWord → KeywordVariable
+word_of HeldSubject = Subject
+word_of HeldPosition = Position
+word_of HeldRandom = Random
+
+abbrev pub root_in : Extent → HeldRoot → Root
+root_in all (HeldGlobal place) = Global place
+root_in all (HeldStatic place) = Static place
+root_in all (HeldLocal place) = Local place
+root_in all (HeldElement list number) = Element list number
+root_in all (HeldField rec place) = Field rec place
+root_in all (HeldKey table key) = Key table (value_in all key)
+root_in all (HeldKeyword word) = Keyword (word_of word)
+
+abbrev pub variable_in : Extent → VarRef → Variable
+variable_in all (HeldWhole root) = Whole (root_in all root)
+variable_in all (HeldPart root place len) = Part (root_in all root) place len
+
+abbrev pub item_in : Extent → HeldItem → Item
+item_in all (HeldVal val) = ItemVal (value_in all val)
+item_in all (HeldVar variable) = ItemVar (variable_in all variable)
+
+-- Which of them are of a world
+
+-- how many fields each record has
+abbrev pub field_counts : Heap → List ℕ
+field_counts heap = map (λ (structure : Record). length structure.fields) heap.records
+
+-- what items may name: the values of a heap, the fields of its records, and so many globals, statics and locals
+pub record Reach : Type 0 where
+  pub extent : Extent
+  pub fields : List ℕ
+  pub globals : ℕ
+  pub statics : ℕ
+  pub locals : ℕ
+
+abbrev pub reach_of : World → List Val → Reach
+reach_of world locals = record {
+  extent = extent_of world.heap;
+  fields = field_counts (heap_of world.heap);
+  globals = length world.globals.items;
+  statics = length world.statics.items;
+  locals = length locals;
+}
+
+abbrev pub RootBy : Reach → HeldRoot → Type 0
+RootBy reach (HeldGlobal place) = place < reach.globals
+RootBy reach (HeldStatic place) = place < reach.statics
+RootBy reach (HeldLocal place) = place < reach.locals
+RootBy reach (HeldElement list number) = IsLive reach.extent (ListVal list)
+RootBy reach (HeldField rec place) = IsLive reach.extent (RecVal rec) × (place < slice_index reach.fields rec)
+RootBy reach (HeldKey table key) = IsLive reach.extent (TableVal table) × IsLive reach.extent key
+RootBy reach (HeldKeyword word) = ⊤
+
+-- the root of a variable is of the world
+pub record IsLiveRoot (reach : Reach) (root : HeldRoot) : Type 0 where
+  pub live : RootBy reach root
+
+abbrev pub VariableBy : Reach → VarRef → Type 0
+VariableBy reach (HeldWhole root) = IsLiveRoot reach root
+VariableBy reach (HeldPart root place len) = IsLiveRoot reach root × (1 ≤ place)
+
+-- the variable is of the world
+pub record IsLiveVariable (reach : Reach) (variable : VarRef) : Type 0 where
+  pub live : VariableBy reach variable
+
+abbrev pub ItemBy : Reach → HeldItem → Type 0
+ItemBy reach (HeldVal val) = IsLive reach.extent val
+ItemBy reach (HeldVar variable) = IsLiveVariable reach variable
+
+-- the item is of the world
+pub record IsLiveItem (reach : Reach) (item : HeldItem) : Type 0 where
+  pub live : ItemBy reach item
+
+-- a record keeps its fields
+pub record KeepsFields (old new : List ℕ) : Type 0 where
+  pub more : (id : ℕ) → slice_index old id ≤ slice_index new id
+
+-- every item stays of the world, and stands for the same
+pub record KeepsItems (old new : Reach) : Type 0 where
+  pub extent : Keeps old.extent new.extent
+  pub fields : KeepsFields old.fields new.fields
+  pub globals : new.globals ≡ old.globals
+  pub statics : new.statics ≡ old.statics
+  pub locals : new.locals ≡ old.locals
