@@ -1,0 +1,3 @@
+mod Fillings
+mod Images
+mod Trims

@@ -1,0 +1,43 @@
+// Integers whose bits are moved, and their absolute values.
+ghost use Rattle.std.specs.Prelude.{◌≡◌, ◌+◌, ℕ, negsuc, pos, unsigned_abs};
+ghost use Rattle.icn_text.specs.IntegerArithmetic.{within_64_bits};
+ghost use Rattle.icn_defs.specs.Strings.{shifted};
+
+use icn_text::Arith;
+
+// The absolute value, or `Overflow`.
+pub fn absolute(n: i64) -> Result<i64, Arith>
+    ensures { result ≡ within_64_bits (pos (unsigned_abs n)) }
+{
+    n.checked_abs().ok_or(Arith::Overflow)
+}
+
+// An integer shifted to the left, or to the right with zeros by a count below 0; 0 from 64 on.
+pub fn shifted(m: i64, n: i64) -> i64
+    ensures { result ≡ shifted m n }
+{
+    match u64::try_from(n) {
+        Ok(count) => shifted_left(m, count),
+        Err(_) => shifted_right(m, n.unsigned_abs()),
+    }
+}
+
+fn shifted_left(m: i64, count: u64) -> i64
+    ensures { result ≡ shifted m (pos count) }
+{
+    if count < 64 {
+        (m.cast_unsigned() << count).cast_signed()
+    } else {
+        0
+    }
+}
+
+fn shifted_right(m: i64, count: u64) -> i64
+    ensures { (k : ℕ) → count ≡ k + 1 → result ≡ shifted m (negsuc k) }
+{
+    if count < 64 {
+        (m.cast_unsigned() >> count).cast_signed()
+    } else {
+        0
+    }
+}
