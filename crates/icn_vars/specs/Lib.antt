@@ -2,3 +2,4 @@ pub mod Facts
 pub mod Stops
 pub mod Worlds
 pub mod Finding
+pub mod Outcomes
