@@ -10,3 +10,5 @@ pub mod Differing
 pub mod Stepping
 pub mod ListItems
 pub mod Limiting
+pub mod Gathering
+pub mod Apart

@@ -133,7 +133,7 @@ coexp_counts parts is id few =
 -- Sets: a member is found, joins and leaves
 
 module _ (parts : Parts) (is : IsSound parts) (id : ℕ) (there : id < length parts.sets) where
-  members_sound : All (IsSoundMember (extent_in parts)) (slice_index_or parts.sets id [])
+  pub members_sound : All (IsSoundMember (extent_in parts)) (slice_index_or parts.sets id [])
   members_sound = is.structures.sets id [] there
 
   pub has_is : (key : Key) → IsKey key → is_some (value_of key_eq (slice_index_or parts.sets id []) key) ≡ has_value (set_at (heap_over (extent_in parts) parts) id) (key_value key)
@@ -201,7 +201,7 @@ pub table_view : (all : Extent) (parts : Parts) (id : ℕ) → table_at (heap_ov
 table_view all parts id = at_view (table_in all) parts.tables id no_entries
 
 module _ (parts : Parts) (is : IsSound parts) (id : ℕ) (there : id < length parts.tables) where
-  table_sound : IsSoundTable (extent_in parts) (slice_index_or parts.tables id no_entries)
+  pub table_sound : IsSoundTable (extent_in parts) (slice_index_or parts.tables id no_entries)
   table_sound = is.structures.tables id no_entries there
 
   pub looked_is : (key : Key) → IsKey key
@@ -280,7 +280,7 @@ pub record_view : (all : Extent) (parts : Parts) (id : ℕ) → record_at (heap_
 record_view all parts id = at_view (record_in all) parts.records id no_fields
 
 module _ (parts : Parts) (is : IsSound parts) (id : ℕ) (there : id < length parts.records) where
-  record_sound : IsSoundRecord (extent_in parts) (slice_index_or parts.records id no_fields)
+  pub record_sound : IsSoundRecord (extent_in parts) (slice_index_or parts.records id no_fields)
   record_sound = is.structures.records id no_fields there
 
   pub fields_are : map (value_in (extent_in parts)) (slice_index_or parts.records id no_fields).values ≡ (record_at (heap_over (extent_in parts) parts) id).fields

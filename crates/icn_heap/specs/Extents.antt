@@ -67,6 +67,11 @@ LiveBy all (CoexpVal id) = id < all.coexps
 pub record IsLive (all : Extent) (val : Val) : Type 0 where
   pub live : LiveBy all val
 
+-- both values of a pair are of the heap
+pub record AreLive (all : Extent) (pair : Val × Val) : Type 0 where
+  pub first : IsLive all pair.0
+  pub second : IsLive all pair.1
+
 -- every value stays of the heap, and stands for the same
 pub record Keeps (old new : Extent) : Type 0 where
   pub live : (val : Val) → IsLive old val → IsLive new val

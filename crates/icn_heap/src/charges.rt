@@ -3,9 +3,27 @@ use crate::heap::Heap;
 use icn_value::Full;
 
 impl Heap {
-    ghost use Rattle.std.specs.Prelude.{◌≡◌, ◌+◌, ◌≤◌, IfOk, IfErr, Ok, Err, if◌then◌else◌};
+    ghost use Rattle.std.specs.Prelude.{◌≡◌, ◌+◌, ◌≤◌, MatchResult, IfOk, IfErr, OnOk, Ok, Err, if◌then◌else◌};
     ghost use Rattle.icn_value.specs.Changes.{charged_cells, charged_unless};
     ghost use Rattle.icn_heap.specs.Heaps.{heap_of, with_cells};
+
+    /// Whether so many cells may be charged at once, and why they may not. It charges nothing and takes no memory.
+    ///
+    /// Where there is room, a limit refuses no change that costs as many cells or fewer, so a caller that adds several elements looks once
+    /// and then adds them one by one.
+    #[tactic(auto, using(crate::proofs::Charging::charge_fits, crate::proofs::Charging::charge_full), unfolding(crate::specs::Heaps::heap_of))]
+    pub fn room_for_cells(&self, cells: u64) -> Result<(), Full>
+        ensures answer { MatchResult result (λ _. charged_cells (heap_of self.now) cells ≡ Ok (with_cells ((heap_of self.now).cells + cells) (heap_of self.now))) (λ full. charged_cells (heap_of self.now) cells ≡ Err full) }
+        ensures within { OnOk result ((heap_of self.now).cells + cells ≤ (heap_of self.now).bounds.cells) }
+    {
+        if cells > self.limits.cells - self.cells {
+            return Err(Full::Cells {
+                sum: self.cells,
+                limit: self.limits.cells,
+            });
+        }
+        Ok(())
+    }
 
     // The sum once a cell is charged and one more for each of so many elements, or why it is not.
     #[tactic(auto, using(crate::proofs::Charging::charge_fits, crate::proofs::Charging::charge_full), unfolding(crate::specs::Heaps::heap_of))]

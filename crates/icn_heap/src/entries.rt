@@ -2,7 +2,7 @@
 ghost use Rattle.std.specs.Prelude.{◌≡◌, ◌<◌, ◌^◌, ◌++◌, ◌∷◌, [], OnOk, OnErr, slice_set, slice_get, slice_index_or, length, is_some};
 ghost use Rattle.std.specs.Option.{option_map};
 ghost use Rattle.std.specs.Vec.{vec_len};
-ghost use Rattle.icn_structs.specs.PairLists.{value_of, stored, without};
+ghost use Rattle.icn_structs.specs.PairLists.{value_of, stored, without, KeysDiffer};
 ghost use Rattle.icn_heap.specs.KeyTests.{key_eq};
 ghost use Rattle.icn_heap.specs.Parts.{no_entries, entry_of, entry_value, entry_vals, table_with, table_without};
 
@@ -115,4 +115,13 @@ pub fn count_of(tables: &Vec<Entries>, table: u32) -> u64
     ensures small { result < 2 ^ 63 }
 {
     tables[table as usize].pairs.len()
+}
+
+// No pair of a table has the key of another. A call does nothing: it tells a caller's proof so.
+#[tactic(auto, using(crate::proofs::KeyTests::same_tests))]
+pub fn keys_of_pairs_differ(tables: &Vec<Entries>, table: u32)
+    requires { table < vec_len tables.now }
+    ensures { KeysDiffer key_eq (slice_index_or tables.now.items table no_entries).pairs }
+{
+    let _count = tables[table as usize].pairs.len();
 }

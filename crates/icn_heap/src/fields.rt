@@ -49,6 +49,13 @@ impl Fields {
         self.values[n as usize]
     }
 
+    // The values of the fields.
+    pub fn values(&self) -> &[Val]
+        ensures { result.now ≡ self.now.values }
+    {
+        &self.values
+    }
+
     // Gives a field another value.
     fn set(&mut self, n: u16, val: Val)
         requires { n < length self.old.values }

@@ -5,6 +5,7 @@ mod charges;
 mod coexps;
 mod counts;
 mod deques;
+mod elements;
 mod entries;
 mod fields;
 mod heap;
@@ -22,4 +23,7 @@ mod texts;
 
 pub use heap::Heap;
 pub use icn_value::Full;
-pub use laws::{empty_text, length_of_text, made_differ, main_is_live, short_text, within_limit};
+pub use laws::{
+    empty_text, few_coexps, keys_differ, length_of_text, live_numbers, made_differ, main_is_live,
+    members_differ, short_text, strings_within_limit, within_limit,
+};

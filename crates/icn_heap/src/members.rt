@@ -78,7 +78,7 @@ pub fn count_at(sets: &Vec<Members>, set: u32) -> u64
 
 // No member of a set has the key of another. A call does nothing: it tells a caller's proof so.
 #[tactic(auto, using(crate::proofs::KeyTests::same_tests))]
-pub fn keys_differ(sets: &Vec<Members>, set: u32)
+pub fn keys_of_members_differ(sets: &Vec<Members>, set: u32)
     requires { set < vec_len sets.now }
     ensures { KeysDiffer key_eq (slice_index_or sets.now.items set []) }
 {

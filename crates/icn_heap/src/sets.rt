@@ -2,7 +2,7 @@
 use crate::heap::Heap;
 use crate::key::Key;
 use crate::members::{
-    add_set, has_at, keys_differ, member_at, member_removed_at, member_stored_at,
+    add_set, has_at, keys_of_members_differ, member_at, member_removed_at, member_stored_at,
 };
 use icn_value::{Full, Val};
 use std::alloc::AllocError;
@@ -97,7 +97,7 @@ impl Heap {
         ensures step { heap_of self.new ≡ with_set set (filter (λ member. not (same (key_value key.now) member)) (set_at (heap_of self.old) set)) (heap_of self.old) }
         ensures kept { Keeps (extent_of self.old) (extent_of self.new) }
     {
-        keys_differ(&self.sets, set);
+        keys_of_members_differ(&self.sets, set);
         member_removed_at(&mut self.sets, set, key)
     }
 }

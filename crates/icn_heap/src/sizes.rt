@@ -38,7 +38,7 @@ impl Heap {
     }
 
     // How many items a list has.
-    fn item_count(&self, id: u32) -> u64
+    pub(crate) fn item_count(&self, id: u32) -> u64
         requires { IsLive (extent_of self.now) (List id) }
         ensures count { result ≡ length (list_at (heap_of self.now) id).items }
         ensures small { result < 2 ^ 63 }
@@ -48,7 +48,7 @@ impl Heap {
 
     // How many members a set has.
     #[tactic(auto, unfolding(crate::specs::Heaps::extent_of))]
-    fn member_count(&self, id: u32) -> u64
+    pub(crate) fn member_count(&self, id: u32) -> u64
         requires { IsLive (extent_of self.now) (Set id) }
         ensures count { result ≡ length (set_at (heap_of self.now) id) }
         ensures small { result < 2 ^ 63 }
@@ -58,7 +58,7 @@ impl Heap {
 
     // How many pairs a table has.
     #[tactic(auto, unfolding(crate::specs::Heaps::extent_of))]
-    fn pair_count(&self, id: u32) -> u64
+    pub(crate) fn pair_count(&self, id: u32) -> u64
         requires { IsLive (extent_of self.now) (Table id) }
         ensures count { result ≡ length (table_at (heap_of self.now) id).pairs }
         ensures small { result < 2 ^ 63 }
