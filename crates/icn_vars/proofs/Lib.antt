@@ -1,1 +1,5 @@
-mod ReadValues
+pub mod ReadValues
+pub mod Growing
+pub mod KeptItems
+pub mod KeptOutcomes
+pub mod Changing

@@ -1,5 +1,5 @@
 -- What is read of a world, as the definitions have it.
-use Rattle.std.proofs.Common.{◌≡◌, ◌∙◌, refl, sym, ap, ℕ, zero, suc, ◌+◌, ◌-◌, ◌<◌, ◌≤◌, nat_le, Bool, true, false, List, [], ◌∷◌, length, map, take, drop, get_or, arith, Some, None, Option, Result, Ok, Err, subst}
+use Rattle.std.proofs.Common.{◌≡◌, ◌∙◌, refl, sym, ap, ℕ, zero, suc, ◌+◌, ◌-◌, ◌<◌, ◌≤◌, nat_le, List, [], ◌∷◌, length, map, take, drop, get_or, arith, Some, None, Option, Result, Ok, Err, subst}
 use Rattle.std.specs.List.{slice_get, slice_range}
 use Rattle.std.specs.List.{All}
 use Rattle.std.specs.Option.{option_map}
@@ -9,11 +9,8 @@ use Rattle.icn_heap.specs.Parts.{list_in}
 use Rattle.icn_heap.proofs.ListChanges.{get_live}
 use Rattle.std.specs.Prelude.{ℤ, pos, negsuc, ◌-ℤ◌, IfSome, unwrap_or, slice_index, IsErrAnd, MatchResult}
 use Rattle.std.proofs.lemmas.Bool.{le-leb, lt-leb}
-use Rattle.std.proofs.lemmas.List.{length-map}
 use Rattle.icn_value.specs.declared.val.Val.{Val as HeldVal}
-use Rattle.icn_value.specs.declared.item.Root.{Root as HeldRoot}
-use Rattle.icn_value.specs.declared.item.Root.TheVariants.{Global as HeldGlobal, Static as HeldStatic, Local as HeldLocal, Element as HeldElement, Field as HeldField, Key as HeldKey, Keyword as HeldKeyword}
-use Rattle.icn_value.specs.Values.{Value, Text, Root, Global, Static, Local, Element, Field, Key, Keyword, Subject, Position, Random, Variable, Whole, Part}
+use Rattle.icn_value.specs.Values.{Value, Text, Root, Global, Static, Local, Element, Field, Key, Keyword, Subject, Position, Random, Part}
 use Rattle.icn_value.specs.Store.{Outside, Record, Setting, value_at}
 use Rattle.icn_defs.specs.Calls.{ComesTo, GoesOn}
 use Rattle.icn_defs.specs.Conversions.{held_text}

@@ -1,5 +1,5 @@
 -- What calls say that read and assign variables.
-use Rattle.std.specs.Prelude.{◌≡◌, ℕ, Bool, true, false, Option, None, Some, Result, Ok, Err, ⊤}
+use Rattle.std.specs.Prelude.{◌≡◌, Bool, true, false, Option, None, Result, Ok, Err, ⊤}
 use Rattle.icn_value.specs.Values.{Value}
 use Rattle.icn_value.specs.Store.{Setting}
 use Rattle.icn_defs.specs.Rows.{Row}

@@ -1,6 +1,5 @@
 -- What a program's world stands for, and which variables and items are of it.
 use Rattle.std.specs.Prelude.{◌≡◌, ℕ, ◌<◌, ◌≤◌, List, map, length, slice_index, ⊤}
-use Rattle.std.specs.List.{All}
 use Rattle.icn_value.specs.declared.val.Val.{Val}
 use Rattle.icn_value.specs.declared.val.Val.TheVariants.{List as ListVal, Table as TableVal, Rec as RecVal}
 use Rattle.icn_value.specs.declared.item.KeywordVariable.{KeywordVariable as HeldWord}
@@ -11,7 +10,7 @@ use Rattle.icn_value.specs.declared.item.VarRef.{VarRef}
 use Rattle.icn_value.specs.declared.item.VarRef.TheVariants.{Whole as HeldWhole, Part as HeldPart}
 use Rattle.icn_value.specs.declared.item.Item.{Item as HeldItem}
 use Rattle.icn_value.specs.declared.item.Item.TheVariants.{Val as HeldVal, Var as HeldVar}
-use Rattle.icn_value.specs.Values.{Value, KeywordVariable, Subject, Position, Random, Root, Global, Static, Local, Element, Field, Key, Keyword, Variable, Whole, Part, Item, Val as ItemVal, Var as ItemVar}
+use Rattle.icn_value.specs.Values.{KeywordVariable, Subject, Position, Random, Root, Global, Static, Local, Element, Field, Key, Keyword, Variable, Whole, Part, Item, Val as ItemVal, Var as ItemVar}
 use Rattle.icn_value.specs.Store.{Heap, Record, Outside, Setting, World as StoreWorld}
 use Rattle.icn_heap.specs.Extents.{Extent, IsLive, Keeps, text_in, value_in}
 use Rattle.icn_heap.specs.Heaps.{extent_of, heap_of}

@@ -1,5 +1,5 @@
 // Reading variables.
-ghost use Rattle.std.specs.Prelude.{◌≡◌, ◌+◌, ◌-◌, ◌≤◌, length, [], List, IfOk, IfSome, MatchResult, Some, pos};
+ghost use Rattle.std.specs.Prelude.{◌≡◌, ◌+◌, ◌-◌, ◌≤◌, length, [], List, IfErr, IfOk, IfSome, MatchResult, Some, pos};
 ghost use Rattle.std.specs.List.{All};
 ghost use Rattle.std.specs.Option.{option_map};
 ghost use Rattle.icn_structs.specs.Numbered.{item_numbered};
@@ -12,7 +12,7 @@ ghost use Rattle.icn_defs.specs.Reading.{keyword_value, reads, reads_text, root_
 ghost use Rattle.icn_heap.specs.Extents.{IsLive, IsText, text_in, value_in};
 ghost use Rattle.icn_heap.specs.Heaps.{extent_of, heap_of};
 ghost use Rattle.icn_vars.specs.Finding.{IsGone};
-ghost use Rattle.icn_vars.specs.Stops.{StopsFinding};
+ghost use Rattle.icn_vars.specs.Stops.{IsLiveStop, StopsFinding};
 ghost use Rattle.icn_vars.specs.Worlds.{IsLiveItem, IsLiveRoot, IsLiveVariable, item_in, reach_of, root_in, setting_of, variable_in, word_of};
 
 use crate::locals::Locals;
@@ -27,6 +27,7 @@ pub fn deref<L: Locals>(w: &World, l: &L, item: Item) -> Result<Val, Stop>
     requires locals { All (IsLive (extent_of w.now.heap)) (L.items l.now) }
     requires live { IsLiveItem (reach_of w.now (L.items l.now)) item }
     ensures live { IfOk result (IsLive (extent_of w.now.heap)) }
+    ensures stops { IfErr result (IsLiveStop (extent_of w.now.heap)) }
     ensures value { (outside : Outside) → MatchResult result (λ val. GoesOn (the_value (item_in (extent_of w.now.heap) item)) (setting_of outside w.now (L.items l.now)) (value_in (extent_of w.now.heap) val) (setting_of outside w.now (L.items l.now))) (StopsFinding (extent_of w.now.heap) (the_value (item_in (extent_of w.now.heap) item)) (setting_of outside w.now (L.items l.now)) (setting_of outside w.now (L.items l.now))) }
 {
     match item {
@@ -40,6 +41,7 @@ fn read<L: Locals>(w: &World, l: &L, variable: VarRef) -> Result<Val, Stop>
     requires locals { All (IsLive (extent_of w.now.heap)) (L.items l.now) }
     requires live { IsLiveVariable (reach_of w.now (L.items l.now)) variable }
     ensures live { IfOk result (IsLive (extent_of w.now.heap)) }
+    ensures stops { IfErr result (IsLiveStop (extent_of w.now.heap)) }
     ensures value { (outside : Outside) → MatchResult result (λ val. GoesOn (reads (variable_in (extent_of w.now.heap) variable)) (setting_of outside w.now (L.items l.now)) (value_in (extent_of w.now.heap) val) (setting_of outside w.now (L.items l.now))) (StopsFinding (extent_of w.now.heap) (reads (variable_in (extent_of w.now.heap) variable)) (setting_of outside w.now (L.items l.now)) (setting_of outside w.now (L.items l.now))) }
 {
     match variable {
@@ -63,6 +65,7 @@ pub fn read_text<L: Locals>(
     requires live { IsLiveRoot (reach_of w.now (L.items l.now)) root }
     requires place { 1 ≤ place }
     ensures live { IfOk result (IsText (extent_of w.now.heap)) }
+    ensures stops { IfErr result (IsLiveStop (extent_of w.now.heap)) }
     ensures within { IfOk result (λ text. place - 1 + len ≤ length (text_in (extent_of w.now.heap) text)) }
     ensures value { (outside : Outside) → MatchResult result (λ text. GoesOn (reads_text (root_in (extent_of w.now.heap) root) place len) (setting_of outside w.now (L.items l.now)) (text_in (extent_of w.now.heap) text) (setting_of outside w.now (L.items l.now))) (StopsFinding (extent_of w.now.heap) (reads_text (root_in (extent_of w.now.heap) root) place len) (setting_of outside w.now (L.items l.now)) (setting_of outside w.now (L.items l.now))) }
 {
@@ -84,6 +87,7 @@ pub fn read_root<L: Locals>(w: &World, l: &L, root: Root) -> Result<Val, Stop>
     requires locals { All (IsLive (extent_of w.now.heap)) (L.items l.now) }
     requires live { IsLiveRoot (reach_of w.now (L.items l.now)) root }
     ensures live { IfOk result (IsLive (extent_of w.now.heap)) }
+    ensures stops { IfErr result (IsLiveStop (extent_of w.now.heap)) }
     ensures value { MatchResult result (λ val. root_value (setting_of (outside_of []) w.now (L.items l.now)) (root_in (extent_of w.now.heap) root) ≡ Some (value_in (extent_of w.now.heap) val)) (IsGone (root_value (setting_of (outside_of []) w.now (L.items l.now)) (root_in (extent_of w.now.heap) root))) }
 {
     match root {

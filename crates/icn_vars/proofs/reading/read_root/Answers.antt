@@ -1,4 +1,4 @@
-use Rattle.std.proofs.Common.{sym, ap, ◌∙◌, Some, ◌≡◌, ◌<◌, length, []}
+use Rattle.std.proofs.Common.{sym, ap, Some, []}
 use Rattle.icn_value.specs.declared.val.Val.TheVariants.{Null}
 use Rattle.icn_value.specs.Store.{outside_of}
 use Rattle.icn_heap.specs.Heaps.{extent_of, heap_of}
