@@ -25,6 +25,14 @@ impl Heap {
         Ok(())
     }
 
+    /// How many bytes of strings may be charged in all. A text that is longer needs not be made to be refused.
+    #[tactic(auto, unfolding(crate::specs::Heaps::heap_of))]
+    pub fn strings_limit(&self) -> u64
+        ensures { result ≡ (heap_of self.now).bounds.strings }
+    {
+        self.limits.strings
+    }
+
     // The sum once a cell is charged and one more for each of so many elements, or why it is not.
     #[tactic(auto, using(crate::proofs::Charging::charge_fits, crate::proofs::Charging::charge_full), unfolding(crate::specs::Heaps::heap_of))]
     pub(crate) fn paid(&self, elements: u64) -> Result<u64, Full>
