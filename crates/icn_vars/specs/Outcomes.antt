@@ -104,13 +104,14 @@ IsLiveHalt reach NoMemory = ⊤
 
 -- What a call says of a row
 
--- The row is an error or ends the program. Of faults and of want of memory this says nothing.
+-- The row is an error or ends the program; a row that neither reads nor writes comes to no fault. Of want of
+-- memory this says nothing.
 abbrev pub HaltsRow : Extent → Row → Setting → Setting → Halt → Type 0
 HaltsRow all row before after (ErrorHalt number offending) =
     row before ≡ Error number (option_map (value_in all) offending) after
 HaltsRow all row before after (EndsHalt status) = row before ≡ Ends status after
-HaltsRow all row before after ReadFault = ⊤
-HaltsRow all row before after WriteFault = ⊤
+HaltsRow all row before after ReadFault = ⊥
+HaltsRow all row before after WriteFault = ⊥
 HaltsRow all row before after NoMemory = ⊤
 
 -- What the row comes to in the setting before is what was answered, in the setting after it.
