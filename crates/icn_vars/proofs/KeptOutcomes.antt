@@ -1,9 +1,10 @@
 -- What stays of residuals and outcomes as a world changes.
-use Rattle.std.proofs.Common.{◌≡◌, ◌∙◌, refl, ap, List, [], ◌∷◌, map}
+use Rattle.std.proofs.Common.{◌≡◌, ◌∙◌, refl, sym, ap, subst, ℕ, ◌+◌, ◌≤◌, List, [], ◌∷◌, length, map}
 use Rattle.std.specs.List.{All}
 use Rattle.std.specs.Prelude.{Option, None, Some, IfSome}
 use Rattle.std.specs.Option.{option_map}
 use Rattle.std.proofs.lemmas.List.Elements.{All-head, All-tail, All-weaker}
+use Rattle.icn_value.specs.declared.val.Span.{Span}
 use Rattle.icn_value.specs.declared.val.Val.{Val}
 use Rattle.icn_value.specs.declared.val.Val.TheVariants.{List as ListVal, Set as SetVal, Table as TableVal, Rec as RecVal}
 use Rattle.icn_value.specs.declared.item.VarRef.{VarRef}
@@ -22,7 +23,7 @@ use Rattle.icn_vars.specs.declared.outcome.Halt.{Halt}
 use Rattle.icn_vars.specs.declared.outcome.Halt.TheVariants.{Error as ErrorHalt, Ends as EndsHalt, ReadFault, WriteFault, NoMemory as NoMemoryHalt}
 use Rattle.icn_vars.specs.declared.stop.Stop.{Stop}
 use Rattle.icn_vars.specs.declared.stop.Stop.TheVariants.{Error, NoMemory}
-use Rattle.icn_vars.specs.Outcomes.{IsLiveHalt, IsLiveOutcome, IsLiveResidual, IsOld, OutcomeBy, ResidualBy, mover_of, outcome_in, residual_in}
+use Rattle.icn_vars.specs.Outcomes.{IsLiveHalt, IsLiveOutcome, IsLiveResidual, IsOld, IsSearch, OutcomeBy, ResidualBy, mover_of, outcome_in, residual_in}
 use Rattle.icn_vars.specs.Stops.{IsLiveStop}
 use Rattle.icn_vars.specs.Worlds.{KeepsItems, Reach, item_in, variable_in}
 use Rattle.icn_vars.proofs.KeptItems.{item_kept, item_stays, variable_kept, variable_stays}
@@ -36,6 +37,13 @@ module _ {old new : Reach} (keeps : KeepsItems old new) where
         let one : variable_in new.extent variable ≡ variable_in old.extent variable = variable_kept keeps variable is.live_variable in
         let two : value_in new.extent val ≡ value_in old.extent val = keeps.extent.value val is.live_value in
         ap (λ v. can_hold v (value_in new.extent val)) one ∙ (ap (can_hold (variable_in old.extent variable)) two ∙ is.holds));
+  }
+
+  search_stays : (text : Span) (place last : ℕ) → IsSearch old.extent text place last → IsSearch new.extent text place last
+  search_stays text place last is = record {
+    of = keeps.extent.text text is.of;
+    low = is.low;
+    high = subst (λ bytes. last ≤ length bytes + 1) (sym (keeps.extent.bytes text is.of)) is.high;
   }
 
   residual_by : (rest : HeldResidual) → ResidualBy old rest → ResidualBy new rest
@@ -52,9 +60,9 @@ module _ {old new : Reach} (keeps : KeepsItems old new) where
   residual_by (HeldUndoPosition place) is = is
   residual_by (HeldCounting given last step) is = tt
   residual_by (HeldSequence given step) is = tt
-  residual_by (HeldBalanced wanted opening closing text place last) is = (keeps.extent.text text is.0, is.1)
-  residual_by (HeldFound wanted text place last) is = (keeps.extent.text wanted is.0, (keeps.extent.text text is.1.0, is.1.1))
-  residual_by (HeldAmong wanted text place last) is = (keeps.extent.text text is.0, is.1)
+  residual_by (HeldBalanced wanted opening closing text place last) is = search_stays text place last is
+  residual_by (HeldFound wanted text place last) is = (keeps.extent.text wanted is.0, search_stays text place last is.1)
+  residual_by (HeldAmong wanted text place last) is = search_stays text place last is
 
   pub residual_stays : (rest : HeldResidual) → IsLiveResidual old rest → IsLiveResidual new rest
   residual_stays rest is = record { live = residual_by rest is.live }
@@ -82,10 +90,10 @@ module _ {old new : Reach} (keeps : KeepsItems old new) where
   same_residual_by (HeldCounting given last step) is = refl
   same_residual_by (HeldSequence given step) is = refl
   same_residual_by (HeldBalanced wanted opening closing text place last) is =
-      ap (λ bytes. Balanced (members_of wanted) (members_of opening) (members_of closing) bytes place last) (keeps.extent.bytes text is.0)
+      ap (λ bytes. Balanced (members_of wanted) (members_of opening) (members_of closing) bytes place last) (keeps.extent.bytes text is.of)
   same_residual_by (HeldFound wanted text place last) is =
-      ap (λ bytes. Found bytes (text_in new.extent text) place last) (keeps.extent.bytes wanted is.0) ∙ ap (λ bytes. Found (text_in old.extent wanted) bytes place last) (keeps.extent.bytes text is.1.0)
-  same_residual_by (HeldAmong wanted text place last) is = ap (λ bytes. Among (members_of wanted) bytes place last) (keeps.extent.bytes text is.0)
+      ap (λ bytes. Found bytes (text_in new.extent text) place last) (keeps.extent.bytes wanted is.0) ∙ ap (λ bytes. Found (text_in old.extent wanted) bytes place last) (keeps.extent.bytes text is.1.of)
+  same_residual_by (HeldAmong wanted text place last) is = ap (λ bytes. Among (members_of wanted) bytes place last) (keeps.extent.bytes text is.of)
 
   pub residual_kept : (rest : HeldResidual) → IsLiveResidual old rest → residual_in new.extent rest ≡ residual_in old.extent rest
   residual_kept rest is = same_residual_by rest is.live

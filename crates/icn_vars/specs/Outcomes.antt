@@ -1,6 +1,7 @@
 -- What a row comes to, as a call over a world answers it.
-use Rattle.std.specs.Prelude.{◌≡◌, ◌≤◌, true, Result, MatchResult, IfSome, ⊤}
+use Rattle.std.specs.Prelude.{◌≡◌, ◌≤◌, ◌+◌, ℕ, length, true, Result, MatchResult, IfSome, ⊤}
 use Rattle.std.specs.Option.{option_map}
+use Rattle.icn_value.specs.declared.val.Span.{Span}
 use Rattle.icn_value.specs.declared.val.Val.{Val}
 use Rattle.icn_value.specs.declared.val.Val.TheVariants.{List as ListVal, Set as SetVal, Table as TableVal, Rec as RecVal}
 use Rattle.icn_value.specs.declared.item.VarRef.{VarRef}
@@ -61,6 +62,12 @@ pub record IsOld (reach : Reach) (variable : VarRef) (old : Val) : Type 0 where
   pub live_value : IsLive reach.extent old
   pub holds : can_hold (variable_in reach.extent variable) (value_in reach.extent old) ≡ true
 
+-- what is searched is a text of the world, from a place that counts from 1, and the search ends within it
+pub record IsSearch (all : Extent) (text : Span) (place last : ℕ) : Type 0 where
+  pub of : IsText all text
+  pub low : 1 ≤ place
+  pub high : last ≤ length (text_in all text) + 1
+
 abbrev pub ResidualBy : Reach → HeldResidual → Type 0
 ResidualBy reach (HeldTextBytes text place) = IsText reach.extent text
 ResidualBy reach (HeldVariableBytes variable place) = IsLiveVariable reach variable
@@ -76,10 +83,9 @@ ResidualBy reach (HeldUndoExchange mover left right old_left old_right) =
 ResidualBy reach (HeldUndoPosition old) = 1 ≤ old
 ResidualBy reach (HeldCounting given last step) = ⊤
 ResidualBy reach (HeldSequence given step) = ⊤
-ResidualBy reach (HeldBalanced wanted opening closing text place last) = IsText reach.extent text × (1 ≤ place)
-ResidualBy reach (HeldFound wanted text place last) =
-    IsText reach.extent wanted × (IsText reach.extent text × (1 ≤ place))
-ResidualBy reach (HeldAmong wanted text place last) = IsText reach.extent text × (1 ≤ place)
+ResidualBy reach (HeldBalanced wanted opening closing text place last) = IsSearch reach.extent text place last
+ResidualBy reach (HeldFound wanted text place last) = IsText reach.extent wanted × IsSearch reach.extent text place last
+ResidualBy reach (HeldAmong wanted text place last) = IsSearch reach.extent text place last
 
 -- what a residual names is of the world
 pub record IsLiveResidual (reach : Reach) (rest : HeldResidual) : Type 0 where
