@@ -1,0 +1,9 @@
+-- Sets and tables, as arguments that hold keys.
+use Rattle.icn_defs.specs.Arguments.{Keeper, SetKeeper, TableKeeper}
+use Rattle.icn_args.specs.declared.kinds.Keeper.{Keeper as HeldKeeper}
+use Rattle.icn_args.specs.declared.kinds.Keeper.TheVariants.{Set, Table}
+
+-- what a set or a table is to the definitions
+abbrev pub keeper_in : HeldKeeper → Keeper
+keeper_in (Set id) = SetKeeper id
+keeper_in (Table id) = TableKeeper id

@@ -1,0 +1,66 @@
+// Arguments that are files or structures.
+ghost use Rattle.icn_value.specs.Store.{Setting};
+ghost use Rattle.std.specs.Prelude.{ℕ, IfErr};
+ghost use Rattle.icn_defs.specs.Arguments.{file, keeper, list, table};
+ghost use Rattle.icn_heap.specs.Extents.{Extent, IsLive, value_in};
+ghost use Rattle.icn_heap.specs.Keys.{file_of};
+ghost use Rattle.icn_args.specs.Kinds.{keeper_in};
+ghost use Rattle.icn_args.specs.Words.{Found};
+ghost use Rattle.icn_vars.specs.Stops.{IsLiveStop};
+
+use icn_value::{File, Val};
+use icn_vars::Stop;
+
+/// A set or a table.
+#[derive(Clone, Copy, Debug, PartialEq, Eq)]
+pub enum Keeper {
+    /// A set, by its number.
+    Set(u32),
+    /// A table, by its number.
+    Table(u32),
+}
+
+/// The file that a value is. The error is 105 about the value.
+pub fn file_of(val: Val) -> Result<File, Stop>
+    ensures found { (all : Extent) (setting : Setting) → Found all (file (value_in all val)) setting setting file_of result }
+    ensures stops { (all : Extent) → IsLive all val → IfErr result (IsLiveStop all) }
+{
+    match val {
+        Val::Std(file) => Ok(file),
+        _ => Err(Stop::Error(105, Some(val))),
+    }
+}
+
+/// The number of the list that a value is. The error is 108 about the value.
+pub fn list_of(val: Val) -> Result<u32, Stop>
+    ensures found { (all : Extent) (setting : Setting) → Found all (list (value_in all val)) setting setting (λ (id : ℕ). id) result }
+    ensures stops { (all : Extent) → IsLive all val → IfErr result (IsLiveStop all) }
+{
+    match val {
+        Val::List(id) => Ok(id),
+        _ => Err(Stop::Error(108, Some(val))),
+    }
+}
+
+/// The number of the table that a value is. The error is 124 about the value.
+pub fn table_of(val: Val) -> Result<u32, Stop>
+    ensures found { (all : Extent) (setting : Setting) → Found all (table (value_in all val)) setting setting (λ (id : ℕ). id) result }
+    ensures stops { (all : Extent) → IsLive all val → IfErr result (IsLiveStop all) }
+{
+    match val {
+        Val::Table(id) => Ok(id),
+        _ => Err(Stop::Error(124, Some(val))),
+    }
+}
+
+/// The set or the table that a value is. The error is 122 about the value.
+pub fn keeper_of(val: Val) -> Result<Keeper, Stop>
+    ensures found { (all : Extent) (setting : Setting) → Found all (keeper (value_in all val)) setting setting keeper_in result }
+    ensures stops { (all : Extent) → IsLive all val → IfErr result (IsLiveStop all) }
+{
+    match val {
+        Val::Set(id) => Ok(Keeper::Set(id)),
+        Val::Table(id) => Ok(Keeper::Table(id)),
+        _ => Err(Stop::Error(122, Some(val))),
+    }
+}

@@ -1,0 +1,14 @@
+//! The words that rows are written in: arguments by conversion and by type, defaults where they are null, and what is charged.
+#![tactic(auto)]
+
+mod arguments;
+mod charges;
+mod conversions;
+mod kinds;
+mod moving;
+
+pub use arguments::{arg, value_or, values_of};
+pub use charges::{build, join, text_of, texts_of};
+pub use conversions::{check_text, computed, cset_of, integer_of, natural_of, number_of};
+pub use kinds::{Keeper, file_of, keeper_of, list_of, table_of};
+pub use moving::{stands, tab_to, undo_position_again};
