@@ -23,8 +23,8 @@ pub answer_then : (all : Extent) (row rest : Row) (before between after : Settin
 answer_then all row rest before between after (Ok outcome) same is = same ∙ is
 answer_then all row rest before between after (Err (ErrorHalt number offending)) same is = same ∙ is
 answer_then all row rest before between after (Err (EndsHalt status)) same is = same ∙ is
-answer_then all row rest before between after (Err ReadFault) same is = tt
-answer_then all row rest before between after (Err WriteFault) same is = tt
+answer_then all row rest before between after (Err ReadFault) same is = is
+answer_then all row rest before between after (Err WriteFault) same is = is
 answer_then all row rest before between after (Err NoMemoryHalt) same is = tt
 
 -- the row is over with what stopped it
