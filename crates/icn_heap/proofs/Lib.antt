@@ -12,3 +12,5 @@ pub mod ListItems
 pub mod Limiting
 pub mod Gathering
 pub mod Apart
+pub mod Folding
+pub mod Making

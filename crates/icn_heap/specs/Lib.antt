@@ -6,3 +6,4 @@ pub mod Parts
 pub mod Heaps
 pub mod Fulls
 pub mod Texts
+pub mod Making

@@ -1,11 +1,11 @@
 -- The parts of a heap as it holds them, what they stand for, and what holds of them.
-use Rattle.std.specs.Prelude.{◌≡◌, ℕ, ◌+◌, ◌<◌, ◌≤◌, ◌^◌, pos, ◌+ℤ◌, ◌≤ℤ◌, true, List, [], map, length}
+use Rattle.std.specs.Prelude.{◌≡◌, ℕ, ◌+◌, ◌<◌, ◌≤◌, ◌^◌, pos, ◌+ℤ◌, ◌≤ℤ◌, true, List, [], map, length, is_some, if◌then◌else◌}
 use Rattle.std.specs.List.{All}
 use Rattle.std.proofs.Props.{props}
 use Rattle.icn_strings.specs.declared.region.Region.{Region}
 use Rattle.icn_strings.specs.Regions.{sum_of, limit_of}
 use Rattle.icn_structs.specs.Numbered.{Numbered, number_after}
-use Rattle.icn_structs.specs.PairLists.{stored, without}
+use Rattle.icn_structs.specs.PairLists.{value_of, stored, without}
 use Rattle.icn_value.specs.declared.limits.Limits.{Limits}
 use Rattle.icn_value.specs.declared.val.Val.{Val}
 use Rattle.icn_value.specs.declared.val.Val.TheVariants.{Null}
@@ -108,6 +108,10 @@ entry_value entry = entry.value
 
 abbrev pub entry_vals : Entry → Val × Val
 entry_vals entry = (entry.key, entry.value)
+
+-- members with one more under its key, unless that key is there
+abbrev pub joined : List (Key × Val) → Key → Val → List (Key × Val)
+joined members key val = if is_some (value_of key_eq members key) then members else stored key_eq members key val
 
 -- a table with a pair under a key, and without the pair of a key
 

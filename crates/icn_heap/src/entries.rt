@@ -41,6 +41,24 @@ pub fn add_table(alloc: Global, tables: &mut Vec<Entries>, default: Val) -> Resu
     Ok(())
 }
 
+// Adds a table, or leaves all as it was.
+pub fn add_entries(tables: &mut Vec<Entries>, table: Entries) -> Result<(), AllocError>
+    ensures ok { OnOk result (tables.new.items ≡ tables.old.items ++ table ∷ []) }
+    ensures err { OnErr result (tables.new.items ≡ tables.old.items) }
+{
+    tables.push(table)?;
+    Ok(())
+}
+
+// Stores a pair under its key among others.
+#[tactic(auto, using(crate::proofs::KeyTests::same_tests))]
+pub fn join_entry(pairs: &mut Pairs<Key, Entry>, key: Key, entry: Entry) -> Result<(), AllocError>
+    ensures { OnOk result (pairs.new ≡ stored key_eq pairs.old key entry) }
+{
+    pairs.store(key, entry)?;
+    Ok(())
+}
+
 // The pair of a key of a table.
 #[tactic(auto, using(crate::proofs::KeyTests::same_tests))]
 pub fn entry_at(tables: &Vec<Entries>, table: u32, key: &Key) -> Option<Entry>

@@ -3,6 +3,7 @@
 
 mod charges;
 mod coexps;
+mod copies;
 mod counts;
 mod deques;
 mod elements;

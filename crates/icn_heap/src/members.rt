@@ -4,7 +4,7 @@ ghost use Rattle.std.specs.Option.{option_map};
 ghost use Rattle.std.specs.Vec.{vec_len};
 ghost use Rattle.icn_structs.specs.PairLists.{value_of, stored, without, KeysDiffer};
 ghost use Rattle.icn_heap.specs.KeyTests.{key_eq};
-ghost use Rattle.icn_heap.specs.Parts.{member_val};
+ghost use Rattle.icn_heap.specs.Parts.{member_val, joined};
 
 use crate::key::Key;
 use icn_structs::Pairs;
@@ -20,6 +20,26 @@ pub fn add_set(alloc: Global, sets: &mut Vec<Members>) -> Result<(), AllocError>
     ensures err { OnErr result (sets.new.items ≡ sets.old.items) }
 {
     sets.push(Pairs::new(alloc))?;
+    Ok(())
+}
+
+// Adds a set, or leaves all as it was.
+pub fn add_members(sets: &mut Vec<Members>, members: Members) -> Result<(), AllocError>
+    ensures ok { OnOk result (sets.new.items ≡ sets.old.items ++ members ∷ []) }
+    ensures err { OnErr result (sets.new.items ≡ sets.old.items) }
+{
+    sets.push(members)?;
+    Ok(())
+}
+
+// Joins a member under its key to the others, unless that key is there.
+#[tactic(auto, using(crate::proofs::KeyTests::same_tests))]
+pub fn join_member(members: &mut Members, key: Key, val: Val) -> Result<(), AllocError>
+    ensures { OnOk result (members.new ≡ joined members.old key val) }
+{
+    if members.look(&key).is_none() {
+        members.store(key, val)?;
+    }
     Ok(())
 }
 

@@ -1,0 +1,29 @@
+use Rattle.std.proofs.Common.{◌∙◌, ap, sym, [], ◌+◌, map, fold, length, arith}
+use Rattle.std.proofs.lemmas.List.{length-map}
+use Rattle.icn_value.specs.Sameness.{with_member}
+use Rattle.icn_value.specs.Changes.{charged_cells}
+use Rattle.icn_heap.specs.Extents.{value_in}
+use Rattle.icn_heap.specs.Parts.{member_in}
+use Rattle.icn_heap.specs.Making.{having_members}
+use Rattle.icn_heap.specs.Heaps.{extent_of, heap_of, parts_of}
+use Rattle.icn_heap.proofs.OtherChanges.{set_joins}
+use Rattle.icn_heap.proofs.Stepping.{with_sets, sound_as, keeps_as, steps_as}
+use Rattle.icn_heap.proofs.heap.Heap.set_from.Goals as goal
+
+pub invariant_of-self-2 : goal.invariant_of-self-2
+unfolding extent_of heap_of
+invariant_of-self-2 c = record {
+  sound = sound_as (with_sets c.args.self.now _ c.in_ok-add_members.ensures.ok) (set_joins (parts_of c.args.self.now) c.args.self.now.sound (omega (arith, c.in_ok-sum.ensures.sum)) c.in_ok-sum.ensures.within _ (omega (arith, c.in_ok-sum.ensures.sum)) c.in_ok-members.ensures.sound c.in_ok-members.ensures.members);
+}
+
+pub returns-clause-step : goal.returns-clause-step
+unfolding extent_of heap_of
+returns-clause-step c =
+    steps_as _ (having_members (fold with_member [] (map (value_in (extent_of c.args.self.now)) c.args.vals.now))) (ap (λ n. charged_cells (heap_of c.args.self.now) (1 + n)) (sym (c.len.ensures.count ∙ (sym (length-map c.in_ok-members.members member_in) ∙ ap length c.in_ok-members.ensures.members))) ∙ c.in_ok-sum.ensures.ok) (with_sets c.args.self.now _ c.in_ok-add_members.ensures.ok)
+    (set_joins (parts_of c.args.self.now) c.args.self.now.sound (omega (arith, c.in_ok-sum.ensures.sum)) c.in_ok-sum.ensures.within _ (omega (arith, c.in_ok-sum.ensures.sum)) c.in_ok-members.ensures.sound c.in_ok-members.ensures.members)
+
+pub returns-clause-kept : goal.returns-clause-kept
+unfolding extent_of heap_of
+returns-clause-kept c =
+    keeps_as (with_sets c.args.self.now _ c.in_ok-add_members.ensures.ok)
+    (set_joins (parts_of c.args.self.now) c.args.self.now.sound (omega (arith, c.in_ok-sum.ensures.sum)) c.in_ok-sum.ensures.within _ (omega (arith, c.in_ok-sum.ensures.sum)) c.in_ok-members.ensures.sound c.in_ok-members.ensures.members)
