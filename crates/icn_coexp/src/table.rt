@@ -1,6 +1,6 @@
 // The table of co-expressions.
 ghost use Rattle.std.specs.Prelude.{◌≡◌, ◌<◌, ◌^◌, ℕ, Option, Some, length, slice_get, IsSome, is_some, IfOk, OnOk, OnErr};
-ghost use Rattle.icn_coexp.specs.Transfers.{first_table, source, values_of, with_stack, with_new, with_copy, give, exhaust, went_to, Activates, KeepsRoom, OneIsActive};
+ghost use Rattle.icn_coexp.specs.Transfers.{first_table, source, values_of, with_stack, with_new, with_copy, give, exhaust, went_to, Activates, KeepsOthers, KeepsRoom, OneIsActive};
 
 use crate::entries::{
     Entry, Running, Status, fail_to, give_to, is_exhausted, replace_status, set_activator, wait,
@@ -198,6 +198,7 @@ impl<K: Stack<Cell> + Drop> Stacks<K> {
         requires runs { IsSome self.old.table.running }
         requires room { 0 < self.old.spare }
         ensures went { Activates id v self.old.table result self.new.table }
+        ensures others { KeepsOthers self.old.table.active id self.old.table.coexps self.new.table.coexps }
         ensures spare { KeepsRoom result self.old.spare self.new.spare }
     {
         if id == self.active {
@@ -223,6 +224,7 @@ impl<K: Stack<Cell> + Drop> Stacks<K> {
         requires runs { IsSome self.old.table.running }
         requires room { 0 < self.old.spare }
         ensures table { give v self.old.table ≡ Some self.new.table }
+        ensures others { KeepsOthers self.old.table.active (source self.old.table) self.old.table.coexps self.new.table.coexps }
         ensures went { result ≡ went_to self.new.table }
     {
         let to = self.source();
@@ -243,6 +245,7 @@ impl<K: Stack<Cell> + Drop> Stacks<K> {
     pub fn exhaust(&mut self) -> Went
         requires other { 0 < self.old.table.active }
         ensures table { exhaust self.old.table ≡ Some self.new.table }
+        ensures others { KeepsOthers self.old.table.active (source self.old.table) self.old.table.coexps self.new.table.coexps }
         ensures went { result ≡ went_to self.new.table }
     {
         let to = self.source();

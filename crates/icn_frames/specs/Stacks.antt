@@ -119,12 +119,6 @@ copy_up cells onto = onto
 abbrev pub open_with : Cell → FlatStack → FlatStack
 open_with cell m = record m { cells = cell ∷ m.cells; registers = record m.registers { mark = suc (length m.cells); newest = None } }
 
-abbrev pub open_mark : Option ℕ → FlatStack → FlatStack
-open_mark label m = open_with (Mark label false m.registers) m
-
-abbrev pub open_limit : ℕ → FlatStack → FlatStack
-open_limit count m = open_with (Limit count m.registers) m
-
 -- the cell of a plain mark, or of a limit mark with its count
 abbrev pub opening : Option ℕ → Option ℕ → Registers → Cell
 opening label None registers = Mark label false registers
@@ -291,7 +285,7 @@ abbrev pub with_given : Option Item → List Cell → List Cell
 with_given (Some item) cells = Operand item ∷ cells
 with_given None cells = cells
 
--- and pushes a result, if there is one
+-- what was suspended, with a result on top, if there is one
 abbrev pub given_to : Option Item → Option FlatStack → Option FlatStack
 given_to (Some item) (Some m) = Some (push item m)
 given_to given m = m
@@ -337,7 +331,7 @@ is_relabelled_in cell = false
 abbrev pub is_relabelled : FlatStack → Bool
 is_relabelled m = is_relabelled_in (cell_at m.registers.mark m.cells)
 
--- one of both
+-- the pair of the oldest open scan of the procedure, or of the newest one, and what stands with another
 abbrev pub swap_by : Bool → Pair → FlatStack → Option (Pair × FlatStack)
 swap_by true pair m = swap_oldest pair m
 swap_by false pair m = swap_newest pair m

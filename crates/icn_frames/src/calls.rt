@@ -16,7 +16,8 @@ use std::marker::Model;
 ///
 /// A clause sees the stack as cells, registers and a place in the code, and for how many more cells there is room. The base,
 /// and each procedure's frame, counts as the outermost mark of what runs in it. Only `new`, `reserve`, `mark`,
-/// `push`, `suspend` and `enter` take memory; after an error, which is want of memory, they leave all but the room as it was.
+/// `push`, `suspend` and `enter` take memory; after an error, which is want of memory, they leave all but the room as it was,
+/// and the room does not shrink.
 #[derive(Drop)]
 pub struct Frames<K: Stack<Cell> + Drop> {
     cells: K,
@@ -143,6 +144,7 @@ impl<K: Stack<Cell> + Drop> Frames<K> {
     pub fn push(&mut self, x: Item) -> Result<(), AllocError>
         ensures ok { OnOk result (self.new.flat ≡ flat.push x self.old.flat) }
         ensures err { OnErr result (self.new.flat ≡ self.old.flat) }
+        ensures spare { self.old.spare ≤ self.new.spare + 1 }
         ensures succeeds { 0 < self.old.spare → IsOk result }
     {
         self.cells.reserve(1)?;
@@ -173,6 +175,7 @@ impl<K: Stack<Cell> + Drop> Frames<K> {
     pub fn mark(&mut self, label: Option<u32>, count: Option<u64>) -> Result<(), AllocError>
         ensures ok { OnOk result (self.new.flat ≡ flat.open_either label count self.old.flat) }
         ensures err { OnErr result (self.new.flat ≡ self.old.flat) }
+        ensures spare { self.old.spare ≤ self.new.spare + 1 }
         ensures succeeds { 0 < self.old.spare → IsOk result }
     {
         self.cells.reserve(1)?;
@@ -312,6 +315,7 @@ impl<K: Stack<Cell> + Drop> Frames<K> {
         requires { flat.GoesOn why self.old.flat }
         ensures ok { OnOk result (flat.given_to given (flat.suspend_by why self.old.flat) ≡ Some self.new.flat) }
         ensures err { OnErr result (self.new.flat ≡ self.old.flat) }
+        ensures spare { OnErr result (self.old.spare ≤ self.new.spare) }
     {
         match why {
             Why::Alt => self.suspend_mark(given),
@@ -365,6 +369,7 @@ impl<K: Stack<Cell> + Drop> Frames<K> {
     pub fn enter(&mut self, proc: u32, locals: &[Val], place: u32) -> Result<(), AllocError>
         ensures ok { OnOk result (self.new.flat ≡ flat.enter proc locals.now place self.old.flat) }
         ensures err { OnErr result (self.new.flat ≡ self.old.flat) }
+        ensures spare { OnErr result (self.old.spare ≤ self.new.spare) }
     {
         let level = match self.level().checked_add(1) {
             Some(level) => level,
@@ -400,9 +405,11 @@ impl<K: Stack<Cell> + Drop> Frames<K> {
         }
     }
 
+    // Suspends in the innermost mark, and pushes a result if there is one.
     fn suspend_here(&mut self, why: Why, given: Option<Item>) -> Result<(), AllocError>
         ensures ok { OnOk result (flat.given_to given (Some (flat.suspend why self.old.flat)) ≡ Some self.new.flat) }
         ensures err { OnErr result (self.new.flat ≡ self.old.flat) }
+        ensures spare { OnErr result (self.old.spare ≤ self.new.spare) }
     {
         let from = bottom_of(&self.cells, self.registers);
         let to = self.cells.len();
@@ -427,10 +434,12 @@ impl<K: Stack<Cell> + Drop> Frames<K> {
         Ok(())
     }
 
+    // Leaves the innermost mark suspended, and pushes a result if there is one.
     fn suspend_mark(&mut self, given: Option<Item>) -> Result<(), AllocError>
         requires { flat.at_base self.old.flat ≡ false }
         ensures ok { OnOk result (flat.given_to given (flat.suspend_mark self.old.flat) ≡ Some self.new.flat) }
         ensures err { OnErr result (self.new.flat ≡ self.old.flat) }
+        ensures spare { OnErr result (self.old.spare ≤ self.new.spare) }
     {
         let to = self.registers.mark - 1;
         let saved = saved_by(self.cells.get(to));
@@ -455,10 +464,12 @@ impl<K: Stack<Cell> + Drop> Frames<K> {
         Ok(())
     }
 
+    // Suspends the procedure, and pushes a result for the caller if there is one.
     fn suspend_proc(&mut self, given: Option<Item>) -> Result<(), AllocError>
         requires { flat.is_base self.old.flat ≡ false }
         ensures ok { OnOk result (flat.given_to given (flat.suspend_proc self.old.flat) ≡ Some self.new.flat) }
         ensures err { OnErr result (self.new.flat ≡ self.old.flat) }
+        ensures spare { OnErr result (self.old.spare ≤ self.new.spare) }
     {
         let to = self.registers.base - 1;
         match self.cells.get(to) {

@@ -1,4 +1,4 @@
-// What a stack holds.
+// What a stack holds. `Registers` and `Cell` are not printed or compared: only a stack makes and reads them.
 use icn_value::{Item, Pair, Residual, Val};
 
 /// Why something was suspended.

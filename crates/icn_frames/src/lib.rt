@@ -3,8 +3,10 @@
 #![tactic(auto)]
 
 mod calls;
+mod laws;
 mod layout;
 mod steps;
 
 pub use calls::Frames;
+pub use laws::levels_count_calls;
 pub use layout::{Cell, Registers, Why};

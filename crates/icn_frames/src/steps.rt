@@ -43,6 +43,7 @@ pub fn raise<K: Stack<Cell>>(cells: &mut K, frame: Cell, locals: &[Val]) -> Resu
     ensures height { IfOk result (λ height. height ≡ length (K.cells cells.old) + 1) }
     ensures ok { OnOk result (K.cells cells.new ≡ flat.put_above locals.now (frame ∷ K.cells cells.old)) }
     ensures err { OnErr result (K.cells cells.new ≡ K.cells cells.old) }
+    ensures spare { OnErr result (K.spare cells.old ≤ K.spare cells.new) }
 {
     cells.reserve(locals.len() as u64 + 1)?;
     cells.push(frame);
@@ -98,6 +99,7 @@ pub fn hang<K: Stack<Cell>>(
     ensures height { IfOk result (λ height. height ≡ length (K.cells cells.old) + 1) }
     ensures ok { OnOk result (K.cells cells.new ≡ flat.with_given given (with_copy from to (frame ∷ K.cells cells.old))) }
     ensures err { OnErr result (K.cells cells.new ≡ K.cells cells.old) }
+    ensures spare { OnErr result (K.spare cells.old ≤ K.spare cells.new) }
 {
     cells.reserve(to - from + 2)?;
     cells.push(frame);

@@ -1,9 +1,10 @@
 use Rattle.std.proofs.Common.{◌≡◌, ◌<◌, false, Option, Some, IfSome, length, sym, subst, arith}
 use Rattle.std.proofs.lemmas.List.{length-map}
-use Rattle.icn_coexp.specs.Transfers.{SeenStacks, status_of, exhausted_of, enter_other}
+use Rattle.icn_coexp.specs.Transfers.{SeenStacks, Table, status_of, exhausted_of, enter_other, KeepsOthers}
 use Rattle.icn_coexp.specs.Keeping.{table_seen, coexp_seen, running_seen, status_seen}
 use Rattle.icn_coexp.specs.declared.entries.Status.{Status}
 use Rattle.icn_coexp.specs.declared.entries.Running.TheVariants.{On}
+use Rattle.icn_coexp.proofs.Others.{enter_keeps}
 use Rattle.icn_coexp.proofs.Moves.{turned, can_give, kept_on, enter_on, status_other}
 use Rattle.icn_coexp.proofs.table.Stacks.activate.Goals as goal
 
@@ -31,12 +32,16 @@ returns g c =
     let o : c.args.id < length s.entries.items = omega (arith, n, length-map s.entries.items (coexp_seen {K = g.row.K.Denot})) in
     let l : c.args.id < length c.wait.new.entries.items = omega (arith, o, c.wait.ensures.length, s.entries.ok, c.wait.new.entries.ok) in
     let t = turned g.row.K.Denot s.entries.items c.wait.new.entries.items c.set_activator.new.entries.items s.active c.args.id s.running c.self.invariant (rw (← c.self.view_is) at c.requires.room) c.wait.ensures.is c.set_activator.ensures.is c.if-id-self.false l in
+    let after : Table = table_seen c.give_to-stack.new.entries.items c.args.id (On c.give_to-stack.result) in
+    let moved = enter_on g.row.K.Denot s.entries.items c.wait.new.entries.items c.set_activator.new.entries.items _ s.active c.args.id s.running c.args.v _ c.wait.ensures.is c.set_activator.ensures.is t.fits t.live c.give_to-stack.ensures.stack c.give_to-stack.ensures.is in
     record {
       went = subst (λ (w : SeenStacks). (c.args.id ≡ w.table.active → ⊥) × (exhausted_of (status_of c.args.id w.table) ≡ false)
-          × (enter_other c.args.id c.args.v w.table ≡ Some (table_seen c.give_to-stack.new.entries.items c.args.id (On c.give_to-stack.result)))) c.self.view_is (
+          × (enter_other c.args.id c.args.v w.table ≡ Some after)) c.self.view_is (
             c.if-id-self.false,
             status_other g.row.K.Denot s.entries.items c.args.id s.active (running_seen s.running) c.is_exhausted.result o c.is_exhausted.ensures c.if-is_exhausted.false,
-            enter_on g.row.K.Denot s.entries.items c.wait.new.entries.items c.set_activator.new.entries.items _ s.active c.args.id s.running c.args.v _ c.wait.ensures.is c.set_activator.ensures.is t.fits t.live c.give_to-stack.ensures.stack c.give_to-stack.ensures.is,
+            moved,
           );
+      others = subst (λ (w : SeenStacks). KeepsOthers w.table.active c.args.id w.table.coexps after.coexps) c.self.view_is (
+          enter_keeps c.args.id c.args.v (table_seen s.entries.items s.active s.running) after moved);
       spare = tt;
     }
