@@ -1,3 +1,4 @@
 pub mod Answering
 pub mod Charging
 mod Gathering
+pub mod Making
