@@ -1,6 +1,6 @@
 -- Changes of a heap as parts of a row, and that records keep their fields over each.
-use Rattle.std.proofs.Common.{◌≡◌, ◌∙◌, refl, sym, ap, subst, ℕ, zero, suc, ◌+◌, ◌≤◌, nat_le, Bool, true, false, List, [], ◌∷◌, ◌++◌, map, length, set, Option, None, Some, Ok, Err, arith, ⊎_elim}
-use Rattle.std.specs.Prelude.{if◌then◌else◌, slice_index, unwrap_or}
+use Rattle.std.proofs.Common.{◌≡◌, ◌∙◌, refl, sym, ap, subst, ℕ, zero, suc, ◌+◌, ◌≤◌, nat_le, Bool, true, false, List, [], ◌∷◌, ◌++◌, map, length, set, Option, None, Some, Result, Ok, Err, arith, ⊎_elim}
+use Rattle.std.specs.Prelude.{IsErrAnd, MatchResult, if◌then◌else◌, slice_index, unwrap_or}
 use Rattle.std.specs.List.{All, slice_get}
 use Rattle.std.proofs.lemmas.List.{length-set}
 use Rattle.icn_value.specs.declared.full.Full.{Full}
@@ -19,6 +19,7 @@ use Rattle.icn_heap.specs.declared.heap.Heap.{Heap as HeldHeap}
 use Rattle.icn_heap.specs.Extents.{Extent, IsLive, Keeps}
 use Rattle.icn_heap.specs.Heaps.{extent_of, heap_of}
 use Rattle.icn_vars.specs.Facts.{IsSoundWorld}
+use Rattle.icn_vars.specs.declared.stop.Stop.{Stop}
 use Rattle.icn_vars.specs.Stops.{StopsPassing, stop_of}
 use Rattle.icn_vars.specs.Worlds.{KeepsFields, field_counts}
 use Rattle.icn_vars.proofs.Growing.{heap_changed, setting_over}
@@ -196,3 +197,9 @@ module _ (old new : HeldHeap) (pair : Pair) (random : ℕ) (globals statics loca
       (heap_changed outside old new pair random globals statics locals keeps same sound live)
       (⊎_elim (λ (e : full ≡ NoMemory). subst (λ f. StopsPassing all part (setting_over outside old pair random globals statics locals) (setting_over outside old pair random globals statics locals) (stop_of f)) (sym e) tt)
       (λ (e : change (heap_of old) ≡ Err full). is.err all (setting_over outside old pair random globals statics locals) full e) why)
+
+-- a part of a row that stopped is the answer
+pub stops_at : {A : Type 0} (all : Extent) (part : Row → Row) (before after : Setting) (stop : Stop) (result : Result A Stop) → IsErrAnd result (λ other. other ≡ stop) → StopsPassing all part before after stop
+    → MatchResult result (λ _. Passes part before after) (StopsPassing all part before after)
+stops_at all part before after stop (Ok thing) same is = absurd same
+stops_at all part before after stop (Err other) same is = subst (StopsPassing all part before after) (sym same) is

@@ -3,3 +3,8 @@ pub mod Growing
 pub mod KeptItems
 pub mod KeptOutcomes
 pub mod Changing
+pub mod RootChanges
+pub mod PartChanges
+pub mod Exchanges
+pub mod Starting
+pub mod Holding

@@ -3,3 +3,4 @@ pub mod Stops
 pub mod Worlds
 pub mod Finding
 pub mod Outcomes
+pub mod Assignments

@@ -1,5 +1,5 @@
 -- What a program's world stands for, and which variables and items are of it.
-use Rattle.std.specs.Prelude.{◌≡◌, ℕ, ◌<◌, ◌≤◌, List, map, length, slice_index, ⊤}
+use Rattle.std.specs.Prelude.{◌≡◌, ℕ, ◌<◌, ◌≤◌, ◌^◌, List, [], map, length, slice_index, ⊤}
 use Rattle.icn_value.specs.declared.val.Val.{Val}
 use Rattle.icn_value.specs.declared.val.Val.TheVariants.{List as ListVal, Table as TableVal, Rec as RecVal}
 use Rattle.icn_value.specs.declared.item.KeywordVariable.{KeywordVariable as HeldWord}
@@ -12,6 +12,7 @@ use Rattle.icn_value.specs.declared.item.Item.{Item as HeldItem}
 use Rattle.icn_value.specs.declared.item.Item.TheVariants.{Val as HeldVal, Var as HeldVar}
 use Rattle.icn_value.specs.Values.{KeywordVariable, Subject, Position, Random, Root, Global, Static, Local, Element, Field, Key, Keyword, Variable, Whole, Part, Item, Val as ItemVal, Var as ItemVar}
 use Rattle.icn_value.specs.Store.{Heap, Record, Outside, Setting, World as StoreWorld}
+use Rattle.icn_heap.specs.declared.heap.Heap.{Heap as HeldHeap}
 use Rattle.icn_heap.specs.Extents.{Extent, IsLive, Keeps, text_in, value_in}
 use Rattle.icn_heap.specs.Heaps.{extent_of, heap_of}
 use Rattle.icn_vars.specs.declared.world.World.{World}
@@ -25,6 +26,17 @@ world_of world = record {
   random = world.random;
   globals = map (value_in (extent_of world.heap)) world.globals.items;
   statics = map (value_in (extent_of world.heap)) world.statics.items;
+}
+
+-- the world of a heap with these globals and statics, as a run begins with it
+abbrev pub new_world : HeldHeap → List Val → List Val → StoreWorld
+new_world heap globals statics = record {
+  heap = heap_of heap;
+  subject = [];
+  position = 1;
+  random = 0;
+  globals = map (value_in (extent_of heap)) globals;
+  statics = map (value_in (extent_of heap)) statics;
 }
 
 -- the setting of this world, these locals, and an outside
@@ -122,3 +134,15 @@ pub record KeepsItems (old new : Reach) : Type 0 where
   pub globals : new.globals ≡ old.globals
   pub statics : new.statics ≡ old.statics
   pub locals : new.locals ≡ old.locals
+
+-- Places of parts that were read or assigned
+
+-- a part begins where a text may have a byte, and is no longer than one
+abbrev pub IsShort : VarRef → Type 0
+IsShort (HeldWhole root) = ⊤
+IsShort (HeldPart root place len) = (place < 2 ^ 63) × (len < 2 ^ 63)
+
+-- so is the variable that an item is, if it is one
+abbrev pub IsShortItem : HeldItem → Type 0
+IsShortItem (HeldVal val) = ⊤
+IsShortItem (HeldVar variable) = IsShort variable

@@ -1,14 +1,27 @@
 //! The variables of a program: its world, and how variables are read, assigned, exchanged and undone.
 #![tactic(auto)]
 
+mod assigning;
+mod assignment;
+mod exchanging;
+mod keywords;
 mod locals;
+mod movers;
 mod outcome;
 mod reading;
+mod roots;
 mod stop;
+mod texts;
+mod undoing;
 mod world;
 
+pub use assigning::assign;
+pub use assignment::{Assignment, Exchange};
+pub use exchanging::exchange;
 pub use locals::Locals;
+pub use movers::mover_of;
 pub use outcome::{Halt, Outcome};
 pub use reading::deref;
 pub use stop::Stop;
+pub use undoing::{undo, undo_exchange};
 pub use world::World;

@@ -1,5 +1,5 @@
 // Reading variables.
-ghost use Rattle.std.specs.Prelude.{◌≡◌, ◌+◌, ◌-◌, ◌≤◌, length, [], List, IfErr, IfOk, IfSome, MatchResult, Some, pos};
+ghost use Rattle.std.specs.Prelude.{◌≡◌, ◌+◌, ◌-◌, ◌≤◌, length, [], List, IfErr, IfOk, IfSome, OnOk, MatchResult, Some, pos};
 ghost use Rattle.std.specs.List.{All};
 ghost use Rattle.std.specs.Option.{option_map};
 ghost use Rattle.icn_structs.specs.Numbered.{item_numbered};
@@ -13,7 +13,7 @@ ghost use Rattle.icn_heap.specs.Extents.{IsLive, IsText, text_in, value_in};
 ghost use Rattle.icn_heap.specs.Heaps.{extent_of, heap_of};
 ghost use Rattle.icn_vars.specs.Finding.{IsGone};
 ghost use Rattle.icn_vars.specs.Stops.{IsLiveStop, StopsFinding};
-ghost use Rattle.icn_vars.specs.Worlds.{IsLiveItem, IsLiveRoot, IsLiveVariable, item_in, reach_of, root_in, setting_of, variable_in, word_of};
+ghost use Rattle.icn_vars.specs.Worlds.{IsLiveItem, IsLiveRoot, IsLiveVariable, IsShort, IsShortItem, item_in, reach_of, root_in, setting_of, variable_in, word_of};
 
 use crate::locals::Locals;
 use crate::stop::Stop;
@@ -28,6 +28,7 @@ pub fn deref<L: Locals>(w: &World, l: &L, item: Item) -> Result<Val, Stop>
     requires live { IsLiveItem (reach_of w.now (L.items l.now)) item }
     ensures live { IfOk result (IsLive (extent_of w.now.heap)) }
     ensures stops { IfErr result (IsLiveStop (extent_of w.now.heap)) }
+    ensures short { OnOk result (IsShortItem item) }
     ensures value { (outside : Outside) → MatchResult result (λ val. GoesOn (the_value (item_in (extent_of w.now.heap) item)) (setting_of outside w.now (L.items l.now)) (value_in (extent_of w.now.heap) val) (setting_of outside w.now (L.items l.now))) (StopsFinding (extent_of w.now.heap) (the_value (item_in (extent_of w.now.heap) item)) (setting_of outside w.now (L.items l.now)) (setting_of outside w.now (L.items l.now))) }
 {
     match item {
@@ -42,12 +43,14 @@ fn read<L: Locals>(w: &World, l: &L, variable: VarRef) -> Result<Val, Stop>
     requires live { IsLiveVariable (reach_of w.now (L.items l.now)) variable }
     ensures live { IfOk result (IsLive (extent_of w.now.heap)) }
     ensures stops { IfErr result (IsLiveStop (extent_of w.now.heap)) }
+    ensures short { OnOk result (IsShort variable) }
     ensures value { (outside : Outside) → MatchResult result (λ val. GoesOn (reads (variable_in (extent_of w.now.heap) variable)) (setting_of outside w.now (L.items l.now)) (value_in (extent_of w.now.heap) val) (setting_of outside w.now (L.items l.now))) (StopsFinding (extent_of w.now.heap) (reads (variable_in (extent_of w.now.heap) variable)) (setting_of outside w.now (L.items l.now)) (setting_of outside w.now (L.items l.now))) }
 {
     match variable {
         VarRef::Whole(root) => read_root(w, l, root),
         VarRef::Part { root, place, len } => {
             let text = read_text(w, l, root, place, len)?;
+            short_text(&w.heap, text);
             Ok(Val::Text(w.heap.part(text, place - 1, len)))
         }
     }

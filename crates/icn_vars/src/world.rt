@@ -2,8 +2,8 @@
 ghost use Rattle.icn_heap.specs.Heaps.{extent_of};
 ghost use Rattle.icn_vars.specs.Facts.{IsSoundWorld, IsSoundWorld-prop};
 
-use icn_heap::Heap;
-use icn_value::{Pair, Val};
+use icn_heap::{Heap, empty_text};
+use icn_value::{Pair, Span, Val};
 
 /// What a program has beside its stacks. What it holds is of its heap, the position is one of the subject, and `&random`
 /// is below 2^31.
@@ -20,4 +20,38 @@ pub struct World {
     /// The values of its statics.
     pub statics: Vec<Val>,
     pub ghost sound: { IsSoundWorld (extent_of heap) pair random globals.items statics.items } by { IsSoundWorld-prop (extent_of heap) pair random globals.items statics.items },
+}
+
+impl World {
+    ghost use Rattle.std.specs.Prelude.{◌≡◌, ℕ, map, replicate};
+    ghost use Rattle.std.specs.List.{All};
+    ghost use Rattle.icn_value.specs.Limited.{Bounds};
+    ghost use Rattle.icn_value.specs.declared.val.Val.TheVariants.{Null};
+    ghost use Rattle.icn_defs.specs.Running.{first_heap, first_world};
+    ghost use Rattle.icn_heap.specs.Extents.{IsLive, value_in};
+    ghost use Rattle.icn_heap.specs.Heaps.{heap_of};
+    ghost use Rattle.icn_vars.specs.Worlds.{new_world, world_of};
+
+    /// The world of a heap, with these globals and statics, an empty subject, `&pos` 1 and `&random` 0. Of a heap in which nothing
+    /// is made yet, and null statics, it is the world with which a run begins.
+    #[tactic(auto, using(crate::proofs::Starting::new_sound))]
+    pub fn new(heap: Heap, globals: Vec<Val>, statics: Vec<Val>) -> World
+        requires globals { All (IsLive (extent_of heap)) globals.items }
+        requires statics { All (IsLive (extent_of heap)) statics.items }
+        ensures world { world_of result ≡ new_world heap globals.items statics.items }
+        ensures first { (bounds : Bounds) (count : ℕ) → heap_of heap ≡ first_heap bounds → statics.items ≡ replicate count Null → world_of result ≡ first_world bounds (map (value_in (extent_of heap)) globals.items) count }
+    {
+        let subject = Span { place: 0, len: 0 };
+        empty_text(&heap, subject);
+        World {
+            heap,
+            pair: Pair {
+                subject,
+                position: 1,
+            },
+            random: 0,
+            globals,
+            statics,
+        }
+    }
 }
