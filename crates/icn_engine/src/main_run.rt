@@ -1,6 +1,6 @@
 // The run of `main`.
 ghost use Rattle.std.specs.Prelude.{◌≡◌, ℕ, Some, IfOk, OnOk, OnErr, IsErrOf, slice_get};
-ghost use Rattle.icn_host.specs.Counts.{HasCause};
+ghost use Rattle.icn_host.specs.Counts.{CountsOnce};
 ghost use Rattle.icn_host.specs.Sinks.{Gains, GainsPart};
 ghost use Rattle.icn_code.specs.Codes.{proc_of};
 ghost use Rattle.icn_code.specs.Seen.{tables_of};
@@ -27,9 +27,9 @@ pub fn run_main<O: Sink>(
     requires at { slice_get (tables_of code.now).procs main ≡ Some (proc_of proc.now) }
     requires starts { (run : Run) × Starts run (tables_of code.now) bound main }
     requires never_stuck { (run : Run) → Starts run (tables_of code.now) bound main → IsNeverStuck run }
-    ensures ok { IfOk result (λ ending. (run : Run) → Starts run (tables_of code.now) bound main → Ran run ending (O.held out.old) (O.held out.new)) }
-    ensures err { OnErr result ((run : Run) → Starts run (tables_of code.now) bound main → Broke run (O.held out.old) (O.held out.new)) }
-    ensures cause { HasCause (O.faults out.old) (O.faults out.new) (IsErrOf result RunFault.WriteFault) }
+    ensures ok { IfOk result (λ ending. (run : Run) → Starts run (tables_of code.now) bound main → Ran run ending (O.state out.old).held (O.state out.new).held) }
+    ensures err { OnErr result ((run : Run) → Starts run (tables_of code.now) bound main → Broke run (O.state out.old).held (O.state out.new).held) }
+    ensures cause { CountsOnce (O.state out.old).faults (O.state out.new).faults (IsErrOf result RunFault.WriteFault) }
     ensures unread { IsErrOf result RunFault.ReadFault → ⊥ }
 {
     let mut machine = Machine {
@@ -51,9 +51,9 @@ pub fn run_main<O: Sink>(
 fn put<O: Sink>(stepped: Stepped, out: &mut O) -> Result<Option<Ending>, RunFault>
     requires { IsNotStuck stepped }
     ensures ending { IfOk result (λ ending. ending ≡ ending_by stepped) }
-    ensures ok { OnOk result (Gains (O.held out.old) (O.held out.new) (line_by stepped)) }
-    ensures err { OnErr result (GainsPart (O.held out.old) (O.held out.new) (line_by stepped)) }
-    ensures cause { HasCause (O.faults out.old) (O.faults out.new) (IsErrOf result RunFault.WriteFault) }
+    ensures ok { OnOk result (Gains (O.state out.old).held (O.state out.new).held (line_by stepped)) }
+    ensures err { OnErr result (GainsPart (O.state out.old).held (O.state out.new).held (line_by stepped)) }
+    ensures cause { CountsOnce (O.state out.old).faults (O.state out.new).faults (IsErrOf result RunFault.WriteFault) }
     ensures unread { IsErrOf result RunFault.ReadFault → ⊥ }
 {
     match stepped {

@@ -1,8 +1,8 @@
 // The run of a code.
 ghost use Rattle.std.specs.Prelude.{◌≡◌, ◌≤◌, ◌⊎◌, Err, IfErr, IfOk, IfSome, OnErr, IsErrOf, true};
-ghost use Rattle.icn_host.specs.Counts.{HasCause, Rose};
+ghost use Rattle.icn_host.specs.Counts.{CountsOnce, Rose};
 ghost use Rattle.icn_host.specs.Sinks.{Gains};
-ghost use Rattle.icn_report.specs.Puts.{Leads, sunk};
+ghost use Rattle.icn_report.specs.Puts.{Leads};
 ghost use Rattle.icn_code.specs.Seen.{tables_of};
 ghost use Rattle.icn_verify.specs.Given.{HaveShapes};
 ghost use Rattle.icn_run.specs.Built.{is_built};
@@ -38,18 +38,17 @@ pub fn run<I: Source, O: Sink, E: Sink>(
 ) -> Result<Ending, RunFault>
     requires built { is_built (tables_of code.now.code) ≡ true }
     ensures ok { IfOk result (λ ending. IfSome (I.left input.old) (λ left.
-        Ends (run_of code.now.code words.now limits left) ending (I.left input.new) (O.held out.old) (O.held out.new) (E.held err.old) (E.held err.new))) }
+        Ends (run_of code.now.code words.now limits left) ending (I.left input.new) (O.state out.old).held (O.state out.new).held (E.state err.old).held (E.state err.new).held)) }
     ensures err { IfErr result (λ fault. IfSome (I.left input.old) (λ left.
-        Leaves fault (run_of code.now.code words.now limits left) (I.left input.new) (O.held out.old) (O.held out.new) (E.held err.old) (E.held err.new))) }
+        Leaves fault (run_of code.now.code words.now limits left) (I.left input.new) (O.state out.old).held (O.state out.new).held (E.state err.old).held (E.state err.new).held)) }
     // Whatever the input tells, the report was put, or of some report a first part.
-    ensures reported { IfOk result (λ ending. Gains (E.held err.old) (E.held err.new) (report_of ending)) }
-    ensures error_line { OnErr result ((ending : Ending) × Leads (sunk (E.held err.old) (E.faults err.old) (E.wants err.old))
-        (sunk (E.held err.new) (E.faults err.new) (E.wants err.new)) (report_of ending)) }
-    ensures read_fault { HasCause (I.faults input.old) (I.faults input.new) (IsErrOf result RunFault.ReadFault) }
-    ensures write_fault { IsErrOf result RunFault.WriteFault → Rose (O.faults out.old) (O.faults out.new) ⊎ Rose (E.faults err.old) (E.faults err.new) }
-    ensures output_faults { O.faults out.old ≤ O.faults out.new }
-    ensures error_faults { E.faults err.old ≤ E.faults err.new }
-    ensures error_wants { E.wants err.old ≤ E.wants err.new }
+    ensures reported { IfOk result (λ ending. Gains (E.state err.old).held (E.state err.new).held (report_of ending)) }
+    ensures error_line { OnErr result ((ending : Ending) × Leads (E.state err.old) (E.state err.new) (report_of ending)) }
+    ensures read_fault { CountsOnce (I.faults input.old) (I.faults input.new) (IsErrOf result RunFault.ReadFault) }
+    ensures write_fault { IsErrOf result RunFault.WriteFault → Rose (O.state out.old).faults (O.state out.new).faults ⊎ Rose (E.state err.old).faults (E.state err.new).faults }
+    ensures output_faults { (O.state out.old).faults ≤ (O.state out.new).faults }
+    ensures error_faults { (E.state err.old).faults ≤ (E.state err.new).faults }
+    ensures error_wants { (E.state err.old).wants ≤ (E.state err.new).wants }
 {
     run_shaped(alloc, code.code(), words, limits, input, out, err)
 }
@@ -67,17 +66,16 @@ fn run_shaped<I: Source, O: Sink, E: Sink>(
     requires built { is_built (tables_of code.now) ≡ true }
     requires shapes { HaveShapes (tables_of code.now) }
     ensures ok { IfOk result (λ ending. IfSome (I.left input.old) (λ left.
-        Ends (run_of code.now words.now limits left) ending (I.left input.new) (O.held out.old) (O.held out.new) (E.held err.old) (E.held err.new))) }
+        Ends (run_of code.now words.now limits left) ending (I.left input.new) (O.state out.old).held (O.state out.new).held (E.state err.old).held (E.state err.new).held)) }
     ensures err { OnErr result (IfSome (I.left input.old) (λ left.
-        Breaks (run_of code.now words.now limits left) (I.left input.new) (O.held out.old) (O.held out.new) (E.held err.old) (E.held err.new))) }
-    ensures reported { IfOk result (λ ending. Gains (E.held err.old) (E.held err.new) (report_of ending)) }
-    ensures error_line { OnErr result ((ending : Ending) × Leads (sunk (E.held err.old) (E.faults err.old) (E.wants err.old))
-        (sunk (E.held err.new) (E.faults err.new) (E.wants err.new)) (report_of ending)) }
-    ensures read_fault { HasCause (I.faults input.old) (I.faults input.new) (IsErrOf result RunFault.ReadFault) }
-    ensures write_fault { IsErrOf result RunFault.WriteFault → Rose (O.faults out.old) (O.faults out.new) ⊎ Rose (E.faults err.old) (E.faults err.new) }
-    ensures output_faults { O.faults out.old ≤ O.faults out.new }
-    ensures error_faults { E.faults err.old ≤ E.faults err.new }
-    ensures error_wants { E.wants err.old ≤ E.wants err.new }
+        Breaks (run_of code.now words.now limits left) (I.left input.new) (O.state out.old).held (O.state out.new).held (E.state err.old).held (E.state err.new).held)) }
+    ensures reported { IfOk result (λ ending. Gains (E.state err.old).held (E.state err.new).held (report_of ending)) }
+    ensures error_line { OnErr result ((ending : Ending) × Leads (E.state err.old) (E.state err.new) (report_of ending)) }
+    ensures read_fault { CountsOnce (I.faults input.old) (I.faults input.new) (IsErrOf result RunFault.ReadFault) }
+    ensures write_fault { IsErrOf result RunFault.WriteFault → Rose (O.state out.old).faults (O.state out.new).faults ⊎ Rose (E.state err.old).faults (E.state err.new).faults }
+    ensures output_faults { (O.state out.old).faults ≤ (O.state out.new).faults }
+    ensures error_faults { (E.state err.old).faults ≤ (E.state err.new).faults }
+    ensures error_wants { (E.state err.old).wants ≤ (E.state err.new).wants }
     ensures unread { IsErrOf result RunFault.ReadFault → ⊥ }
     ensures input { input.new ≡ input.old }
 {

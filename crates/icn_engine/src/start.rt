@@ -3,7 +3,7 @@ ghost use Rattle.std.specs.Prelude.{◌≡◌, ◌≤◌, ◌↔◌, ℕ, List, 
 ghost use Rattle.std.specs.List.{sum_by};
 ghost use Rattle.std.specs.Option.{option_copied, option_map};
 ghost use Rattle.std.specs.Str.{bytes_eq};
-ghost use Rattle.icn_host.specs.Counts.{HasCause};
+ghost use Rattle.icn_host.specs.Counts.{CountsOnce};
 ghost use Rattle.icn_code.specs.Codes.{proc_of};
 ghost use Rattle.icn_code.specs.Rules.{name_of};
 ghost use Rattle.icn_code.specs.Seen.{tables_of};
@@ -30,9 +30,9 @@ pub fn run_code<O: Sink>(
     out: &mut O,
 ) -> Result<Ending, RunFault>
     requires { (run : Run) → run.tables ≡ tables_of code.now → IsNeverStuck run }
-    ensures ok { IfOk result (λ ending. (left : List ℕ) → Ran (run_of code.now words.now limits left) ending (O.held out.old) (O.held out.new)) }
-    ensures err { OnErr result ((left : List ℕ) → Broke (run_of code.now words.now limits left) (O.held out.old) (O.held out.new)) }
-    ensures cause { HasCause (O.faults out.old) (O.faults out.new) (IsErrOf result RunFault.WriteFault) }
+    ensures ok { IfOk result (λ ending. (left : List ℕ) → Ran (run_of code.now words.now limits left) ending (O.state out.old).held (O.state out.new).held) }
+    ensures err { OnErr result ((left : List ℕ) → Broke (run_of code.now words.now limits left) (O.state out.old).held (O.state out.new).held) }
+    ensures cause { CountsOnce (O.state out.old).faults (O.state out.new).faults (IsErrOf result RunFault.WriteFault) }
     ensures unread { IsErrOf result RunFault.ReadFault → ⊥ }
 {
     let Some(main) = main_of(code) else {

@@ -1,7 +1,7 @@
 // A reader as a source. It doesn't tell what it has left.
 ghost use Rattle.std.specs.Prelude.{◌≡◌, ◌+◌, ◌≤◌, None, OnOk, OnErr, IfOk, IsErrOf, length, vec_len};
 ghost use Rattle.std.specs.Io.KnownBytes.{IsAtEnd, Keeps};
-ghost use Rattle.icn_host.specs.Counts.{HasCause};
+ghost use Rattle.icn_host.specs.Counts.{CountsOnce};
 ghost use Rattle.icn_host.specs.Sources.{TakesLine, TakesLinePart, TakesFirst, TakesFirstPart};
 ghost use Rattle.icn_host.specs.Buffers.{Extends};
 
@@ -139,7 +139,7 @@ impl<R: Read> Source for StdSource<R> {
             (IsErrOf result Fault.Failed)) }
         ensures kept { Extends into.old.items into.new.items }
         ensures none { IfOk result (λ line. line ≡ Line.End → into.new.items ≡ into.old.items) }
-        ensures cause { HasCause (⟦<StdSource<R> as Source>⟧.faults self.old) (⟦<StdSource<R> as Source>⟧.faults self.new) (IsErrOf result Fault.Failed) }
+        ensures cause { CountsOnce (⟦<StdSource<R> as Source>⟧.faults self.old) (⟦<StdSource<R> as Source>⟧.faults self.new) (IsErrOf result Fault.Failed) }
     {
         let result = self.ahead.line(into);
         if result == Err(Fault::Failed) {
@@ -154,7 +154,7 @@ impl<R: Read> Source for StdSource<R> {
         ensures kept { Extends into.old.items into.new.items }
         ensures counted { IfOk result (λ count. vec_len into.new ≡ vec_len into.old + count) }
         ensures within { vec_len into.new ≤ vec_len into.old + n }
-        ensures cause { HasCause (⟦<StdSource<R> as Source>⟧.faults self.old) (⟦<StdSource<R> as Source>⟧.faults self.new) (IsErrOf result Fault.Failed) }
+        ensures cause { CountsOnce (⟦<StdSource<R> as Source>⟧.faults self.old) (⟦<StdSource<R> as Source>⟧.faults self.new) (IsErrOf result Fault.Failed) }
     {
         let result = self.ahead.take(n, into);
         if result == Err(Fault::Failed) {

@@ -1,9 +1,9 @@
 // Objects over memory that fail at the calls of a list.
 ghost use Rattle.std.specs.Prelude.{◌≡◌, ◌+◌, ◌≤◌, ◌↔◌, drop, length, Some, OnOk, OnErr, IfOk, IsErrOf, vec_len};
 ghost use Rattle.icn_host.specs.Buffers.{Extends};
-ghost use Rattle.icn_host.specs.Counts.{HasCause};
+ghost use Rattle.icn_host.specs.Counts.{CountsOnce};
 ghost use Rattle.icn_host.specs.FileMaps.{file_map, Reads, ReadsPart, NotHeld, Sets, SetsPart};
-ghost use Rattle.icn_host.specs.Sinks.{Gains, GainsPart};
+ghost use Rattle.icn_host.specs.Sinks.{Gains, GainsPart, sink_state};
 ghost use Rattle.icn_host.specs.Sources.{TakesLine, TakesLinePart, TakesFirst, TakesFirstPart};
 
 use crate::bytes::{next_line, take_first};
@@ -30,9 +30,9 @@ impl MemSink {
 
     /// A sink that holds these bytes. `failing` has the numbers, from 0, of the calls that fail.
     pub fn new(start: Vec<u8>, failing: Vec<u64>) -> Self
-        ensures held { ⟦<MemSink as Sink>⟧.held result ≡ Some start.items }
-        ensures faults { ⟦<MemSink as Sink>⟧.faults result ≡ 0 }
-        ensures wants { ⟦<MemSink as Sink>⟧.wants result ≡ 0 }
+        ensures held { (⟦<MemSink as Sink>⟧.state result).held ≡ Some start.items }
+        ensures faults { (⟦<MemSink as Sink>⟧.state result).faults ≡ 0 }
+        ensures wants { (⟦<MemSink as Sink>⟧.state result).wants ≡ 0 }
         ensures plan { sink_plan result ≡ first_plan failing.items }
     {
         MemSink {
@@ -45,7 +45,7 @@ impl MemSink {
 
     /// The bytes that it holds.
     pub fn content(&self) -> &[u8]
-        ensures { ⟦<MemSink as Sink>⟧.held self.now ≡ Some result.now }
+        ensures { (⟦<MemSink as Sink>⟧.state self.now).held ≡ Some result.now }
     {
         &self.held
     }
@@ -54,17 +54,13 @@ impl MemSink {
 impl Sink for MemSink {
     ghost use Rattle.icn_host.specs.Plans.{sink_plan, later_plan, FailsNext};
 
-    ghost held = { λ s. Some s.held.items };
-
-    ghost faults = { λ s. s.faults };
-
-    ghost wants = { λ s. s.wants };
+    ghost state = { λ s. sink_state (Some s.held.items) s.faults s.wants };
 
     fn put(&mut self, piece: &[u8]) -> Result<(), Fault>
-        ensures ok { OnOk result (Gains (⟦<MemSink as Sink>⟧.held self.old) (⟦<MemSink as Sink>⟧.held self.new) piece.now) }
-        ensures err { OnErr result (⟦<MemSink as Sink>⟧.held self.new ≡ ⟦<MemSink as Sink>⟧.held self.old) }
-        ensures cause { HasCause (⟦<MemSink as Sink>⟧.faults self.old) (⟦<MemSink as Sink>⟧.faults self.new) (IsErrOf result Fault.Failed) }
-        ensures want { HasCause (⟦<MemSink as Sink>⟧.wants self.old) (⟦<MemSink as Sink>⟧.wants self.new) (IsErrOf result Fault.NoMemory) }
+        ensures ok { OnOk result (Gains (⟦<MemSink as Sink>⟧.state self.old).held (⟦<MemSink as Sink>⟧.state self.new).held piece.now) }
+        ensures err { OnErr result ((⟦<MemSink as Sink>⟧.state self.new).held ≡ (⟦<MemSink as Sink>⟧.state self.old).held) }
+        ensures cause { CountsOnce (⟦<MemSink as Sink>⟧.state self.old).faults (⟦<MemSink as Sink>⟧.state self.new).faults (IsErrOf result Fault.Failed) }
+        ensures want { CountsOnce (⟦<MemSink as Sink>⟧.state self.old).wants (⟦<MemSink as Sink>⟧.state self.new).wants (IsErrOf result Fault.NoMemory) }
         ensures fails { IsErrOf result Fault.Failed ↔ FailsNext (sink_plan self.old) }
         ensures plan { sink_plan self.new ≡ later_plan (sink_plan self.old) }
     {
@@ -131,7 +127,7 @@ impl Source for MemSource {
         ensures none { IfOk result (λ line. line ≡ Line.End → into.new.items ≡ into.old.items) }
         ensures same_left { OnErr result (⟦<MemSource as Source>⟧.left self.new ≡ ⟦<MemSource as Source>⟧.left self.old) }
         ensures same_into { OnErr result (into.new.items ≡ into.old.items) }
-        ensures cause { HasCause (⟦<MemSource as Source>⟧.faults self.old) (⟦<MemSource as Source>⟧.faults self.new) (IsErrOf result Fault.Failed) }
+        ensures cause { CountsOnce (⟦<MemSource as Source>⟧.faults self.old) (⟦<MemSource as Source>⟧.faults self.new) (IsErrOf result Fault.Failed) }
         ensures fails { IsErrOf result Fault.Failed ↔ FailsNext (source_plan self.old) }
         ensures plan { source_plan self.new ≡ later_plan (source_plan self.old) }
     {
@@ -151,7 +147,7 @@ impl Source for MemSource {
         ensures within { vec_len into.new ≤ vec_len into.old + n }
         ensures same_left { OnErr result (⟦<MemSource as Source>⟧.left self.new ≡ ⟦<MemSource as Source>⟧.left self.old) }
         ensures same_into { OnErr result (into.new.items ≡ into.old.items) }
-        ensures cause { HasCause (⟦<MemSource as Source>⟧.faults self.old) (⟦<MemSource as Source>⟧.faults self.new) (IsErrOf result Fault.Failed) }
+        ensures cause { CountsOnce (⟦<MemSource as Source>⟧.faults self.old) (⟦<MemSource as Source>⟧.faults self.new) (IsErrOf result Fault.Failed) }
         ensures fails { IsErrOf result Fault.Failed ↔ FailsNext (source_plan self.old) }
         ensures plan { source_plan self.new ≡ later_plan (source_plan self.old) }
     {
@@ -221,8 +217,8 @@ impl Files for MemFiles {
         ensures err { OnErr result (into.new.items ≡ into.old.items) }
         ensures absent { IsErrOf result Look.NotThere → NotHeld (⟦<MemFiles as Files>⟧.held self.old) name.now }
         ensures same { ⟦<MemFiles as Files>⟧.held self.new ≡ ⟦<MemFiles as Files>⟧.held self.old }
-        ensures cause { HasCause (⟦<MemFiles as Files>⟧.faults self.old) (⟦<MemFiles as Files>⟧.faults self.new) (IsErrOf result Look.Failed) }
-        ensures absence { HasCause (⟦<MemFiles as Files>⟧.absences self.old) (⟦<MemFiles as Files>⟧.absences self.new) (IsErrOf result Look.NotThere) }
+        ensures cause { CountsOnce (⟦<MemFiles as Files>⟧.faults self.old) (⟦<MemFiles as Files>⟧.faults self.new) (IsErrOf result Look.Failed) }
+        ensures absence { CountsOnce (⟦<MemFiles as Files>⟧.absences self.old) (⟦<MemFiles as Files>⟧.absences self.new) (IsErrOf result Look.NotThere) }
         ensures fails { IsErrOf result Look.Failed ↔ FailsNext (files_plan self.old) }
         ensures plan { files_plan self.new ≡ later_plan (files_plan self.old) }
     {
@@ -240,7 +236,7 @@ impl Files for MemFiles {
     fn write(&mut self, name: &str, bytes: &[u8]) -> Result<(), Fault>
         ensures ok { OnOk result (Sets (⟦<MemFiles as Files>⟧.held self.old) (⟦<MemFiles as Files>⟧.held self.new) name.now bytes.now) }
         ensures err { OnErr result (SetsPart (⟦<MemFiles as Files>⟧.held self.old) (⟦<MemFiles as Files>⟧.held self.new) name.now bytes.now) }
-        ensures cause { HasCause (⟦<MemFiles as Files>⟧.faults self.old) (⟦<MemFiles as Files>⟧.faults self.new) (IsErrOf result Fault.Failed) }
+        ensures cause { CountsOnce (⟦<MemFiles as Files>⟧.faults self.old) (⟦<MemFiles as Files>⟧.faults self.new) (IsErrOf result Fault.Failed) }
         ensures absences { ⟦<MemFiles as Files>⟧.absences self.new ≡ ⟦<MemFiles as Files>⟧.absences self.old }
         ensures fails { IsErrOf result Fault.Failed ↔ FailsNext (files_plan self.old) }
         ensures same { OnErr result (⟦<MemFiles as Files>⟧.held self.new ≡ ⟦<MemFiles as Files>⟧.held self.old) }

@@ -1,7 +1,7 @@
 // A writer as a sink. It doesn't tell what it holds.
 ghost use Rattle.std.specs.Prelude.{◌≡◌, None, OnOk, OnErr, IsErrOf};
-ghost use Rattle.icn_host.specs.Counts.{HasCause};
-ghost use Rattle.icn_host.specs.Sinks.{Gains, GainsPart};
+ghost use Rattle.icn_host.specs.Counts.{CountsOnce};
+ghost use Rattle.icn_host.specs.Sinks.{Gains, GainsPart, sink_state};
 
 use crate::fault::Fault;
 use crate::retry::write_whole;
@@ -26,8 +26,8 @@ impl<W: Write> StdSink<W> {
     /// The sink over this writer. Nothing is written yet.
     pub fn new(writer: W) -> Self
         ensures writer { writer_of result ≡ writer }
-        ensures faults { ⟦<StdSink<W> as Sink>⟧.faults result ≡ 0 }
-        ensures wants { ⟦<StdSink<W> as Sink>⟧.wants result ≡ 0 }
+        ensures faults { (⟦<StdSink<W> as Sink>⟧.state result).faults ≡ 0 }
+        ensures wants { (⟦<StdSink<W> as Sink>⟧.state result).wants ≡ 0 }
     {
         StdSink {
             writer,
@@ -40,18 +40,14 @@ impl<W: Write> StdSink<W> {
 impl<W: Write> Sink for StdSink<W> {
     ghost use Rattle.icn_host.specs.Writers.{writer_of};
 
-    ghost held = { λ _. None };
-
-    ghost faults = { λ s. s.faults };
-
-    ghost wants = { λ s. s.wants };
+    ghost state = { λ s. sink_state None s.faults s.wants };
 
     // The sink tells nothing, but where the writer tells what it holds, it holds the piece.
     fn put(&mut self, piece: &[u8]) -> Result<(), Fault>
         ensures ok { OnOk result (Gains (W.contents (writer_of self.old)) (W.contents (writer_of self.new)) piece.now) }
         ensures err { OnErr result (GainsPart (W.contents (writer_of self.old)) (W.contents (writer_of self.new)) piece.now) }
-        ensures cause { HasCause (⟦<StdSink<W> as Sink>⟧.faults self.old) (⟦<StdSink<W> as Sink>⟧.faults self.new) (IsErrOf result Fault.Failed) }
-        ensures want { HasCause (⟦<StdSink<W> as Sink>⟧.wants self.old) (⟦<StdSink<W> as Sink>⟧.wants self.new) (IsErrOf result Fault.NoMemory) }
+        ensures cause { CountsOnce (⟦<StdSink<W> as Sink>⟧.state self.old).faults (⟦<StdSink<W> as Sink>⟧.state self.new).faults (IsErrOf result Fault.Failed) }
+        ensures want { CountsOnce (⟦<StdSink<W> as Sink>⟧.state self.old).wants (⟦<StdSink<W> as Sink>⟧.state self.new).wants (IsErrOf result Fault.NoMemory) }
     {
         let result = write_whole(&mut self.writer, piece);
         if result == Err(Fault::Failed) {

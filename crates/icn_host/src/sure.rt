@@ -1,6 +1,7 @@
 // Objects over memory that never fail.
 ghost use Rattle.std.specs.Prelude.{◌≡◌, ◌≤◌, drop, length, Some};
 ghost use Rattle.icn_host.specs.FileMaps.{file_map};
+ghost use Rattle.icn_host.specs.Sinks.{sink_state};
 
 use crate::bytes::{next_line, take_first};
 use crate::fault::{Fault, Line, Look};
@@ -18,8 +19,8 @@ pub struct SureSink {
 impl SureSink {
     /// A sink that holds these bytes.
     pub fn new(start: Vec<u8>) -> Self
-        ensures held { ⟦<SureSink as Sink>⟧.held result ≡ Some start.items }
-        ensures wants { ⟦<SureSink as Sink>⟧.wants result ≡ 0 }
+        ensures held { (⟦<SureSink as Sink>⟧.state result).held ≡ Some start.items }
+        ensures wants { (⟦<SureSink as Sink>⟧.state result).wants ≡ 0 }
     {
         SureSink {
             held: start,
@@ -29,18 +30,14 @@ impl SureSink {
 
     /// The bytes that it holds.
     pub fn content(&self) -> &[u8]
-        ensures { ⟦<SureSink as Sink>⟧.held self.now ≡ Some result.now }
+        ensures { (⟦<SureSink as Sink>⟧.state self.now).held ≡ Some result.now }
     {
         &self.held
     }
 }
 
 impl Sink for SureSink {
-    ghost held = { λ s. Some s.held.items };
-
-    ghost faults = { λ _. 0 };
-
-    ghost wants = { λ s. s.wants };
+    ghost state = { λ s. sink_state (Some s.held.items) 0 s.wants };
 
     fn put(&mut self, piece: &[u8]) -> Result<(), Fault> {
         if self.held.extend_from_slice(piece).is_err() {

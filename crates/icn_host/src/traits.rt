@@ -1,8 +1,8 @@
 // A source, a sink and a store of files: what they hold or have left where they tell it, and how often they have failed.
 ghost use Rattle.std.specs.Prelude.{◌≡◌, ◌+◌, ◌≤◌, ℕ, List, Option, OnOk, OnErr, IfOk, IsErrOf, vec_len};
 ghost use Rattle.icn_host.specs.Buffers.{Extends};
-ghost use Rattle.icn_host.specs.Counts.{HasCause};
-ghost use Rattle.icn_host.specs.Sinks.{Gains, GainsPart};
+ghost use Rattle.icn_host.specs.Counts.{CountsOnce};
+ghost use Rattle.icn_host.specs.Sinks.{Gains, GainsPart, SinkState};
 ghost use Rattle.icn_host.specs.FileMaps.{Reads, ReadsPart, NotHeld, Sets, SetsPart, FileMap};
 ghost use Rattle.icn_host.specs.Sources.{TakesLine, TakesLinePart, TakesFirst, TakesFirstPart};
 
@@ -25,7 +25,7 @@ pub trait Source {
         // Whatever comes of the call, the buffer begins with what it had, and where there was no line it has no more.
         ensures kept { Extends into.old.items into.new.items }
         ensures none { IfOk result (λ line. line ≡ Line.End → into.new.items ≡ into.old.items) }
-        ensures cause { HasCause (faults self.old) (faults self.new) (IsErrOf result Fault.Failed) };
+        ensures cause { CountsOnce (faults self.old) (faults self.new) (IsErrOf result Fault.Failed) };
 
     /// Appends and takes the first `n` bytes, or all that are left, and answers how many.
     fn take(&mut self, n: u64, into: &mut Vec<u8>) -> Result<u64, Fault>
@@ -36,26 +36,21 @@ pub trait Source {
         ensures kept { Extends into.old.items into.new.items }
         ensures counted { IfOk result (λ count. vec_len into.new ≡ vec_len into.old + count) }
         ensures within { vec_len into.new ≤ vec_len into.old + n }
-        ensures cause { HasCause (faults self.old) (faults self.new) (IsErrOf result Fault.Failed) };
+        ensures cause { CountsOnce (faults self.old) (faults self.new) (IsErrOf result Fault.Failed) };
 }
 
 /// Takes bytes in order.
 pub trait Sink {
-    /// The bytes taken so far, where the sink tells them.
-    ghost held: { Self → Option (List ℕ) };
-
-    /// How often it has failed, up to the greatest `u64`.
-    ghost faults: { Self → ℕ };
-
-    /// How often it has wanted memory, up to the greatest `u64`.
-    ghost wants: { Self → ℕ };
+    /// The bytes taken so far, where the sink tells them, and how often it has failed and has wanted memory, up to the
+    /// greatest `u64`.
+    ghost state: { Self → SinkState };
 
     /// Appends the piece. After an `Err` a part of it from its start was appended.
     fn put(&mut self, piece: &[u8]) -> Result<(), Fault>
-        ensures ok { OnOk result (Gains (held self.old) (held self.new) piece.now) }
-        ensures err { OnErr result (GainsPart (held self.old) (held self.new) piece.now) }
-        ensures cause { HasCause (faults self.old) (faults self.new) (IsErrOf result Fault.Failed) }
-        ensures want { HasCause (wants self.old) (wants self.new) (IsErrOf result Fault.NoMemory) };
+        ensures ok { OnOk result (Gains (state self.old).held (state self.new).held piece.now) }
+        ensures err { OnErr result (GainsPart (state self.old).held (state self.new).held piece.now) }
+        ensures cause { CountsOnce (state self.old).faults (state self.new).faults (IsErrOf result Fault.Failed) }
+        ensures want { CountsOnce (state self.old).wants (state self.new).wants (IsErrOf result Fault.NoMemory) };
 }
 
 /// Files by their names.
@@ -83,15 +78,15 @@ pub trait Files {
         ensures absent { IsErrOf result Look.NotThere → NotHeld (held self.old) name.now }
         ensures nothing { IsErrOf result Look.NotThere → into.new.items ≡ into.old.items }
         ensures same { held self.new ≡ held self.old }
-        ensures cause { HasCause (faults self.old) (faults self.new) (IsErrOf result Look.Failed) }
-        ensures absence { HasCause (absences self.old) (absences self.new) (IsErrOf result Look.NotThere) };
+        ensures cause { CountsOnce (faults self.old) (faults self.new) (IsErrOf result Look.Failed) }
+        ensures absence { CountsOnce (absences self.old) (absences self.new) (IsErrOf result Look.NotThere) };
 
     /// Sets the whole content of a file. After an `Err` the name is absent, holds what it held, or holds a part of the
     /// new bytes from their start. Each other name stays.
     fn write(&mut self, name: &str, bytes: &[u8]) -> Result<(), Fault>
         ensures ok { OnOk result (Sets (held self.old) (held self.new) name.now bytes.now) }
         ensures err { OnErr result (SetsPart (held self.old) (held self.new) name.now bytes.now) }
-        ensures cause { HasCause (faults self.old) (faults self.new) (IsErrOf result Fault.Failed) }
+        ensures cause { CountsOnce (faults self.old) (faults self.new) (IsErrOf result Fault.Failed) }
 
         // No look-up is made.
         ensures absences { absences self.new ≡ absences self.old };

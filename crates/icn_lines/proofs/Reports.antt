@@ -1,8 +1,9 @@
 -- How the line of an answer stands on the error output.
 use Rattle.std.proofs.Common.{◌≡◌, ◌⊎◌, inl, inr, ℕ, List, Option, true, false, refl, sym, ◌∙◌}
-use Rattle.icn_host.specs.Sinks.{Gains}
+use Rattle.icn_host.specs.Sinks.{Gains, SinkState}
 use Rattle.icn_host.proofs.SinkSteps.{gains_nothing}
-use Rattle.icn_report.specs.Puts.{Sunk, Puts, all, Leads}
+use Rattle.icn_report.proofs.Putting.{puts_nothing}
+use Rattle.icn_report.specs.Puts.{Puts, all, Leads}
 use Rattle.icn_run.specs.declared.ending.Ending.{Ending}
 use Rattle.icn_run.specs.Reports.{report_of}
 use Rattle.icn_engine.specs.declared.answer.Answer.{Answer}
@@ -49,27 +50,27 @@ line_alone usage name WriteFault ran = refl
 line_alone usage name NoMemory ran = refl
 
 -- nothing but a line was put
-pub reports_of : {usage name : List ℕ} {answer given : Answer} {before after : Sunk} → put_by usage name answer ≡ line_of usage name answer → Refuses usage name answer before after given → Reports usage name before after given
+pub reports_of : {usage name : List ℕ} {answer given : Answer} {before after : SinkState} → put_by usage name answer ≡ line_of usage name answer → Refuses usage name answer before after given → Reports usage name before after given
 reports_of e (put n gains) = put_whole n (rw e gains)
 reports_of {before = before} e (own f puts) = put_own f Wrote wrote_no_fault before (inl refl) puts
-reports_of {answer = answer} {after = after} e (write_fault n leads) = put_own refl answer n after (rw e leads) (all (gains_nothing after.held))
+reports_of {answer = answer} {after = after} e (write_fault n leads) = put_own refl answer n after (rw e leads) (all (puts_nothing after))
 reports_of {answer = answer} e (want n between leads puts) = put_own refl answer n between (rw e leads) puts
 
-pub ran_reports : {usage name : List ℕ} {before after : Sunk} (ending : Ending) → Gains before.held after.held (report_of ending) → Reports usage name before after (Ran ending)
+pub ran_reports : {usage name : List ℕ} {before after : SinkState} (ending : Ending) → Gains before.held after.held (report_of ending) → Reports usage name before after (Ran ending)
 ran_reports ending gains = put_whole (ran_no_fault ending) gains
 
 -- an image was written, and nothing was put
-pub wrote_reports : (usage name : List ℕ) (sunk : Sunk) → Reports usage name sunk sunk Wrote
+pub wrote_reports : (usage name : List ℕ) (sunk : SinkState) → Reports usage name sunk sunk Wrote
 wrote_reports usage name sunk = put_whole wrote_no_fault (gains_nothing sunk.held)
 
 -- a fault's own line alone
-pub own_reports : {usage name : List ℕ} {before after : Sunk} (fault : Answer) → IsFault fault → Puts before after (fault_line fault) → Reports usage name before after fault
+pub own_reports : {usage name : List ℕ} {before after : SinkState} (fault : Answer) → IsFault fault → Puts before after (fault_line fault) → Reports usage name before after fault
 own_reports {before = before} fault is puts = put_own is Wrote wrote_no_fault before (inl refl) puts
 
-pub fault_reports : {usage name : List ℕ} {before between after : Sunk} (fault : RunFault) → (ending : Ending) × Leads before between (report_of ending) → Puts between after (fault_line (of_run fault)) → Reports usage name before after (of_run fault)
+pub fault_reports : {usage name : List ℕ} {before between after : SinkState} (fault : RunFault) → (ending : Ending) × Leads before between (report_of ending) → Puts between after (fault_line (of_run fault)) → Reports usage name before after (of_run fault)
 fault_reports {between = between} fault leads puts = put_own (is_run_fault fault) (Ran leads.0) (ran_no_fault leads.0) between leads.1 puts
 
-pub line_of_reports : {usage name : List ℕ} {before after : Sunk} {answer : Answer} → Reports usage name before after answer → IsFault answer ⊎ Gains before.held after.held (put_by usage name answer)
+pub line_of_reports : {usage name : List ℕ} {before after : SinkState} {answer : Answer} → Reports usage name before after answer → IsFault answer ⊎ Gains before.held after.held (put_by usage name answer)
 line_of_reports (put_whole n gains) = inr gains
 line_of_reports (put_own f other n between leads puts) = inl f
 

@@ -1,8 +1,8 @@
 // The line of an answer that no program ran for.
 ghost use Rattle.std.specs.Prelude.{◌≡◌, ◌≢◌, ◌≤◌, OnOk, OnErr, IsErrOf};
-ghost use Rattle.icn_host.specs.Counts.{HasCause};
+ghost use Rattle.icn_host.specs.Counts.{CountsOnce, HasCause};
 ghost use Rattle.icn_host.specs.Sinks.{Gains};
-ghost use Rattle.icn_report.specs.Puts.{Leads, Puts, sunk};
+ghost use Rattle.icn_report.specs.Puts.{Leads, Puts};
 ghost use Rattle.icn_engine.specs.Answers.{IsFault};
 ghost use Rattle.icn_lines.specs.Lines.{fault_line, line_of};
 ghost use Rattle.icn_lines.specs.Refusing.{Refuses};
@@ -22,11 +22,10 @@ pub fn refuse<E: Sink>(
     answer: Answer,
     err: &mut E,
 ) -> Answer
-    ensures line { Refuses usage.now name.now answer (sunk (E.held err.old) (E.faults err.old) (E.wants err.old))
-        (sunk (E.held err.new) (E.faults err.new) (E.wants err.new)) result }
-    ensures cause { HasCause (E.faults err.old) (E.faults err.new)
+    ensures line { Refuses usage.now name.now answer (E.state err.old) (E.state err.new) result }
+    ensures cause { HasCause (E.state err.old).faults (E.state err.new).faults
         ((result ≡ Answer.WriteFault) × (answer ≢ Answer.WriteFault)) }
-    ensures wants { E.wants err.old ≤ E.wants err.new }
+    ensures wants { (E.state err.old).wants ≤ (E.state err.new).wants }
 {
     if answer.is_fault() {
         own_line(&answer, err);
@@ -45,10 +44,9 @@ pub fn refuse<E: Sink>(
 /// Puts a fault's own line, as far as it can be put.
 pub fn own_line<E: Sink>(fault: &Answer, err: &mut E)
     requires { IsFault fault.now }
-    ensures puts { Puts (sunk (E.held err.old) (E.faults err.old) (E.wants err.old))
-        (sunk (E.held err.new) (E.faults err.new) (E.wants err.new)) (fault_line fault.now) }
-    ensures faults { E.faults err.old ≤ E.faults err.new }
-    ensures wants { E.wants err.old ≤ E.wants err.new }
+    ensures puts { Puts (E.state err.old) (E.state err.new) (fault_line fault.now) }
+    ensures faults { (E.state err.old).faults ≤ (E.state err.new).faults }
+    ensures wants { (E.state err.old).wants ≤ (E.state err.new).wants }
 {
     match fault {
         Answer::FileFault => try_put(FILE_FAULT, err),
@@ -66,11 +64,10 @@ fn named_line<E: Sink>(
     answer: &Answer,
     err: &mut E,
 ) -> Result<(), Fault>
-    ensures ok { OnOk result (Gains (E.held err.old) (E.held err.new) (line_of usage.now name.now answer.now)) }
-    ensures err { OnErr result (Leads (sunk (E.held err.old) (E.faults err.old) (E.wants err.old))
-        (sunk (E.held err.new) (E.faults err.new) (E.wants err.new)) (line_of usage.now name.now answer.now)) }
-    ensures cause { HasCause (E.faults err.old) (E.faults err.new) (IsErrOf result Fault.Failed) }
-    ensures wants { E.wants err.old ≤ E.wants err.new }
+    ensures ok { OnOk result (Gains (E.state err.old).held (E.state err.new).held (line_of usage.now name.now answer.now)) }
+    ensures err { OnErr result (Leads (E.state err.old) (E.state err.new) (line_of usage.now name.now answer.now)) }
+    ensures cause { CountsOnce (E.state err.old).faults (E.state err.new).faults (IsErrOf result Fault.Failed) }
+    ensures wants { (E.state err.old).wants ≤ (E.state err.new).wants }
 {
     let line = line_of(alloc, usage, name, answer)?;
     put_line(&line, err)

@@ -1,6 +1,6 @@
 // The lines that a named file gives.
 ghost use Rattle.std.specs.Prelude.{◌≡◌, ◌⊎◌, ◌≤◌, ◌<◌, ◌-◌, ◌+◌, ◌++◌, ◌∷◌, [], Ok, Err, Some, length, vec_len, slice_get, IfSome, IfOk, IfErr, OnOk, IsErrOf, MatchResult};
-ghost use Rattle.icn_host.specs.Counts.{HasCause};
+ghost use Rattle.icn_host.specs.Counts.{CountsOnce, HasCause};
 ghost use Rattle.icn_prep.specs.declared.fault.PrepFault.TheVariants.{Broken, FileFault, NoMemory};
 ghost use Rattle.icn_prep.specs.Answers.{IsOutside, IsAbsence, IsAnswer, outcome_of};
 ghost use Rattle.icn_prep.specs.PlaceViews.{place_of};
@@ -32,7 +32,7 @@ pub fn preprocess<F: Files>(alloc: Global, name: &str, files: &mut F) -> Result<
     ensures begins { IfOk result (λ lines. slice_get lines.names.items 0 ≡ Some name.now) }
 
     // The causes of what the store answers, also where it tells nothing.
-    ensures file_fault { HasCause (F.faults files.old) (F.faults files.new) (IsErrOf result FileFault) }
+    ensures file_fault { CountsOnce (F.faults files.old) (F.faults files.new) (IsErrOf result FileFault) }
     ensures absence { HasCause (F.absences files.old) (F.absences files.new) (IsAbsence result) }
     ensures same { F.held files.new ≡ F.held files.old }
 {
@@ -97,7 +97,7 @@ fn named_content<F: Files>(alloc: Global, name: &str, files: &mut F) -> Result<V
         (λ content. held name.now ≡ Some content.items)
         (IsAnswer (named_file held name.now (held name.now)))) }
     ensures short { IfOk result (λ content. vec_len content ≤ 16777216) }
-    ensures file_fault { HasCause (F.faults files.old) (F.faults files.new) (IsErrOf result FileFault) }
+    ensures file_fault { CountsOnce (F.faults files.old) (F.faults files.new) (IsErrOf result FileFault) }
     ensures absence { HasCause (F.absences files.old) (F.absences files.new) (IsAbsence result) }
     ensures same { F.held files.new ≡ F.held files.old }
 {
@@ -123,7 +123,7 @@ fn included_content<F: Files>(
         (IsAnswer (included held (32 - depth) name.now (state_of reading.now) (place_of place.now)))) }
     ensures deep { OnOk result (depth < 32) }
     ensures short { IfOk result (λ content. vec_len content ≤ 16777216) }
-    ensures file_fault { HasCause (F.faults files.old) (F.faults files.new) (IsErrOf result FileFault) }
+    ensures file_fault { CountsOnce (F.faults files.old) (F.faults files.new) (IsErrOf result FileFault) }
     ensures absence { HasCause (F.absences files.old) (F.absences files.new) (IsAbsence result) }
     ensures same { F.held files.new ≡ F.held files.old }
 {

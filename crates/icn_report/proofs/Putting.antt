@@ -1,20 +1,38 @@
 -- How a put is told.
-use Rattle.std.proofs.Common.{List, ℕ, Result, Ok, Err, OnOk, OnErr, IsErrOf, refl}
+use Rattle.std.proofs.Common.{◌≡◌, List, [], ℕ, Result, Ok, Err, OnOk, OnErr, IsErrOf, refl}
 use Rattle.icn_host.specs.declared.fault.Fault.{Fault}
 use Rattle.icn_host.specs.declared.fault.Fault.TheVariants.{Failed, NoMemory}
-use Rattle.icn_host.specs.Counts.{HasCause}
-use Rattle.icn_host.specs.Sinks.{Gains, GainsPart}
-use Rattle.icn_report.specs.Puts.{Sunk, Stops, broken, wanted, Puts, all, part}
+use Rattle.icn_host.specs.Counts.{CountsOnce}
+use Rattle.icn_host.specs.Sinks.{Gains, GainsPart, SinkState}
+use Rattle.icn_host.proofs.SinkSteps.{gains_nothing}
+use Rattle.icn_report.specs.Puts.{Stops, broken, wanted, PutsAll, Puts, all, part}
+
+-- what an answer is not
+
+ok_not_err : (done : Unit {0}) (fault : Fault) → IsErrOf {T = Unit {0}} (Ok done) fault → ⊥
+ok_not_err done fault e = cc
+
+failed_no_want : IsErrOf {T = Unit {0}} (Err Failed) NoMemory → ⊥
+failed_no_want e = cc
+
+want_not_failed : IsErrOf {T = Unit {0}} (Err NoMemory) Failed → ⊥
+want_not_failed e = cc
+
+-- nothing was put
+pub puts_nothing : (sink : SinkState) → PutsAll sink sink []
+puts_nothing sink = record { gains = gains_nothing sink.held; faults = refl; wants = refl }
 
 -- a put that gave up
-pub stops_of : (before after : Sunk) (line : List ℕ) (r : Result (Unit {0}) Fault) → OnErr r (GainsPart before.held after.held line)
-    → HasCause before.faults after.faults (IsErrOf r Failed) → HasCause before.wants after.wants (IsErrOf r NoMemory) → OnErr r (Stops before after line)
+pub stops_of : (before after : SinkState) (line : List ℕ) (r : Result (Unit {0}) Fault) → OnErr r (GainsPart before.held after.held line)
+    → CountsOnce before.faults after.faults (IsErrOf r Failed) → CountsOnce before.wants after.wants (IsErrOf r NoMemory) → OnErr r (Stops before after line)
 stops_of before after line (Ok done) err cause want = tt
-stops_of before after line (Err Failed) err cause want = broken (cause.rose refl) want.later err
-stops_of before after line (Err NoMemory) err cause want = wanted (want.rose refl) cause.later err
+stops_of before after line (Err Failed) err cause want = broken (cause.rose refl) (want.stayed failed_no_want) err
+stops_of before after line (Err NoMemory) err cause want = wanted (want.rose refl) (cause.stayed want_not_failed) err
 
 -- a put, whatever it answers
-pub puts_of : (before after : Sunk) (line : List ℕ) (r : Result (Unit {0}) Fault) → OnOk r (Gains before.held after.held line)
-    → OnErr r (Stops before after line) → Puts before after line
-puts_of before after line (Ok done) ok err = all ok
-puts_of before after line (Err fault) ok err = part err
+pub puts_of : (before after : SinkState) (line : List ℕ) (r : Result (Unit {0}) Fault) → OnOk r (Gains before.held after.held line)
+    → OnErr r (GainsPart before.held after.held line) → CountsOnce before.faults after.faults (IsErrOf r Failed) → CountsOnce before.wants after.wants (IsErrOf r NoMemory)
+    → Puts before after line
+puts_of before after line (Ok done) ok err cause want =
+    all (record { gains = ok; faults = cause.stayed (ok_not_err done Failed); wants = want.stayed (ok_not_err done NoMemory) })
+puts_of before after line (Err fault) ok err cause want = part (stops_of before after line (Err fault) err cause want)

@@ -2,6 +2,7 @@
 #![tactic(auto)]
 
 ghost use Rattle.std.specs.Prelude.{None};
+ghost use Rattle.icn_host.specs.Sinks.{sink_state};
 
 #[cfg(test)]
 mod tests {
@@ -503,11 +504,7 @@ mod tests {
     }
 
     impl Sink for WantingSink {
-        ghost held = { λ _. None };
-
-        ghost faults = { λ _. 0 };
-
-        ghost wants = { λ s. s.wants };
+        ghost state = { λ s. sink_state None 0 s.wants };
 
         fn put(&mut self, piece: &[u8]) -> Result<(), Fault> {
             let result = if self.full {

@@ -11,7 +11,9 @@ use Rattle.std.proofs.lemmas.Slice.Eq.{bytes_eq-Decides}
 use Rattle.std.proofs.lemmas.Bool.Decides.{nat_tests}
 use Rattle.icn_host.specs.FileMaps.{FileMap, Sets, SetsPart}
 use Rattle.icn_host.proofs.SinkSteps.{gains_nothing}
-use Rattle.icn_report.specs.Puts.{Sunk, Puts, all, Leads}
+use Rattle.icn_host.specs.Sinks.{SinkState}
+use Rattle.icn_report.proofs.Putting.{puts_nothing}
+use Rattle.icn_report.specs.Puts.{Puts, all, Leads}
 use Rattle.icn_code.specs.Codes.{Tables}
 use Rattle.icn_code.specs.Rules.{keeps_rules}
 use Rattle.icn_code.specs.Seen.{tables_of}
@@ -59,20 +61,20 @@ at_some P o x e h = rw e at h
 abbrev pub Asked : List (List ℕ) → FileMap → List ℕ → Answer → Type 0
 Asked words files left answer = IsFault answer ⊎ IsJob words files left (refusal left answer)
 
-begins_of : {words : List (List ℕ)} {files : FileMap} {left : List ℕ} (answer : Answer) (before between : Sunk) → IsJob words files left (refusal left answer) → Leads before between (line_of usage [] answer)
+begins_of : {words : List (List ℕ)} {files : FileMap} {left : List ℕ} (answer : Answer) (before between : SinkState) → IsJob words files left (refusal left answer) → Leads before between (line_of usage [] answer)
     → Begins (IsJob words files left) before between
 begins_of answer before between is (inl same) = inl same
 begins_of {left = left} answer before between is (inr stops) = inr (refusal left answer, is, refl, stops)
 
 -- nothing was done but to put a line
-pub refused : {words : List (List ℕ)} {files : FileMap} {left : List ℕ} (answer given : Answer) (held held' : Option FileMap) (left' out : Option (List ℕ)) (before after : Sunk) → Asked words files left answer
+pub refused : {words : List (List ℕ)} {files : FileMap} {left : List ℕ} (answer given : Answer) (held held' : Option FileMap) (left' out : Option (List ℕ)) (before after : SinkState) → Asked words files left answer
     → held' ≡ held → left' ≡ Some left → Refuses usage [] answer before after given → Outcome words files left given (told held left' out before) (told held' left' out after)
 refused answer given held held' left' out before after (inl f) same d (put n h) = absurd (n f)
 refused {left = left} answer given held held' left' out before after (inr is) same d (put n h) =
     done (refusal left answer) is (record { answered = refl; files = same; left = d; output = gains_nothing out; errors = h })
 refused answer given held held' left' out before after asks same d (own f puts) = fault f (idle before same refl refl (inl refl) puts)
 refused answer given held held' left' out before after (inl f) same d (write_fault n leads) = absurd (n f)
-refused answer given held held' left' out before after (inr is) same d (write_fault n leads) = fault refl (idle after same refl refl (begins_of answer before after is leads) (all (gains_nothing after.held)))
+refused answer given held held' left' out before after (inr is) same d (write_fault n leads) = fault refl (idle after same refl refl (begins_of answer before after is leads) (all (puts_nothing after)))
 refused answer given held held' left' out before after (inl f) same d (want n between leads puts) = absurd (n f)
 refused answer given held held' left' out before after (inr is) same d (want n between leads puts) = fault refl (idle between same refl refl (begins_of answer before between is leads) puts)
 
@@ -80,7 +82,7 @@ pub asked_file : {words : List (List ℕ)} {files : FileMap} (left name : List �
 asked_file left name run answer e (inl f) = inl f
 asked_file left name run answer e (inr is) = inr (refuses name run answer e is)
 
-pub answer_put : {words : List (List ℕ)} {files : FileMap} {before after : Sunk} (answer given : Answer) → IsAnswered words files answer → Refuses usage [] answer before after given → IsAnswered words files given
+pub answer_put : {words : List (List ℕ)} {files : FileMap} {before after : SinkState} (answer given : Answer) → IsAnswered words files answer → Refuses usage [] answer before after given → IsAnswered words files given
 answer_put answer _ is (put n h) = is
 answer_put answer _ is (own f puts) = is
 answer_put answer _ is (write_fault n leads) = answered_fault WriteFault refl
@@ -140,12 +142,12 @@ holds_image files name run program e is h sets good =
 
 -- Outcomes
 
-pub wrote_outcome : {words : List (List ℕ)} {files : FileMap} {held held' : Option FileMap} (left name : List ℕ) (program : Program) (left' out : Option (List ℕ)) (sunk : Sunk) → asked words ≡ Asks name None → ComesTo files name (Ok program)
+pub wrote_outcome : {words : List (List ℕ)} {files : FileMap} {held held' : Option FileMap} (left name : List ℕ) (program : Program) (left' out : Option (List ℕ)) (sunk : SinkState) → asked words ≡ Asks name None → ComesTo files name (Ok program)
     → Sets held held' (image_file name program).name (image_file name program).bytes → left' ≡ Some left → Outcome words files left Wrote (told held left' out sunk) (told held' left' out sunk)
 wrote_outcome left name program left' out sunk e is sets d =
     done (writing (image_file name program) left) (writes name program e is) (record { answered = refl; files = sets; left = d; output = gains_nothing out; errors = gains_nothing sunk.held })
 
-pub torn_outcome : {words : List (List ℕ)} {files : FileMap} {held held' : Option FileMap} (left name : List ℕ) (run : Option (List (List ℕ))) (program : Program) (answer : Answer) (left' out : Option (List ℕ)) (before after : Sunk)
+pub torn_outcome : {words : List (List ℕ)} {files : FileMap} {held held' : Option FileMap} (left name : List ℕ) (run : Option (List (List ℕ))) (program : Program) (answer : Answer) (left' out : Option (List ℕ)) (before after : SinkState)
     → asked words ≡ Asks name run → ComesTo files name (Ok program) → SetsPart held held' (image_file name program).name (image_file name program).bytes → (answer ≡ FileFault) ⊎ (answer ≡ NoMemory)
     → Puts before after (fault_line answer) → Outcome words files left answer (told held left' out before) (told held' left' out after)
 torn_outcome left name run program answer left' out before after e is sets (inl same) puts = fault (rw same refl) (torn name run program (record { asks = e; is = is }) sets refl refl puts)
@@ -156,7 +158,7 @@ leaves_meant : {program : Program} {tables : Tables} → BreaksAs program tables
 leaves_meant breaks ReadFault run left' out out' err err' t leaves = breaks.reading run left' out out' err err' t leaves
 leaves_meant breaks _ run left' out out' err err' t leaves = breaks.breaks run left' out out' err err' t leaves
 
-pub ran_outcome : {words : List (List ℕ)} {files : FileMap} {held held' : Option FileMap} (left name : List ℕ) (arguments : List (List ℕ)) (program : Program) (tables : Tables) (answer : Answer) (left0 left' out out' : Option (List ℕ)) (before after : Sunk)
+pub ran_outcome : {words : List (List ℕ)} {files : FileMap} {held held' : Option FileMap} (left name : List ℕ) (arguments : List (List ℕ)) (program : Program) (tables : Tables) (answer : Answer) (left0 left' out out' : Option (List ℕ)) (before after : SinkState)
     → RunsAs program (linked program) → BreaksAs program (linked program) → tables ≡ linked program → asked words ≡ Asks name (Some arguments) → ComesTo files name (Ok program)
     → Sets held held' (image_file name program).name (image_file name program).bytes → IsRanOrBroken (run_by tables arguments left) answer left' out out' before after
     → Outcome words files left answer (told held left0 out before) (told held' left' out' after)
@@ -173,19 +175,19 @@ ran_outcome left name arguments program tables answer left0 left' out out' befor
 run_as : (tables : Tables) (words : List (List ℕ)) (left : List ℕ) (bounds : Bounds) → bounds ≡ default_limits → let run : Run = record { tables = tables; words = words; bounds = bounds; left = left } in run ≡ run_by tables words left
 run_as tables words left bounds e = ap (λ b. record { tables = tables; words = words; bounds = b; left = left }) e
 
-pub run_ended : {left' out out' : Option (List ℕ)} {before after : Sunk} (tables : Tables) (words : List (List ℕ)) (left : List ℕ) (bounds : Bounds) (ending : Ending) → bounds ≡ default_limits
+pub run_ended : {left' out out' : Option (List ℕ)} {before after : SinkState} (tables : Tables) (words : List (List ℕ)) (left : List ℕ) (bounds : Bounds) (ending : Ending) → bounds ≡ default_limits
     → Ends (record { tables = tables; words = words; bounds = bounds; left = left }) ending left' out out' before.held after.held → IsRanOrBroken (run_by tables words left) (Ran ending) left' out out' before after
 run_ended {left'} {out} {out'} {before} {after} tables words left bounds ending e ends =
     ran ending refl (subst (λ run. Ends run ending left' out out' before.held after.held) (run_as tables words left bounds e) ends)
 
-pub run_broken : {left' out out' : Option (List ℕ)} {before between after : Sunk} (tables : Tables) (words : List (List ℕ)) (left : List ℕ) (bounds : Bounds) (answer : Answer) → bounds ≡ default_limits → IsFault answer
+pub run_broken : {left' out out' : Option (List ℕ)} {before between after : SinkState} (tables : Tables) (words : List (List ℕ)) (left : List ℕ) (bounds : Bounds) (answer : Answer) → bounds ≡ default_limits → IsFault answer
     → before.faults ≤ between.faults → before.wants ≤ between.wants → LeavesBy answer (record { tables = tables; words = words; bounds = bounds; left = left }) left' out out' before.held between.held → Puts between after (fault_line answer)
     → IsRanOrBroken (run_by tables words left) answer left' out out' before after
 run_broken {left'} {out} {out'} {before} {between} tables words left bounds answer e f faults wants stood puts =
     broken between f faults wants (subst (λ run. LeavesBy answer run left' out out' before.held between.held) (run_as tables words left bounds e) stood) puts
 
 -- an answer that refuses a file writes no image
-pub not_written : {before after : Sunk} (answer given : Answer) → IsOfRead answer → Refuses usage [] answer before after given → HasWritten given → ⊥
+pub not_written : {before after : SinkState} (answer given : Answer) → IsOfRead answer → Refuses usage [] answer before after given → HasWritten given → ⊥
 not_written answer _ is (put n h) w = not_read answer is w where
   not_read : (answer : Answer) → IsOfRead answer → HasWritten answer → ⊥
   not_read Wrote is w = is
@@ -206,7 +208,7 @@ pub line_put : (answer : Answer) → IsOfRead answer → put_by usage [] answer 
 line_put answer is = line_alone usage [] answer (not_ran answer is)
 
 -- which answers a refusal can give
-pub not_command : {before after : Sunk} (answer given : Answer) → IsOfRead answer → Refuses usage [] answer before after given → IsCommand given → ⊥
+pub not_command : {before after : SinkState} (answer given : Answer) → IsOfRead answer → Refuses usage [] answer before after given → IsCommand given → ⊥
 not_command answer _ is (put n h) w = not_read answer is w where
   not_read : (answer : Answer) → IsOfRead answer → IsCommand answer → ⊥
   not_read (Command kind) is w = is
@@ -218,26 +220,26 @@ not_command answer _ is (own f puts) w = not_read answer is w where
 not_command answer _ is (write_fault n leads) w = w
 not_command answer _ is (want n between leads puts) w = w
 
-pub no_read_fault : {before after : Sunk} (answer given : Answer) → IsOfRead answer → Refuses usage [] answer before after given → given ≡ ReadFault → ⊥
+pub no_read_fault : {before after : SinkState} (answer given : Answer) → IsOfRead answer → Refuses usage [] answer before after given → given ≡ ReadFault → ⊥
 no_read_fault answer _ is (put n h) e = rw e at is
 no_read_fault answer _ is (own f puts) e = rw e at is
 no_read_fault answer _ is (write_fault n leads) e = cc
 no_read_fault answer _ is (want n between leads puts) e = cc
 
-pub file_fault_of : {before after : Sunk} (answer given : Answer) → Refuses usage [] answer before after given → given ≡ FileFault → answer ≡ FileFault
+pub file_fault_of : {before after : SinkState} (answer given : Answer) → Refuses usage [] answer before after given → given ≡ FileFault → answer ≡ FileFault
 file_fault_of answer _ (put n h) e = e
 file_fault_of answer _ (own f puts) e = e
 file_fault_of answer _ (write_fault n leads) e = cc
 file_fault_of answer _ (want n between leads puts) e = cc
 
-pub absence_of : {before after : Sunk} (answer given : Answer) → Refuses usage [] answer before after given → IsAbsence given → IsAbsence answer
+pub absence_of : {before after : SinkState} (answer given : Answer) → Refuses usage [] answer before after given → IsAbsence given → IsAbsence answer
 absence_of answer _ (put n h) is = is
 absence_of answer _ (own f puts) is = is
 absence_of answer _ (write_fault n leads) is = absurd is
 absence_of answer _ (want n between leads puts) is = absurd is
 
 -- the files as they were before they were read
-pub held_as : {words : List (List ℕ)} {files : FileMap} {left : List ℕ} {answer : Answer} {left' out : Option (List ℕ)} {before : Sunk} {after : Told} (held held' : Option FileMap) → held' ≡ held
+pub held_as : {words : List (List ℕ)} {files : FileMap} {left : List ℕ} {answer : Answer} {left' out : Option (List ℕ)} {before : SinkState} {after : Told} (held held' : Option FileMap) → held' ≡ held
     → Outcome words files left answer (told held' left' out before) after → Outcome words files left answer (told held left' out before) after
 held_as held held' e outcome = rw (sym e) outcome
 

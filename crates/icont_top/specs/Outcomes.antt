@@ -1,8 +1,8 @@
 -- What a call comes to, where the objects tell their content.
 use Rattle.std.specs.Prelude.{◌≡◌, ◌⊎◌, ◌≤◌, ℕ, List, Option, None, Some, Ok, length, true}
 use Rattle.icn_host.specs.FileMaps.{FileMap, Sets, SetsPart}
-use Rattle.icn_host.specs.Sinks.{Gains}
-use Rattle.icn_report.specs.Puts.{Sunk, Stops, Puts}
+use Rattle.icn_host.specs.Sinks.{Gains, SinkState}
+use Rattle.icn_report.specs.Puts.{Stops, Puts}
 use Rattle.icn_code.specs.Codes.{Tables}
 use Rattle.icn_image.specs.Reading.{image_read}
 use Rattle.icn_verify.specs.Faults.{IsVerified}
@@ -39,7 +39,7 @@ pub record IsAsked (words : List (List ℕ)) (files : FileMap) (name : List ℕ)
   pub is : ComesTo files name (Ok program)
 
 -- the line of a job that writes no file was not begun, or a part of it was put
-abbrev pub Begins : (Job → Type 0) → Sunk → Sunk → Type 0
+abbrev pub Begins : (Job → Type 0) → SinkState → SinkState → Type 0
 Begins IsJobOf before between = (between ≡ before) ⊎ ((job : Job) × IsJobOf job × (job.written ≡ None) × Stops before between job.errors)
 
 -- what an answer that is a fault leaves of an evaluation: a failed reading leaves what was put, and any other some first part of what
@@ -53,11 +53,11 @@ LeavesBy answer evaluation left' out out' err err' = Breaks evaluation left' out
 -- image was written, and the evaluation stood somewhere: of what its next step puts some first part was put, and nothing where it
 -- could not read.
 pub data Faults (words : List (List ℕ)) (files : FileMap) (left : List ℕ) (answer : Answer) (before after : Told) : Type 0 where
-  idle : (between : Sunk) → after.files ≡ before.files → after.left ≡ before.left → after.output ≡ before.output → Begins (IsJob words files left) before.errors between → Puts between after.errors (fault_line answer)
+  idle : (between : SinkState) → after.files ≡ before.files → after.left ≡ before.left → after.output ≡ before.output → Begins (IsJob words files left) before.errors between → Puts between after.errors (fault_line answer)
       → Faults words files left answer before after
   torn : (name : List ℕ) (run : Option (List (List ℕ))) (program : Program) → IsAsked words files name run program → SetsPart before.files after.files (image_file name program).name (image_file name program).bytes
       → after.left ≡ before.left → after.output ≡ before.output → Puts before.errors after.errors (fault_line answer) → Faults words files left answer before after
-  broke : (name : List ℕ) (arguments : List (List ℕ)) (program : Program) (between : Sunk) → IsAsked words files name (Some arguments) program → Sets before.files after.files (image_file name program).name (image_file name program).bytes
+  broke : (name : List ℕ) (arguments : List (List ℕ)) (program : Program) (between : SinkState) → IsAsked words files name (Some arguments) program → Sets before.files after.files (image_file name program).name (image_file name program).bytes
       → before.errors.faults ≤ between.faults → before.errors.wants ≤ between.wants → LeavesBy answer (evaluation program arguments left) after.left before.output after.output before.errors.held between.held → Puts between after.errors (fault_line answer)
       → Faults words files left answer before after
 

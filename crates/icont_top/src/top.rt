@@ -3,7 +3,7 @@ ghost use Rattle.std.specs.Prelude.{◌≡◌, ◌⊎◌, ◌≤◌, ℕ, List, 
 ghost use Rattle.icn_host.specs.Counts.{HasCause, Rose};
 ghost use Rattle.icn_host.specs.FileMaps.{FileMap};
 ghost use Rattle.icn_host.specs.Sinks.{Gains};
-ghost use Rattle.icn_report.specs.Puts.{Puts, sunk};
+ghost use Rattle.icn_report.specs.Puts.{Puts};
 ghost use Rattle.icn_code.specs.Seen.{tables_of};
 ghost use Rattle.icn_run.specs.Built.{is_built};
 ghost use Rattle.icn_form.specs.declared.tree.Program.{Program};
@@ -49,12 +49,12 @@ pub fn icont_main<F: Files, I: Source, O: Sink, E: Sink>(
 ) -> Answer
     // Where the files and the input tell their content, the job was done, or a fault is answered and leaves a part of it.
     ensures outcome { IfSome (F.held files.old) (λ held. IfSome (I.left input.old) (λ left. Outcome (map string_bytes words.now) held left result
-        (told (F.held files.old) (I.left input.old) (O.held out.old) (sunk (E.held err.old) (E.faults err.old) (E.wants err.old)))
-        (told (F.held files.new) (I.left input.new) (O.held out.new) (sunk (E.held err.new) (E.faults err.new) (E.wants err.new))))) }
+        (told (F.held files.old) (I.left input.old) (O.state out.old).held (E.state err.old))
+        (told (F.held files.new) (I.left input.new) (O.state out.new).held (E.state err.new)))) }
 
     // Where no count of faults rose, no fault is answered but want of memory.
     ensures faultless { ¬ Rose (F.faults files.old) (F.faults files.new) → ¬ Rose (I.faults input.old) (I.faults input.new)
-        → ¬ Rose (O.faults out.old) (O.faults out.new) → ¬ Rose (E.faults err.old) (E.faults err.new)
+        → ¬ Rose (O.state out.old).faults (O.state out.new).faults → ¬ Rose (E.state err.old).faults (E.state err.new).faults
         → IsFault result → result ≡ Answer.NoMemory }
 
     // Where an image was written, the base name holds the image of a code that `iconx` takes, and whose runs mean what the
@@ -62,12 +62,11 @@ pub fn icont_main<F: Files, I: Source, O: Sink, E: Sink>(
     ensures headline { HasWritten result → IfSome (F.held files.old) (λ held. HoldsImage (map string_bytes words.now) held (F.held files.new)) }
 
     // Every other answer's line was put, whatever the files and the input tell.
-    ensures line { IsFault result ⊎ Gains (E.held err.old) (E.held err.new) (put_by usage [] result) }
+    ensures line { IsFault result ⊎ Gains (E.state err.old).held (E.state err.new).held (put_by usage [] result) }
 
     // A fault's own line was put too, behind what was put of another answer's line: less than the whole of it is there only where
     // the error output's count of faults, or of its wants of memory, rose in that put.
-    ensures fault_line { Reports usage [] (sunk (E.held err.old) (E.faults err.old) (E.wants err.old))
-        (sunk (E.held err.new) (E.faults err.new) (E.wants err.new)) result }
+    ensures fault_line { Reports usage [] (E.state err.old) (E.state err.new) result }
 
     // Where the files tell their content, the answer is the one that the words and the files ask for, or a fault.
     ensures answered { IfSome (F.held files.old) (λ held. IsAnswered (map string_bytes words.now) held result) }
@@ -77,7 +76,7 @@ pub fn icont_main<F: Files, I: Source, O: Sink, E: Sink>(
 
     // A refusal leaves the files, the output and the input as they were.
     ensures untouched { IsRefusal result → F.held files.new ≡ F.held files.old }
-    ensures refused { IsRefusal result → O.held out.new ≡ O.held out.old }
+    ensures refused { IsRefusal result → (O.state out.new).held ≡ (O.state out.old).held }
     ensures unread { IsRefusal result → I.left input.new ≡ I.left input.old }
 
     // A fault is answered only where the count of its object rose, and an absence (also of an included file) only where that
@@ -85,10 +84,10 @@ pub fn icont_main<F: Files, I: Source, O: Sink, E: Sink>(
     ensures file_fault { HasCause (F.faults files.old) (F.faults files.new) (result ≡ Answer.FileFault) }
     ensures absence { HasCause (F.absences files.old) (F.absences files.new) (IsAbsence result) }
     ensures read_fault { HasCause (I.faults input.old) (I.faults input.new) (result ≡ Answer.ReadFault) }
-    ensures write_fault { result ≡ Answer.WriteFault → Rose (O.faults out.old) (O.faults out.new) ⊎ Rose (E.faults err.old) (E.faults err.new) }
-    ensures output_faults { O.faults out.old ≤ O.faults out.new }
-    ensures error_faults { E.faults err.old ≤ E.faults err.new }
-    ensures error_wants { E.wants err.old ≤ E.wants err.new }
+    ensures write_fault { result ≡ Answer.WriteFault → Rose (O.state out.old).faults (O.state out.new).faults ⊎ Rose (E.state err.old).faults (E.state err.new).faults }
+    ensures output_faults { (O.state out.old).faults ≤ (O.state out.new).faults }
+    ensures error_faults { (E.state err.old).faults ≤ (E.state err.new).faults }
+    ensures error_wants { (E.state err.old).wants ≤ (E.state err.new).wants }
 {
     match asked(words) {
         Some(asked) => file_answer(alloc, asked, files, input, out, err),
@@ -107,23 +106,22 @@ fn file_answer<F: Files, I: Source, O: Sink, E: Sink>(
 ) -> Answer
     requires source { is_source asked.name.now ≡ true }
     ensures outcome { (words : List (List ℕ)) → read words ≡ asking asked.entry → IfSome (F.held files.old) (λ held. IfSome (I.left input.old) (λ left. Outcome words held left result
-        (told (F.held files.old) (I.left input.old) (O.held out.old) (sunk (E.held err.old) (E.faults err.old) (E.wants err.old)))
-        (told (F.held files.new) (I.left input.new) (O.held out.new) (sunk (E.held err.new) (E.faults err.new) (E.wants err.new))))) }
+        (told (F.held files.old) (I.left input.old) (O.state out.old).held (E.state err.old))
+        (told (F.held files.new) (I.left input.new) (O.state out.new).held (E.state err.new)))) }
     ensures headline { (words : List (List ℕ)) → read words ≡ asking asked.entry → HasWritten result → IfSome (F.held files.old) (λ held. HoldsImage words held (F.held files.new)) }
-    ensures reported { Reports usage [] (sunk (E.held err.old) (E.faults err.old) (E.wants err.old))
-        (sunk (E.held err.new) (E.faults err.new) (E.wants err.new)) result }
+    ensures reported { Reports usage [] (E.state err.old) (E.state err.new) result }
     ensures answered { (words : List (List ℕ)) → read words ≡ asking asked.entry → IfSome (F.held files.old) (λ held. IsAnswered words held result) }
     ensures command { IsCommand result → ⊥ }
     ensures untouched { IsRefusal result → F.held files.new ≡ F.held files.old }
-    ensures refused { IsRefusal result → O.held out.new ≡ O.held out.old }
+    ensures refused { IsRefusal result → (O.state out.new).held ≡ (O.state out.old).held }
     ensures unread { IsRefusal result → I.left input.new ≡ I.left input.old }
     ensures file_fault { HasCause (F.faults files.old) (F.faults files.new) (result ≡ Answer.FileFault) }
     ensures absence { HasCause (F.absences files.old) (F.absences files.new) (IsAbsence result) }
     ensures read_fault { HasCause (I.faults input.old) (I.faults input.new) (result ≡ Answer.ReadFault) }
-    ensures write_fault { result ≡ Answer.WriteFault → Rose (O.faults out.old) (O.faults out.new) ⊎ Rose (E.faults err.old) (E.faults err.new) }
-    ensures output_faults { O.faults out.old ≤ O.faults out.new }
-    ensures error_faults { E.faults err.old ≤ E.faults err.new }
-    ensures error_wants { E.wants err.old ≤ E.wants err.new }
+    ensures write_fault { result ≡ Answer.WriteFault → Rose (O.state out.old).faults (O.state out.new).faults ⊎ Rose (E.state err.old).faults (E.state err.new).faults }
+    ensures output_faults { (O.state out.old).faults ≤ (O.state out.new).faults }
+    ensures error_faults { (E.state err.old).faults ≤ (E.state err.new).faults }
+    ensures error_wants { (E.state err.old).wants ≤ (E.state err.new).wants }
 {
     match make(alloc, asked.name, files) {
         Ok(made) => image_answer(alloc, &made, asked, files, input, out, err),
@@ -145,21 +143,20 @@ fn image_answer<F: Files, I: Source, O: Sink, E: Sink>(
     requires built { is_built (tables_of made.now.code.code) ≡ true }
     ensures outcome { (words : List (List ℕ)) (held : FileMap) (program : Program) → read words ≡ asking asked.entry → ComesTo held asked.entry.name.now (Ok program) → IsMade program made.now
         → IfSome (I.left input.old) (λ left. Outcome words held left result
-        (told (F.held files.old) (I.left input.old) (O.held out.old) (sunk (E.held err.old) (E.faults err.old) (E.wants err.old)))
-        (told (F.held files.new) (I.left input.new) (O.held out.new) (sunk (E.held err.new) (E.faults err.new) (E.wants err.new)))) }
+        (told (F.held files.old) (I.left input.old) (O.state out.old).held (E.state err.old))
+        (told (F.held files.new) (I.left input.new) (O.state out.new).held (E.state err.new))) }
     ensures headline { (words : List (List ℕ)) (held : FileMap) (program : Program) → read words ≡ asking asked.entry → ComesTo held asked.entry.name.now (Ok program) → IsMade program made.now
         → F.held files.old ≡ Some held → HasWritten result → HoldsImage words held (F.held files.new) }
-    ensures reported { Reports usage [] (sunk (E.held err.old) (E.faults err.old) (E.wants err.old))
-        (sunk (E.held err.new) (E.faults err.new) (E.wants err.new)) result }
+    ensures reported { Reports usage [] (E.state err.old) (E.state err.new) result }
     ensures answered { (words : List (List ℕ)) (held : FileMap) (program : Program) → read words ≡ asking asked.entry → ComesTo held asked.entry.name.now (Ok program) → IsAnswered words held result }
     ensures no_refusal { IsRefusal result → ⊥ }
     ensures file_fault { HasCause (F.faults files.old) (F.faults files.new) (result ≡ Answer.FileFault) }
     ensures absences { F.absences files.new ≡ F.absences files.old }
     ensures read_fault { HasCause (I.faults input.old) (I.faults input.new) (result ≡ Answer.ReadFault) }
-    ensures write_fault { result ≡ Answer.WriteFault → Rose (O.faults out.old) (O.faults out.new) ⊎ Rose (E.faults err.old) (E.faults err.new) }
-    ensures output_faults { O.faults out.old ≤ O.faults out.new }
-    ensures error_faults { E.faults err.old ≤ E.faults err.new }
-    ensures error_wants { E.wants err.old ≤ E.wants err.new }
+    ensures write_fault { result ≡ Answer.WriteFault → Rose (O.state out.old).faults (O.state out.new).faults ⊎ Rose (E.state err.old).faults (E.state err.new).faults }
+    ensures output_faults { (O.state out.old).faults ≤ (O.state out.new).faults }
+    ensures error_faults { (E.state err.old).faults ≤ (E.state err.new).faults }
+    ensures error_wants { (E.state err.old).wants ≤ (E.state err.new).wants }
 {
     one_spelling();
     code_runs_as_meant();
@@ -176,10 +173,9 @@ fn image_answer<F: Files, I: Source, O: Sink, E: Sink>(
 fn torn_answer<E: Sink>(fault: Fault, err: &mut E) -> Answer
     ensures failed { result ≡ Answer.FileFault → fault ≡ Fault.Failed }
     ensures others { (result ≡ Answer.FileFault) ⊎ (result ≡ Answer.NoMemory) }
-    ensures puts { Puts (sunk (E.held err.old) (E.faults err.old) (E.wants err.old))
-        (sunk (E.held err.new) (E.faults err.new) (E.wants err.new)) (fault_line result) }
-    ensures faults { E.faults err.old ≤ E.faults err.new }
-    ensures wants { E.wants err.old ≤ E.wants err.new }
+    ensures puts { Puts (E.state err.old) (E.state err.new) (fault_line result) }
+    ensures faults { (E.state err.old).faults ≤ (E.state err.new).faults }
+    ensures wants { (E.state err.old).wants ≤ (E.state err.new).wants }
 {
     let answer = match fault {
         Fault::Failed => Answer::FileFault,
@@ -199,16 +195,15 @@ fn run_answer<I: Source, O: Sink, E: Sink>(
     err: &mut E,
 ) -> Answer
     requires built { is_built (tables_of code.now.code) ≡ true }
-    ensures ran { IfSome (I.left input.old) (λ left. IsRanOrBroken (run_by (tables_of code.now.code) (map string_bytes words.now) left) result (I.left input.new) (O.held out.old) (O.held out.new)
-        (sunk (E.held err.old) (E.faults err.old) (E.wants err.old)) (sunk (E.held err.new) (E.faults err.new) (E.wants err.new))) }
-    ensures reported { Reports usage [] (sunk (E.held err.old) (E.faults err.old) (E.wants err.old))
-        (sunk (E.held err.new) (E.faults err.new) (E.wants err.new)) result }
+    ensures ran { IfSome (I.left input.old) (λ left. IsRanOrBroken (run_by (tables_of code.now.code) (map string_bytes words.now) left) result (I.left input.new) (O.state out.old).held (O.state out.new).held
+        (E.state err.old) (E.state err.new)) }
+    ensures reported { Reports usage [] (E.state err.old) (E.state err.new) result }
     ensures others { IsOfRun result }
     ensures read_fault { HasCause (I.faults input.old) (I.faults input.new) (result ≡ Answer.ReadFault) }
-    ensures write_fault { result ≡ Answer.WriteFault → Rose (O.faults out.old) (O.faults out.new) ⊎ Rose (E.faults err.old) (E.faults err.new) }
-    ensures output_faults { O.faults out.old ≤ O.faults out.new }
-    ensures error_faults { E.faults err.old ≤ E.faults err.new }
-    ensures error_wants { E.wants err.old ≤ E.wants err.new }
+    ensures write_fault { result ≡ Answer.WriteFault → Rose (O.state out.old).faults (O.state out.new).faults ⊎ Rose (E.state err.old).faults (E.state err.new).faults }
+    ensures output_faults { (O.state out.old).faults ≤ (O.state out.new).faults }
+    ensures error_faults { (E.state err.old).faults ≤ (E.state err.new).faults }
+    ensures error_wants { (E.state err.old).wants ≤ (E.state err.new).wants }
 {
     match run(alloc, code, words, Limits::standard(), input, out, err) {
         Ok(ending) => Answer::Ran(ending),

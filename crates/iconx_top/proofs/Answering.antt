@@ -1,7 +1,7 @@
 -- The answer that the words and the files ask for.
 use Rattle.std.proofs.Common.{◌≡◌, ℕ, List, Ok, Err, refl, sym, subst}
 use Rattle.icn_host.specs.FileMaps.{FileMap}
-use Rattle.icn_report.specs.Puts.{Sunk}
+use Rattle.icn_host.specs.Sinks.{SinkState}
 use Rattle.icn_value.specs.Limited.{Bounds}
 use Rattle.icn_code.specs.Seen.{tables_of}
 use Rattle.icn_verify.specs.declared.verified.Verified.{Verified}
@@ -14,7 +14,7 @@ use Rattle.iconx_top.specs.Usage.{usage}
 use Rattle.icn_lines.specs.Refusing.{Refuses, own, put, want, write_fault}
 use Rattle.iconx_top.specs.Words.{Asks, asked}
 
-pub answer_put : {words : List (List ℕ)} {files : FileMap} {name : List ℕ} {before after : Sunk} (answer given : Answer) → IsAnswered words files answer → Refuses usage name answer before after given → IsAnswered words files given
+pub answer_put : {words : List (List ℕ)} {files : FileMap} {name : List ℕ} {before after : SinkState} (answer given : Answer) → IsAnswered words files answer → Refuses usage name answer before after given → IsAnswered words files given
 answer_put answer _ is (put n h) = is
 answer_put answer _ is (own f puts) = is
 answer_put answer _ is (write_fault n leads) = fault WriteFault refl

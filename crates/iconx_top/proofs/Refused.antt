@@ -2,7 +2,9 @@
 use Rattle.std.proofs.Common.{◌≡◌, ◌⊎◌, inl, inr, ℕ, ◌≤◌, List, Option, None, Some, IfSome, Ok, Err, refl, sym, ◌∙◌, subst}
 use Rattle.icn_host.specs.FileMaps.{FileMap}
 use Rattle.icn_host.proofs.SinkSteps.{gains_nothing}
-use Rattle.icn_report.specs.Puts.{Sunk, Puts, all, Leads}
+use Rattle.icn_host.specs.Sinks.{SinkState}
+use Rattle.icn_report.proofs.Putting.{puts_nothing}
+use Rattle.icn_report.specs.Puts.{Puts, all, Leads}
 use Rattle.icn_code.specs.Seen.{tables_of}
 use Rattle.icn_value.specs.Limited.{Bounds}
 use Rattle.icn_run.specs.declared.ending.Ending.{Ending}
@@ -27,20 +29,20 @@ use Rattle.iconx_top.specs.Words.{Asks, asked}
 abbrev pub Asked : List (List ℕ) → FileMap → List ℕ → List ℕ → Answer → Type 0
 Asked words files left name answer = IsFault answer ⊎ IsJob words files left (refusal files left name answer)
 
-begins_of : {words : List (List ℕ)} {files : FileMap} {left : List ℕ} (name : List ℕ) (answer : Answer) (before between : Sunk) → IsJob words files left (refusal files left name answer) → Leads before between (line_of usage name answer)
+begins_of : {words : List (List ℕ)} {files : FileMap} {left : List ℕ} (name : List ℕ) (answer : Answer) (before between : SinkState) → IsJob words files left (refusal files left name answer) → Leads before between (line_of usage name answer)
     → Begins (IsJob words files left) before between
 begins_of name answer before between is (inl same) = inl same
 begins_of {files = files} {left} name answer before between is (inr stops) = inr (refusal files left name answer, is, stops)
 
 -- nothing was done but to put a line
-pub refused : {words : List (List ℕ)} {files : FileMap} {left : List ℕ} (name : List ℕ) (answer given : Answer) (held held' : Option FileMap) (left' out : Option (List ℕ)) (before after : Sunk) → Asked words files left name answer
+pub refused : {words : List (List ℕ)} {files : FileMap} {left : List ℕ} (name : List ℕ) (answer given : Answer) (held held' : Option FileMap) (left' out : Option (List ℕ)) (before after : SinkState) → Asked words files left name answer
     → held' ≡ held → held ≡ Some files → left' ≡ Some left → Refuses usage name answer before after given → Outcome words files left given (told held left' out before) (told held' left' out after)
 refused name answer given held held' left' out before after (inl f) same e d (put n h) = absurd (n f)
 refused {files = files} {left} name answer given held held' left' out before after (inr is) same e d (put n h) =
     done (refusal files left name answer) is (record { answered = refl; files = same ∙ e; left = d; output = gains_nothing out; errors = h })
 refused name answer given held held' left' out before after asks same e d (own f puts) = fault f same (idle before refl refl (inl refl) puts)
 refused name answer given held held' left' out before after (inl f) same e d (write_fault n leads) = absurd (n f)
-refused name answer given held held' left' out before after (inr is) same e d (write_fault n leads) = fault refl same (idle after refl refl (begins_of name answer before after is leads) (all (gains_nothing after.held)))
+refused name answer given held held' left' out before after (inr is) same e d (write_fault n leads) = fault refl same (idle after refl refl (begins_of name answer before after is leads) (all (puts_nothing after)))
 refused name answer given held held' left' out before after (inl f) same e d (want n between leads puts) = absurd (n f)
 refused name answer given held held' left' out before after (inr is) same e d (want n between leads puts) = fault refl same (idle between refl refl (begins_of name answer before between is leads) puts)
 
@@ -61,13 +63,13 @@ pub run_asked : {words : List (List ℕ)} {files : FileMap} (left : List ℕ) (r
 run_asked left run name verified e tables input is =
     record { name = name; bytes = is.0; asks = e; there = is.1.0; judged = subst (λ t. IsJudged is.0 (Ok t)) (sym tables) is.1.1; input = input }
 
-pub ran_outcome : {words : List (List ℕ)} {files : FileMap} {left : List ℕ} {left' out out' : Option (List ℕ)} {before after : Sunk} (run : Run) (ending : Ending) (held' : Option FileMap) (left0 : Option (List ℕ)) → IsRun words files left run
+pub ran_outcome : {words : List (List ℕ)} {files : FileMap} {left : List ℕ} {left' out out' : Option (List ℕ)} {before after : SinkState} (run : Run) (ending : Ending) (held' : Option FileMap) (left0 : Option (List ℕ)) → IsRun words files left run
     → held' ≡ Some files → Ends run ending left' out out' before.held after.held → Outcome words files left (Ran ending) (told held' left0 out before) (told held' left' out' after)
 ran_outcome {files = files} run ending held' left0 is e ends =
     done (observation files (record { ending = ending; outside = ends.outside })) (ran run _ is ends.observed)
     (record { answered = refl; files = e; left = ends.left; output = ends.output; errors = ends.errors })
 
-pub broke_outcome : {words : List (List ℕ)} {files : FileMap} {left : List ℕ} {left' out out' : Option (List ℕ)} {before between after : Sunk} (run : Run) (answer : Answer) (held' : Option FileMap) (left0 : Option (List ℕ)) → IsRun words files left run
+pub broke_outcome : {words : List (List ℕ)} {files : FileMap} {left : List ℕ} {left' out out' : Option (List ℕ)} {before between after : SinkState} (run : Run) (answer : Answer) (held' : Option FileMap) (left0 : Option (List ℕ)) → IsRun words files left run
     → IsFault answer → before.faults ≤ between.faults → before.wants ≤ between.wants → LeavesBy answer run left' out out' before.held between.held → Puts between after (fault_line answer) → Outcome words files left answer (told held' left0 out before) (told held' left' out' after)
 broke_outcome {between = between} run answer held' left0 is f faults wants breaks puts = fault f refl (broke between run is faults wants breaks puts)
 
@@ -79,6 +81,6 @@ pub at_some : {T : Type 0} (P : T → Type 0) (o : Option T) (x : T) → o ≡ S
 at_some P o x e h = rw e at h
 
 -- the files that are told behind a call
-pub held_as : {words : List (List ℕ)} {files : FileMap} {left : List ℕ} {answer : Answer} {before : Told} {left' out : Option (List ℕ)} {after : Sunk} (held held' : Option FileMap) → held' ≡ held
+pub held_as : {words : List (List ℕ)} {files : FileMap} {left : List ℕ} {answer : Answer} {before : Told} {left' out : Option (List ℕ)} {after : SinkState} (held held' : Option FileMap) → held' ≡ held
     → Outcome words files left answer before (told held left' out after) → Outcome words files left answer before (told held' left' out after)
 held_as held held' e outcome = rw e outcome

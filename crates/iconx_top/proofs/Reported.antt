@@ -1,6 +1,6 @@
 -- How the line of an answer stands on the error output.
 use Rattle.std.proofs.Common.{◌≡◌, ℕ, List, refl}
-use Rattle.icn_report.specs.Puts.{Sunk}
+use Rattle.icn_host.specs.Sinks.{SinkState}
 use Rattle.icn_engine.specs.declared.answer.Answer.{Answer}
 use Rattle.icn_engine.specs.declared.answer.Answer.TheVariants.{Missing, BadImage, FileFault, NoMemory}
 use Rattle.icn_lines.specs.Lines.{line_of, put_by}
@@ -18,5 +18,5 @@ line_put name NoMemory is = refl
 line_put name _ is = absurd is
 
 -- the image's name as the words say it
-pub asked_reports : {before after : Sunk} {answer : Answer} (reading given : Reading) → reading ≡ given → Reports usage (image_name reading) before after answer → Reports usage (image_name given) before after answer
+pub asked_reports : {before after : SinkState} {answer : Answer} (reading given : Reading) → reading ≡ given → Reports usage (image_name reading) before after answer → Reports usage (image_name given) before after answer
 asked_reports reading given e reports = rw (← e) reports

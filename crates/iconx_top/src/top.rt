@@ -3,7 +3,6 @@ ghost use Rattle.std.specs.Prelude.{◌≡◌, ◌≢◌, ◌⊎◌, ◌≤◌, 
 ghost use Rattle.icn_host.specs.Counts.{HasCause, Rose};
 ghost use Rattle.icn_host.specs.FileMaps.{FileMap};
 ghost use Rattle.icn_host.specs.Sinks.{Gains};
-ghost use Rattle.icn_report.specs.Puts.{sunk};
 ghost use Rattle.icn_code.specs.Seen.{tables_of};
 ghost use Rattle.icn_run.specs.Built.{is_built};
 ghost use Rattle.icn_engine.specs.Answers.{IsFault, IsRefusal};
@@ -42,20 +41,20 @@ pub fn iconx_main<F: Files, I: Source, O: Sink, E: Sink>(
 ) -> Answer
     // Where the files and the input tell their content, the job was done, or a fault is answered and leaves a part of it.
     ensures outcome { IfSome (F.held files.old) (λ held. IfSome (I.left input.old) (λ left. Outcome (map string_bytes words.now) held left result
-        (told (F.held files.old) (I.left input.old) (O.held out.old) (sunk (E.held err.old) (E.faults err.old) (E.wants err.old)))
-        (told (F.held files.new) (I.left input.new) (O.held out.new) (sunk (E.held err.new) (E.faults err.new) (E.wants err.new))))) }
+        (told (F.held files.old) (I.left input.old) (O.state out.old).held (E.state err.old))
+        (told (F.held files.new) (I.left input.new) (O.state out.new).held (E.state err.new)))) }
     // Where no count of faults rose, no fault is answered but want of memory.
     ensures faultless { ¬ Rose (F.faults files.old) (F.faults files.new) → ¬ Rose (I.faults input.old) (I.faults input.new)
-        → ¬ Rose (O.faults out.old) (O.faults out.new) → ¬ Rose (E.faults err.old) (E.faults err.new)
+        → ¬ Rose (O.state out.old).faults (O.state out.new).faults → ¬ Rose (E.state err.old).faults (E.state err.new).faults
         → IsFault result → result ≡ Answer.NoMemory }
 
     // Every other answer's line was put, whatever the files and the input tell.
-    ensures line { IsFault result ⊎ Gains (E.held err.old) (E.held err.new) (put_by usage (image_name (read (map string_bytes words.now))) result) }
+    ensures line { IsFault result ⊎ Gains (E.state err.old).held (E.state err.new).held (put_by usage (image_name (read (map string_bytes words.now))) result) }
 
     // A fault's own line was put too, behind what was put of another answer's line: less than the whole of it is there only where
     // the error output's count of faults, or of its wants of memory, rose in that put.
     ensures fault_line { Reports usage (image_name (read (map string_bytes words.now)))
-        (sunk (E.held err.old) (E.faults err.old) (E.wants err.old)) (sunk (E.held err.new) (E.faults err.new) (E.wants err.new)) result }
+        (E.state err.old) (E.state err.new) result }
 
     // Where the files tell their content, the answer is the one that the words and the files ask for, or a fault.
     ensures answered { IfSome (F.held files.old) (λ held. IsAnswered (map string_bytes words.now) held result) }
@@ -64,16 +63,16 @@ pub fn iconx_main<F: Files, I: Source, O: Sink, E: Sink>(
     ensures command { IsCommanded (read (map string_bytes words.now)) result }
 
     // A refusal leaves the output and the input as they were.
-    ensures refused { IsRefusal result → O.held out.new ≡ O.held out.old }
+    ensures refused { IsRefusal result → (O.state out.new).held ≡ (O.state out.old).held }
     ensures unread { IsRefusal result → I.left input.new ≡ I.left input.old }
     ensures files { F.held files.new ≡ F.held files.old }
     ensures file_fault { HasCause (F.faults files.old) (F.faults files.new) (result ≡ Answer.FileFault) }
     ensures absence { HasCause (F.absences files.old) (F.absences files.new) (IsAbsence result) }
     ensures read_fault { HasCause (I.faults input.old) (I.faults input.new) (result ≡ Answer.ReadFault) }
-    ensures write_fault { result ≡ Answer.WriteFault → Rose (O.faults out.old) (O.faults out.new) ⊎ Rose (E.faults err.old) (E.faults err.new) }
-    ensures output_faults { O.faults out.old ≤ O.faults out.new }
-    ensures error_faults { E.faults err.old ≤ E.faults err.new }
-    ensures error_wants { E.wants err.old ≤ E.wants err.new }
+    ensures write_fault { result ≡ Answer.WriteFault → Rose (O.state out.old).faults (O.state out.new).faults ⊎ Rose (E.state err.old).faults (E.state err.new).faults }
+    ensures output_faults { (O.state out.old).faults ≤ (O.state out.new).faults }
+    ensures error_faults { (E.state err.old).faults ≤ (E.state err.new).faults }
+    ensures error_wants { (E.state err.old).wants ≤ (E.state err.new).wants }
 {
     match asked(words) {
         Ok(asked) => image_answer(alloc, asked, files, input, out, err),
@@ -91,22 +90,21 @@ fn image_answer<F: Files, I: Source, O: Sink, E: Sink>(
     err: &mut E,
 ) -> Answer
     ensures outcome { (words : List (List ℕ)) → read words ≡ asking run.entry → IfSome (F.held files.old) (λ held. IfSome (I.left input.old) (λ left. Outcome words held left result
-        (told (F.held files.old) (I.left input.old) (O.held out.old) (sunk (E.held err.old) (E.faults err.old) (E.wants err.old)))
-        (told (F.held files.new) (I.left input.new) (O.held out.new) (sunk (E.held err.new) (E.faults err.new) (E.wants err.new))))) }
-    ensures reported { Reports usage run.entry.image.now (sunk (E.held err.old) (E.faults err.old) (E.wants err.old))
-        (sunk (E.held err.new) (E.faults err.new) (E.wants err.new)) result }
+        (told (F.held files.old) (I.left input.old) (O.state out.old).held (E.state err.old))
+        (told (F.held files.new) (I.left input.new) (O.state out.new).held (E.state err.new)))) }
+    ensures reported { Reports usage run.entry.image.now (E.state err.old) (E.state err.new) result }
     ensures answered { (words : List (List ℕ)) → read words ≡ asking run.entry → IfSome (F.held files.old) (λ held. IsAnswered words held result) }
     ensures command { IsCommand result → ⊥ }
-    ensures refused { IsRefusal result → O.held out.new ≡ O.held out.old }
+    ensures refused { IsRefusal result → (O.state out.new).held ≡ (O.state out.old).held }
     ensures unread { IsRefusal result → I.left input.new ≡ I.left input.old }
     ensures files { F.held files.new ≡ F.held files.old }
     ensures file_fault { HasCause (F.faults files.old) (F.faults files.new) (result ≡ Answer.FileFault) }
     ensures absence { HasCause (F.absences files.old) (F.absences files.new) (IsAbsence result) }
     ensures read_fault { HasCause (I.faults input.old) (I.faults input.new) (result ≡ Answer.ReadFault) }
-    ensures write_fault { result ≡ Answer.WriteFault → Rose (O.faults out.old) (O.faults out.new) ⊎ Rose (E.faults err.old) (E.faults err.new) }
-    ensures output_faults { O.faults out.old ≤ O.faults out.new }
-    ensures error_faults { E.faults err.old ≤ E.faults err.new }
-    ensures error_wants { E.wants err.old ≤ E.wants err.new }
+    ensures write_fault { result ≡ Answer.WriteFault → Rose (O.state out.old).faults (O.state out.new).faults ⊎ Rose (E.state err.old).faults (E.state err.new).faults }
+    ensures output_faults { (O.state out.old).faults ≤ (O.state out.new).faults }
+    ensures error_faults { (E.state err.old).faults ≤ (E.state err.new).faults }
+    ensures error_wants { (E.state err.old).wants ≤ (E.state err.new).wants }
 {
     match load(alloc, run.image, files) {
         Ok(verified) => run_answer(alloc, &verified, run, input, out, err),
@@ -126,16 +124,15 @@ fn run_answer<I: Source, O: Sink, E: Sink>(
     requires built { is_built (tables_of code.now.code) ≡ true }
     ensures outcome { (words : List (List ℕ)) (held : FileMap) (told_files : Option FileMap) → read words ≡ asking asked.entry → IsLoaded (held asked.entry.image.now) asked.entry.image.now (Ok code.now) → told_files ≡ Some held
         → IfSome (I.left input.old) (λ left. Outcome words held left result
-        (told told_files (I.left input.old) (O.held out.old) (sunk (E.held err.old) (E.faults err.old) (E.wants err.old)))
-        (told told_files (I.left input.new) (O.held out.new) (sunk (E.held err.new) (E.faults err.new) (E.wants err.new)))) }
-    ensures reported { (name : List ℕ) → Reports usage name (sunk (E.held err.old) (E.faults err.old) (E.wants err.old))
-        (sunk (E.held err.new) (E.faults err.new) (E.wants err.new)) result }
+        (told told_files (I.left input.old) (O.state out.old).held (E.state err.old))
+        (told told_files (I.left input.new) (O.state out.new).held (E.state err.new))) }
+    ensures reported { (name : List ℕ) → Reports usage name (E.state err.old) (E.state err.new) result }
     ensures others { IsOfRun result }
     ensures read_fault { HasCause (I.faults input.old) (I.faults input.new) (result ≡ Answer.ReadFault) }
-    ensures write_fault { result ≡ Answer.WriteFault → Rose (O.faults out.old) (O.faults out.new) ⊎ Rose (E.faults err.old) (E.faults err.new) }
-    ensures output_faults { O.faults out.old ≤ O.faults out.new }
-    ensures error_faults { E.faults err.old ≤ E.faults err.new }
-    ensures error_wants { E.wants err.old ≤ E.wants err.new }
+    ensures write_fault { result ≡ Answer.WriteFault → Rose (O.state out.old).faults (O.state out.new).faults ⊎ Rose (E.state err.old).faults (E.state err.new).faults }
+    ensures output_faults { (O.state out.old).faults ≤ (O.state out.new).faults }
+    ensures error_faults { (E.state err.old).faults ≤ (E.state err.new).faults }
+    ensures error_wants { (E.state err.old).wants ≤ (E.state err.new).wants }
 {
     match run(alloc, code, asked.arguments, asked.limits, input, out, err) {
         Ok(ending) => Answer::Ran(ending),

@@ -45,7 +45,7 @@ loop-instr-preserved g c =
           c.in_ok-stepped.ensures.steps n ending c.in_ok-ending.ensures.ok (c.loop-instr.invariant.stands run starts);
       place = went c.in_ok-stepped.stepped _ _ n ending c.in_ok-stepped.ensures.place ∙ ap (λ p. p + 1) c.loop-instr.invariant.place;
       turns = c.in_ok-stepped.ensures.within;
-      faults = omega (arith, c.in_ok-ending.ensures.cause.later, c.loop-instr.invariant.faults);
+      faults = c.in_ok-ending.ensures.cause.stayed (λ is. cc) ∙ c.loop-instr.invariant.faults;
     }
 
 pub unreachable-requires : goal.unreachable-requires

@@ -7,8 +7,8 @@ use Rattle.icn_engine.proofs.main_run.run_main.Given as goal
 
 abbrev pub invariant-loop-instr : goal.invariant-loop-instr
 invariant-loop-instr g l = record {
-  stands : (run : Run) → Starts run (tables_of l.code) l.bound l.main → Stands run l.main l.machine (g.O.Sink.held l.initial.out) (g.O.Sink.held l.out);
+  stands : (run : Run) → Starts run (tables_of l.code) l.bound l.main → Stands run l.main l.machine (g.O.Sink.state l.initial.out).held (g.O.Sink.state l.out).held;
   place : l.machine.place ≡ l.instr-index;
   turns : l.machine.turns ≤ l.bound;
-  faults : g.O.Sink.faults l.initial.out ≤ g.O.Sink.faults l.out;
+  faults : (g.O.Sink.state l.out).faults ≡ (g.O.Sink.state l.initial.out).faults;
 }

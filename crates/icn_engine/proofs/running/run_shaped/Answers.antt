@@ -10,7 +10,7 @@ run_code-requires g c run same = never_stuck run (rw same c.args.code.now.rules)
 
 pub returns-in_err-ending-clause-err : goal.returns-in_err-ending-clause-err
 returns-in_err-ending-clause-err g c =
-    at_err c.from_residual.result (broke_told (λ left. run_of c.args.code.now c.args.words.now c.args.limits left) (λ left. refl) _ _ _ _ (g.E.Sink.held c.args.err.now) c.in_err-ending.ensures.err)
+    at_err c.from_residual.result (broke_told (λ left. run_of c.args.code.now c.args.words.now c.args.limits left) (λ left. refl) _ _ _ _ (g.E.Sink.state c.args.err.now).held c.in_err-ending.ensures.err)
 
 pub returns-in_err-report-clause-err : goal.returns-in_err-report-clause-err
 returns-in_err-report-clause-err g c =

@@ -1,5 +1,5 @@
-use Rattle.icn_report.proofs.Putting.{stops_of, puts_of}
+use Rattle.icn_report.proofs.Putting.{puts_of}
 use Rattle.icn_report.proofs.put.try_put.Goals as goal
 
 pub returns-clause-puts : goal.returns-clause-puts
-returns-clause-puts g c = puts_of _ _ _ c.put.result c.put.ensures.ok (stops_of _ _ _ c.put.result c.put.ensures.err c.put.ensures.cause c.put.ensures.want)
+returns-clause-puts g c = puts_of _ _ _ c.put.result c.put.ensures.ok c.put.ensures.err c.put.ensures.cause c.put.ensures.want
