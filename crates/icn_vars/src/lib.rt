@@ -18,6 +18,7 @@ mod world;
 pub use assigning::assign;
 pub use assignment::{Assignment, Exchange};
 pub use exchanging::exchange;
+pub use keywords::place_of;
 pub use locals::Locals;
 pub use movers::mover_of;
 pub use outcome::{Halt, Outcome};

@@ -38,6 +38,9 @@ impl World {
     pub fn new(heap: Heap, globals: Vec<Val>, statics: Vec<Val>) -> World
         requires globals { All (IsLive (extent_of heap)) globals.items }
         requires statics { All (IsLive (extent_of heap)) statics.items }
+        ensures heap { result.heap ≡ heap }
+        ensures globals { result.globals.items ≡ globals.items }
+        ensures statics { result.statics.items ≡ statics.items }
         ensures world { world_of result ≡ new_world heap globals.items statics.items }
         ensures first { (bounds : Bounds) (count : ℕ) → heap_of heap ≡ first_heap bounds → statics.items ≡ replicate count Null → world_of result ≡ first_world bounds (map (value_in (extent_of heap)) globals.items) count }
     {
