@@ -1,6 +1,6 @@
 -- How the answer of a row, or of a part of one, comes from those of its parts.
 use Rattle.std.proofs.Common.{◌≡◌, ◌∙◌, sym, subst, Result, Ok, Err}
-use Rattle.std.specs.Prelude.{IsErrAnd}
+use Rattle.std.specs.Prelude.{IfErr, IsErrAnd}
 use Rattle.icn_value.specs.Store.{Setting}
 use Rattle.icn_defs.specs.Calls.{GoesOn, Passes}
 use Rattle.icn_defs.specs.Rows.{Row, Finds}
@@ -62,6 +62,11 @@ stop_lives reach stop (Err halt) same is = subst (IsLiveHalt reach) (sym same) (
     lives (Error number offending) is = is
     lives NoMemory is = tt
 
+-- what a part of a row stopped with is of the heap
+pub stop_lives_on : {B : Type 0} (all : Extent) (stop : Stop) (result : Result B Stop) → IsErrAnd result (λ other. other ≡ stop) → IsLiveStop all stop → IfErr result (IsLiveStop all)
+stop_lives_on all stop (Ok thing) same is = tt
+stop_lives_on all stop (Err other) same is = subst (IsLiveStop all) (sym same) is
+
 -- Parts of rows
 
 pub found_err : {A B : Type 0} (all : Extent) (find : Finds A) (before after : Setting) (shown : B → A) (stop : Stop) (result : Result B Stop) → IsErrAnd result (λ other. other ≡ stop)
@@ -69,12 +74,12 @@ pub found_err : {A B : Type 0} (all : Extent) (find : Finds A) (before after : S
 found_err all find before after shown stop (Ok thing) same is = absurd same
 found_err all find before after shown stop (Err other) same is = subst (StopsFinding all find before after) (sym same) is
 
-stops_within : {A B : Type 0} (all : Extent) (find : Finds A) (rest : A → Finds B) (before after : Setting) (stop : Stop) → StopsFinding all find before after stop
+pub stops_within : {A B : Type 0} (all : Extent) (find : Finds A) (rest : A → Finds B) (before after : Setting) (stop : Stop) → StopsFinding all find before after stop
     → StopsFinding all (λ next. find (λ thing. rest thing next)) before after stop
 stops_within all find rest before after (Error number offending) is = λ next. is (λ thing. rest thing next)
 stops_within all find rest before after NoMemory is = tt
 
-stops_behind : {A B : Type 0} (all : Extent) (find : Finds A) (thing : A) (rest : A → Finds B) (before between after : Setting) (stop : Stop) → GoesOn find before thing between
+pub stops_behind : {A B : Type 0} (all : Extent) (find : Finds A) (thing : A) (rest : A → Finds B) (before between after : Setting) (stop : Stop) → GoesOn find before thing between
     → StopsFinding all (rest thing) between after stop → StopsFinding all (λ next. find (λ thing. rest thing next)) before after stop
 stops_behind all find thing rest before between after (Error number offending) first is = λ next. first (λ thing. rest thing next) ∙ is next
 stops_behind all find thing rest before between after NoMemory first is = tt

@@ -1,5 +1,5 @@
 -- New lists, as the rest of a row finds them.
-use Rattle.std.proofs.Common.{◌≡◌, ◌∙◌, sym, ap, ℕ, ◌+◌, List, [], ◌∷◌, ◌++◌, length, Err, Ok, Result, subst, ⊎_elim}
+use Rattle.std.proofs.Common.{◌≡◌, ◌∙◌, sym, ap, ◌+◌, List, length, Err, Ok, subst, ⊎_elim}
 use Rattle.icn_value.specs.declared.full.Full.{Full}
 use Rattle.icn_value.specs.declared.full.Full.TheVariants.{Strings, Cells, NoMemory}
 use Rattle.icn_structs.specs.Numbered.{Numbered}

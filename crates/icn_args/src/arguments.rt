@@ -3,6 +3,7 @@ ghost use Rattle.std.specs.Prelude.{◌≡◌, ◌++◌, ◌∷◌, [], map, IfE
 ghost use Rattle.std.specs.List.{All};
 ghost use Rattle.icn_value.specs.Store.{Outside};
 ghost use Rattle.icn_defs.specs.Arguments.{arg, value_or};
+ghost use Rattle.icn_defs.specs.Conversions.{is_null};
 ghost use Rattle.icn_defs.specs.Reading.{the_values};
 ghost use Rattle.icn_heap.specs.Extents.{Extent, IsLive, value_in};
 ghost use Rattle.icn_heap.specs.Heaps.{extent_of};
@@ -20,6 +21,13 @@ pub fn arg(args: &[Val], place: usize) -> Val
     ensures live { (all : Extent) → All (IsLive all) args.now → IsLive all result }
 {
     args.get(place).copied().unwrap_or(Val::Null)
+}
+
+/// Whether a value is null.
+pub fn is_null(val: Val) -> bool
+    ensures { (all : Extent) → result ≡ is_null (value_in all val) }
+{
+    matches!(val, Val::Null)
 }
 
 /// A value, or another one where it is null.

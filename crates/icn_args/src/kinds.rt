@@ -1,10 +1,11 @@
 // Arguments that are files or structures.
 ghost use Rattle.icn_value.specs.Store.{Setting};
-ghost use Rattle.std.specs.Prelude.{ℕ, IfErr};
+ghost use Rattle.std.specs.Prelude.{ℕ, IfErr, IfOk};
 ghost use Rattle.icn_defs.specs.Arguments.{file, keeper, list, table};
 ghost use Rattle.icn_heap.specs.Extents.{Extent, IsLive, value_in};
 ghost use Rattle.icn_heap.specs.Keys.{file_of};
-ghost use Rattle.icn_args.specs.Kinds.{keeper_in};
+ghost use Rattle.icn_args.specs.Kinds.{IsLiveKeeper, keeper_in};
+ghost use Rattle.icn_value.specs.declared.val.Val.TheVariants.{List, Table};
 ghost use Rattle.icn_args.specs.Words.{Found};
 ghost use Rattle.icn_vars.specs.Stops.{IsLiveStop};
 
@@ -34,6 +35,7 @@ pub fn file_of(val: Val) -> Result<File, Stop>
 /// The number of the list that a value is. The error is 108 about the value.
 pub fn list_of(val: Val) -> Result<u32, Stop>
     ensures found { (all : Extent) (setting : Setting) → Found all (list (value_in all val)) setting setting (λ (id : ℕ). id) result }
+    ensures live { (all : Extent) → IsLive all val → IfOk result (λ id. IsLive all (List id)) }
     ensures stops { (all : Extent) → IsLive all val → IfErr result (IsLiveStop all) }
 {
     match val {
@@ -45,6 +47,7 @@ pub fn list_of(val: Val) -> Result<u32, Stop>
 /// The number of the table that a value is. The error is 124 about the value.
 pub fn table_of(val: Val) -> Result<u32, Stop>
     ensures found { (all : Extent) (setting : Setting) → Found all (table (value_in all val)) setting setting (λ (id : ℕ). id) result }
+    ensures live { (all : Extent) → IsLive all val → IfOk result (λ id. IsLive all (Table id)) }
     ensures stops { (all : Extent) → IsLive all val → IfErr result (IsLiveStop all) }
 {
     match val {
@@ -56,6 +59,7 @@ pub fn table_of(val: Val) -> Result<u32, Stop>
 /// The set or the table that a value is. The error is 122 about the value.
 pub fn keeper_of(val: Val) -> Result<Keeper, Stop>
     ensures found { (all : Extent) (setting : Setting) → Found all (keeper (value_in all val)) setting setting keeper_in result }
+    ensures live { (all : Extent) → IsLive all val → IfOk result (IsLiveKeeper all) }
     ensures stops { (all : Extent) → IsLive all val → IfErr result (IsLiveStop all) }
 {
     match val {

@@ -8,7 +8,7 @@ mod kinds;
 mod moving;
 mod structures;
 
-pub use arguments::{arg, value_or, values_of};
+pub use arguments::{arg, is_null, value_or, values_of};
 pub use charges::{build, join, text_of, texts_of};
 pub use conversions::{check_text, computed, cset_of, integer_of, natural_of, number_of};
 pub use kinds::{Keeper, file_of, keeper_of, list_of, table_of};

@@ -1,0 +1,27 @@
+//! What each operation does: a function for each row of the definitions.
+#![tactic(auto)]
+
+mod arithmetic;
+mod comparisons;
+mod counting;
+mod lists;
+mod null;
+mod operands;
+mod scanning;
+mod texts;
+
+pub use arithmetic::{
+    add_row, divide_row, multiply_row, negate_row, number_row, power_row, remainder_row,
+    subtract_row,
+};
+pub use comparisons::{
+    equal_row, equivalent_row, greater_or_equal_row, greater_row, less_or_equal_row, less_row,
+    lexically_equal_row, lexically_greater_or_equal_row, lexically_greater_row,
+    lexically_less_or_equal_row, lexically_less_row, lexically_not_equal_row, not_equal_row,
+    not_equivalent_row,
+};
+pub use counting::{counting_again, to_by_row};
+pub use lists::concatenate_lists_row;
+pub use null::{dereference_row, is_not_null_row, is_null_row, size_row};
+pub use scanning::tab_match_row;
+pub use texts::{complement_row, concatenate_row};
