@@ -1,15 +1,14 @@
 -- A mark can be dropped exactly where it is not the frame.
-use Rattle.std.proofs.Common.{◌≡◌, ℕ, suc, ◌+◌, ◌-◌, ◌≤◌, ◌==◌, Bool, true, false, List, [], ◌∷◌, length, drop, map, slice_get, Option, Some, None, is_none, refl, sym, ap, ◌∙◌, subst, arith, length-drop}
+use Rattle.std.proofs.Common.{◌≡◌, ℕ, ◌+◌, ◌-◌, ◌==◌, Bool, true, false, List, [], ◌∷◌, length, map, slice_get, is_none, refl, sym, ap, ◌∙◌, subst, arith}
 use Rattle.std.proofs.lemmas.List.{length-map}
 use Rattle.std.proofs.lemmas.Bool.Decides.{nat_tests}
 use Rattle.icn_cells.specs.Heights.{cut, cell_at}
-use Rattle.icn_frames.specs.declared.layout.Registers.{Registers}
 use Rattle.icn_frames.specs.declared.layout.Cell.{Cell}
 use Rattle.icn_frames.specs.declared.layout.Cell.TheVariants.{Base, Call, Local, Mark, Limit, Suspension, Operand}
 use Rattle.icn_frames.specs.Stacks.{FlatStack, unmark, unmark_from, at_base}
-use Rattle.icn_frames.specs.Shapes.{Shape, shape, IsFramed, IsMarked, MarkOr, KindAt, Leads, Sound}
+use Rattle.icn_frames.specs.Shapes.{Shape, shape, IsFramed, IsMarked, MarkOr, Sound}
 use Rattle.icn_frames.proofs.Fits.{map_drop}
-use Rattle.icn_frames.proofs.Gotten.{get_drop, frame_kind}
+use Rattle.icn_frames.proofs.Gotten.{get_drop}
 
 -- the first cell of what is cut at a height is the one that stands there
 first_cut : (s : List Cell) (h : ℕ) → slice_get (map shape (cut h s)) 0 ≡ cell_at h (map shape s)

@@ -1,5 +1,5 @@
 // The calls of a stack.
-ghost use Rattle.std.specs.Prelude.{◌≡◌, ◌+◌, ◌<◌, ◌≤◌, ℕ, Option, Bool, true, false, OnOk, OnErr, IsOk, IfOk, IsSome, is_some, is_none, length, map, slice_get, slice_set};
+ghost use Rattle.std.specs.Prelude.{◌≡◌, ◌+◌, ◌<◌, ◌≤◌, ℕ, Option, None, Bool, true, false, OnOk, OnErr, IsOk, IfOk, IsSome, is_some, is_none, length, map, slice_get, slice_set};
 ghost use Rattle.icn_frames.specs.Stacks as flat;
 ghost use Rattle.icn_frames.specs.Shapes.{shape, IsScan, MayBeAt};
 
@@ -86,7 +86,8 @@ impl<K: Stack<Cell> + Drop> Frames<K> {
 
     /// How many locals the running procedure has.
     pub fn local_count(&self) -> u64
-        ensures { result ≡ flat.local_count self.now.flat }
+        ensures count { result ≡ flat.local_count self.now.flat }
+        ensures all { result ≡ length (flat.locals self.now.flat) }
     {
         match self.cells.get(self.registers.base - 1) {
             Cell::Base { locals, .. } => locals,
@@ -110,6 +111,7 @@ impl<K: Stack<Cell> + Drop> Frames<K> {
     pub fn set_local(&mut self, place: u64, v: Val)
         requires { place < flat.local_count self.old.flat }
         ensures flat { self.new.flat ≡ flat.set_locals (slice_set (flat.locals self.old.flat) place v) self.old.flat }
+        ensures locals { flat.locals self.new.flat ≡ slice_set (flat.locals self.old.flat) place v }
         ensures spare { self.new.spare ≡ self.old.spare }
     {
         self.cells.set(self.registers.base + place, Cell::Local(v));
@@ -363,6 +365,13 @@ impl<K: Stack<Cell> + Drop> Frames<K> {
             Some(height) => swap_at(&mut self.cells, height, pair),
             None => unreachable!(),
         }
+    }
+
+    /// The pair that the oldest open scan of the procedure saved, if a scan is open.
+    pub fn oldest_pair(&self) -> Option<Pair>
+        ensures { result ≡ flat.pair_at self.now.flat.cells (flat.oldest None self.now.flat) }
+    {
+        self.pair_since(None)
     }
 
     /// Opens a procedure frame with these locals, and goes to a place.

@@ -1,4 +1,3 @@
-use Rattle.std.proofs.Common.{◌≡◌, ◌∙◌}
 use Rattle.icn_frames.specs.Stacks.{FlatStack}
 use Rattle.icn_frames.proofs.Unmarked.{unmark_none}
 use Rattle.icn_frames.proofs.calls.Frames.at_base.Goals as goal

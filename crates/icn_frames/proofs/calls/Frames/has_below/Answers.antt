@@ -1,4 +1,4 @@
-use Rattle.std.proofs.Common.{◌≡◌, ◌≤◌, true, false, is_some, sym, ap, ◌∙◌, arith}
+use Rattle.std.proofs.Common.{is_some, sym, ap, ◌∙◌, arith}
 use Rattle.icn_frames.specs.Stacks.{FlatStack}
 use Rattle.icn_frames.proofs.Gotten.{within, below_get, below_low, no_operand}
 use Rattle.icn_frames.proofs.calls.Frames.has_below.Goals as goal

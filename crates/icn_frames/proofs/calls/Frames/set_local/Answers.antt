@@ -4,6 +4,7 @@ use Rattle.icn_frames.specs.Shapes.{shape, count_of}
 use Rattle.icn_frames.proofs.Gotten.{sound_set_shape, count_at}
 use Rattle.icn_frames.specs.Stacks.{FlatStack}
 use Rattle.icn_frames.proofs.Locals.{set_local_is}
+use Rattle.icn_frames.proofs.LocalsSet.{locals_set}
 use Rattle.icn_frames.proofs.calls.Frames.set_local.Goals as goal
 
 pub invariant_of-self : goal.invariant_of-self
@@ -18,3 +19,13 @@ pub returns-clause-flat : goal.returns-clause-flat
 returns-clause-flat g c =
     let m : FlatStack = record { cells = g.K.Stack.cells c.self.inside.cells; registers = c.self.inside.registers; place = c.self.inside.place } in
     rw (← c.self.view_is) (set_local_is m c.args.place c.args.v _ c.self.invariant (rw (← c.self.view_is) at c.requires) c.set.ensures.cells)
+
+pub returns-clause-locals : goal.returns-clause-locals
+returns-clause-locals g c =
+    let m : FlatStack = record { cells = g.K.Stack.cells c.self.inside.cells; registers = c.self.inside.registers; place = c.self.inside.place } in
+    let s = g.K.Stack.cells c.self.inside.cells in
+    let r = c.self.inside.registers in
+    let n = rw (← c.self.view_is) at c.requires in
+    let k : c.args.place < count_of (cell_at r.base (map shape s)) = subst (λ (w : ℕ). c.args.place < w) (count_at s r.base) n in
+    let after = sound_set_shape s _ r _ _ c.self.invariant (c.self.invariant.stands.leads.base.locals c.args.place k) c.set.ensures.cells in
+    rw (← c.self.view_is) (locals_set m c.args.place c.args.v _ c.self.invariant after n c.set.ensures.cells)

@@ -1,0 +1,9 @@
+pub mod LiveCells
+pub mod LiveCalls
+pub mod LiveSets
+pub mod LiveFrames
+pub mod StackSteps
+pub mod KeptItems
+pub mod MachineSteps
+pub mod Deref
+pub mod PartSteps

@@ -1,0 +1,134 @@
+-- What each instruction that touches a stack alone does, by the calls of the stack.
+use Rattle.std.proofs.Common.{◌≡◌, ℕ, zero, suc, ◌<◌, List, [], ◌∷◌, Option, Some, None, IsSome, refl, sym, ap, ◌∙◌, subst, arith}
+use Rattle.std.proofs.lemmas.Option.{same_Some}
+use Rattle.std.specs.Option.{option_map}
+use Rattle.icn_value.specs.declared.val.Val.TheVariants.{Null}
+use Rattle.icn_value.specs.declared.item.Item.{Item}
+use Rattle.icn_value.specs.declared.item.Item.TheVariants.{Val as HeldVal}
+use Rattle.icn_value.specs.declared.item.Pair.{Pair}
+use Rattle.icn_heap.specs.Extents.{Extent}
+use Rattle.icn_frames.specs.declared.layout.Cell.{Cell}
+use Rattle.icn_frames.specs.declared.layout.Cell.TheVariants.{Base, Call, Local, Mark, Limit, Suspension, Operand}
+use Rattle.icn_frames.specs.Stacks as held
+use Rattle.icn_frames.specs.Stacks.{FlatStack}
+use Rattle.icn_frames_laws.specs.Readings.{popped_read, counted_read, unmarked_read}
+use Rattle.icn_frames_laws.proofs.CallsRead.{pop_read, below_read, open_mark_read, relabel_read, count_down_read}
+use Rattle.icn_frames_laws.proofs.ScansRead.{unmark_read, suspend_mark_read}
+use Rattle.icn_code.specs.declared.instr.Instr.TheVariants as Instrs
+use Rattle.icn_code.specs.Codes.{Tables}
+use Rattle.icn_run.specs.Rows as rows
+use Rattle.icn_run.specs.Calls as calls
+use Rattle.icn_run.specs.Stacks.{Frames, flat}
+use Rattle.icn_run.specs.Step.{State, Store, running, with_found, parted, pushed, scans_left, limited_result}
+use Rattle.icn_control.proofs.LiveCalls.{given_split}
+use Rattle.icn_control.specs.Standing.{stack_in, reading_of, maybe_pair_in, GoesOn, GoesOnLeaving, mark_of}
+
+-- an instruction goes on with a stack
+abbrev on : Store Frames → Frames → State Frames Frames
+on st m = running m st
+
+abbrev on_stack : Extent → Store Frames → FlatStack → State Frames Frames
+on_stack all st m = running (stack_in all m) st
+
+pub null_runs : (m n : FlatStack) → n ≡ held.push (HeldVal Null) m → GoesOn Instrs.Pnull m n
+null_runs m n e all tables st = ap (on_stack all st) (sym e)
+
+-- what is taken off a stack, with the rest of the instruction
+pub popped_runs : (m n : FlatStack) (item : Item) → held.pop m ≡ Some (item, n) → (all : Extent) (next : rows.Item → Frames → State Frames Frames)
+    → with_found (flat.pop (stack_in all m)) (parted next) ≡ next ((reading_of all).item item) (stack_in all n)
+popped_runs m n item e all next =
+    ap (λ (w : Option (rows.Item × Frames)). with_found w (parted next)) (pop_read (reading_of all) m ∙ ap (option_map (popped_read (reading_of all))) e)
+
+pub pop_runs : (m n : FlatStack) (item : Item) → held.pop m ≡ Some (item, n) → GoesOn Instrs.Pop m n
+pop_runs m n item e all tables st = popped_runs m n item e all (λ x. on st)
+
+-- an operand that is taken and put back
+pub pushed_back : (m n : FlatStack) (item : Item) → held.pop m ≡ Some (item, n) → held.push item n ≡ m
+pushed_back m n item e = by_cells m.cells e
+  where
+    by_cells : (s : List Cell) → held.pop_from m s ≡ Some (item, n) → held.push item n ≡ record m { cells = s }
+    by_cells (Operand x ∷ s) q = ap (λ (w : Item × FlatStack). held.push w.0 w.1) (sym (same_Some _ _ q))
+    by_cells [] q = cc
+    by_cells (Local value ∷ s) q = cc
+    by_cells (Base proc locals ∷ s) q = cc
+    by_cells (Call proc locals level r place ∷ s) q = cc
+    by_cells (Mark label changed r ∷ s) q = cc
+    by_cells (Limit count r ∷ s) q = cc
+    by_cells (Suspension why r place ∷ s) q = cc
+
+pub dup_runs : (m n k l : FlatStack) (item : Item) → held.pop m ≡ Some (item, n) → k ≡ held.push item n → l ≡ held.push item k → GoesOn Instrs.Dup m l
+dup_runs m n k l item e f h all tables st =
+    let same : held.push item m ≡ l = ap (held.push item) (sym (pushed_back m n item e) ∙ sym f) ∙ sym h in
+    popped_runs m n item e all (λ x below. pushed flat x (stack_in all m) st) ∙ ap (on_stack all st) same
+
+pub mark_runs : (m n : FlatStack) (label : Option ℕ) → n ≡ held.open_either label None m → GoesOn (mark_of label) m n
+mark_runs m n (Some label) e all tables st =
+    ap (on st) (open_mark_read (reading_of all) (Some label) m ∙ ap (stack_in all) (sym e))
+mark_runs m n None e all tables st =
+    ap (on st) (open_mark_read (reading_of all) None m ∙ ap (stack_in all) (sym e))
+
+pub relabel_runs : (m n : FlatStack) (label : ℕ) → held.relabel label m ≡ Some n → GoesOn (Instrs.Chfail label) m n
+relabel_runs m n label e all tables st =
+    ap (λ (w : Option Frames). with_found w (on st)) (relabel_read (reading_of all) label m ∙ ap (option_map (stack_in all)) e)
+
+pub go_runs : (m n : FlatStack) (label : ℕ) → n ≡ held.go label m → GoesOn (Instrs.Goto label) m n
+go_runs m n label e all tables st = ap (on_stack all st) (sym e)
+
+-- what is left where a mark is dropped, with the rest of the instruction
+pub unmarked_by : (m n : FlatStack) (pair : Option Pair) → held.unmark m ≡ Some (n, pair) → (all : Extent) (next : Frames → Option calls.Pair → State Frames Frames)
+    → with_found (flat.unmark (stack_in all m)) (parted next) ≡ next (stack_in all n) (maybe_pair_in all pair)
+unmarked_by m n pair e all next =
+    ap (λ (w : Option (Frames × Option calls.Pair)). with_found w (parted next)) (unmark_read (reading_of all) m ∙ ap (option_map (unmarked_read (reading_of all))) e)
+
+pub unmark_runs : (m n : FlatStack) (pair : Option Pair) → held.unmark m ≡ Some (n, pair) → GoesOnLeaving Instrs.Unmark m pair n
+unmark_runs m n pair e all tables st = unmarked_by m n pair e all (λ outside back. running outside (scans_left back st))
+
+suspended_by : (m n : FlatStack) → held.suspend_mark m ≡ Some n → (all : Extent) (next : Frames → State Frames Frames) → with_found (flat.suspend_mark (stack_in all m)) next ≡ next (stack_in all n)
+suspended_by m n e all next =
+    ap (λ (w : Option Frames). with_found w next) (suspend_mark_read (reading_of all) m ∙ ap (option_map (stack_in all)) e)
+
+pub esusp_runs : (m k n : FlatStack) (item : Item) → held.pop m ≡ Some (item, k) → held.given_to (Some item) (held.suspend_mark k) ≡ Some n → GoesOn Instrs.Esusp m n
+esusp_runs m k n item e f all tables st =
+    let split = given_split item (held.suspend_mark k) n f in
+    popped_runs m k item e all (λ x w. with_found (flat.suspend_mark w) (λ v. pushed flat x v st))
+    ∙ suspended_by k split.0 split.1.0 all (λ v. pushed flat ((reading_of all).item item) v st)
+    ∙ ap (on_stack all st) split.1.1
+
+counted_by : (m n : FlatStack) (count : ℕ) → held.count_down m ≡ Some (count, n) → (all : Extent) (next : ℕ → Frames → State Frames Frames)
+    → with_found (flat.count_down (stack_in all m)) (parted next) ≡ next count (stack_in all n)
+counted_by m n count e all next =
+    let there : IsSome (held.count_down m) = subst IsSome (sym e) refl in
+    ap (λ (w : Option (ℕ × Frames)). with_found w (parted next)) (count_down_read (reading_of all) m there ∙ ap (option_map (counted_read (reading_of all))) e)
+
+lsusp_by : (m k l n : FlatStack) (item : Item) (count : ℕ) → held.pop m ≡ Some (item, k) → held.count_down k ≡ Some (count, l) → (all : Extent) (tables : Tables) (st : Store Frames)
+    → with_found (flat.pop (stack_in all m)) (parted (λ x w. with_found (flat.count_down w) (parted (λ c v. limited_result flat x c v st)))) ≡ limited_result flat ((reading_of all).item item) count (stack_in all l) st
+lsusp_by m k l n item count e f all tables st =
+    popped_runs m k item e all (λ x w. with_found (flat.count_down w) (parted (λ c v. limited_result flat x c v st)))
+    ∙ counted_by k l count f all (λ c v. limited_result flat ((reading_of all).item item) c v st)
+
+pub lsusp_last : (m k l o n : FlatStack) (item : Item) (count : ℕ) (pair : Option Pair) → held.pop m ≡ Some (item, k) → held.count_down k ≡ Some (count, l) → count ≡ 0 → held.unmark l ≡ Some (o, pair)
+    → n ≡ held.push item o → GoesOnLeaving Instrs.Lsusp m pair n
+lsusp_last m k l o n item count pair e f z u p all tables st =
+    lsusp_by m k l n item count e f all tables st
+    ∙ ap (λ (c : ℕ). limited_result flat ((reading_of all).item item) c (stack_in all l) st) z
+    ∙ unmarked_by l o pair u all (λ outside back. pushed flat ((reading_of all).item item) outside (scans_left back st))
+    ∙ ap (on_stack all (scans_left (maybe_pair_in all pair) st)) (sym p)
+
+above_zero : (n : ℕ) → 0 < n → (k : ℕ) × (n ≡ suc k)
+above_zero zero p = absurd (omega arith)
+above_zero (suc k) p = (k, refl)
+
+pub lsusp_more : (m k l n : FlatStack) (item : Item) (count : ℕ) → held.pop m ≡ Some (item, k) → held.count_down k ≡ Some (count, l) → 0 < count → held.given_to (Some item) (held.suspend_mark l) ≡ Some n
+    → GoesOnLeaving Instrs.Lsusp m None n
+lsusp_more m k l n item count e f z u all tables st =
+    let split = given_split item (held.suspend_mark l) n u in
+    let more = above_zero count z in
+    lsusp_by m k l n item count e f all tables st
+    ∙ ap (λ (c : ℕ). limited_result flat ((reading_of all).item item) c (stack_in all l) st) more.1
+    ∙ suspended_by l split.0 split.1.0 all (λ v. pushed flat ((reading_of all).item item) v st)
+    ∙ ap (on_stack all st) split.1.1
+
+pub below_runs : (m n : FlatStack) (item : Item) → held.below m ≡ Some item → n ≡ held.push item m → GoesOn Instrs.Ccase m n
+below_runs m n item e p all tables st =
+    ap (λ (w : Option rows.Item). with_found w (λ x. pushed flat x (stack_in all m) st)) (below_read (reading_of all) m ∙ ap (option_map (reading_of all).item) e)
+    ∙ ap (on_stack all st) (sym p)

@@ -1,0 +1,6 @@
+pub mod Standing
+pub mod Living
+pub mod Machines
+pub mod Pairs
+pub mod Parts
+pub mod Results

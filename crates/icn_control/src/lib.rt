@@ -1,0 +1,27 @@
+//! The machine that runs code: what each instruction does to its stacks and its world.
+#![tactic(auto)]
+
+mod activation;
+mod limits;
+mod literals;
+mod machine;
+mod marks;
+mod on_stack;
+mod scans;
+mod turns;
+mod values;
+mod world;
+
+pub use activation::Activation;
+pub use limits::{give_value, limit};
+pub use literals::{push_global, push_integer, push_local};
+pub use machine::{Machine, Stage};
+pub use marks::{lsusp, unmark};
+pub use on_stack::{
+    change_label, drop_mark, drop_operand, duplicate, give_limited, give_suspended, go_to,
+    open_mark, push_below, push_null, put,
+};
+pub use scans::swap_pairs;
+pub use turns::go_back;
+pub use values::value_of;
+pub use world::{restore_pair, set_pair};

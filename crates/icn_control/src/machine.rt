@@ -1,0 +1,32 @@
+// The machine.
+use icn_cells::Stack;
+use icn_coexp::Stacks;
+use icn_frames::Cell;
+use icn_value::Limits;
+use icn_vars::World;
+
+/// The state of a run: its world, its co-expressions with their stacks, how many turns were made, which procedures did
+/// `initial`, and the limits.
+#[derive(Drop)]
+pub struct Machine<K: Stack<Cell> + Drop> {
+    pub world: World,
+    pub stacks: Stacks<K>,
+    pub turns: u64,
+    pub begun: Vec<bool>,
+    pub limits: Limits,
+}
+
+/// Where a machine stands after an instruction.
+#[derive(Clone, Copy, Debug, PartialEq, Eq)]
+pub enum Stage {
+    /// The next instruction is due.
+    Runs,
+    /// The code fails.
+    Fails,
+    /// An exhausted co-expression was reached, whose hop is due.
+    HopDue,
+    /// The starting call is over.
+    Over,
+    /// One turn more would be past the bound.
+    AtBound,
+}

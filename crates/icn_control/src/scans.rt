@@ -1,0 +1,31 @@
+// Scans: the pair of the world against those that open scans saved.
+ghost use Rattle.std.specs.Prelude.{◌≡◌, ◌<◌, [], IsSome, IfSome, OnOk};
+ghost use Rattle.icn_code.specs.Codes.{Tables};
+ghost use Rattle.icn_code.specs.declared.instr.Instr.TheVariants as Instrs;
+ghost use Rattle.icn_heap.specs.Heaps.{extent_of};
+ghost use Rattle.icn_vars.specs.Worlds.{reach_of, world_of};
+ghost use Rattle.icn_frames.specs.Stacks as flat;
+ghost use Rattle.icn_control.specs.Living.{IsLiveStack};
+ghost use Rattle.icn_control.specs.Pairs.{paired};
+ghost use Rattle.icn_control.specs.Standing.{pair_in};
+
+use crate::world::set_pair;
+use icn_cells::Stack;
+use icn_frames::{Cell, Frames};
+use icn_vars::World;
+
+/// Exchanges the pair of the world with that of the oldest open scan of the procedure, or of the newest one. One must be open.
+/// It takes no memory.
+pub fn swap_pairs<K: Stack<Cell> + Drop>(frames: &mut Frames<K>, world: &mut World, oldest: bool)
+    requires scan { IsSome frames.old.flat.registers.scan }
+    requires live { (tables : Tables) × IsLiveStack tables (reach_of world.old []) frames.old.flat }
+    ensures stack { flat.swap_by oldest world.old.pair frames.old.flat ≡ Some (world.new.pair, frames.new.flat) }
+    ensures spare { frames.new.spare ≡ frames.old.spare }
+    ensures live { (tables : Tables) → IsLiveStack tables (reach_of world.old []) frames.old.flat → IsLiveStack tables (reach_of world.new []) frames.new.flat }
+    ensures world { world_of world.new ≡ paired (pair_in (extent_of world.old.heap) world.new.pair) (world_of world.old) }
+    ensures heap { world.new.heap ≡ world.old.heap }
+    ensures reach { reach_of world.new [] ≡ reach_of world.old [] }
+{
+    let pair = frames.swap_pair(oldest, world.pair);
+    set_pair(world, pair);
+}

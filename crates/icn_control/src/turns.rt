@@ -1,0 +1,27 @@
+// Instructions that count turns, and touch nothing but the stack that runs.
+ghost use Rattle.std.specs.Prelude.{◌≡◌, ◌<◌, ℕ, IsSome, Bool};
+ghost use Rattle.icn_value.specs.Store.{Outside};
+ghost use Rattle.icn_value.specs.Limited.{limits_of};
+ghost use Rattle.icn_heap.specs.Heaps.{heap_of};
+ghost use Rattle.icn_code.specs.Codes.{Tables};
+ghost use Rattle.icn_code.specs.declared.instr.Instr.TheVariants as Instrs;
+ghost use Rattle.icn_control.specs.Machines.{IsSound, StandsAt, does};
+
+use crate::machine::{Machine, Stage};
+use icn_cells::Stack;
+use icn_frames::Cell;
+
+/// Goes back to a label, as a turn. It takes no memory.
+pub fn go_back<K: Stack<Cell> + Drop>(m: &mut Machine<K>, label: u32) -> Stage
+    requires runs { IsSome m.old.stacks.table.running }
+    requires bounds { (heap_of m.old.world.heap).bounds ≡ limits_of m.old.limits }
+    ensures step { (tables : Tables) (outside : Outside) → StandsAt tables outside (does tables outside (Instrs.Loop label) m.old) m.new result }
+    ensures sound { (tables : Tables) → IsSound tables m.old → IsSound tables m.new }
+{
+    if m.turns >= m.limits.turns {
+        return Stage::AtBound;
+    }
+    m.turns += 1;
+    m.stacks.frames().go(label);
+    Stage::Runs
+}

@@ -1,0 +1,34 @@
+// The scanning pair of a world.
+ghost use Rattle.std.specs.Prelude.{◌≡◌, []};
+ghost use Rattle.icn_heap.specs.Heaps.{extent_of, heap_of};
+ghost use Rattle.icn_vars.specs.Worlds.{reach_of, world_of};
+ghost use Rattle.icn_control.specs.Living.{IsLivePair, MaybeLivePair};
+ghost use Rattle.icn_control.specs.Standing.{maybe_pair_in, pair_in};
+ghost use Rattle.icn_control.specs.Pairs.{maybe_paired, paired};
+
+use icn_value::Pair;
+use icn_vars::World;
+
+/// Makes a saved pair the present one. It takes no memory.
+pub fn set_pair(world: &mut World, pair: Pair)
+    requires { IsLivePair (extent_of world.old.heap) pair }
+    ensures world { world_of world.new ≡ paired (pair_in (extent_of world.old.heap) pair) (world_of world.old) }
+    ensures pair { world.new.pair ≡ pair }
+    ensures heap { world.new.heap ≡ world.old.heap }
+    ensures reach { reach_of world.new [] ≡ reach_of world.old [] }
+{
+    world.pair = pair;
+}
+
+/// Makes a saved pair the present one, if there is one. It takes no memory.
+pub fn restore_pair(world: &mut World, pair: Option<Pair>)
+    requires { MaybeLivePair (extent_of world.old.heap) pair }
+    ensures world { world_of world.new ≡ maybe_paired (maybe_pair_in (extent_of world.old.heap) pair) (world_of world.old) }
+    ensures heap { world.new.heap ≡ world.old.heap }
+    ensures reach { reach_of world.new [] ≡ reach_of world.old [] }
+{
+    match pair {
+        Some(pair) => set_pair(world, pair),
+        None => {}
+    }
+}
