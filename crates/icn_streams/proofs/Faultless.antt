@@ -1,0 +1,50 @@
+-- A row that neither reads nor puts, as one over the input and the outputs.
+use Rattle.std.proofs.Common.{◌≡◌, refl, List, [], Result, Ok, Err, Some}
+use Rattle.std.specs.List.{All}
+use Rattle.icn_value.specs.Store.{Outside, outside_of}
+use Rattle.icn_defs.specs.Rows.{Row}
+use Rattle.icn_heap.specs.Extents.{IsLive}
+use Rattle.icn_heap.specs.Heaps.{extent_of}
+use Rattle.icn_value.specs.declared.val.Val.{Val}
+use Rattle.icn_vars.specs.Outcomes.{ComesToAnswer, IsLiveAnswer}
+use Rattle.icn_vars.specs.Worlds.{KeepsItems, reach_of, setting_of}
+use Rattle.icn_vars.specs.declared.outcome.Outcome.{Outcome}
+use Rattle.icn_vars.specs.declared.outcome.Halt.{Halt}
+use Rattle.icn_vars.specs.declared.outcome.Halt.TheVariants.{Error as ErrorHalt, Ends as EndsHalt, ReadFault, WriteFault, NoMemory}
+use Rattle.icn_vars.specs.declared.world.World.{World}
+use Rattle.icn_streams.specs.Handed.{Handed, uncounted}
+use Rattle.icn_streams.specs.Answers.{Answers, CausedBy, given, idle}
+use Rattle.icn_streams.specs.Applies.{Applies}
+use Rattle.icn_streams.proofs.Following.{follows_all}
+use Rattle.icn_streams.proofs.Idle.{all_counts}
+
+module _ (row : Row) (old new : World) (locals locals' : List Val) (handed : Handed) where
+  answers_by : (result : Result Outcome Halt) → ((outside : Outside) → ComesToAnswer (extent_of new.heap) row (setting_of outside old locals) (setting_of outside new locals') result)
+      → (was : Outside) → handed.left ≡ Some was.left → Answers row was (given old locals handed) (given new locals' handed) result
+  answers_by (Ok outcome) row was told = record { now = was; follows = follows_all handed was told; comes = row was }
+  answers_by (Err (ErrorHalt number offending)) row was told = record { now = was; follows = follows_all handed was told; comes = row was }
+  answers_by (Err (EndsHalt status)) row was told = record { now = was; follows = follows_all handed was told; comes = row was }
+  answers_by (Err ReadFault) row was told = absurd (row was)
+  answers_by (Err WriteFault) row was told = absurd (row was)
+  answers_by (Err NoMemory) row was told = idle refl
+
+  caused_by : (result : Result Outcome Halt)
+      → ((outside : Outside) → ComesToAnswer (extent_of new.heap) row (setting_of outside old locals) (setting_of outside new locals') result) → CausedBy result handed handed
+  caused_by (Ok outcome) row = all_counts handed
+  caused_by (Err (ErrorHalt number offending)) row = all_counts handed
+  caused_by (Err (EndsHalt status)) row = all_counts handed
+  caused_by (Err ReadFault) row = absurd (row (outside_of []))
+  caused_by (Err WriteFault) row = absurd (row (outside_of []))
+  caused_by (Err NoMemory) row = uncounted (all_counts handed)
+
+  -- what it says of every outside is all that is to be said
+  pub faultless_applies : (result : Result Outcome Halt) → ((outside : Outside) → ComesToAnswer (extent_of new.heap) row (setting_of outside old locals) (setting_of outside new locals') result)
+      → IsLiveAnswer (reach_of new locals') result → All (IsLive (extent_of new.heap)) locals' → KeepsItems (reach_of old locals) (reach_of new locals')
+      → Applies row (given old locals handed) (given new locals' handed) result
+  faultless_applies result row live lives kept = record {
+    answers = answers_by result row;
+    caused = caused_by result row;
+    live = live;
+    locals = lives;
+    kept = kept;
+  }

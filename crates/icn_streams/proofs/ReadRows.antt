@@ -1,0 +1,139 @@
+-- Rows that read once.
+use Rattle.std.proofs.Common.{◌≡◌, ◌∙◌, refl, sym, ap, append-nil, ℕ, ◌+◌, nat_lt, Bool, true, false, List, [], length, take, take_while, Option, None, Some, Result, Ok, Err}
+use Rattle.std.specs.Prelude.{◌==◌, not, IsErrAnd}
+use Rattle.std.proofs.Common.{subst}
+use Rattle.std.specs.List.{All}
+use Rattle.icn_host.specs.Sinks.{SinkState}
+use Rattle.icn_value.specs.declared.val.Span.{Span}
+use Rattle.icn_value.specs.declared.val.Val.{Val}
+use Rattle.icn_value.specs.Store.{Asked, ALine, SomeBytes, Outside, Setting, Reading, with_reading}
+use Rattle.icn_defs.specs.Interruptions.{after_reading}
+use Rattle.icn_defs.specs.Lines.{takes_input}
+use Rattle.icn_defs.specs.Rows.{Row, passing, check, costs_bytes, changes_heap}
+use Rattle.icn_heap.specs.Extents.{IsLive, text_in}
+use Rattle.icn_heap.specs.Heaps.{extent_of}
+use Rattle.icn_vars.specs.Outcomes.{IsLiveHalt, IsLiveOutcome, outcome_in}
+use Rattle.icn_vars.specs.Worlds.{KeepsItems, reach_of}
+use Rattle.icn_vars.specs.declared.outcome.Outcome.{Outcome}
+use Rattle.icn_vars.specs.declared.outcome.Outcome.TheVariants.{Fails as HeldFails}
+use Rattle.icn_vars.specs.declared.outcome.Halt.{Halt}
+use Rattle.icn_vars.specs.declared.outcome.Halt.TheVariants.{Error as ErrorHalt, Ends as EndsHalt, ReadFault, WriteFault, NoMemory}
+use Rattle.icn_vars.specs.declared.world.World.{World}
+use Rattle.icn_streams.specs.Handed.{Follows, handed, uncounted}
+use Rattle.icn_streams.specs.Answers.{Answers, CausedBy, given, outside_after, reading}
+use Rattle.icn_streams.specs.Applies.{Applies}
+use Rattle.icn_streams.specs.Readings.{InputCause, Reads, next_read}
+use Rattle.icn_host.proofs.SinkSteps.{gains_nothing}
+use Rattle.icn_streams.proofs.Idle.{counts_all}
+
+-- Behind the reading nothing more is read or put.
+pub record IsQuiet (next : List ℕ → Row) : Type 0 where
+  pub outside : (text : List ℕ) (s : Setting) → outside_after (next text s) ≡ s.outside
+
+checked : (t : Bool) (next : Row) (s : Setting) (readings : List Reading) → s.outside.readings ≡ readings
+    → ((s : Setting) → s.outside.readings ≡ readings → (outside_after (next s)).readings ≡ readings)
+    → (count : ℕ) → (outside_after (check t 306 None (changes_heap (λ heap. record heap { strings = heap.strings + count }) next) s)).readings ≡ readings
+checked true next s readings same rest count = rest _ same
+checked false next s readings same rest count = same
+
+passed : (t : Bool) (next : Row) (s : Setting) (readings : List Reading) → s.outside.readings ≡ readings
+    → (outside_after (next s)).readings ≡ readings → (outside_after (passing t next s)).readings ≡ readings
+passed true next s readings same rest = rest
+passed false next s readings same rest = same
+
+-- The row reads once.
+reads_once : (asked : Asked) (next : List ℕ → Row) (quiet : IsQuiet next) (s : Setting) → (outside_after (next_read asked next s)).readings ≡ (with_reading asked s.outside).readings
+reads_once ALine next quiet s =
+    let line : List ℕ = take_while (λ byte. not (byte == 10)) s.outside.left in
+    passed (nat_lt 0 (length s.outside.left)) (takes_input (length line + 1) (costs_bytes (length line) (next line))) (record s { outside = with_reading ALine s.outside })
+    (with_reading ALine s.outside).readings refl
+    (checked _ (next line) (record s { outside = after_reading ALine s.outside }) (with_reading ALine s.outside).readings refl
+    (λ s' same. ap (λ (o : Outside). o.readings) (quiet.outside line s') ∙ same) (length line))
+reads_once (SomeBytes count) next quiet s =
+    let bytes : List ℕ = take count s.outside.left in
+    passed (nat_lt 0 (length bytes)) (takes_input (length bytes) (costs_bytes (length bytes) (next bytes))) (record s { outside = with_reading (SomeBytes count) s.outside })
+    (with_reading (SomeBytes count) s.outside).readings refl
+    (checked _ (next bytes) _ (with_reading (SomeBytes count) s.outside).readings refl
+    (λ s' same. ap (λ (o : Outside). o.readings) (quiet.outside bytes s') ∙ same) (length bytes))
+
+module _ (asked : Asked) (next : List ℕ → Row) (quiet : IsQuiet next) (old new : World) (locals : List Val) (left left' : Option (List ℕ)) (faults faults' : ℕ) (output errors : SinkState) where
+  was_read : (was now : Outside) → left' ≡ Some now.left → now.output ≡ was.output → now.errors ≡ was.errors
+      → Follows (handed left faults output errors) (handed left' faults' output errors) was now
+  was_read was now told same_output same_errors = record {
+    left = told;
+    output = record { text = []; is = same_output ∙ sym (append-nil was.output); gains = gains_nothing output.held };
+    errors = record { text = []; is = same_errors ∙ sym (append-nil was.errors); gains = gains_nothing errors.held };
+  }
+
+  halted : (was : Outside) (halt : Halt) → Reads asked was (given old locals (handed left faults output errors)) (given new locals (handed left' faults' output errors)) (Err halt)
+      → Answers (next_read asked next) was (given old locals (handed left faults output errors)) (given new locals (handed left' faults' output errors)) (Err halt)
+  halted was (ErrorHalt number offending) reads = record { now = after_reading asked was; follows = was_read was (after_reading asked was) reads.1 refl refl; comes = reads.0 next }
+  halted was (EndsHalt status) reads = absurd reads
+  halted was ReadFault reads = record { asked = asked; made = reads_once asked next quiet _; left = reads; output = refl; errors = refl }
+  halted was WriteFault reads = absurd reads
+  halted was NoMemory reads = reading (record { asked = asked; made = reads_once asked next quiet _; left = reads; output = refl; errors = refl })
+
+  halt_caused : (halt : Halt) → InputCause faults faults' (Err halt) → CausedBy (Err halt) (handed left faults output errors) (handed left' faults' output errors)
+  halt_caused (ErrorHalt number offending) cause = record { faults = cause; output = counts_all output; errors = counts_all errors }
+  halt_caused (EndsHalt status) cause = absurd cause
+  halt_caused ReadFault cause = record { faults = cause; output = refl; errors = refl }
+  halt_caused WriteFault cause = absurd cause
+  halt_caused NoMemory cause = uncounted (record { faults = cause; output = counts_all output; errors = counts_all errors })
+
+  -- the reading was not made, or an error of the row
+  pub read_halts : (halt : Halt) (result : Result Outcome Halt) → IsErrAnd result (λ other. other ≡ halt)
+      → ((was : Outside) → left ≡ Some was.left → Reads asked was (given old locals (handed left faults output errors)) (given new locals (handed left' faults' output errors)) (Err halt))
+      → InputCause faults faults' (Err halt) → IsLiveHalt (reach_of new locals) halt → All (IsLive (extent_of new.heap)) locals → KeepsItems (reach_of old locals) (reach_of new locals)
+      → Applies (next_read asked next) (given old locals (handed left faults output errors)) (given new locals (handed left' faults' output errors)) result
+  read_halts halt (Ok outcome) same reads cause live lives kept = absurd same
+  read_halts halt (Err other) same reads cause live lives kept =
+      subst (λ h. Applies (next_read asked next) (given old locals (handed left faults output errors)) (given new locals (handed left' faults' output errors)) (Err h)) (sym same) (record {
+        answers = λ was told. halted was halt (reads was told);
+        caused = halt_caused halt cause;
+        live = live;
+        locals = lives;
+        kept = kept;
+      })
+
+  given_by : (span : Span) (outcome : Outcome) → ((s : Setting) → next (text_in (extent_of new.heap) span) s ≡ outcome_in (extent_of new.heap) outcome s) → (was : Outside)
+      → Reads asked was (given old locals (handed left faults output errors)) (given new locals (handed left' faults' output errors)) (Ok (Some span))
+      → Answers (next_read asked next) was (given old locals (handed left faults output errors)) (given new locals (handed left' faults' output errors)) (Ok outcome)
+  given_by span outcome goes was reads = record {
+    now = after_reading asked was;
+    follows = was_read was (after_reading asked was) reads.1 refl refl;
+    comes = reads.0 next ∙ goes _;
+  }
+
+  failed_by : (was : Outside)
+      → Reads asked was (given old locals (handed left faults output errors)) (given new locals (handed left' faults' output errors)) (Ok None)
+      → Answers (next_read asked next) was (given old locals (handed left faults output errors)) (given new locals (handed left' faults' output errors)) (Ok HeldFails)
+  failed_by was reads = record {
+    now = with_reading asked was;
+    follows = was_read was (with_reading asked was) reads.1 refl refl;
+    comes = reads.0 next;
+  }
+
+  -- a text was read, and the row goes on with it
+  pub read_gives : (found : Option Span) (span : Span) (outcome : Outcome) → found ≡ Some span → ((s : Setting) → next (text_in (extent_of new.heap) span) s ≡ outcome_in (extent_of new.heap) outcome s)
+      → ((was : Outside) → left ≡ Some was.left → Reads asked was (given old locals (handed left faults output errors)) (given new locals (handed left' faults' output errors)) (Ok found))
+      → faults' ≡ faults → IsLiveOutcome (reach_of new locals) outcome → All (IsLive (extent_of new.heap)) locals → KeepsItems (reach_of old locals) (reach_of new locals)
+      → Applies (next_read asked next) (given old locals (handed left faults output errors)) (given new locals (handed left' faults' output errors)) (Ok outcome)
+  read_gives found span outcome same goes reads cause live lives kept = record {
+    answers = λ was told. given_by span outcome goes was (subst (λ f. Reads asked was (given old locals (handed left faults output errors)) (given new locals (handed left' faults' output errors)) (Ok f)) same (reads was told));
+    caused = record { faults = cause; output = counts_all output; errors = counts_all errors };
+    live = live;
+    locals = lives;
+    kept = kept;
+  }
+
+  -- nothing was there, and the row fails
+  pub read_fails : (found : Option Span) → found ≡ None → ((was : Outside) → left ≡ Some was.left → Reads asked was (given old locals (handed left faults output errors)) (given new locals (handed left' faults' output errors)) (Ok found))
+      → faults' ≡ faults → All (IsLive (extent_of new.heap)) locals → KeepsItems (reach_of old locals) (reach_of new locals)
+      → Applies (next_read asked next) (given old locals (handed left faults output errors)) (given new locals (handed left' faults' output errors)) (Ok HeldFails)
+  read_fails found same reads cause lives kept = record {
+    answers = λ was told. failed_by was (subst (λ f. Reads asked was (given old locals (handed left faults output errors)) (given new locals (handed left' faults' output errors)) (Ok f)) same (reads was told));
+    caused = record { faults = cause; output = counts_all output; errors = counts_all errors };
+    live = record { live = tt };
+    locals = lives;
+    kept = kept;
+  }

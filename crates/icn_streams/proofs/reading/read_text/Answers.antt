@@ -1,0 +1,35 @@
+-- What was read and charged is what the row reads.
+use Rattle.std.proofs.Common.{refl}
+use Rattle.icn_defs.specs.Interruptions.{after_reading}
+use Rattle.icn_streams.specs.Answers.{given}
+use Rattle.icn_streams.specs.Handed.{handed}
+use Rattle.icn_streams.specs.Readings.{Fills, asked_in}
+use Rattle.icn_streams.proofs.NextRead.{at_some, reads_err, reads_none, reads_some}
+use Rattle.icn_streams.proofs.reading.read_text.Goals as goal
+
+pub returns-in_err-text_of-in-Ok-true-clause-reads : goal.returns-in_err-text_of-in-Ok-true-clause-reads
+returns-in_err-text_of-in-Ok-true-clause-reads g c = λ was output errors told.
+    reads_err (asked_in c.args.ask) was
+    (given c.args.w.now (g.L.Locals.items c.args.l.now) (handed (g.I.Source.left c.args.input.now) (g.I.Source.faults c.args.input.now) output errors))
+    (given c.text_of.new.w (g.L.Locals.items c.args.l.now) (handed (g.I.Source.left c.fill.new.input) (g.I.Source.faults c.fill.new.input) output errors))
+    c.in-Ok-true.field-0 c.fill.new.buffer.items c.deref.result.now c.in_err-text_of-in-Ok-true.field-0.0 c.from_residual.result
+    (at_some (g.I.Source.left c.args.input.now) was.left (λ left. Fills (asked_in c.args.ask) left c.in-Ok-true.field-0 c.fill.new.buffer.items (g.I.Source.left c.fill.new.input)) told c.in-Ok-true.ensures.ok)
+    c.in-Ok-true.field-0-test c.deref.ensures.value (c.in_err-text_of-in-Ok-true.ensures.step (after_reading (asked_in c.args.ask) was)) c.from_residual.ensures.1
+
+pub returns-in_ok-text_of-in-Ok-true-clause-reads : goal.returns-in_ok-text_of-in-Ok-true-clause-reads
+returns-in_ok-text_of-in-Ok-true-clause-reads g c = λ was output errors told.
+    reads_some (asked_in c.args.ask) was
+    (given c.args.w.now (g.L.Locals.items c.args.l.now) (handed (g.I.Source.left c.args.input.now) (g.I.Source.faults c.args.input.now) output errors))
+    (given c.text_of.new.w (g.L.Locals.items c.args.l.now) (handed (g.I.Source.left c.fill.new.input) (g.I.Source.faults c.fill.new.input) output errors))
+    c.in-Ok-true.field-0 c.fill.new.buffer.items c.deref.result.now c.in_ok-text_of-in-Ok-true.field-0
+    (at_some (g.I.Source.left c.args.input.now) was.left (λ left. Fills (asked_in c.args.ask) left c.in-Ok-true.field-0 c.fill.new.buffer.items (g.I.Source.left c.fill.new.input)) told c.in-Ok-true.ensures.ok)
+    c.in-Ok-true.field-0-test c.deref.ensures.value c.in_ok-text_of-in-Ok-true.ensures.text (c.in_ok-text_of-in-Ok-true.ensures.step (after_reading (asked_in c.args.ask) was))
+
+pub returns-in-Ok-false-clause-reads : goal.returns-in-Ok-false-clause-reads
+returns-in-Ok-false-clause-reads g c = λ was output errors told.
+    reads_none (asked_in c.args.ask) was
+    (given c.args.w.now (g.L.Locals.items c.args.l.now) (handed (g.I.Source.left c.args.input.now) (g.I.Source.faults c.args.input.now) output errors))
+    (given c.args.w.now (g.L.Locals.items c.args.l.now) (handed (g.I.Source.left c.fill.new.input) (g.I.Source.faults c.fill.new.input) output errors))
+    c.in-Ok-false.field-0 c.fill.new.buffer.items
+    (at_some (g.I.Source.left c.args.input.now) was.left (λ left. Fills (asked_in c.args.ask) left c.in-Ok-false.field-0 c.fill.new.buffer.items (g.I.Source.left c.fill.new.input)) told c.in-Ok-false.ensures.ok)
+    c.in-Ok-false.field-0-test refl

@@ -1,0 +1,5 @@
+pub mod Named
+pub mod Handed
+pub mod Answers
+pub mod Applies
+pub mod Readings

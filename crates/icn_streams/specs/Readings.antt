@@ -1,0 +1,70 @@
+-- What a reading asks for and finds, and how a row goes on behind it.
+use Rattle.std.specs.Prelude.{◌≡◌, ◌==◌, ℕ, Bool, not, List, length, drop, take, take_while, nat_lt, Option, None, Some, Result, Ok, Err}
+use Rattle.std.specs.Option.{option_map}
+use Rattle.icn_value.specs.declared.val.Span.{Span}
+use Rattle.icn_value.specs.Store.{Asked, ALine, SomeBytes, Outside, with_reading}
+use Rattle.icn_defs.specs.Calls.{GoesOn, ComesTo}
+use Rattle.icn_defs.specs.Interruptions.{LosesPart, asked_of, after_reading}
+use Rattle.icn_defs.specs.Lines.{next_line, next_bytes}
+use Rattle.icn_defs.specs.Rows.{Finds, Fails, Error}
+use Rattle.icn_host.specs.Counts.{one_more}
+use Rattle.icn_heap.specs.Extents.{text_in, value_in}
+use Rattle.icn_heap.specs.Heaps.{extent_of}
+use Rattle.icn_vars.specs.declared.outcome.Halt.{Halt}
+use Rattle.icn_vars.specs.declared.outcome.Halt.TheVariants.{Error as ErrorHalt, Ends as EndsHalt, ReadFault, WriteFault, NoMemory}
+use Rattle.icn_streams.specs.Answers.{Given, setting_with}
+use Rattle.icn_streams.specs.declared.ask.Ask.{Ask}
+use Rattle.icn_streams.specs.declared.ask.Ask.TheVariants.{Line, Bytes}
+
+abbrev pub asked_in : Ask → Asked
+asked_in Line = ALine
+asked_in (Bytes count) = SomeBytes count
+
+-- whether there is something to be read
+abbrev pub is_there : Asked → List ℕ → Bool
+is_there ALine left = nat_lt 0 (length left)
+is_there (SomeBytes count) left = nat_lt 0 (length (take count left))
+
+-- what is read: a line without its newline, or so many bytes, or all where fewer are left
+abbrev pub read_of : Asked → List ℕ → List ℕ
+read_of ALine left = take_while (λ byte. not (byte == 10)) left
+read_of (SomeBytes count) left = take count left
+
+-- the part of a row that reads
+abbrev pub next_read : Asked → Finds (List ℕ)
+next_read ALine next = next_line next
+next_read (SomeBytes count) next = next_bytes count next
+
+-- what was asked for was taken from the input
+pub record Fills (asked : Asked) (left : List ℕ) (there : Bool) (bytes : List ℕ) (after : Option (List ℕ)) : Type 0 where
+  pub found : there ≡ is_there asked left
+  pub read : bytes ≡ read_of asked left
+  pub rest : after ≡ Some (drop (asked_of asked left) left)
+
+-- What the reading of a row was answered, where the outside before is one that the input tells: a text, with which
+-- the row goes on; nothing, and the row fails; an error of the row; or a fault or want of memory, where some first
+-- part of what is asked for was taken.
+abbrev pub Reads : Asked → Outside → Given → Given → Result (Option Span) Halt → Type 0
+Reads asked was before after (Ok (Some span)) =
+    GoesOn (next_read asked) (setting_with was before) (text_in (extent_of after.world.heap) span) (setting_with (after_reading asked was) after)
+    × (after.handed.left ≡ Some (after_reading asked was).left)
+Reads asked was before after (Ok None) =
+    ComesTo (next_read asked) (setting_with was before) (Fails (setting_with (with_reading asked was) after))
+    × (after.handed.left ≡ Some was.left)
+Reads asked was before after (Err (ErrorHalt number offending)) =
+    ComesTo (next_read asked) (setting_with was before) (Error number (option_map (value_in (extent_of after.world.heap)) offending) (setting_with (after_reading asked was) after))
+    × (after.handed.left ≡ Some (after_reading asked was).left)
+Reads asked was before after (Err (EndsHalt status)) = ⊥
+Reads asked was before after (Err ReadFault) = LosesPart was.left (asked_of asked was.left) after.handed.left
+Reads asked was before after (Err WriteFault) = ⊥
+Reads asked was before after (Err NoMemory) = LosesPart was.left (asked_of asked was.left) after.handed.left
+
+-- The input's count of faults rose, once, where a fault of it is answered, and stayed where none is. A reading neither
+-- ends the program nor writes.
+abbrev pub InputCause : ℕ → ℕ → Result (Option Span) Halt → Type 0
+InputCause before after (Ok found) = after ≡ before
+InputCause before after (Err (ErrorHalt number offending)) = after ≡ before
+InputCause before after (Err (EndsHalt status)) = ⊥
+InputCause before after (Err ReadFault) = after ≡ one_more before
+InputCause before after (Err WriteFault) = ⊥
+InputCause before after (Err NoMemory) = after ≡ before

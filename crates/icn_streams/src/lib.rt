@@ -1,0 +1,11 @@
+//! What rows read and put, over the input and the outputs that a call is handed; the lines of the input.
+#![tactic(auto)]
+
+mod ask;
+mod filling;
+mod lines;
+mod reading;
+
+pub use ask::Ask;
+pub use lines::{lines_again, lines_row};
+pub use reading::read_text;

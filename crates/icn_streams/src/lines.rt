@@ -1,0 +1,55 @@
+// The lines of the input, one after another.
+ghost use Rattle.std.specs.Prelude.{List};
+ghost use Rattle.std.specs.List.{All};
+ghost use Rattle.icn_host.specs.Sinks.{SinkState};
+ghost use Rattle.icn_defs.specs.Lines as rows;
+ghost use Rattle.icn_heap.specs.Extents.{IsLive};
+ghost use Rattle.icn_heap.specs.Heaps.{extent_of};
+ghost use Rattle.icn_heap.specs.Keys.{file_of};
+ghost use Rattle.icn_streams.specs.Answers.{given};
+ghost use Rattle.icn_streams.specs.Applies.{Applies};
+ghost use Rattle.icn_streams.specs.Handed.{handed};
+
+use crate::ask::Ask;
+use crate::reading::read_text;
+use icn_host::Source;
+use icn_value::{File, Item, Residual, Val};
+use icn_vars::{Halt, Locals, Outcome, World};
+
+/// `!f`: the first line of a file, and then the others. The error is 212 where the file is not the input, and else those of
+/// `lines_again`.
+pub fn lines_row<L: Locals, I: Source>(
+    file: File,
+    w: &mut World,
+    l: &L,
+    buffer: &mut Vec<u8>,
+    input: &mut I,
+) -> Result<Outcome, Halt>
+    requires { All (IsLive (extent_of w.old.heap)) (L.items l.now) }
+    ensures { (output errors : SinkState) → Applies (rows.lines_row (file_of file)) (given w.old (L.items l.now) (handed (I.left input.old) (I.faults input.old) output errors)) (given w.new (L.items l.now) (handed (I.left input.new) (I.faults input.new) output errors)) result }
+{
+    match file {
+        File::Input => lines_again(w, l, buffer, input),
+        _ => Err(Halt::Error(212, Some(Val::Std(file)))),
+    }
+}
+
+/// The next line of the input. It fails at the end. The buffer is room for the line.
+///
+/// # Errors
+///
+/// `Error` is 306. `ReadFault` where the input failed in this call, `NoMemory` where memory ran out.
+pub fn lines_again<L: Locals, I: Source>(
+    w: &mut World,
+    l: &L,
+    buffer: &mut Vec<u8>,
+    input: &mut I,
+) -> Result<Outcome, Halt>
+    requires { All (IsLive (extent_of w.old.heap)) (L.items l.now) }
+    ensures { (output errors : SinkState) → Applies rows.lines_again (given w.old (L.items l.now) (handed (I.left input.old) (I.faults input.old) output errors)) (given w.new (L.items l.now) (handed (I.left input.new) (I.faults input.new) output errors)) result }
+{
+    match read_text(Ask::Line, w, l, buffer, input)? {
+        Some(line) => Ok(Outcome::Suspends(Item::Val(Val::Text(line)), Residual::InputLines)),
+        None => Ok(Outcome::Fails),
+    }
+}
