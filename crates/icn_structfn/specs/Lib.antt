@@ -1,0 +1,4 @@
+pub mod Adding
+pub mod Copies
+pub mod Keepers
+pub mod Functions

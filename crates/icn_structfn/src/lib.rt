@@ -1,0 +1,13 @@
+//! The functions over lists, sets, tables and records.
+#![tactic(auto)]
+
+mod adding;
+mod ends;
+mod keys;
+mod making;
+mod making_rows;
+
+pub use adding::{push, put};
+pub use ends::{get, pull};
+pub use keys::{delete, insert, key, key_again, member};
+pub use making_rows::{copy, list, set, table};

@@ -1,0 +1,117 @@
+// Rows that make a structure.
+ghost use Rattle.std.specs.Prelude.{◌≡◌, map, IfErr, IfOk};
+ghost use Rattle.std.specs.List.{All};
+ghost use Rattle.icn_value.specs.Store.{Outside};
+ghost use Rattle.icn_defs.specs.Structures.{copy_row, list_row, set_row, table_row};
+ghost use Rattle.icn_heap.specs.Extents.{IsLive, value_in};
+ghost use Rattle.icn_heap.specs.Heaps.{extent_of, heap_of};
+ghost use Rattle.icn_vars.specs.Outcomes.{IsLiveAnswer};
+ghost use Rattle.icn_vars.specs.Worlds.{KeepsItems, reach_of, setting_of};
+ghost use Rattle.icn_args.specs.Words.{Answers, Found};
+ghost use Rattle.icn_vars.specs.Stops.{IsLiveStop};
+ghost use Rattle.icn_structfn.specs.Copies.{copy_of_value, set_of_value};
+
+use crate::making::{filled_list, new_record, new_set, new_table, set_like, table_like};
+use icn_args::{arg, integer_of, natural_of, new_list, value_or};
+use icn_value::{Item, Val};
+use icn_vars::{Halt, Locals, Outcome, Stop, World};
+
+/// `list(i, x)`: a list of so many times one value.
+pub fn list<L: Locals>(w: &mut World, l: &L, args: &[Val]) -> Result<Outcome, Halt>
+    requires locals { All (IsLive (extent_of w.old.heap)) (L.items l.now) }
+    requires args { All (IsLive (extent_of w.old.heap)) args.now }
+    ensures row { Answers w.old (L.items l.now) w.new (L.items l.now) (list_row (map (value_in (extent_of w.old.heap)) args.now)) result }
+    ensures live { IsLiveAnswer (reach_of w.new (L.items l.now)) result }
+    ensures locals { All (IsLive (extent_of w.new.heap)) (L.items l.now) }
+    ensures kept { KeepsItems (reach_of w.old (L.items l.now)) (reach_of w.new (L.items l.now)) }
+{
+    let n = integer_of(&w.heap, value_or(Val::Integer(0), arg(args, 0)))?;
+    let count = natural_of(n, arg(args, 0))?;
+    let list = filled_list(w, l, count, arg(args, 1))?;
+    Ok(Outcome::Gives(Item::Val(list)))
+}
+
+/// `table(x)`: a table without pairs, with a value for the keys that are not there.
+pub fn table<L: Locals>(w: &mut World, l: &L, args: &[Val]) -> Result<Outcome, Halt>
+    requires locals { All (IsLive (extent_of w.old.heap)) (L.items l.now) }
+    requires args { All (IsLive (extent_of w.old.heap)) args.now }
+    ensures row { Answers w.old (L.items l.now) w.new (L.items l.now) (table_row (map (value_in (extent_of w.old.heap)) args.now)) result }
+    ensures live { IsLiveAnswer (reach_of w.new (L.items l.now)) result }
+    ensures locals { All (IsLive (extent_of w.new.heap)) (L.items l.now) }
+    ensures kept { KeepsItems (reach_of w.old (L.items l.now)) (reach_of w.new (L.items l.now)) }
+{
+    let table = new_table(w, l, arg(args, 0))?;
+    Ok(Outcome::Gives(Item::Val(table)))
+}
+
+/// `set(L)`: a set of the elements of a list, or an empty one.
+pub fn set<L: Locals>(w: &mut World, l: &L, args: &[Val]) -> Result<Outcome, Halt>
+    requires locals { All (IsLive (extent_of w.old.heap)) (L.items l.now) }
+    requires args { All (IsLive (extent_of w.old.heap)) args.now }
+    ensures row { Answers w.old (L.items l.now) w.new (L.items l.now) (set_row (map (value_in (extent_of w.old.heap)) args.now)) result }
+    ensures live { IsLiveAnswer (reach_of w.new (L.items l.now)) result }
+    ensures locals { All (IsLive (extent_of w.new.heap)) (L.items l.now) }
+    ensures kept { KeepsItems (reach_of w.old (L.items l.now)) (reach_of w.new (L.items l.now)) }
+{
+    let set = set_of(w, l, arg(args, 0))?;
+    Ok(Outcome::Gives(Item::Val(set)))
+}
+
+// A set of the elements of a list, or an empty one of null. The error is 108 for other values.
+fn set_of<L: Locals>(w: &mut World, l: &L, val: Val) -> Result<Val, Stop>
+    requires locals { All (IsLive (extent_of w.old.heap)) (L.items l.now) }
+    requires val { IsLive (extent_of w.old.heap) val }
+    ensures live { IfOk result (IsLive (extent_of w.new.heap)) }
+    ensures stops { IfErr result (IsLiveStop (extent_of w.new.heap)) }
+    ensures found { (outside : Outside) → Found (extent_of w.new.heap) (set_of_value (value_in (extent_of w.old.heap) val)) (setting_of outside w.old (L.items l.now)) (setting_of outside w.new (L.items l.now)) (value_in (extent_of w.new.heap)) result }
+    ensures locals { All (IsLive (extent_of w.new.heap)) (L.items l.now) }
+    ensures kept { KeepsItems (reach_of w.old (L.items l.now)) (reach_of w.new (L.items l.now)) }
+{
+    match val {
+        Val::Null => new_set(w, l, &[]),
+        Val::List(id) => {
+            let items = w.heap.items(id)?;
+            new_set(w, l, &items)
+        }
+        _ => Err(Stop::Error(108, Some(val))),
+    }
+}
+
+/// `copy(x)`: a structure with the elements of another one, and any other value itself.
+pub fn copy<L: Locals>(w: &mut World, l: &L, args: &[Val]) -> Result<Outcome, Halt>
+    requires locals { All (IsLive (extent_of w.old.heap)) (L.items l.now) }
+    requires args { All (IsLive (extent_of w.old.heap)) args.now }
+    ensures row { Answers w.old (L.items l.now) w.new (L.items l.now) (copy_row (map (value_in (extent_of w.old.heap)) args.now)) result }
+    ensures live { IsLiveAnswer (reach_of w.new (L.items l.now)) result }
+    ensures locals { All (IsLive (extent_of w.new.heap)) (L.items l.now) }
+    ensures kept { KeepsItems (reach_of w.old (L.items l.now)) (reach_of w.new (L.items l.now)) }
+{
+    let copy = copy_of(w, l, arg(args, 0))?;
+    Ok(Outcome::Gives(Item::Val(copy)))
+}
+
+// A structure with the elements of another one. Any other value is its own copy.
+fn copy_of<L: Locals>(w: &mut World, l: &L, val: Val) -> Result<Val, Stop>
+    requires locals { All (IsLive (extent_of w.old.heap)) (L.items l.now) }
+    requires val { IsLive (extent_of w.old.heap) val }
+    ensures live { IfOk result (IsLive (extent_of w.new.heap)) }
+    ensures stops { IfErr result (IsLiveStop (extent_of w.new.heap)) }
+    ensures found { (outside : Outside) → Found (extent_of w.new.heap) (copy_of_value (value_in (extent_of w.old.heap) val)) (setting_of outside w.old (L.items l.now)) (setting_of outside w.new (L.items l.now)) (value_in (extent_of w.new.heap)) result }
+    ensures locals { All (IsLive (extent_of w.new.heap)) (L.items l.now) }
+    ensures kept { KeepsItems (reach_of w.old (L.items l.now)) (reach_of w.new (L.items l.now)) }
+{
+    match val {
+        Val::List(id) => {
+            let items = w.heap.items(id)?;
+            new_list(w, l, &items)
+        }
+        Val::Set(id) => set_like(w, l, id),
+        Val::Table(id) => table_like(w, l, id),
+        Val::Rec(id) => {
+            let kind = w.heap.kind(id);
+            let fields = Vec::from_slice(*w.globals.allocator(), w.heap.fields(id))?;
+            new_record(w, l, kind, &fields)
+        }
+        _ => Ok(val),
+    }
+}
