@@ -1,3 +1,7 @@
+mod Coming
+mod Steps
 mod Fillings
 mod Images
 mod Trims
+mod KeptArguments
+mod NamedRecords

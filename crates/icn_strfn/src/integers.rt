@@ -2,6 +2,7 @@
 ghost use Rattle.std.specs.Prelude.{◌≡◌, ◌+◌, ℕ, negsuc, pos, unsigned_abs};
 ghost use Rattle.icn_text.specs.IntegerArithmetic.{within_64_bits};
 ghost use Rattle.icn_defs.specs.Strings.{shifted};
+ghost use Rattle.icn_strfn.specs.Checks.{natural_in};
 
 use icn_text::Arith;
 
@@ -20,6 +21,13 @@ pub fn shifted(m: i64, n: i64) -> i64
         Ok(count) => shifted_left(m, count),
         Err(_) => shifted_right(m, n.unsigned_abs()),
     }
+}
+
+// An integer at or above 0.
+pub fn natural(n: i64) -> Option<u64>
+    ensures { result ≡ natural_in n }
+{
+    u64::try_from(n).ok()
 }
 
 fn shifted_left(m: i64, count: u64) -> i64

@@ -1,0 +1,26 @@
+use Rattle.std.proofs.Common.{◌∙◌, sym, ap, map, reverse}
+use Rattle.icn_defs.specs.Rows.{builds, costs_text}
+use Rattle.icn_defs.specs.Strings.{reverse_row}
+use Rattle.icn_heap.specs.Extents.{value_in}
+use Rattle.icn_heap.specs.Heaps.{extent_of}
+use Rattle.icn_vars.proofs.KeptItems.{items_then}
+use Rattle.icn_vars.specs.Worlds.{setting_of}
+use Rattle.icn_args.specs.Words.{the_text}
+use Rattle.icn_strfn.proofs.Coming.{goes_on, stops_at}
+use Rattle.icn_strfn.proofs.Steps as steps
+use Rattle.icn_strfn.proofs.text_rows.reverse_row.Goals as goal
+
+pub returns-in_err-span-clause-row : goal.returns-in_err-span-clause-row
+returns-in_err-span-clause-row g c = λ outside.
+    stops_at (extent_of c.text_of.new.w.heap) (reverse_row (map (value_in (extent_of c.args.w.now.heap)) c.args.args.now)) (costs_text (value_in (extent_of c.args.w.now.heap) c.arg-val.result)) (builds (reverse (the_text (value_in (extent_of c.args.w.now.heap) c.arg-val.result)))) (setting_of outside c.args.w.now (g.L.Locals.items c.args.l.now)) (setting_of outside c.args.w.now (g.L.Locals.items c.args.l.now)) (setting_of outside c.text_of.new.w (g.L.Locals.items c.args.l.now)) c.in_err-span.field-0.0 c.from_residual.result
+    (steps.reverse_left (map (value_in (extent_of c.args.w.now.heap)) c.args.args.now) (value_in (extent_of c.args.w.now.heap) c.arg-val.result) (setting_of outside c.args.w.now (g.L.Locals.items c.args.l.now)) (c.arg-val.ensures.value (extent_of c.args.w.now.heap)) (c.if-lacks_text.ensures (extent_of c.args.w.now.heap))) c.from_residual.ensures.1 (c.in_err-span.ensures.step outside)
+
+pub returns-clause-row : goal.returns-clause-row
+returns-clause-row g c = λ outside.
+    goes_on (extent_of c.built.new.w.heap) (reverse_row (map (value_in (extent_of c.args.w.now.heap)) c.args.args.now)) (builds c.deref.result.now) (setting_of outside c.args.w.now (g.L.Locals.items c.args.l.now)) (setting_of outside c.text_of.new.w (g.L.Locals.items c.args.l.now)) (setting_of outside c.built.new.w (g.L.Locals.items c.args.l.now)) c.built.result
+    (steps.reverse_left (map (value_in (extent_of c.args.w.now.heap)) c.args.args.now) (value_in (extent_of c.args.w.now.heap) c.arg-val.result) (setting_of outside c.args.w.now (g.L.Locals.items c.args.l.now)) (c.arg-val.ensures.value (extent_of c.args.w.now.heap)) (c.if-lacks_text.ensures (extent_of c.args.w.now.heap)) ∙ (c.in_ok-span.ensures.step outside (builds (reverse (the_text (value_in (extent_of c.args.w.now.heap) c.arg-val.result))))
+    ∙ ap (λ bytes. builds bytes (setting_of outside c.text_of.new.w (g.L.Locals.items c.args.l.now))) (ap (λ bytes. reverse bytes) (sym c.in_ok-span.ensures.text ∙ sym c.bytes.ensures) ∙ (sym c.in_ok-made.ensures ∙ sym c.deref.ensures.value))))
+    (c.built.ensures.row outside)
+
+pub returns-clause-kept : goal.returns-clause-kept
+returns-clause-kept g c = items_then _ _ _ c.text_of.ensures.kept c.built.ensures.kept

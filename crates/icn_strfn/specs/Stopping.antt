@@ -1,0 +1,32 @@
+-- What a row comes to, as a call answers it that neither ends the program nor meets a fault.
+use Rattle.std.specs.Prelude.{◌≡◌, List, Result, Ok, Err, MatchResult, ⊤}
+use Rattle.std.specs.Option.{option_map}
+use Rattle.icn_value.specs.declared.val.Val.{Val}
+use Rattle.icn_value.specs.Store.{Outside, Setting}
+use Rattle.icn_defs.specs.Rows.{Row, Error as ErrorOutcome}
+use Rattle.icn_heap.specs.Extents.{Extent, value_in}
+use Rattle.icn_heap.specs.Heaps.{extent_of}
+use Rattle.icn_vars.specs.declared.outcome.Outcome.{Outcome}
+use Rattle.icn_vars.specs.declared.stop.Stop.{Stop}
+use Rattle.icn_vars.specs.declared.stop.Stop.TheVariants.{Error, NoMemory}
+use Rattle.icn_vars.specs.declared.world.World.{World}
+use Rattle.icn_vars.specs.Outcomes.{IsLiveOutcome, outcome_in}
+use Rattle.icn_vars.specs.Stops.{IsLiveStop}
+use Rattle.icn_vars.specs.Worlds.{Reach, setting_of}
+
+-- the row comes to this outcome, or to this error; of want of memory this says nothing
+abbrev pub ComesToOutcome : Extent → Row → Setting → Setting → Result Outcome Stop → Type 0
+ComesToOutcome all row before after (Ok outcome) = row before ≡ outcome_in all outcome after
+ComesToOutcome all row before after (Err (Error number offending)) =
+    row before ≡ ErrorOutcome number (option_map (value_in all) offending) after
+ComesToOutcome all row before after (Err NoMemory) = ⊤
+
+-- What the row comes to in the world and with the locals before is what was answered, in the world and with the
+-- same locals after, whatever the outside.
+abbrev pub Gives : World → World → List Val → Row → Result Outcome Stop → Type 0
+Gives old new locals row result =
+    (outside : Outside) → ComesToOutcome (extent_of new.heap) row (setting_of outside old locals) (setting_of outside new locals) result
+
+-- what was answered is of the world
+abbrev pub IsLiveGiven : Reach → Result Outcome Stop → Type 0
+IsLiveGiven reach result = MatchResult result (IsLiveOutcome reach) (IsLiveStop reach.extent)
