@@ -64,7 +64,7 @@ text_found all x a before after (Err NoMemory) value first step is = tt
 
 -- Csets
 
-member_is : (cset : Cset) (byte : ℕ) → byte < 256 → contains (members_of cset) byte ≡ has cset byte
+pub member_is : (cset : Cset) (byte : ℕ) → byte < 256 → contains (members_of cset) byte ≡ has cset byte
 unfolding members_of
 member_is cset byte below = members_pass (has cset) byte below
 

@@ -1,15 +1,18 @@
 -- Two operands, as the rows of two operands want them.
-use Rattle.std.specs.Prelude.{ℕ, ℤ, List, [], ◌∷◌, ◌+◌, length, Result}
+use Rattle.std.specs.Prelude.{ℕ, ℤ, List, [], ◌∷◌, ◌+◌, length, Result, Some}
 use Rattle.std.specs.Ordering.{int_cmp, nat_cmp}
 use Rattle.std.specs.Cmp.Lexicographic.{slice_cmp}
 use Rattle.std.specs.declared.cmp.Ordering.{Ordering}
 use Rattle.icn_text.specs.declared.arithmetic.Arith.{Arith}
+use Rattle.icn_value.specs.Members.{members_of}
+use Rattle.icn_value.specs.declared.cset.Cset.{Cset}
 use Rattle.icn_value.specs.declared.val.Span.{Span}
 use Rattle.icn_value.specs.declared.val.Val.{Val}
 use Rattle.icn_value.specs.Values.{Value, Integer, Item}
 use Rattle.icn_defs.specs.Arguments.{integer, list, number, string}
+use Rattle.icn_defs.specs.Conversions.{cset_of}
 use Rattle.icn_defs.specs.Reading.{the_value}
-use Rattle.icn_defs.specs.Rows.{Row, Finds, ◌>>=◌, ◌>>◌, computed, costs_text, costs_texts, gives_value, here, passing}
+use Rattle.icn_defs.specs.Rows.{Row, Finds, ◌>>=◌, ◌>>◌, computed, costs_text, costs_texts, gives_value, here, passing, present}
 use Rattle.icn_defs.specs.Scanning.{stands, tabs_to}
 use Rattle.icn_heap.specs.Extents.{Extent, text_in, value_in}
 
@@ -108,3 +111,18 @@ three_integers x y z next = do
 -- what three values stand for
 abbrev pub three_in : Extent → Val × Val × Val → Value × Value × Value
 three_in all three = (value_in all three.0, value_in all three.1, value_in all three.2)
+
+-- the cset of a value, or 120
+abbrev pub one_cset : Value → Finds (List ℕ)
+one_cset value = present (cset_of value) 120 (Some value)
+
+-- the csets of two values, or 120
+abbrev pub two_csets : Value → Value → Finds (List ℕ × List ℕ)
+two_csets v w next = do
+  a ← one_cset v
+  b ← one_cset w
+  next (a, b)
+
+-- the members of two csets
+abbrev pub csets_in : Cset × Cset → List ℕ × List ℕ
+csets_in two = (members_of two.0, members_of two.1)

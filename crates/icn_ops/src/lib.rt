@@ -8,6 +8,7 @@ mod lists;
 mod null;
 mod operands;
 mod scanning;
+mod sets;
 mod texts;
 
 pub use arithmetic::{
@@ -24,4 +25,5 @@ pub use counting::{counting_again, to_by_row};
 pub use lists::concatenate_lists_row;
 pub use null::{dereference_row, is_not_null_row, is_null_row, size_row};
 pub use scanning::tab_match_row;
+pub use sets::{difference_row, intersection_row, union_row};
 pub use texts::{complement_row, concatenate_row};
