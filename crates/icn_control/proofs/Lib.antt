@@ -7,3 +7,5 @@ pub mod KeptItems
 pub mod MachineSteps
 pub mod Deref
 pub mod PartSteps
+pub mod ReturnSteps
+pub mod FallSteps

@@ -4,3 +4,4 @@ pub mod Machines
 pub mod Pairs
 pub mod Parts
 pub mod Results
+pub mod Falls

@@ -17,7 +17,7 @@ use Rattle.icn_code.specs.Codes.{Tables}
 use Rattle.icn_run.specs.Rows.{Item, Val as ItemVal, Gives, Error, value_row}
 use Rattle.icn_run.specs.Calls.{Pair}
 use Rattle.icn_run.specs.Stacks.{Frames, swap_newest, swap_oldest}
-use Rattle.icn_run.specs.Step.{State, Store, running, failing, errs, with_world}
+use Rattle.icn_run.specs.Step.{State, Store, running, failing, finished, errs, with_world}
 use Rattle.icn_control.specs.Standing.{done, stack_in}
 use Rattle.icn_control.specs.declared.machine.Stage.{Stage}
 use Rattle.icn_control.specs.declared.machine.Stage.TheVariants as Stages
@@ -30,11 +30,13 @@ RunsWith state st w m = state ≡ running (stack_in (extent_of w.heap) m) (with_
 abbrev pub FailsWith : State Frames Frames → Store Frames → World → FlatStack → Type 0
 FailsWith state st w m = state ≡ failing (stack_in (extent_of w.heap) m) (with_world (world_of w) st)
 
--- one of both; nothing else comes of an instruction that touches the stack and the world alone
+-- one of both, or the run is over, as a caller is not there; nothing else comes of an instruction that touches the stack and the world alone
 abbrev pub StandsWith : State Frames Frames → Store Frames → World → FlatStack → Stage → Type 0
 StandsWith state st w m Stages.Runs = RunsWith state st w m
 StandsWith state st w m Stages.Fails = FailsWith state st w m
-StandsWith state st w m stage = ⊥
+StandsWith state st w m Stages.Over = state ≡ finished (with_world (world_of w) st)
+StandsWith state st w m Stages.HopDue = ⊥
+StandsWith state st w m Stages.AtBound = ⊥
 
 -- an error, or want of memory
 abbrev pub HaltsWith : State Frames Frames → Store Frames → World → Halt → Type 0

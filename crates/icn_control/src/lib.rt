@@ -2,17 +2,20 @@
 #![tactic(auto)]
 
 mod activation;
+mod failing;
 mod limits;
 mod literals;
 mod machine;
 mod marks;
 mod on_stack;
+mod returns;
 mod scans;
 mod turns;
 mod values;
 mod world;
 
 pub use activation::Activation;
+pub use failing::{Due, fall};
 pub use limits::{give_value, limit};
 pub use literals::{push_global, push_integer, push_local};
 pub use machine::{Machine, Stage};
@@ -21,7 +24,8 @@ pub use on_stack::{
     change_label, drop_mark, drop_operand, duplicate, give_limited, give_suspended, go_to,
     open_mark, push_below, push_null, put,
 };
-pub use scans::swap_pairs;
+pub use returns::{give_back, leave_failing, result_of, suspend_with};
+pub use scans::{swap_if_scanning, swap_pairs};
 pub use turns::go_back;
 pub use values::value_of;
 pub use world::{restore_pair, set_pair};

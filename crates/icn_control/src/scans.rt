@@ -7,7 +7,9 @@ ghost use Rattle.icn_vars.specs.Worlds.{reach_of, world_of};
 ghost use Rattle.icn_frames.specs.Stacks as flat;
 ghost use Rattle.icn_control.specs.Living.{IsLiveStack};
 ghost use Rattle.icn_control.specs.Pairs.{paired};
-ghost use Rattle.icn_control.specs.Standing.{pair_in};
+ghost use Rattle.icn_control.specs.Standing.{pair_in, stack_in};
+ghost use Rattle.icn_run.specs.Stacks.{Frames as FramesRead, flat as calls};
+ghost use Rattle.icn_run.specs.Step.{State, Store, maybe_exchanged, pair_now, with_world};
 
 use crate::world::set_pair;
 use icn_cells::Stack;
@@ -28,4 +30,18 @@ pub fn swap_pairs<K: Stack<Cell> + Drop>(frames: &mut Frames<K>, world: &mut Wor
 {
     let pair = frames.swap_pair(oldest, world.pair);
     set_pair(world, pair);
+}
+
+/// Exchanges the pair of the world with that of the oldest open scan of the procedure, if one is open. It takes no memory.
+pub fn swap_if_scanning<K: Stack<Cell> + Drop>(frames: &mut Frames<K>, world: &mut World)
+    requires live { (tables : Tables) × IsLiveStack tables (reach_of world.old []) frames.old.flat }
+    ensures step { (st : Store FramesRead) (next : FramesRead → Store FramesRead → State FramesRead FramesRead) → st.world ≡ world_of world.old → maybe_exchanged (calls.swap_oldest (pair_now st) (stack_in (extent_of world.old.heap) frames.old.flat)) (stack_in (extent_of world.old.heap) frames.old.flat) st next ≡ next (stack_in (extent_of world.new.heap) frames.new.flat) (with_world (world_of world.new) st) }
+    ensures spare { frames.new.spare ≡ frames.old.spare }
+    ensures live { (tables : Tables) → IsLiveStack tables (reach_of world.old []) frames.old.flat → IsLiveStack tables (reach_of world.new []) frames.new.flat }
+    ensures heap { world.new.heap ≡ world.old.heap }
+    ensures reach { reach_of world.new [] ≡ reach_of world.old [] }
+{
+    if frames.scanning() {
+        swap_pairs(frames, world, true);
+    }
 }

@@ -1,0 +1,83 @@
+// One step of failing, but for what counts turns or other stacks.
+ghost use Rattle.std.specs.Prelude.{◌≡◌, ◌≢◌, [], false, IsSome};
+ghost use Rattle.icn_code.specs.Codes.{Tables};
+ghost use Rattle.icn_heap.specs.Heaps.{extent_of};
+ghost use Rattle.icn_vars.specs.Worlds.{Reach, reach_of, world_of};
+ghost use Rattle.icn_frames.specs.Stacks as flat;
+ghost use Rattle.icn_run.specs.Stacks.{Frames as FramesRead, flat as calls};
+ghost use Rattle.icn_run.specs.Step.{Store, fails, stuck};
+ghost use Rattle.icn_control.specs.Falls.{DropsTo, FallsTo, IsLiveDue};
+ghost use Rattle.icn_control.specs.Living.{IsLiveStack, StaysLive};
+ghost use Rattle.icn_control.specs.Standing.{stack_in};
+
+use crate::scans::swap_pairs;
+use crate::world::set_pair;
+use icn_cells::Stack;
+use icn_frames::{Cell, Frames, Why};
+use icn_value::Residual;
+use icn_vars::World;
+
+/// What is due after a step of failing.
+#[derive(Clone, Copy, Debug, PartialEq, Eq)]
+pub enum Due {
+    /// The code goes on failing.
+    Failing,
+    /// The next instruction.
+    Running,
+    /// A turn, and then the next instruction: something begins again.
+    Beginning,
+    /// A turn, and then the operation or function that was suspended.
+    Resuming(Residual),
+    /// A turn, and then the procedure that was suspended.
+    Reentering,
+    /// The procedure or the create body ends, as it has no mark left.
+    Leaving,
+}
+
+/// One step of failing: the newest suspension of the innermost mark comes back, and where there is none the mark is dropped.
+/// It takes no memory.
+pub fn fall<K: Stack<Cell> + Drop>(frames: &mut Frames<K>, world: &mut World) -> Due
+    requires live { (tables : Tables) × IsLiveStack tables (reach_of world.old []) frames.old.flat }
+    requires goes_on { (tables : Tables) × ((st : Store FramesRead) × (fails calls tables (stack_in (extent_of world.old.heap) frames.old.flat) st ≢ stuck)) }
+    ensures step { (tables : Tables) (st : Store FramesRead) → st.world ≡ world_of world.old → FallsTo tables (fails calls tables (stack_in (extent_of world.old.heap) frames.old.flat) st) st world.new frames.new.flat result }
+    ensures live { (tables : Tables) → IsLiveStack tables (reach_of world.old []) frames.old.flat → IsLiveStack tables (reach_of world.new []) frames.new.flat }
+    ensures due { IsLiveDue (reach_of world.new []) frames.new.flat result }
+    ensures heap { world.new.heap ≡ world.old.heap }
+    ensures reach { reach_of world.new [] ≡ reach_of world.old [] }
+{
+    match frames.resume() {
+        None => drop_failed(frames),
+        Some(Why::Alt) => Due::Failing,
+        Some(Why::Op(rest)) => Due::Resuming(rest),
+        Some(Why::Scan(pair)) => {
+            set_pair(world, pair);
+            Due::Failing
+        }
+        Some(Why::Escan) => {
+            swap_pairs(frames, world, false);
+            Due::Failing
+        }
+        Some(Why::Proc) => Due::Reentering,
+    }
+}
+
+// The innermost mark is dropped, as nothing in it can be resumed.
+fn drop_failed<K: Stack<Cell> + Drop>(frames: &mut Frames<K>) -> Due
+    ensures step { DropsTo frames.old.flat frames.new.flat result }
+    ensures live { StaysLive frames.old.flat frames.new.flat }
+    ensures due { (reach : Reach) → IsLiveDue reach frames.new.flat result }
+{
+    if frames.at_base() {
+        return Due::Leaving;
+    }
+    let label = frames.label();
+    let again = frames.relabelled();
+    frames.unmark();
+    match label {
+        None => Due::Failing,
+        Some(place) => {
+            frames.go(place);
+            if again { Due::Beginning } else { Due::Running }
+        }
+    }
+}

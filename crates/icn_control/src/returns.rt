@@ -1,0 +1,145 @@
+// Instructions that end a procedure, or suspend it.
+ghost use Rattle.std.specs.Prelude.{◌≡◌, ◌<◌, ◌≤◌, ℕ, [], false, IsSome, IfSome, IfOk, OnOk, IfErr, MatchResult};
+ghost use Rattle.icn_code.specs.Codes.{Tables};
+ghost use Rattle.icn_code.specs.declared.instr.Instr.TheVariants as Instrs;
+ghost use Rattle.icn_heap.specs.Heaps.{extent_of};
+ghost use Rattle.icn_vars.specs.Outcomes.{IsLiveHalt};
+ghost use Rattle.icn_vars.specs.Stops.{IsLiveStop, halt_of};
+ghost use Rattle.icn_vars.specs.Worlds.{IsLiveItem, item_in, reach_of, world_of};
+ghost use Rattle.icn_frames.specs.Stacks as flat;
+ghost use Rattle.icn_run.specs.Rows.{Item as ItemRead};
+ghost use Rattle.icn_run.specs.Stacks.{Frames as FramesRead, flat as calls};
+ghost use Rattle.icn_run.specs.Step.{State, Store, proc_fails, with_result};
+ghost use Rattle.icn_control.specs.Living.{IsLiveStack, with_locals};
+ghost use Rattle.icn_control.specs.Parts.{ComesWith, HaltsWith, StandsWith};
+ghost use Rattle.icn_control.specs.Results.{is_local_item, is_local_root};
+ghost use Rattle.icn_control.specs.Standing.{stack_in};
+
+use crate::machine::Stage;
+use crate::on_stack::put;
+use crate::scans::swap_if_scanning;
+use crate::values::value_of;
+use crate::world::restore_pair;
+use icn_cells::Stack;
+use icn_frames::{Cell, Frames, Why};
+use icn_value::{Item, Root, VarRef};
+use icn_vars::{Halt, Stop, World};
+
+// Whether a variable is rooted in a local.
+fn is_local_root(root: Root) -> bool
+    ensures { result ≡ is_local_root root }
+{
+    match root {
+        Root::Local(_) => true,
+        Root::Global(_) => false,
+        Root::Static(_) => false,
+        Root::Element { .. } => false,
+        Root::Field { .. } => false,
+        Root::Key { .. } => false,
+        Root::Keyword(_) => false,
+    }
+}
+
+// Whether an item is a local, or a part of one.
+fn is_local(item: Item) -> bool
+    ensures { result ≡ is_local_item item }
+{
+    match item {
+        Item::Val(_) => false,
+        Item::Var(VarRef::Whole(root)) => is_local_root(root),
+        Item::Var(VarRef::Part { root, .. }) => is_local_root(root),
+    }
+}
+
+/// What a procedure gives of a result: of a local, or a part of one, its value. The error is that of the value.
+pub fn result_of<K: Stack<Cell> + Drop>(
+    frames: &mut Frames<K>,
+    world: &World,
+    item: Item,
+) -> Result<Item, Stop>
+    requires stack { (tables : Tables) × IsLiveStack tables (reach_of world.now []) frames.old.flat }
+    requires item { IsLiveItem (with_locals (flat.local_count frames.old.flat) (reach_of world.now [])) item }
+    ensures same { frames.new.flat ≡ frames.old.flat }
+    ensures spare { frames.new.spare ≡ frames.old.spare }
+    ensures live { IfOk result (λ x. (n : ℕ) → IsLiveItem (with_locals n (reach_of world.now [])) x) }
+    ensures stops { IfErr result (IsLiveStop (extent_of world.now.heap)) }
+    ensures value { (st : Store FramesRead) (next : ItemRead → State FramesRead FramesRead) → st.world ≡ world_of world.now → MatchResult result (λ x. with_result calls (item_in (extent_of world.now.heap) item) (stack_in (extent_of world.now.heap) frames.old.flat) st next ≡ next (item_in (extent_of world.now.heap) x)) (λ stop. HaltsWith (with_result calls (item_in (extent_of world.now.heap) item) (stack_in (extent_of world.now.heap) frames.old.flat) st next) st world.now (halt_of stop)) }
+{
+    if is_local(item) {
+        let v = value_of(frames, world, item)?;
+        return Ok(Item::Val(v));
+    }
+    Ok(item)
+}
+
+/// Ends the procedure, which fails, and all its scans are left. It takes no memory.
+pub fn leave_failing<K: Stack<Cell> + Drop>(frames: &mut Frames<K>, world: &mut World) -> Stage
+    requires live { (tables : Tables) × IsLiveStack tables (reach_of world.old []) frames.old.flat }
+    ensures step { (st : Store FramesRead) → st.world ≡ world_of world.old → StandsWith (proc_fails calls (stack_in (extent_of world.old.heap) frames.old.flat) st) st world.new frames.new.flat result }
+    ensures live { (tables : Tables) → IsLiveStack tables (reach_of world.old []) frames.old.flat → IsLiveStack tables (reach_of world.new []) frames.new.flat }
+    ensures heap { world.new.heap ≡ world.old.heap }
+    ensures reach { reach_of world.new [] ≡ reach_of world.old [] }
+{
+    let pair = frames.oldest_pair();
+    restore_pair(world, pair);
+    if frames.is_base() {
+        return Stage::Over;
+    }
+    frames.leave();
+    Stage::Fails
+}
+
+/// Returns from the procedure with the top operand, and all its scans are left.
+///
+/// The error is that of the value.
+pub fn give_back<K: Stack<Cell> + Drop>(
+    frames: &mut Frames<K>,
+    world: &mut World,
+) -> Result<Stage, Halt>
+    requires operand { IsSome (flat.pop frames.old.flat) }
+    requires live { (tables : Tables) × IsLiveStack tables (reach_of world.old []) frames.old.flat }
+    ensures step { ComesWith Instrs.Pret world.old frames.old.flat world.new frames.new.flat result }
+    ensures live { (tables : Tables) → IsLiveStack tables (reach_of world.old []) frames.old.flat → OnOk result (IsLiveStack tables (reach_of world.new []) frames.new.flat) }
+    ensures halt { IfErr result (IsLiveHalt (reach_of world.new [])) }
+    ensures heap { world.new.heap ≡ world.old.heap }
+    ensures reach { reach_of world.new [] ≡ reach_of world.old [] }
+{
+    let x = frames.pop();
+    let r = result_of(frames, world, x)?;
+    let pair = frames.oldest_pair();
+    restore_pair(world, pair);
+    if frames.is_base() {
+        return Ok(Stage::Over);
+    }
+    frames.leave();
+    put(frames, r);
+    Ok(Stage::Runs)
+}
+
+/// Suspends the procedure with the top operand, which stays in it; of its scans the caller's pair comes back.
+///
+/// The error is that of the value, or want of memory.
+pub fn suspend_with<K: Stack<Cell> + Drop>(
+    frames: &mut Frames<K>,
+    world: &mut World,
+) -> Result<Stage, Halt>
+    requires operand { IsSome (flat.pop frames.old.flat) }
+    requires live { (tables : Tables) × IsLiveStack tables (reach_of world.old []) frames.old.flat }
+    ensures step { ComesWith Instrs.Psusp world.old frames.old.flat world.new frames.new.flat result }
+    ensures live { (tables : Tables) → IsLiveStack tables (reach_of world.old []) frames.old.flat → OnOk result (IsLiveStack tables (reach_of world.new []) frames.new.flat) }
+    ensures halt { IfErr result (IsLiveHalt (reach_of world.new [])) }
+    ensures heap { world.new.heap ≡ world.old.heap }
+    ensures reach { reach_of world.new [] ≡ reach_of world.old [] }
+{
+    let x = frames.pop();
+    put(frames, x);
+    let r = result_of(frames, world, x)?;
+    swap_if_scanning(frames, world);
+    if frames.is_base() {
+        return Ok(Stage::Over);
+    }
+    match frames.suspend(Why::Proc, Some(r)) {
+        Ok(()) => Ok(Stage::Runs),
+        Err(_) => Err(Halt::NoMemory),
+    }
+}
