@@ -1,0 +1,8 @@
+use Rattle.std.proofs.Common.{◌≡◌, drop}
+use Rattle.icn_tree.specs.TreeOf.{all_of}
+use Rattle.icn_translate.specs.Translation.{body}
+use Rattle.icn_translate.specs.Views.{draft_of}
+use Rattle.icn_translate.proofs.procedure.put_body.Given as goal
+
+abbrev pub invariant-loop-expr : goal.invariant-loop-expr
+invariant-loop-expr l = body (all_of (drop l.expr-index l.exprs)) (draft_of l.builder) ≡ body (all_of l.exprs) (draft_of l.initial.builder)

@@ -1,0 +1,61 @@
+-- The code of a procedure.
+use Rattle.std.specs.Prelude.{ℕ, List, [], ◌++◌, length, map, drop}
+use Rattle.std.specs.List.{flat_map}
+use Rattle.icn_tree.specs.declared.tree.Name.{Name}
+use Rattle.icn_tree.specs.declared.tree.LocalKind.{LocalKind}
+use Rattle.icn_tree.specs.declared.tree.LocalKind.TheVariants as Kept
+use Rattle.icn_tree.specs.Trees.{Locals, Procedure}
+use Rattle.icn_unit.specs.declared.unit.NameKind.{NameKind}
+use Rattle.icn_unit.specs.declared.unit.NameKind.TheVariants.{Parameter, Local, Static, Undeclared}
+use Rattle.icn_unit.specs.declared.unit.UnitInstr.TheVariants.{Pfail}
+use Rattle.icn_unit.specs.declared.unit.UnitName.{UnitName}
+use Rattle.icn_unit.specs.PlainUnits.{Proc}
+use Rattle.icn_translate.specs.Drafts.{Draft, ◌▹◌, put, with_names}
+use Rattle.icn_translate.specs.Translation.{initially, body}
+
+-- Names
+
+abbrev pub entry_of : NameKind → List ℕ → UnitName
+entry_of kind name = record { kind = kind; name = name }
+
+abbrev pub texts_of : List Name → List (List ℕ)
+texts_of names = map (λ name. name.text) names
+
+abbrev pub kind_of : LocalKind → NameKind
+kind_of Kept.Local = Local
+kind_of Kept.Static = Static
+
+abbrev pub local_entries : Locals → List UnitName
+local_entries locals = map (λ name. entry_of (kind_of locals.kind) name.text) locals.names
+
+abbrev pub local_texts : Locals → List (List ℕ)
+local_texts locals = texts_of locals.names
+
+-- the parameters, and then locals and statics as they are declared
+abbrev pub declared_entries : Procedure → List UnitName
+declared_entries procedure = map (λ name. entry_of Parameter name.text) procedure.parameters ++ flat_map local_entries procedure.locals
+
+abbrev pub declared_texts : Procedure → List (List ℕ)
+declared_texts procedure = texts_of procedure.parameters ++ flat_map local_texts procedure.locals
+
+-- The draft before the first instruction. Rules of names see to it that each stands there once.
+abbrev pub begun : Procedure → Draft
+begun procedure = record { instrs = []; labels = 0; names = with_names [] (declared_texts procedure); loops = []; cases = [] }
+
+-- the draft of the whole procedure
+abbrev pub drafted : Procedure → Draft
+drafted procedure = begun procedure ▹ initially procedure.initial ▹ body procedure.body ▹ put Pfail
+
+-- the names that it uses and does not declare, in the order of their first uses
+abbrev pub undeclared : Procedure → List (List ℕ)
+undeclared procedure = drop (length (begun procedure).names) (drafted procedure).names
+
+-- The code of a procedure: its names, and its instructions, whose labels are numbered from 1 in the order of their first
+-- mentions.
+abbrev pub proc_code : Procedure → Proc
+proc_code procedure = record {
+  name = procedure.name.text;
+  collects = procedure.is_variadic;
+  names = declared_entries procedure ++ map (entry_of Undeclared) (undeclared procedure);
+  instrs = (drafted procedure).instrs;
+}

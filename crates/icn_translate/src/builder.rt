@@ -1,0 +1,391 @@
+// The code of a procedure as far as it is written.
+ghost use Rattle.std.specs.Prelude.{◌≡◌, [], IfOk, OnOk, map};
+ghost use Rattle.icn_unit.specs.declared.unit.UnitInstr.TheVariants.{Cofail, Coret, Create as CreateInstr, Efail, Field as FieldInstr, Goto as GotoInstr, Lab as LabInstr, Loop as LoopInstr, Mark as MarkInstr};
+ghost use Rattle.icn_translate.specs.Drafts.{case_end, end_number, in_case, in_loop, innermost, last_number, name_place, next_label, next_number, number_of, numbered, outside_case, outside_loop, put, put_end, put_last, put_next, put_variable, unmentioned, with_end, with_label, with_last, with_name, with_next, ◌▹◌};
+ghost use Rattle.icn_translate.specs.Instructions.{literal_instr};
+ghost use Rattle.icn_translate.specs.Open.{unmarks_for_break, unmarks_for_next};
+ghost use Rattle.icn_translate.specs.Translation.{loop_end, put_mark};
+ghost use Rattle.icn_translate.specs.Views.{draft_of, open_of};
+
+use crate::forms::literal_instr;
+use crate::marks::Open;
+use icn_tree::{Bytes, Literal};
+use icn_unit::UnitInstr;
+use indexmap::IndexSet;
+use std::alloc::{AllocError, Global};
+use std::collections::VecDeque;
+
+/// The labels of an open loop that were mentioned.
+#[derive(Clone, Copy)]
+pub struct Ways {
+    /// The label that `next` goes to.
+    pub next: Option<u32>,
+    /// The last label, which `break` goes to.
+    pub last: Option<u32>,
+}
+
+/// The code of a procedure as far as it is written. Each call that may fail fails for want of memory, or where a number has
+/// no 32 bits.
+#[derive(Drop)]
+pub struct Builder<'a> {
+    /// Where what it keeps is allocated.
+    pub alloc: Global,
+    /// The instructions so far.
+    pub instrs: Vec<UnitInstr>,
+    /// How many labels have a number.
+    pub labels: u32,
+    /// The names so far, those that are declared first.
+    pub names: IndexSet<&'a [u8]>,
+    /// The labels of the open loops, the innermost first.
+    pub loops: VecDeque<Ways>,
+    /// The last labels of the open cases, the innermost first.
+    pub cases: VecDeque<Option<u32>>,
+}
+
+/// A count as an operand.
+pub fn counted(n: usize) -> Result<u32, AllocError>
+    ensures { IfOk result (λ count. count ≡ n) }
+{
+    match u32::try_from(n) {
+        Ok(count) => Ok(count),
+        Err(_) => Err(AllocError),
+    }
+}
+
+impl<'a> Builder<'a> {
+    /// No instructions yet, with these names.
+    #[tactic(auto, unfolding(crate::specs::Views::draft_of))]
+    pub fn new(alloc: Global, names: IndexSet<&'a [u8]>) -> Self
+        ensures { draft_of result ≡ record { instrs = []; labels = 0; names = map (λ name. name.now) names.entry.keys; loops = []; cases = [] } }
+    {
+        Builder {
+            alloc,
+            instrs: Vec::new(alloc),
+            labels: 0,
+            names,
+            loops: VecDeque::new(alloc),
+            cases: VecDeque::new(alloc),
+        }
+    }
+
+    /// The names so far.
+    #[tactic(auto, unfolding(crate::specs::Views::draft_of))]
+    pub fn all_names(&self) -> &[&'a [u8]]
+        ensures { map (λ name. name.now) result.now ≡ (draft_of self.now).names }
+    {
+        self.names.as_slice()
+    }
+
+    /// The instructions.
+    #[tactic(auto, unfolding(crate::specs::Views::draft_of))]
+    pub fn into_instrs(self) -> Vec<UnitInstr>
+        ensures { result.items ≡ (draft_of self.entry).instrs }
+    {
+        self.instrs
+    }
+
+    /// Writes an instruction.
+    #[tactic(auto, unfolding(crate::specs::Views::draft_of, crate::specs::Drafts::put))]
+    pub fn put(&mut self, instr: UnitInstr) -> Result<(), AllocError>
+        ensures { OnOk result (draft_of self.new ≡ put instr (draft_of self.old)) }
+    {
+        self.instrs.push(instr)?;
+        Ok(())
+    }
+
+    /// Writes the instruction of a literal.
+    pub fn put_literal(&mut self, value: &Literal) -> Result<(), AllocError>
+        ensures { OnOk result (draft_of self.new ≡ put (literal_instr value.now) (draft_of self.old)) }
+    {
+        let instr = literal_instr(self.alloc, value)?;
+        self.put(instr)
+    }
+
+    /// Writes `field` with a name.
+    pub fn put_field(&mut self, name: &[u8]) -> Result<(), AllocError>
+        ensures { OnOk result (draft_of self.new ≡ put (FieldInstr name.now) (draft_of self.old)) }
+    {
+        let name = Bytes::from_slice(self.alloc, name)?;
+        self.put(UnitInstr::Field(name))
+    }
+
+    /// Writes two instructions.
+    pub fn put_two(&mut self, first: UnitInstr, second: UnitInstr) -> Result<(), AllocError>
+        ensures { OnOk result (draft_of self.new ≡ put second (put first (draft_of self.old))) }
+    {
+        self.put(first)?;
+        self.put(second)
+    }
+
+    /// A new label.
+    #[tactic(auto, unfolding(crate::specs::Views::draft_of, crate::specs::Drafts::next_label, crate::specs::Drafts::with_label))]
+    pub fn label(&mut self) -> Result<u32, AllocError>
+        ensures number { IfOk result (λ label. label ≡ next_label (draft_of self.old)) }
+        ensures draft { OnOk result (draft_of self.new ≡ with_label (draft_of self.old)) }
+    {
+        let Some(label) = self.labels.checked_add(1) else {
+            return Err(AllocError);
+        };
+        self.labels = label;
+        Ok(label)
+    }
+
+    /// Writes `mark` with a new label.
+    pub fn put_mark(&mut self) -> Result<u32, AllocError>
+        ensures number { IfOk result (λ label. label ≡ next_label (draft_of self.old)) }
+        ensures draft { OnOk result (draft_of self.new ≡ put_mark (draft_of self.old)) }
+    {
+        let label = self.label()?;
+        self.put(UnitInstr::Mark(label))?;
+        Ok(label)
+    }
+
+    // The number of a label, which may have been mentioned.
+    fn number(&mut self, known: Option<u32>) -> Result<u32, AllocError>
+        ensures number { IfOk result (λ label. label ≡ number_of known (draft_of self.old)) }
+        ensures draft { OnOk result (draft_of self.new ≡ numbered known (draft_of self.old)) }
+    {
+        match known {
+            Some(label) => Ok(label),
+            None => self.label(),
+        }
+    }
+
+    /// Writes the variable of a name.
+    #[tactic(auto, unfolding(crate::specs::Views::draft_of, crate::specs::Drafts::put_variable))]
+    pub fn put_variable(&mut self, name: &'a [u8]) -> Result<(), AllocError>
+        ensures { OnOk result (draft_of self.new ≡ put_variable name.now (draft_of self.old)) }
+    {
+        let place = enter_name(&mut self.names, name)?;
+        self.instrs.push(UnitInstr::Var(place))?;
+        Ok(())
+    }
+
+    /// Goes on in one more loop, with these labels.
+    #[tactic(auto, unfolding(crate::specs::Views::draft_of, crate::specs::Drafts::in_loop))]
+    pub fn enter_loop(&mut self, ways: Ways) -> Result<(), AllocError>
+        ensures { OnOk result (draft_of self.new ≡ in_loop ways (draft_of self.old)) }
+    {
+        self.loops.push_front(ways)?;
+        Ok(())
+    }
+
+    /// Goes on outside the innermost loop, and gives its labels.
+    #[tactic(auto, unfolding(crate::specs::Views::draft_of, crate::specs::Drafts::outside_loop, crate::specs::Drafts::innermost))]
+    pub fn leave_loop(&mut self) -> Ways
+        ensures ways { result ≡ innermost (draft_of self.old) }
+        ensures draft { draft_of self.new ≡ outside_loop (draft_of self.old) }
+    {
+        match self.loops.pop_front() {
+            Some(ways) => ways,
+            None => UNMENTIONED,
+        }
+    }
+
+    /// The label that `next` goes to in the innermost loop, which is mentioned.
+    pub fn next_label(&mut self) -> Result<u32, AllocError>
+        ensures number { IfOk result (λ label. label ≡ next_number (draft_of self.old)) }
+        ensures draft { OnOk result (draft_of self.new ≡ with_next (draft_of self.old)) }
+    {
+        let ways = self.leave_loop();
+        let label = self.number(ways.next)?;
+        self.enter_loop(Ways {
+            next: Some(label),
+            last: ways.last,
+        })?;
+        Ok(label)
+    }
+
+    /// The last label of the innermost loop, which is mentioned.
+    pub fn last_label(&mut self) -> Result<u32, AllocError>
+        ensures number { IfOk result (λ label. label ≡ last_number (draft_of self.old)) }
+        ensures draft { OnOk result (draft_of self.new ≡ with_last (draft_of self.old)) }
+    {
+        let ways = self.leave_loop();
+        let label = self.number(ways.last)?;
+        self.enter_loop(Ways {
+            next: ways.next,
+            last: Some(label),
+        })?;
+        Ok(label)
+    }
+
+    /// Goes on in one more case.
+    #[tactic(auto, unfolding(crate::specs::Views::draft_of, crate::specs::Drafts::in_case))]
+    pub fn enter_case(&mut self, end: Option<u32>) -> Result<(), AllocError>
+        ensures { OnOk result (draft_of self.new ≡ in_case end (draft_of self.old)) }
+    {
+        self.cases.push_front(end)?;
+        Ok(())
+    }
+
+    /// Goes on outside the innermost case, and gives its last label.
+    #[tactic(auto, unfolding(crate::specs::Views::draft_of, crate::specs::Drafts::outside_case, crate::specs::Drafts::case_end))]
+    pub fn leave_case(&mut self) -> Option<u32>
+        ensures label { result ≡ case_end (draft_of self.old) }
+        ensures draft { draft_of self.new ≡ outside_case (draft_of self.old) }
+    {
+        match self.cases.pop_front() {
+            Some(end) => end,
+            None => None,
+        }
+    }
+
+    /// The last label of the innermost case, which is mentioned.
+    pub fn end_label(&mut self) -> Result<u32, AllocError>
+        ensures number { IfOk result (λ label. label ≡ end_number (draft_of self.old)) }
+        ensures draft { OnOk result (draft_of self.new ≡ with_end (draft_of self.old)) }
+    {
+        let end = self.leave_case();
+        let label = self.number(end)?;
+        self.enter_case(Some(label))?;
+        Ok(label)
+    }
+
+    /// Writes `unmark` for each mark that was opened in the innermost loop.
+    pub fn put_unmarks_for_break(&mut self, within: Open<'_>) -> Result<(), AllocError>
+        ensures { OnOk result (draft_of self.new ≡ unmarks_for_break (open_of within.entry) (draft_of self.old)) }
+    {
+        match within {
+            Open::Outermost | Open::Loop(_) => Ok(()),
+            Open::Mark(outer) => {
+                self.put(UnitInstr::Unmark)?;
+                self.put_unmarks_for_break(*outer)
+            }
+            Open::Each(_) => self.put(UnitInstr::Unmark),
+        }
+    }
+
+    /// Writes `unmark` for each mark that was opened since the place that `next` goes to was last passed.
+    pub fn put_unmarks_for_next(&mut self, within: Open<'_>) -> Result<(), AllocError>
+        ensures { OnOk result (draft_of self.new ≡ unmarks_for_next (open_of within.entry) (draft_of self.old)) }
+    {
+        match within {
+            Open::Outermost | Open::Loop(_) | Open::Each(_) => Ok(()),
+            Open::Mark(outer) => {
+                self.put(UnitInstr::Unmark)?;
+                self.put_unmarks_for_next(*outer)
+            }
+        }
+    }
+
+    /// Writes a new label at its place.
+    pub fn put_label(&mut self) -> Result<u32, AllocError>
+        ensures number { IfOk result (λ label. label ≡ next_label (draft_of self.old)) }
+        ensures draft { OnOk result (draft_of self.new ≡ (draft_of self.old ▹ with_label ▹ put (LabInstr (next_label (draft_of self.old))))) }
+    {
+        let label = self.label()?;
+        self.put(UnitInstr::Lab(label))?;
+        Ok(label)
+    }
+
+    /// Begins a loop with its first label, and gives the instruction that goes back there.
+    pub fn begin_loop(&mut self) -> Result<UnitInstr, AllocError>
+        ensures back { IfOk result (λ back. back ≡ LoopInstr (next_label (draft_of self.old))) }
+        ensures draft { OnOk result (draft_of self.new ≡ (draft_of self.old ▹ with_label ▹ put (LabInstr (next_label (draft_of self.old))) ▹ in_loop unmentioned)) }
+    {
+        let start = self.put_label()?;
+        self.enter_loop(UNMENTIONED)?;
+        Ok(UnitInstr::Loop(start))
+    }
+
+    /// Writes `mark` with the label that `next` goes to.
+    pub fn put_next_mark(&mut self) -> Result<(), AllocError>
+        ensures { OnOk result (draft_of self.new ≡ put_next MarkInstr (draft_of self.old)) }
+    {
+        let label = self.next_label()?;
+        self.put(UnitInstr::Mark(label))
+    }
+
+    /// Writes what ends a loop: the label that `next` goes to, an instruction, and the last label.
+    pub fn end_loop(&mut self, back: UnitInstr) -> Result<(), AllocError>
+        ensures { OnOk result (draft_of self.new ≡ loop_end back (draft_of self.old)) }
+    {
+        let next = self.next_label()?;
+        self.put_two(UnitInstr::Lab(next), back)?;
+        let last = self.last_label()?;
+        self.put(UnitInstr::Lab(last))?;
+        self.leave_loop();
+        Ok(())
+    }
+
+    /// Writes `goto` to the label that `next` goes to.
+    pub fn put_next_goto(&mut self) -> Result<(), AllocError>
+        ensures { OnOk result (draft_of self.new ≡ put_next GotoInstr (draft_of self.old)) }
+    {
+        let label = self.next_label()?;
+        self.put(UnitInstr::Goto(label))
+    }
+
+    /// Goes on in one more loop, with these labels, and writes `goto` to its last one.
+    pub fn put_last_goto(&mut self, ways: Ways) -> Result<(), AllocError>
+        ensures { OnOk result (draft_of self.new ≡ put_last GotoInstr (in_loop ways (draft_of self.old))) }
+    {
+        self.enter_loop(ways)?;
+        let label = self.last_label()?;
+        self.put(UnitInstr::Goto(label))
+    }
+
+    /// Writes `goto` to the last label of the innermost case.
+    pub fn put_end_goto(&mut self) -> Result<(), AllocError>
+        ensures { OnOk result (draft_of self.new ≡ put_end GotoInstr (draft_of self.old)) }
+    {
+        let label = self.end_label()?;
+        self.put(UnitInstr::Goto(label))
+    }
+
+    /// Ends a case with its last label.
+    pub fn end_case(&mut self) -> Result<(), AllocError>
+        ensures { OnOk result (draft_of self.new ≡ outside_case (put_end LabInstr (draft_of self.old))) }
+    {
+        let label = self.end_label()?;
+        self.put(UnitInstr::Lab(label))?;
+        self.leave_case();
+        Ok(())
+    }
+
+    /// Writes `goto` with a new label, and a label at its place.
+    pub fn put_goto(&mut self, label: u32) -> Result<u32, AllocError>
+        ensures number { IfOk result (λ end. end ≡ next_label (draft_of self.old)) }
+        ensures draft { OnOk result (draft_of self.new ≡ (draft_of self.old ▹ with_label ▹ put (GotoInstr (next_label (draft_of self.old))) ▹ put (LabInstr label))) }
+    {
+        let end = self.label()?;
+        self.put_two(UnitInstr::Goto(end), UnitInstr::Lab(label))?;
+        Ok(end)
+    }
+
+    /// Writes `create` with a new label.
+    pub fn put_create(&mut self) -> Result<u32, AllocError>
+        ensures number { IfOk result (λ label. label ≡ next_label (draft_of self.old)) }
+        ensures draft { OnOk result (draft_of self.new ≡ (draft_of self.old ▹ with_label ▹ put (CreateInstr (next_label (draft_of self.old))))) }
+    {
+        let label = self.label()?;
+        self.put(UnitInstr::Create(label))?;
+        Ok(label)
+    }
+
+    /// Writes what ends a create body, whose marks have these labels.
+    pub fn end_created(&mut self, inner: u32, outer: u32) -> Result<(), AllocError>
+        ensures { OnOk result (draft_of self.new ≡ (draft_of self.old ▹ put Coret ▹ put Efail ▹ put (LabInstr inner) ▹ put Cofail ▹ put (LabInstr outer))) }
+    {
+        self.put_two(UnitInstr::Coret, UnitInstr::Efail)?;
+        self.put_two(UnitInstr::Lab(inner), UnitInstr::Cofail)?;
+        self.put(UnitInstr::Lab(outer))
+    }
+}
+
+/// The labels of a loop of which none was mentioned.
+pub const UNMENTIONED: Ways = Ways {
+    next: None,
+    last: None,
+};
+
+/// The place of a name among names, which it joins where it is new.
+pub fn enter_name<'a>(names: &mut IndexSet<&'a [u8]>, name: &'a [u8]) -> Result<u32, AllocError>
+    ensures place { IfOk result (λ place. place ≡ name_place (map (λ name. name.now) names.old.keys) name.now) }
+    ensures names { OnOk result (map (λ name. name.now) names.new.keys ≡ with_name (map (λ name. name.now) names.old.keys) name.now) }
+{
+    let (place, _) = names.insert_full(name)?;
+    let number = counted(place)?;
+    Ok(number)
+}

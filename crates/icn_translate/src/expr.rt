@@ -1,0 +1,579 @@
+// The code of expressions.
+ghost use Rattle.std.specs.Prelude.{◌≡◌, IfOk, OnOk};
+ghost use Rattle.icn_tree.specs.TreeOf.{all_clauses_of, all_of, clause_of, tree_of};
+ghost use Rattle.icn_translate.specs.Drafts.{next_label};
+ghost use Rattle.icn_translate.specs.Open.{Marked, Outermost as OutermostOpen};
+ghost use Rattle.icn_translate.specs.Translation.{alternative, arguments, back, bounded, case_of, compound, conjunction, control_part, created, creations, default_part, either_step, elements, guarded, guarded_clause, in_body, in_control, is_empty, is_no_element, looped_body, operands, other_creations, prefix_by, subscripts, translate, unless_empty};
+ghost use Rattle.icn_translate.specs.Views.{draft_of, open_of};
+
+use crate::builder::{Builder, UNMENTIONED, counted};
+use crate::forms::{InfixForm, PrefixForm, infix_form, keyword_instr, prefix_form, section_op};
+use crate::marks::{Open, around};
+use icn_text::Op;
+use icn_tree::{Clause, Expr, Infix, LoopKind};
+use icn_unit::UnitInstr;
+use std::alloc::AllocError;
+
+impl<'a> Builder<'a> {
+    /// Writes the code of an expression, with these marks and loops open.
+    #[cycle(translate)]
+    pub fn put_expr(&mut self, expr: &'a Expr, within: Open<'_>) -> Result<(), AllocError>
+        ensures { OnOk result (draft_of self.new ≡ translate (open_of within.entry) (tree_of expr.now) (draft_of self.old)) }
+    {
+        match expr {
+            Expr::Empty => self.put(UnitInstr::Pnull),
+            Expr::Literal { value, .. } => self.put_literal(value),
+            Expr::Identifier { name } => self.put_variable(name.text.as_slice()),
+            Expr::Keyword { name, .. } => self.put(keyword_instr(name.text.as_slice())),
+            Expr::Parentheses { elements, .. } => self.put_conjunction(elements, within),
+            Expr::List { elements, .. } => {
+                let count = self.put_arguments(elements, within)?;
+                self.put(UnitInstr::Llist(count))
+            }
+            Expr::Compound { exprs, .. } => self.put_compound(exprs, within),
+            Expr::Call {
+                callee,
+                arguments,
+                ..
+            } => {
+                self.put_expr(callee, within)?;
+                let count = self.put_arguments(arguments, within)?;
+                self.put(UnitInstr::Invoke(count))
+            }
+            Expr::CoCall {
+                callee,
+                arguments,
+                ..
+            } => {
+                self.put_expr(callee, within)?;
+                let count = self.put_creations(arguments)?;
+                self.put_two(UnitInstr::Llist(count), UnitInstr::Invoke(1))
+            }
+            Expr::Subscript {
+                subject,
+                subscripts,
+                ..
+            } => {
+                self.put_expr(subject, within)?;
+                self.put_subscripts(subscripts, within)
+            }
+            Expr::Section {
+                kind,
+                subject,
+                from,
+                to,
+                ..
+            } => {
+                self.put_expr(subject, within)?;
+                self.put_expr(from, within)?;
+                self.put_expr(to, within)?;
+                self.put(UnitInstr::Op(section_op(*kind)))
+            }
+            Expr::Field { subject, name, .. } => {
+                self.put_expr(subject, within)?;
+                self.put_field(name.text.as_slice())
+            }
+            Expr::Prefix {
+                operator,
+                operand,
+                ..
+            } => self.put_prefix(operand, prefix_form(*operator), within),
+            Expr::Not { operand, .. } => {
+                let label = self.put_mark()?;
+                self.put_expr(operand, Open::Mark(&within))?;
+                self.put_two(UnitInstr::Unmark, UnitInstr::Efail)?;
+                self.put_two(UnitInstr::Lab(label), UnitInstr::Pnull)
+            }
+            Expr::Binary {
+                operator: Infix::Plain(operator),
+                left,
+                right,
+                ..
+            } => match infix_form(*operator) {
+                InfixForm::Both => {
+                    self.put_expr(left, within)?;
+                    self.put(UnitInstr::Pop)?;
+                    self.put_expr(right, within)
+                }
+                InfixForm::Scanning => {
+                    self.put_expr(left, within)?;
+                    self.put(UnitInstr::Bscan)?;
+                    self.put_expr(right, within)?;
+                    self.put(UnitInstr::Escan)
+                }
+                InfixForm::Either => {
+                    let label = self.put_mark()?;
+                    self.put_expr(left, Open::Mark(&within))?;
+                    self.put(UnitInstr::Esusp)?;
+                    self.put_alternative(right, label, within)
+                }
+                InfixForm::Limiting => {
+                    self.put_expr(right, within)?;
+                    self.put(UnitInstr::Limit)?;
+                    self.put_expr(left, Open::Mark(&within))?;
+                    self.put(UnitInstr::Lsusp)
+                }
+                InfixForm::Activating => {
+                    self.put_expr(left, within)?;
+                    self.put_expr(right, within)?;
+                    self.put(UnitInstr::Coact)
+                }
+                InfixForm::Spreading => {
+                    self.put_expr(left, within)?;
+                    self.put_expr(right, within)?;
+                    self.put(UnitInstr::Appl)
+                }
+                InfixForm::Operating(op) => {
+                    self.put_expr(left, within)?;
+                    self.put_expr(right, within)?;
+                    self.put(UnitInstr::Op(op))
+                }
+            },
+            Expr::Binary {
+                operator: Infix::Augmented(operator),
+                left,
+                right,
+                ..
+            } => match infix_form(*operator) {
+                InfixForm::Both => {
+                    self.put_expr(left, within)?;
+                    self.put_expr(right, within)?;
+                    self.put(UnitInstr::Op(Op::Assign))
+                }
+                InfixForm::Scanning => {
+                    self.put_expr(left, within)?;
+                    self.put_two(UnitInstr::Dup, UnitInstr::Bscan)?;
+                    self.put_expr(right, within)?;
+                    self.put_two(UnitInstr::Escan, UnitInstr::Op(Op::Assign))
+                }
+                InfixForm::Either | InfixForm::Limiting => Ok(()),
+                InfixForm::Activating => {
+                    self.put_expr(left, within)?;
+                    self.put(UnitInstr::Dup)?;
+                    self.put_expr(right, within)?;
+                    self.put_two(UnitInstr::Coact, UnitInstr::Op(Op::Assign))
+                }
+                InfixForm::Spreading => {
+                    self.put_expr(left, within)?;
+                    self.put(UnitInstr::Dup)?;
+                    self.put_expr(right, within)?;
+                    self.put_two(UnitInstr::Appl, UnitInstr::Op(Op::Assign))
+                }
+                InfixForm::Operating(op) => {
+                    self.put_expr(left, within)?;
+                    self.put(UnitInstr::Dup)?;
+                    self.put_expr(right, within)?;
+                    self.put_two(UnitInstr::Op(op), UnitInstr::Op(Op::Assign))
+                }
+            },
+            Expr::To { from, to, by, .. } => {
+                self.put_expr(from, within)?;
+                self.put_expr(to, within)?;
+                match by {
+                    Some(by) => {
+                        self.put_expr(by, within)?;
+                        self.put(UnitInstr::Op(Op::ToBy))
+                    }
+                    None => self.put_two(UnitInstr::Int(1), UnitInstr::Op(Op::ToBy)),
+                }
+            }
+            Expr::If {
+                condition,
+                then,
+                otherwise,
+                ..
+            } => match otherwise {
+                Some(otherwise) => {
+                    let label = self.put_mark()?;
+                    self.put_expr(condition, Open::Mark(&within))?;
+                    self.put(UnitInstr::Unmark)?;
+                    self.put_expr(then, within)?;
+                    self.put_alternative(otherwise, label, within)
+                }
+                None => {
+                    self.put(UnitInstr::Mark0)?;
+                    self.put_expr(condition, Open::Mark(&within))?;
+                    self.put(UnitInstr::Unmark)?;
+                    self.put_expr(then, within)
+                }
+            },
+            Expr::Case {
+                subject,
+                clauses,
+                ..
+            } => {
+                self.put(UnitInstr::Mark0)?;
+                self.put_expr(subject, Open::Mark(&within))?;
+                self.put(UnitInstr::Eret)?;
+                self.put_clauses(clauses, within)
+            }
+            Expr::Loop {
+                kind,
+                control,
+                body,
+                ..
+            } => {
+                let back = self.put_control(control, *kind, within)?;
+                match body {
+                    Some(body) => {
+                        self.put_looped(body, *kind, within)?;
+                        self.end_loop(back)
+                    }
+                    None => self.end_loop(back),
+                }
+            }
+            Expr::Repeat { body, .. } => {
+                let back = self.begin_loop()?;
+                self.put_looped(body, LoopKind::While, within)?;
+                self.end_loop(back)
+            }
+            Expr::Create { body, .. } => self.put_created(body),
+            Expr::Next { .. } => {
+                self.put_unmarks_for_next(within)?;
+                self.put_next_goto()
+            }
+            Expr::Fail { .. } => self.put(UnitInstr::Pfail),
+            Expr::Break { value, .. } => {
+                self.put_unmarks_for_break(within)?;
+                let ways = self.leave_loop();
+                self.put_expr(value, around(within))?;
+                self.put_last_goto(ways)
+            }
+            Expr::Return { value, .. } => {
+                let label = self.put_mark()?;
+                self.put_expr(value, Open::Mark(&within))?;
+                self.put_two(UnitInstr::Pret, UnitInstr::Lab(label))?;
+                self.put(UnitInstr::Pfail)
+            }
+            Expr::Suspend { value, body, .. } => {
+                let marked = Open::Mark(&within);
+                self.put(UnitInstr::Mark0)?;
+                self.put_expr(value, marked)?;
+                self.put_two(UnitInstr::Psusp, UnitInstr::Pop)?;
+                match body {
+                    Some(body) => {
+                        self.put_bounded(body, Open::Mark(&marked))?;
+                        self.put(UnitInstr::Efail)
+                    }
+                    None => {
+                        self.put_label()?;
+                        self.put(UnitInstr::Efail)
+                    }
+                }
+            }
+        }
+    }
+
+    // An operator before its operand.
+    #[cycle(translate)]
+    fn put_prefix(
+        &mut self,
+        operand: &'a Expr,
+        form: PrefixForm,
+        within: Open<'_>,
+    ) -> Result<(), AllocError>
+        ensures { OnOk result (draft_of self.new ≡ prefix_by form (translate (open_of within.entry) (tree_of operand.now)) (translate (Marked (open_of within.entry)) (tree_of operand.now)) (draft_of self.old)) }
+    {
+        match form {
+            PrefixForm::Activation => {
+                self.put(UnitInstr::Pnull)?;
+                self.put_expr(operand, within)?;
+                self.put(UnitInstr::Coact)
+            }
+            PrefixForm::Repetition => {
+                let again = self.put_label()?;
+                self.put(UnitInstr::Mark0)?;
+                self.put_expr(operand, Open::Mark(&within))?;
+                self.put_two(UnitInstr::Chfail(again), UnitInstr::Esusp)
+            }
+            PrefixForm::Operation(op) => {
+                self.put_expr(operand, within)?;
+                self.put(UnitInstr::Op(op))
+            }
+        }
+    }
+
+    // A branch behind another one, where the label before it is this.
+    #[cycle(translate)]
+    fn put_alternative(
+        &mut self,
+        branch: &'a Expr,
+        label: u32,
+        within: Open<'_>,
+    ) -> Result<(), AllocError>
+        ensures { OnOk result (draft_of self.new ≡ alternative (translate (open_of within.entry) (tree_of branch.now)) label (draft_of self.old)) }
+    {
+        let end = self.put_goto(label)?;
+        self.put_expr(branch, within)?;
+        self.put(UnitInstr::Lab(end))
+    }
+
+    /// Writes the code of an expression in a mark with a new label, where this is open in that mark.
+    #[cycle(translate)]
+    pub fn put_bounded(&mut self, expr: &'a Expr, marked: Open<'_>) -> Result<(), AllocError>
+        ensures { OnOk result (draft_of self.new ≡ bounded (translate (open_of marked.entry) (tree_of expr.now)) (draft_of self.old)) }
+    {
+        let label = self.put_mark()?;
+        self.put_expr(expr, marked)?;
+        self.put_two(UnitInstr::Unmark, UnitInstr::Lab(label))
+    }
+
+    // A loop with its control expression, before its `do` part. The instruction goes on with the next pass.
+    #[cycle(translate)]
+    fn put_control(
+        &mut self,
+        control: &'a Expr,
+        kind: LoopKind,
+        within: Open<'_>,
+    ) -> Result<UnitInstr, AllocError>
+        ensures back { IfOk result (λ instr. instr ≡ back kind (next_label (draft_of self.old))) }
+        ensures draft { OnOk result (draft_of self.new ≡ control_part kind (translate (in_control kind (open_of within.entry)) (tree_of control.now)) (draft_of self.old)) }
+    {
+        let looped = Open::Loop(&within);
+        let marked = Open::Mark(&looped);
+        match kind {
+            LoopKind::While => {
+                let back = self.begin_loop()?;
+                self.put(UnitInstr::Mark0)?;
+                self.put_expr(control, marked)?;
+                self.put(UnitInstr::Unmark)?;
+                Ok(back)
+            }
+            LoopKind::Until => {
+                let back = self.begin_loop()?;
+                let label = self.put_mark()?;
+                self.put_expr(control, marked)?;
+                self.put_two(UnitInstr::Unmark, UnitInstr::Efail)?;
+                self.put(UnitInstr::Lab(label))?;
+                Ok(back)
+            }
+            LoopKind::Every => {
+                self.enter_loop(UNMENTIONED)?;
+                self.put(UnitInstr::Mark0)?;
+                self.put_expr(control, Open::Each(&within))?;
+                self.put(UnitInstr::Pop)?;
+                Ok(UnitInstr::Efail)
+            }
+        }
+    }
+
+    // The body of a loop.
+    #[cycle(translate)]
+    fn put_looped(
+        &mut self,
+        body: &'a Expr,
+        kind: LoopKind,
+        within: Open<'_>,
+    ) -> Result<(), AllocError>
+        ensures { OnOk result (draft_of self.new ≡ looped_body (translate (Marked (in_body kind (open_of within.entry))) (tree_of body.now)) (draft_of self.old)) }
+    {
+        let looped = in_body(kind, &within);
+        self.put_next_mark()?;
+        self.put_expr(body, Open::Mark(&looped))?;
+        self.put(UnitInstr::Unmark)
+    }
+
+    // A co-expression.
+    #[cycle(translate)]
+    fn put_created(&mut self, body: &'a Expr) -> Result<(), AllocError>
+        ensures { OnOk result (draft_of self.new ≡ created (translate OutermostOpen (tree_of body.now)) (draft_of self.old)) }
+    {
+        let outer = self.put_create()?;
+        let inner = self.put_mark()?;
+        self.put_expr(body, Open::Outermost)?;
+        self.end_created(inner, outer)
+    }
+
+    // Operands in a row.
+    #[cycle(translate)]
+    fn put_operands(&mut self, exprs: &'a [Expr], within: Open<'_>) -> Result<(), AllocError>
+        ensures { OnOk result (draft_of self.new ≡ operands (open_of within.entry) (all_of exprs.now) (draft_of self.old)) }
+    {
+        for expr in exprs {
+            self.put_expr(expr, within)?;
+        }
+        Ok(())
+    }
+
+    // The elements of a list, and how many they are.
+    #[cycle(translate)]
+    fn put_arguments(&mut self, exprs: &'a [Expr], within: Open<'_>) -> Result<u32, AllocError>
+        ensures count { IfOk result (λ count. count ≡ elements (all_of exprs.now)) }
+        ensures draft { OnOk result (draft_of self.new ≡ arguments (open_of within.entry) (all_of exprs.now) (draft_of self.old)) }
+    {
+        if is_no_element(exprs) {
+            return Ok(0);
+        }
+        self.put_operands(exprs, within)?;
+        let count = counted(exprs.len())?;
+        Ok(count)
+    }
+
+    // A co-expression of each element of a list, and how many they are.
+    #[cycle(translate)]
+    fn put_creations(&mut self, exprs: &'a [Expr]) -> Result<u32, AllocError>
+        ensures count { IfOk result (λ count. count ≡ elements (all_of exprs.now)) }
+        ensures draft { OnOk result (draft_of self.new ≡ creations (all_of exprs.now) (draft_of self.old)) }
+    {
+        if is_no_element(exprs) {
+            return Ok(0);
+        }
+        self.put_other_creations(exprs)?;
+        let count = counted(exprs.len())?;
+        Ok(count)
+    }
+
+    // Co-expressions in a row.
+    #[cycle(translate)]
+    fn put_other_creations(&mut self, exprs: &'a [Expr]) -> Result<(), AllocError>
+        ensures { OnOk result (draft_of self.new ≡ other_creations (all_of exprs.now) (draft_of self.old)) }
+    {
+        for expr in exprs {
+            self.put_created(expr)?;
+        }
+        Ok(())
+    }
+
+    // Expressions with `pop` between them.
+    #[cycle(translate)]
+    fn put_conjunction(&mut self, exprs: &'a [Expr], within: Open<'_>) -> Result<(), AllocError>
+        ensures { OnOk result (draft_of self.new ≡ conjunction (open_of within.entry) (all_of exprs.now) (draft_of self.old)) }
+    {
+        let Some((first, others)) = exprs.split_first() else {
+            return Ok(());
+        };
+        self.put_expr(first, within)?;
+        for other in others {
+            self.put(UnitInstr::Pop)?;
+            self.put_expr(other, within)?;
+        }
+        Ok(())
+    }
+
+    // The expressions of a compound.
+    #[cycle(translate)]
+    fn put_compound(&mut self, exprs: &'a [Expr], within: Open<'_>) -> Result<(), AllocError>
+        ensures { OnOk result (draft_of self.new ≡ compound (open_of within.entry) (all_of exprs.now) (draft_of self.old)) }
+    {
+        for (place, expr) in exprs.iter().enumerate() {
+            self.put_part(expr, place + 1 == exprs.len(), within)?;
+        }
+        Ok(())
+    }
+
+    // An expression of a compound, which may be the last one.
+    #[cycle(translate)]
+    fn put_part(
+        &mut self,
+        expr: &'a Expr,
+        is_last: bool,
+        within: Open<'_>,
+    ) -> Result<(), AllocError>
+        ensures { OnOk result (draft_of self.new ≡ either_step is_last (translate (open_of within.entry) (tree_of expr.now)) (unless_empty (tree_of expr.now) (bounded (translate (Marked (open_of within.entry)) (tree_of expr.now)))) (draft_of self.old)) }
+    {
+        if is_last {
+            return self.put_expr(expr, within);
+        }
+        if is_empty(expr) {
+            return Ok(());
+        }
+        self.put_bounded(expr, Open::Mark(&within))
+    }
+
+    // Subscripts in a row.
+    #[cycle(translate)]
+    fn put_subscripts(&mut self, exprs: &'a [Expr], within: Open<'_>) -> Result<(), AllocError>
+        ensures { OnOk result (draft_of self.new ≡ subscripts (open_of within.entry) (all_of exprs.now) (draft_of self.old)) }
+    {
+        for expr in exprs {
+            self.put_expr(expr, within)?;
+            self.put(UnitInstr::Op(Op::Subscript))?;
+        }
+        Ok(())
+    }
+
+    // The clauses of a `case`, behind its subject.
+    #[cycle(translate)]
+    fn put_clauses(&mut self, clauses: &'a [Clause], within: Open<'_>) -> Result<(), AllocError>
+        ensures { OnOk result (draft_of self.new ≡ case_of (guarded (open_of within.entry) (all_clauses_of clauses.now)) (default_part (open_of within.entry) (all_clauses_of clauses.now)) (draft_of self.old)) }
+    {
+        self.enter_case(None)?;
+        self.put_guarded(clauses, within)?;
+        self.put(UnitInstr::Pop)?;
+        self.put_default(clauses, within)?;
+        self.end_case()
+    }
+
+    // The clauses but the default.
+    #[cycle(translate)]
+    fn put_guarded(&mut self, clauses: &'a [Clause], within: Open<'_>) -> Result<(), AllocError>
+        ensures { OnOk result (draft_of self.new ≡ guarded (open_of within.entry) (all_clauses_of clauses.now) (draft_of self.old)) }
+    {
+        for clause in clauses {
+            self.put_guarded_clause(clause, within)?;
+        }
+        Ok(())
+    }
+
+    #[cycle(translate)]
+    fn put_guarded_clause(&mut self, clause: &'a Clause, within: Open<'_>) -> Result<(), AllocError>
+        ensures { OnOk result (draft_of self.new ≡ guarded_clause (open_of within.entry) (clause_of clause.now) (draft_of self.old)) }
+    {
+        match clause {
+            Clause::Default { .. } => Ok(()),
+            Clause::Guarded { guard, value, .. } => {
+                let label = self.put_mark()?;
+                self.put(UnitInstr::Ccase)?;
+                self.put_expr(guard, Open::Mark(&within))?;
+                self.put_two(UnitInstr::Op(Op::Equivalent), UnitInstr::Unmark)?;
+                self.put(UnitInstr::Pop)?;
+                self.put_expr(value, within)?;
+                self.put_end_goto()?;
+                self.put(UnitInstr::Lab(label))
+            }
+        }
+    }
+
+    // The first default, or `efail`.
+    #[cycle(translate)]
+    fn put_default(&mut self, clauses: &'a [Clause], within: Open<'_>) -> Result<(), AllocError>
+        ensures { OnOk result (draft_of self.new ≡ default_part (open_of within.entry) (all_clauses_of clauses.now) (draft_of self.old)) }
+    {
+        for clause in clauses {
+            if let Clause::Default { value, .. } = clause {
+                return self.put_expr(value, within);
+            }
+        }
+        self.put(UnitInstr::Efail)
+    }
+}
+
+/// Whether an expression is empty.
+pub fn is_empty(expr: &Expr) -> bool
+    ensures { result ≡ is_empty (tree_of expr.now) }
+{
+    matches!(expr, Expr::Empty)
+}
+
+// Whether a list is one empty expression, and so has no element.
+fn is_no_element(exprs: &[Expr]) -> bool
+    ensures { result ≡ is_no_element (all_of exprs.now) }
+{
+    let Some((first, others)) = exprs.split_first() else {
+        return false;
+    };
+    if !is_empty(first) {
+        return false;
+    }
+    others.is_empty()
+}
+
+// What is open in the body of a loop.
+fn in_body<'a>(kind: LoopKind, within: &'a Open<'a>) -> Open<'a>
+    ensures { open_of result ≡ in_body kind (open_of within.now) }
+{
+    match kind {
+        LoopKind::While | LoopKind::Until => Open::Loop(within),
+        LoopKind::Every => Open::Each(within),
+    }
+}
