@@ -1,0 +1,344 @@
+-- How puts on files add up to what a line puts.
+use Rattle.std.proofs.Common.{◌≡◌, ◌∙◌, refl, sym, ap, subst, ℕ, Bool, true, false, List, [], ◌∷◌, ◌++◌, Result, Ok, Err, append_assoc, append-nil, length, arith}
+use Rattle.std.specs.Prelude.{◌&&◌, not, map, OnErr, OnOk, IfErr, IfOk, IsErrOf, IsErrAnd, if◌then◌else◌}
+use Rattle.std.specs.List.{All}
+use Rattle.std.proofs.lemmas.List.Elements.{All-tail}
+use Rattle.icn_host.specs.Counts.{CountsOnce}
+use Rattle.icn_host.specs.Sinks.{SinkState, GainsPart}
+use Rattle.icn_host.specs.declared.fault.Fault.{Fault}
+use Rattle.icn_host.specs.declared.fault.Fault.TheVariants.{Failed, NoMemory}
+use Rattle.icn_host.proofs.SinkSteps.{part_nothing, part_more}
+use Rattle.icn_value.specs.declared.val.Val.{Val}
+use Rattle.icn_value.specs.declared.val.Val.TheVariants as Vals
+use Rattle.icn_value.specs.declared.val.File.{File as HeldFile}
+use Rattle.icn_value.specs.Values.{File, Input, Output, Errout}
+use Rattle.icn_value.specs.Store.{Outside}
+use Rattle.icn_defs.specs.InputOutput.{Piece, Puts, Selects, newline, put_on, put_pieces}
+use Rattle.icn_heap.specs.Extents.{Extent, IsLive, value_in}
+use Rattle.icn_args.specs.Words.{the_text}
+use Rattle.icn_streams.specs.Handed.{KeepsCounts, FailsOnce, WantsOnce}
+use Rattle.icn_streams.proofs.Following.{puts_nothing, puts_then, then_puts_part}
+use Rattle.icn_streams.proofs.Idle.{counts_all}
+use Rattle.icn_iofn.specs.Putting.{Advances, BrokenBy, Gained, GainedPart, KeepsBoth, Outputs, PutsOn, PutsPartOn, Stops, errors_failed, errors_part, errors_wanted, file_after, line_put, output_failed, output_part, output_wanted, outputs, piece_in, pieces_in, text_of_piece, uncounted, waiting}
+
+-- Puts on a file
+
+pub put_more : (file : File) (a b : List ℕ) (o : Outside) → put_on file b (put_on file a o) ≡ put_on file (a ++ b) o
+put_more Input a b o = refl
+put_more Output a b o = ap (λ text. let p : Outside = record o { output = text } in p) (append_assoc o.output a b)
+put_more Errout a b o = ap (λ text. let p : Outside = record o { errors = text } in p) (append_assoc o.errors a b)
+
+pub put_nothing : (file : File) (o : Outside) → put_on file [] o ≡ o
+put_nothing Input o = refl
+put_nothing Output o = ap (λ text. let p : Outside = record o { output = text } in p) (append-nil o.output)
+put_nothing Errout o = ap (λ text. let p : Outside = record o { errors = text } in p) (append-nil o.errors)
+
+-- What only grows
+
+-- both outputs have what they had and more; nothing else changed
+pub record Grows (was now : Outside) : Type 0 where
+  pub output : List ℕ
+  pub output_is : now.output ≡ was.output ++ output
+  pub errors : List ℕ
+  pub errors_is : now.errors ≡ was.errors ++ errors
+  pub left : now.left ≡ was.left
+
+pub grows_all : (o : Outside) → Grows o o
+grows_all o = record { output = []; output_is = sym (append-nil o.output); errors = []; errors_is = sym (append-nil o.errors); left = refl }
+
+more_then : (a b c x y : List ℕ) → b ≡ a ++ x → c ≡ b ++ y → c ≡ a ++ (x ++ y)
+more_then a b c x y first second = second ∙ (ap (λ text. text ++ y) first ∙ append_assoc a x y)
+
+pub grows_then : {o p q : Outside} → Grows o p → Grows p q → Grows o q
+grows_then {o} {p} {q} first second = record {
+  output = first.output ++ second.output;
+  output_is = more_then o.output p.output q.output first.output second.output first.output_is second.output_is;
+  errors = first.errors ++ second.errors;
+  errors_is = more_then o.errors p.errors q.errors first.errors second.errors first.errors_is second.errors_is;
+  left = second.left ∙ first.left;
+}
+
+pub grows_on : (file : File) (text : List ℕ) (o : Outside) → Grows o (put_on file text o)
+grows_on Input text o = grows_all o
+grows_on Output text o = record { output = text; output_is = refl; errors = []; errors_is = sym (append-nil o.errors); left = refl }
+grows_on Errout text o = record { output = []; output_is = sym (append-nil o.output); errors = text; errors_is = refl; left = refl }
+
+pub grows_pieces : (end : List ℕ) (is_first : Bool) (parts : List Piece) (file : File) (o : Outside) → Grows o (put_pieces end is_first parts file o).1
+grows_pieces end is_first [] file o = grows_all o
+grows_pieces end is_first (Puts text ∷ parts) file o = grows_then (grows_on file text o) (grows_pieces end false parts file (put_on file text o))
+grows_pieces end is_first (Selects other ∷ parts) file o =
+    grows_then (grows_on file (if is_first then [] else end) o) (grows_pieces end false parts other (put_on file (if is_first then [] else end) o))
+
+pub grows_line : (end : List ℕ) (is_first : Bool) (parts : List Piece) (file : File) (o : Outside) → Grows o (line_put end is_first parts file o)
+grows_line end is_first parts file o =
+    let past = put_pieces end is_first parts file o in
+    grows_then (grows_pieces end is_first parts file o) (grows_on (put_pieces end is_first parts file o).0 end (put_pieces end is_first parts file o).1)
+
+-- What the outputs gained
+
+pub both_all : (a : Outputs) → KeepsBoth a a
+both_all a = record { output = counts_all a.output; errors = counts_all a.errors }
+
+counts_then : {a b c : SinkState} → KeepsCounts a b → KeepsCounts b c → KeepsCounts a c
+counts_then first second = record { faults = second.faults ∙ first.faults; wants = second.wants ∙ first.wants }
+
+pub both_then : {a b c : Outputs} → KeepsBoth a b → KeepsBoth b c → KeepsBoth a c
+both_then first second = record { output = counts_then first.output second.output; errors = counts_then first.errors second.errors }
+
+fails_then : {a b c : SinkState} → KeepsCounts a b → FailsOnce b c → FailsOnce a c
+fails_then first second = record { faults = rw (← first.faults) second.faults; wants = second.wants ∙ first.wants }
+
+wants_then : {a b c : SinkState} → KeepsCounts a b → WantsOnce b c → WantsOnce a c
+wants_then first second = record { faults = second.faults ∙ first.faults; wants = rw (← first.wants) second.wants }
+
+pub broken_then : {a b c : Outputs} (fault : Fault) → KeepsBoth a b → BrokenBy b c fault → BrokenBy a c fault
+broken_then _ kept (output_failed x y) = output_failed (fails_then kept.output x) (counts_then kept.errors y)
+broken_then _ kept (errors_failed x y) = errors_failed (counts_then kept.output x) (fails_then kept.errors y)
+broken_then _ kept (output_wanted x y) = output_wanted (wants_then kept.output x) (counts_then kept.errors y)
+broken_then _ kept (errors_wanted x y) = errors_wanted (counts_then kept.output x) (wants_then kept.errors y)
+broken_then _ kept (uncounted x) = uncounted (both_then kept x)
+
+pub gained_all : (a : Outputs) (o : Outside) → Gained a a o o
+gained_all a o = record { output = puts_nothing a.output o.output; errors = puts_nothing a.errors o.errors }
+
+pub gained_then : {a b c : Outputs} {o p q : Outside} → Gained a b o p → Gained b c p q → Gained a c o q
+gained_then first second = record { output = puts_then first.output second.output; errors = puts_then first.errors second.errors }
+
+pub then_gained_part : {a b c : Outputs} {o p q : Outside} → Gained a b o p → GainedPart b c p q → GainedPart a c o q
+then_gained_part first second = record { output = then_puts_part first.output second.output; errors = then_puts_part first.errors second.errors }
+
+pub part_grows : {a b : Outputs} {o p q : Outside} → GainedPart a b o p → Grows p q → GainedPart a b o q
+part_grows {a} {b} {o} {p} {q} part more = record {
+  output = record { text = part.output.text ++ more.output; is = more_then o.output p.output q.output part.output.text more.output part.output.is more.output_is; gains = part_more more.output part.output.gains };
+  errors = record { text = part.errors.text ++ more.errors; is = more_then o.errors p.errors q.errors part.errors.text more.errors part.errors.is more.errors_is; gains = part_more more.errors part.errors.gains };
+}
+
+-- nothing was put yet of what is to come
+pub part_idle : (a : Outputs) {o p : Outside} → Grows o p → GainedPart a a o p
+part_idle a more = record {
+  output = record { text = more.output; is = more.output_is; gains = part_nothing a.output.held more.output };
+  errors = record { text = more.errors; is = more.errors_is; gains = part_nothing a.errors.held more.errors };
+}
+
+output_is : (file : File) (text : List ℕ) (o : Outside) → (put_on file text o).output ≡ o.output ++ output_part file text
+output_is Input text o = sym (append-nil o.output)
+output_is Output text o = refl
+output_is Errout text o = sym (append-nil o.output)
+
+errors_is : (file : File) (text : List ℕ) (o : Outside) → (put_on file text o).errors ≡ o.errors ++ errors_part file text
+errors_is Input text o = sym (append-nil o.errors)
+errors_is Output text o = sym (append-nil o.errors)
+errors_is Errout text o = refl
+
+pub gained_on : {file : File} {text : List ℕ} {a b : Outputs} → PutsOn file text a b → (o : Outside) → Gained a b o (put_on file text o)
+gained_on {file} {text} puts o = record {
+  output = record { text = output_part file text; is = output_is file text o; gains = puts.output };
+  errors = record { text = errors_part file text; is = errors_is file text o; gains = puts.errors };
+}
+
+pub gained_part_on : {file : File} {text : List ℕ} {a b : Outputs} {fault : Fault} → PutsPartOn file text a b fault → (o : Outside) → GainedPart a b o (put_on file text o)
+gained_part_on {file} {text} puts o = record {
+  output = record { text = output_part file text; is = output_is file text o; gains = puts.output };
+  errors = record { text = errors_part file text; is = errors_is file text o; gains = puts.errors };
+}
+
+-- One put
+
+pub output_broken : (r : Result (Unit {0}) Fault) (a b e : SinkState) (file : File) (text : List ℕ) → file ≡ Output → OnErr r (GainsPart a.held b.held text)
+    → CountsOnce a.faults b.faults (IsErrOf r Failed) → CountsOnce a.wants b.wants (IsErrOf r NoMemory) → IfErr r (PutsPartOn file text (outputs a e) (outputs b e))
+output_broken (Ok _) a b e file text is gains faults wants = tt
+output_broken (Err Failed) a b e file text is gains faults wants = rw is (record {
+  output = gains;
+  errors = part_nothing e.held [];
+  cause = output_failed (record { faults = faults.rose refl; wants = wants.stayed (λ h. cc) }) (counts_all e);
+})
+output_broken (Err NoMemory) a b e file text is gains faults wants = rw is (record {
+  output = gains;
+  errors = part_nothing e.held [];
+  cause = output_wanted (record { faults = faults.stayed (λ h. cc); wants = wants.rose refl }) (counts_all e);
+})
+
+pub errors_broken : (r : Result (Unit {0}) Fault) (a b o : SinkState) (file : File) (text : List ℕ) → file ≡ Errout → OnErr r (GainsPart a.held b.held text)
+    → CountsOnce a.faults b.faults (IsErrOf r Failed) → CountsOnce a.wants b.wants (IsErrOf r NoMemory) → IfErr r (PutsPartOn file text (outputs o a) (outputs o b))
+errors_broken (Ok _) a b o file text is gains faults wants = tt
+errors_broken (Err Failed) a b o file text is gains faults wants = rw is (record {
+  output = part_nothing o.held [];
+  errors = gains;
+  cause = errors_failed (counts_all o) (record { faults = faults.rose refl; wants = wants.stayed (λ h. cc) });
+})
+errors_broken (Err NoMemory) a b o file text is gains faults wants = rw is (record {
+  output = part_nothing o.held [];
+  errors = gains;
+  cause = errors_wanted (counts_all o) (record { faults = faults.stayed (λ h. cc); wants = wants.rose refl });
+})
+
+-- One piece
+
+-- a text waits with what waits on the file
+pub waits_more : (file now : File) (text more later : List ℕ) (a : Outputs) → now ≡ file → later ≡ text ++ more → Advances (waiting file text a) (waiting now later a) (put_on file more)
+waits_more file now text more later a same is = record {
+  reached = λ was. was;
+  gained = λ was. gained_all a was;
+  same = λ was. ap (λ f. put_on f later was) same ∙ (ap (λ t. put_on file t was) is ∙ sym (put_more file text more was));
+  counts = both_all a;
+}
+
+-- what waits was put, and another file is selected
+pub puts_waiting : (file other : File) (text more whole rest : List ℕ) (a b : Outputs) → PutsOn file whole a b → whole ≡ text ++ more → rest ≡ []
+    → Advances (waiting file text a) (waiting other rest b) (put_on file more)
+puts_waiting file other text more whole rest a b puts is empty = record {
+  reached = λ was. put_on file whole was;
+  gained = λ was. gained_on puts was;
+  same = λ was. ap (λ t. put_on other t (put_on file whole was)) empty ∙ (put_nothing other (put_on file whole was) ∙ (ap (λ t. put_on file t was) is ∙ sym (put_more file text more was)));
+  counts = puts.counts;
+}
+
+-- memory was wanting before anything was put
+pub stops_idle : (file : File) (text more : List ℕ) (a : Outputs) (fault : Fault) → fault ≡ NoMemory → Stops (waiting file text a) a (put_on file more) fault
+stops_idle file text more a fault is = record {
+  gained = λ was. part_idle a (grows_then (grows_on file text was) (grows_on file more (put_on file text was)));
+  cause = subst (BrokenBy a a) (sym is) (uncounted (both_all a));
+}
+
+-- the put of what waits was broken off
+pub stops_putting : (file : File) (text more whole : List ℕ) (a b : Outputs) (fault : Fault) → PutsPartOn file whole a b fault → whole ≡ text ++ more → Stops (waiting file text a) b (put_on file more) fault
+stops_putting file text more whole a b fault puts is = record {
+  gained = λ was. subst (GainedPart a b was) (ap (λ t. put_on file t was) is ∙ sym (put_more file text more was)) (gained_part_on puts was);
+  cause = puts.cause;
+}
+
+-- what is no file is put as its text
+pub text_piece : (all : Extent) (val : Val) → ((file : HeldFile) → val ≡ Vals.Std file → ⊥) → piece_in (value_in all val) ≡ Puts (the_text (value_in all val))
+text_piece all Vals.Null other = refl
+text_piece all (Vals.Integer n) other = refl
+text_piece all (Vals.Text span) other = refl
+text_piece all (Vals.Chars cset) other = refl
+text_piece all (Vals.Std file) other = absurd (other file refl)
+text_piece all (Vals.Proc number) other = refl
+text_piece all (Vals.Rec id) other = refl
+text_piece all (Vals.List id) other = refl
+text_piece all (Vals.Set id) other = refl
+text_piece all (Vals.Table id) other = refl
+text_piece all (Vals.Coexp id) other = refl
+
+-- Results
+
+pub err_is : {T : Type 0} (r : Result T Fault) (P : Fault → Type 0) (fault : Fault) → IsErrAnd r (λ other. other ≡ fault) → P fault → IfErr r P
+err_is (Ok value) P fault same is = tt
+err_is (Err other) P fault same is = subst P (sym same) is
+
+pub no_ok : {T : Type 0} (r : Result T Fault) (P : T → Type 0) (Q : Fault → Type 0) → IsErrAnd r Q → IfOk r P
+no_ok (Ok value) P Q same = absurd same
+no_ok (Err other) P Q same = tt
+
+pub on_ok : {P Q : Type 0} (r : Result (Unit {0}) Fault) → OnOk r P → (P → Q) → OnOk r Q
+on_ok (Ok value) is next = next is
+on_ok (Err other) is next = tt
+
+pub if_err : {P Q : Fault → Type 0} (r : Result (Unit {0}) Fault) → IfErr r P → ((fault : Fault) → P fault → Q fault) → IfErr r Q
+if_err (Ok value) is next = tt
+if_err (Err other) is next = next other is
+
+pub on_err : {P : Fault → Type 0} {Q : Type 0} (r : Result (Unit {0}) Fault) → IfErr r P → ((fault : Fault) → P fault → Q) → OnErr r Q
+on_err (Ok value) is next = tt
+on_err (Err other) is next = next other is
+
+-- A line
+
+-- what ends a line, where lines end
+abbrev pub end_of : Bool → List ℕ
+end_of ends = if ends then newline else []
+
+-- the line as far as its pieces have come: what is still to be put, from here on, gives the whole line
+pub record LineSo (all : Extent) (vals rest : List Val) (ends is_first : Bool) (start now : File) (text : List ℕ) (before after : Outputs) : Type 0 where
+  pub reached : Outside → Outside
+  pub gained : (was : Outside) → Gained before after was (reached was)
+  pub same : (was : Outside) → line_put (end_of ends) is_first (pieces_in (map (value_in all) rest)) now (put_on now text (reached was)) ≡ line_put (end_of ends) true (pieces_in (map (value_in all) vals)) start was
+  pub counts : KeepsBoth before after
+  pub live : All (IsLive all) rest
+
+pub line_begins : (all : Extent) (vals : List Val) (ends : Bool) (start : File) (text : List ℕ) (a : Outputs) → text ≡ [] → All (IsLive all) vals → LineSo all vals vals ends true start start text a a
+line_begins all vals ends start text a empty live = record {
+  reached = λ was. was;
+  gained = λ was. gained_all a was;
+  same = λ was. ap (line_put (end_of ends) true (pieces_in (map (value_in all) vals)) start) (ap (λ t. put_on start t was) empty ∙ put_nothing start was);
+  counts = both_all a;
+  live = live;
+}
+
+piece_text : (ends is_first : Bool) (piece : Piece) → text_of_piece newline (not (ends && not is_first)) piece ≡ text_of_piece (end_of ends) is_first piece
+piece_text ends is_first (Puts text) = refl
+piece_text true true (Selects other) = refl
+piece_text true false (Selects other) = refl
+piece_text false true (Selects other) = refl
+piece_text false false (Selects other) = refl
+
+line_step : (end : List ℕ) (is_first : Bool) (piece : Piece) (parts : List Piece) (file : File) (o : Outside)
+    → line_put end is_first (piece ∷ parts) file o ≡ line_put end false parts (file_after file piece) (put_on file (text_of_piece end is_first piece) o)
+line_step end is_first (Puts text) parts file o = refl
+line_step end is_first (Selects other) parts file o = refl
+
+-- what is left, said again
+pub line_at : (all : Extent) (vals rest other : List Val) (ends is_first : Bool) (start now : File) (text : List ℕ) (before between : Outputs) → rest ≡ other
+    → LineSo all vals rest ends is_first start now text before between → LineSo all vals other ends is_first start now text before between
+line_at all vals rest other ends is_first start now text before between same so = subst (λ r. LineSo all vals r ends is_first start now text before between) same so
+
+module _ (all : Extent) (vals : List Val) (first : Val) (others : List Val) (ends is_first : Bool) (start now : File) (text : List ℕ) (before between : Outputs)
+    (b : Bool) (test : b ≡ (ends && not is_first)) (so : LineSo all vals (first ∷ others) ends is_first start now text before between) where
+  -- the line behind its first piece
+  behind : (was : Outside)
+      → line_put (end_of ends) false (pieces_in (map (value_in all) others)) (file_after now (piece_in (value_in all first)))
+      (put_on now (text_of_piece newline (not b) (piece_in (value_in all first))) (put_on now text (so.reached was)))
+      ≡ line_put (end_of ends) true (pieces_in (map (value_in all) vals)) start was
+  behind was =
+      ap (λ t. line_put (end_of ends) false (pieces_in (map (value_in all) others)) (file_after now (piece_in (value_in all first))) (put_on now t (put_on now text (so.reached was))))
+      (ap (λ t. text_of_piece newline (not t) (piece_in (value_in all first))) test ∙ piece_text ends is_first (piece_in (value_in all first)))
+      ∙ (sym (line_step (end_of ends) is_first (piece_in (value_in all first)) (pieces_in (map (value_in all) others)) now (put_on now text (so.reached was))) ∙ so.same was)
+
+  pub line_goes_on : (later : File) (waits : List ℕ) (after : Outputs)
+      → Advances (waiting now text between) (waiting later waits after) (put_on now (text_of_piece newline (not b) (piece_in (value_in all first))))
+      → later ≡ file_after now (piece_in (value_in all first)) → LineSo all vals others ends false start later waits before after
+  line_goes_on later waits after adv is = record {
+    reached = λ was. adv.reached (so.reached was);
+    gained = λ was. gained_then (so.gained was) (adv.gained (so.reached was));
+    same = λ was.
+        ap (λ o. line_put (end_of ends) false (pieces_in (map (value_in all) others)) later o) (adv.same (so.reached was))
+        ∙ (ap (λ f. line_put (end_of ends) false (pieces_in (map (value_in all) others)) f (put_on now (text_of_piece newline (not b) (piece_in (value_in all first))) (put_on now text (so.reached was)))) is
+        ∙ behind was);
+    counts = both_then so.counts adv.counts;
+    live = All-tail (IsLive all) first others so.live;
+  }
+
+  pub line_stops : (after : Outputs) (fault : Fault) → Stops (waiting now text between) after (put_on now (text_of_piece newline (not b) (piece_in (value_in all first)))) fault
+      → (was : Outside) → GainedPart before after was (line_put (end_of ends) true (pieces_in (map (value_in all) vals)) start was)
+  line_stops after fault stops was =
+      subst (GainedPart before after was) (behind was)
+      (part_grows (then_gained_part (so.gained was) (stops.gained (so.reached was)))
+      (grows_line (end_of ends) false (pieces_in (map (value_in all) others)) (file_after now (piece_in (value_in all first)))
+      (put_on now (text_of_piece newline (not b) (piece_in (value_in all first))) (put_on now text (so.reached was)))))
+
+  pub line_stopped_by : (after : Outputs) (fault : Fault) → Stops (waiting now text between) after (put_on now (text_of_piece newline (not b) (piece_in (value_in all first)))) fault
+      → BrokenBy before after fault
+  line_stopped_by after fault stops = broken_then fault so.counts stops.cause
+
+module _ (all : Extent) (vals : List Val) (ends is_first : Bool) (start now : File) (text : List ℕ) (before between : Outputs)
+    (so : LineSo all vals [] ends is_first start now text before between) where
+  last : (was : Outside) (whole : List ℕ) → whole ≡ text ++ end_of ends → put_on now whole (so.reached was) ≡ line_put (end_of ends) true (pieces_in (map (value_in all) vals)) start was
+  last was whole is = ap (λ t. put_on now t (so.reached was)) is ∙ (sym (put_more now text (end_of ends) (so.reached was)) ∙ so.same was)
+
+  -- no memory for the end of the line
+  pub line_wants : (was : Outside) → GainedPart before between was (line_put (end_of ends) true (pieces_in (map (value_in all) vals)) start was)
+  line_wants was =
+      then_gained_part (so.gained was) (part_idle between (subst (Grows (so.reached was)) (last was (text ++ end_of ends) refl) (grows_on now (text ++ end_of ends) (so.reached was))))
+
+  pub line_ends : (whole : List ℕ) (after : Outputs) → whole ≡ text ++ end_of ends → PutsOn now whole between after
+      → (was : Outside) → Gained before after was (line_put (end_of ends) true (pieces_in (map (value_in all) vals)) start was)
+  line_ends whole after is puts was = subst (Gained before after was) (last was whole is) (gained_then (so.gained was) (gained_on puts (so.reached was)))
+
+  pub line_breaks : (whole : List ℕ) (after : Outputs) (fault : Fault) → whole ≡ text ++ end_of ends → PutsPartOn now whole between after fault
+      → (was : Outside) → GainedPart before after was (line_put (end_of ends) true (pieces_in (map (value_in all) vals)) start was)
+  line_breaks whole after fault is puts was = subst (GainedPart before after was) (last was whole is) (then_gained_part (so.gained was) (gained_part_on puts (so.reached was)))
+
+pub nothing_left : (vals : List Val) → length vals ≡ 0 → vals ≡ []
+nothing_left [] is = refl
+nothing_left (val ∷ vals) is = absurd (omega arith)

@@ -1,0 +1,120 @@
+-- Rows that put a line.
+use Rattle.std.proofs.Common.{◌≡◌, ◌∙◌, refl, sym, ap, subst, ℕ, List, Option, Some, Ok, Err, true}
+use Rattle.std.specs.List.{All}
+use Rattle.icn_host.specs.Sinks.{SinkState}
+use Rattle.icn_host.specs.declared.fault.Fault.{Fault}
+use Rattle.icn_host.specs.declared.fault.Fault.TheVariants.{Failed, NoMemory as NoMemoryFault}
+use Rattle.icn_value.specs.declared.val.Val.{Val}
+use Rattle.icn_value.specs.Values.{Value, File}
+use Rattle.icn_value.specs.Store.{Outside, Setting}
+use Rattle.icn_defs.specs.Calls.{GoesOn}
+use Rattle.icn_defs.specs.InputOutput.{pieces, puts_line}
+use Rattle.icn_defs.specs.Rows.{Row, Ends}
+use Rattle.icn_heap.specs.Extents.{IsLive}
+use Rattle.icn_heap.specs.Heaps.{extent_of}
+use Rattle.icn_vars.specs.Outcomes.{IsLiveOutcome, outcome_in}
+use Rattle.icn_vars.specs.Worlds.{reach_of, setting_of}
+use Rattle.icn_vars.specs.declared.outcome.Outcome.{Outcome}
+use Rattle.icn_vars.specs.declared.outcome.Halt.TheVariants.{Ends as EndsHalt, WriteFault, NoMemory}
+use Rattle.icn_vars.specs.declared.world.World.{World}
+use Rattle.icn_streams.specs.Handed.{Follows, PutsPart, WantsMemory, WritingFails, errors_fail, errors_want, handed, output_fails, output_wants, uncounted as nothing_counted}
+use Rattle.icn_streams.specs.Answers.{StopsPutting, given, outside_after, putting}
+use Rattle.icn_streams.specs.Applies.{Applies}
+use Rattle.icn_streams.proofs.Idle.{items_all}
+use Rattle.icn_iofn.specs.Putting.{BrokenBy, Gained, GainedPart, KeepsBoth, errors_failed, errors_wanted, line_put, output_failed, output_wanted, outputs, pieces_in, uncounted}
+use Rattle.icn_iofn.specs.Writing.{lines_then}
+use Rattle.icn_iofn.proofs.PutSteps.{grows_line}
+
+failing_by : (o o' e e' : SinkState) (left : Option (List ℕ)) (faults : ℕ) (fault : Fault) → fault ≡ Failed → BrokenBy (outputs o e) (outputs o' e') fault → WritingFails (handed left faults o e) (handed left faults o' e')
+failing_by o o' e e' left faults _ same (output_failed x y) = output_fails refl refl x y
+failing_by o o' e e' left faults _ same (errors_failed x y) = errors_fail refl refl x y
+failing_by o o' e e' left faults _ same (output_wanted x y) = absurd (cc)
+failing_by o o' e e' left faults _ same (errors_wanted x y) = absurd (cc)
+failing_by o o' e e' left faults _ same (uncounted x) = absurd (cc)
+
+wanting_by : (o o' e e' : SinkState) (left : Option (List ℕ)) (faults : ℕ) (fault : Fault) → fault ≡ NoMemoryFault → BrokenBy (outputs o e) (outputs o' e') fault → WantsMemory (handed left faults o e) (handed left faults o' e')
+wanting_by o o' e e' left faults _ same (output_failed x y) = absurd (cc)
+wanting_by o o' e e' left faults _ same (errors_failed x y) = absurd (cc)
+wanting_by o o' e e' left faults _ same (output_wanted x y) = output_wants refl x y
+wanting_by o o' e e' left faults _ same (errors_wanted x y) = errors_want refl x y
+wanting_by o o' e e' left faults _ same (uncounted x) = nothing_counted (record { faults = refl; output = x.output; errors = x.errors })
+
+module _ (end : List ℕ) (file : File) (args : List Value) (next : Row) (quiet : (s : Setting) → outside_after (next s) ≡ s.outside)
+    (found : (s : Setting) → GoesOn (pieces args) s (pieces_in args) s) (w : World) (locals : List Val) (left : Option (List ℕ)) (faults : ℕ) (o o' e e' : SinkState)
+    (lives : All (IsLive (extent_of w.heap)) locals) where
+  -- the row goes on behind its line
+  goes : (s : Setting) → lines_then end file args next s ≡ next (record s { outside = line_put end true (pieces_in args) file s.outside })
+  goes s = found s (λ parts. puts_line end file parts next)
+
+  followed : (was : Outside) → left ≡ Some was.left → Gained (outputs o e) (outputs o' e') was (line_put end true (pieces_in args) file was)
+      → Follows (handed left faults o e) (handed left faults o' e') was (line_put end true (pieces_in args) file was)
+  followed was told gained = record {
+    left = told ∙ ap Some (sym (grows_line end true (pieces_in args) file was).left);
+    output = gained.output;
+    errors = gained.errors;
+  }
+
+  -- the line was put, and the row gives an item
+  pub wrote_gives : (outcome : Outcome) → ((s : Setting) → next s ≡ outcome_in (extent_of w.heap) outcome s)
+      → ((was : Outside) → Gained (outputs o e) (outputs o' e') was (line_put end true (pieces_in args) file was)) → KeepsBoth (outputs o e) (outputs o' e')
+      → IsLiveOutcome (reach_of w locals) outcome → Applies (lines_then end file args next) (given w locals (handed left faults o e)) (given w locals (handed left faults o' e')) (Ok outcome)
+  wrote_gives outcome is gained counts live = record {
+    answers = λ was told. record {
+      now = line_put end true (pieces_in args) file was;
+      follows = followed was told (gained was);
+      comes = goes (setting_of was w locals) ∙ is (setting_of (line_put end true (pieces_in args) file was) w locals);
+    };
+    caused = record { faults = refl; output = counts.output; errors = counts.errors };
+    live = live;
+    locals = lives;
+    kept = items_all (reach_of w locals);
+  }
+
+  -- the line was put, and the program ends
+  pub wrote_ends : (status : ℕ) → ((s : Setting) → next s ≡ Ends status s)
+      → ((was : Outside) → Gained (outputs o e) (outputs o' e') was (line_put end true (pieces_in args) file was)) → KeepsBoth (outputs o e) (outputs o' e')
+      → Applies (lines_then end file args next) (given w locals (handed left faults o e)) (given w locals (handed left faults o' e')) (Err (EndsHalt status))
+  wrote_ends status is gained counts = record {
+    answers = λ was told. record {
+      now = line_put end true (pieces_in args) file was;
+      follows = followed was told (gained was);
+      comes = goes (setting_of was w locals) ∙ is (setting_of (line_put end true (pieces_in args) file was) w locals);
+    };
+    caused = record { faults = refl; output = counts.output; errors = counts.errors };
+    live = tt;
+    locals = lives;
+    kept = items_all (reach_of w locals);
+  }
+
+  left_by : (s : Setting) → outside_after (lines_then end file args next s) ≡ line_put end true (pieces_in args) file s.outside
+  left_by s = ap outside_after (goes s) ∙ quiet (record s { outside = line_put end true (pieces_in args) file s.outside })
+
+  broken : (was : Outside) → GainedPart (outputs o e) (outputs o' e') was (line_put end true (pieces_in args) file was)
+      → StopsPutting (lines_then end file args next) (setting_of was w locals) (handed left faults o e) (handed left faults o' e')
+  broken was part = record {
+    left = refl;
+    output = subst (λ (now : Outside). PutsPart o o' was.output now.output) (sym (left_by (setting_of was w locals))) part.output;
+    errors = subst (λ (now : Outside). PutsPart e e' was.errors now.errors) (sym (left_by (setting_of was w locals))) part.errors;
+  }
+
+  -- an output failed
+  pub write_fails : ((was : Outside) → GainedPart (outputs o e) (outputs o' e') was (line_put end true (pieces_in args) file was)) → BrokenBy (outputs o e) (outputs o' e') Failed
+      → Applies (lines_then end file args next) (given w locals (handed left faults o e)) (given w locals (handed left faults o' e')) (Err WriteFault)
+  write_fails part cause = record {
+    answers = λ was told. broken was (part was);
+    caused = failing_by o o' e e' left faults Failed refl cause;
+    live = tt;
+    locals = lives;
+    kept = items_all (reach_of w locals);
+  }
+
+  -- memory was wanting
+  pub write_wants : ((was : Outside) → GainedPart (outputs o e) (outputs o' e') was (line_put end true (pieces_in args) file was)) → BrokenBy (outputs o e) (outputs o' e') NoMemoryFault
+      → Applies (lines_then end file args next) (given w locals (handed left faults o e)) (given w locals (handed left faults o' e')) (Err NoMemory)
+  write_wants part cause = record {
+    answers = λ was told. putting (broken was (part was));
+    caused = wanting_by o o' e e' left faults NoMemoryFault refl cause;
+    live = tt;
+    locals = lives;
+    kept = items_all (reach_of w locals);
+  }

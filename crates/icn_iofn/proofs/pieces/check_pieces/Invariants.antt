@@ -1,0 +1,10 @@
+use Rattle.std.proofs.Common.{length}
+use Rattle.icn_iofn.proofs.PieceChecks.{ChecksSo}
+use Rattle.icn_iofn.proofs.pieces.check_pieces.Given as goal
+
+abbrev pub decreases-loop-first : goal.decreases-loop-first
+decreases-loop-first l = length l.rest
+
+-- what was checked passed
+abbrev pub invariant-loop-first : goal.invariant-loop-first
+invariant-loop-first l = ChecksSo l.vals l.rest

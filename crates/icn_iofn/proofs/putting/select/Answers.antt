@@ -1,0 +1,23 @@
+use Rattle.std.proofs.Common.{◌≡◌, ◌∙◌, ap, refl, rules}
+use Rattle.icn_heap.specs.Keys.{file_of}
+use Rattle.icn_host.specs.declared.fault.Fault.TheVariants.{NoMemory}
+use Rattle.icn_iofn.specs.Putting.{outputs}
+use Rattle.icn_iofn.proofs.PutSteps.{end_of, err_is, puts_waiting, stops_idle, waits_more}
+use Rattle.icn_iofn.proofs.putting.select.Goals as goal
+
+pub returns-in_err-end_line-clause-err : goal.returns-in_err-end_line-clause-err
+returns-in_err-end_line-clause-err g c =
+    err_is c.from_residual.result _ NoMemory c.from_residual.ensures.1
+    (stops_idle (file_of c.args.file) c.args.buffer.now.items (end_of c.args.ends) (outputs (g.O.Sink.state c.args.out.now) (g.E.Sink.state c.args.err.now)) NoMemory refl)
+
+pub returns-in_ok-flush-clause-ok : goal.returns-in_ok-flush-clause-ok
+returns-in_ok-flush-clause-ok g c =
+    puts_waiting (file_of c.args.file) (file_of c.args.other) c.args.buffer.now.items (end_of c.args.ends) c.deref.result.now c.clear.new.self.items
+    (outputs (g.O.Sink.state c.args.out.now) (g.E.Sink.state c.args.err.now)) (outputs (g.O.Sink.state c.flush.new.out) (g.E.Sink.state c.flush.new.err))
+    c.in_ok-flush.ensures.ok (c.deref.ensures.value ∙ c.in_ok-end_line.ensures) c.clear.ensures.items
+
+pub returns-else-ne-clause-ok : goal.returns-else-ne-clause-ok
+returns-else-ne-clause-ok g c =
+    let same : c.args.other ≡ c.args.file = search rules in
+    waits_more (file_of c.args.file) (file_of c.args.other) c.args.buffer.now.items (end_of c.args.ends) c.end_line.new.buffer.items
+    (outputs (g.O.Sink.state c.args.out.now) (g.E.Sink.state c.args.err.now)) (ap file_of same) c.in_ok-end_line.ensures

@@ -1,0 +1,156 @@
+// Putting the pieces of a line.
+ghost use Rattle.std.specs.Prelude.{◌≡◌, ◌&&◌, ◌++◌, [], IfErr, IfOk, OnErr, OnOk, map, not, true, if◌then◌else◌};
+ghost use Rattle.std.specs.List.{All};
+ghost use Rattle.icn_defs.specs.InputOutput.{newline, put_on};
+ghost use Rattle.icn_value.specs.Store.{Outside};
+ghost use Rattle.icn_heap.specs.Extents.{IsLive, value_in};
+ghost use Rattle.icn_heap.specs.Heaps.{extent_of};
+ghost use Rattle.icn_heap.specs.Keys as keys;
+ghost use Rattle.icn_args.specs.Words.{the_text};
+ghost use Rattle.icn_iofn.specs.Putting.{Advances, BrokenBy, Gained, GainedPart, KeepsBoth, PutsOn, PutsPartOn, Stops, file_after, line_put, outputs, piece_in, pieces_in, text_of_piece, waiting};
+
+use crate::members::push_members;
+use icn_heap::Heap;
+use icn_host::{Fault, Sink};
+use icn_text::decimal;
+use icn_value::{File, Val};
+use std::alloc::AllocError;
+
+/// Puts the arguments as the pieces of a line, which begins on a file, and what ends it. What goes to one file before another one
+/// is selected is put as one piece, if it is not empty; the buffer is room for it.
+///
+/// # Errors
+///
+/// `Failed` where an output failed, `NoMemory` where an output or the buffer wanted memory. Each output has gained some first part
+/// of what is put there.
+pub fn put_line<O: Sink, E: Sink>(
+    heap: &Heap,
+    vals: &[Val],
+    ends: bool,
+    file: File,
+    buffer: &mut Vec<u8>,
+    out: &mut O,
+    err: &mut E,
+) -> Result<(), Fault>
+    requires { All (IsLive (extent_of heap.now)) vals.now }
+    ensures ok { OnOk result ((was : Outside) → Gained (outputs (O.state out.old) (E.state err.old)) (outputs (O.state out.new) (E.state err.new)) was
+        (line_put (if ends then newline else []) true (pieces_in (map (value_in (extent_of heap.now)) vals.now)) (keys.file_of file) was)) }
+    ensures counts { OnOk result (KeepsBoth (outputs (O.state out.old) (E.state err.old)) (outputs (O.state out.new) (E.state err.new))) }
+    ensures err { OnErr result ((was : Outside) → GainedPart (outputs (O.state out.old) (E.state err.old)) (outputs (O.state out.new) (E.state err.new)) was
+        (line_put (if ends then newline else []) true (pieces_in (map (value_in (extent_of heap.now)) vals.now)) (keys.file_of file) was)) }
+    ensures cause { IfErr result (BrokenBy (outputs (O.state out.old) (E.state err.old)) (outputs (O.state out.new) (E.state err.new))) }
+{
+    buffer.clear();
+    let mut selected = file;
+    let mut is_first = true;
+    let mut rest = vals;
+    while let Some((first, others)) = rest.split_first() {
+        selected = put_piece(
+            heap,
+            *first,
+            ends_line(ends, is_first),
+            selected,
+            buffer,
+            out,
+            err,
+        )?;
+        is_first = false;
+        rest = others;
+    }
+    end_line(ends, buffer)?;
+    flush(selected, buffer, out, err)
+}
+
+// Puts one piece: a text waits in the buffer; where another file is selected, what waits is put.
+fn put_piece<O: Sink, E: Sink>(
+    heap: &Heap,
+    val: Val,
+    ends: bool,
+    file: File,
+    buffer: &mut Vec<u8>,
+    out: &mut O,
+    err: &mut E,
+) -> Result<File, Fault>
+    requires { IsLive (extent_of heap.now) val }
+    ensures ok { IfOk result (λ now. Advances (waiting (keys.file_of file) buffer.old.items (outputs (O.state out.old) (E.state err.old))) (waiting (keys.file_of now) buffer.new.items (outputs (O.state out.new) (E.state err.new)))
+        (put_on (keys.file_of file) (text_of_piece newline (not ends) (piece_in (value_in (extent_of heap.now) val))))) }
+    ensures file { IfOk result (λ now. keys.file_of now ≡ file_after (keys.file_of file) (piece_in (value_in (extent_of heap.now) val))) }
+    ensures err { IfErr result (Stops (waiting (keys.file_of file) buffer.old.items (outputs (O.state out.old) (E.state err.old))) (outputs (O.state out.new) (E.state err.new))
+        (put_on (keys.file_of file) (text_of_piece newline (not ends) (piece_in (value_in (extent_of heap.now) val))))) }
+{
+    match val {
+        Val::Std(other) => select(other, ends, file, buffer, out, err),
+        _ => {
+            push_text(heap, val, buffer)?;
+            Ok(file)
+        }
+    }
+}
+
+// Ends the line where lines end, and puts what waits where another file is selected.
+fn select<O: Sink, E: Sink>(
+    other: File,
+    ends: bool,
+    file: File,
+    buffer: &mut Vec<u8>,
+    out: &mut O,
+    err: &mut E,
+) -> Result<File, Fault>
+    ensures ok { IfOk result (λ now. Advances (waiting (keys.file_of file) buffer.old.items (outputs (O.state out.old) (E.state err.old))) (waiting (keys.file_of now) buffer.new.items (outputs (O.state out.new) (E.state err.new)))
+        (put_on (keys.file_of file) (if ends then newline else []))) }
+    ensures file { IfOk result (λ now. now ≡ other) }
+    ensures err { IfErr result (Stops (waiting (keys.file_of file) buffer.old.items (outputs (O.state out.old) (E.state err.old))) (outputs (O.state out.new) (E.state err.new))
+        (put_on (keys.file_of file) (if ends then newline else []))) }
+{
+    end_line(ends, buffer)?;
+    if other != file {
+        flush(file, buffer, out, err)?;
+        buffer.clear();
+    }
+    Ok(other)
+}
+
+// Whether a file that is selected ends a line: where lines end, and it is not the first argument.
+fn ends_line(ends: bool, is_first: bool) -> bool
+    ensures { result ≡ (ends && not is_first) }
+{
+    ends && !is_first
+}
+
+// Appends a newline, where lines end.
+fn end_line(ends: bool, buffer: &mut Vec<u8>) -> Result<(), AllocError>
+    ensures { OnOk result (buffer.new.items ≡ buffer.old.items ++ (if ends then newline else [])) }
+{
+    if ends {
+        buffer.push(b'\n')?;
+    }
+    Ok(())
+}
+
+// Puts a text on a file, if it is not empty. Nothing is put on the input.
+fn flush<O: Sink, E: Sink>(file: File, text: &[u8], out: &mut O, err: &mut E) -> Result<(), Fault>
+    ensures ok { OnOk result (PutsOn (keys.file_of file) text.now (outputs (O.state out.old) (E.state err.old)) (outputs (O.state out.new) (E.state err.new))) }
+    ensures err { IfErr result (PutsPartOn (keys.file_of file) text.now (outputs (O.state out.old) (E.state err.old)) (outputs (O.state out.new) (E.state err.new))) }
+{
+    if text.is_empty() {
+        return Ok(());
+    }
+    match file {
+        File::Input => Ok(()),
+        File::Output => out.put(text),
+        File::Errout => err.put(text),
+    }
+}
+
+// Appends the text of a value that has one, and nothing for null.
+fn push_text(heap: &Heap, val: Val, buffer: &mut Vec<u8>) -> Result<(), AllocError>
+    requires { IsLive (extent_of heap.now) val }
+    ensures { OnOk result (buffer.new.items ≡ buffer.old.items ++ the_text (value_in (extent_of heap.now) val)) }
+{
+    match val {
+        Val::Integer(n) => buffer.extend_from_slice(decimal(n).as_bytes()),
+        Val::Text(text) => buffer.extend_from_slice(heap.bytes(text)),
+        Val::Chars(cset) => push_members(&cset, buffer),
+        _ => Ok(()),
+    }
+}

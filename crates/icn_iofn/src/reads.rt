@@ -1,0 +1,92 @@
+// Reading.
+ghost use Rattle.std.specs.Prelude.{map};
+ghost use Rattle.std.specs.List.{All};
+ghost use Rattle.icn_host.specs.Sinks.{SinkState};
+ghost use Rattle.icn_defs.specs.InputOutput as rows;
+ghost use Rattle.icn_heap.specs.Extents.{IsLive, value_in};
+ghost use Rattle.icn_heap.specs.Heaps.{extent_of};
+ghost use Rattle.icn_heap.specs.Keys as keys;
+ghost use Rattle.icn_streams.specs.Answers.{given};
+ghost use Rattle.icn_streams.specs.Applies.{Applies};
+ghost use Rattle.icn_streams.specs.Handed.{handed};
+ghost use Rattle.icn_streams.specs.Readings.{asked_in};
+ghost use Rattle.icn_iofn.specs.Reading.{read_from, reads_from};
+
+use crate::arguments::{count_arg, file_arg};
+use icn_args::arg;
+use icn_host::Source;
+use icn_streams::{Ask, read_text};
+use icn_value::{File, Item, Val};
+use icn_vars::{Halt, Locals, Outcome, World};
+
+/// `read(f)`: the next line. It fails at the end of the input. The errors are 105 about a value that is no file, 212 about a file
+/// that is not the input, and 306.
+pub fn read<L: Locals, I: Source>(
+    vals: &[Val],
+    w: &mut World,
+    l: &L,
+    buffer: &mut Vec<u8>,
+    input: &mut I,
+) -> Result<Outcome, Halt>
+    requires locals { All (IsLive (extent_of w.old.heap)) (L.items l.now) }
+    requires live { All (IsLive (extent_of w.old.heap)) vals.now }
+    ensures { (output errors : SinkState) → Applies (rows.read_row (map (value_in (extent_of w.old.heap)) vals.now)) (given w.old (L.items l.now) (handed (I.left input.old) (I.faults input.old) output errors)) (given w.new (L.items l.now) (handed (I.left input.new) (I.faults input.new) output errors)) result }
+{
+    let file = file_arg(vals)?;
+    read_from(Ask::Line, file, arg(vals, 0), w, l, buffer, input)
+}
+
+/// `reads(f, i)`: the next bytes, one or so many, or all where fewer are left. It fails at the end of the input. The errors are
+/// 105, 101 about a value that is no integer, 205 about a number that is not above 0, 212 and 306, whichever comes first.
+pub fn reads<L: Locals, I: Source>(
+    vals: &[Val],
+    w: &mut World,
+    l: &L,
+    buffer: &mut Vec<u8>,
+    input: &mut I,
+) -> Result<Outcome, Halt>
+    requires locals { All (IsLive (extent_of w.old.heap)) (L.items l.now) }
+    requires live { All (IsLive (extent_of w.old.heap)) vals.now }
+    ensures { (output errors : SinkState) → Applies (rows.reads_row (map (value_in (extent_of w.old.heap)) vals.now)) (given w.old (L.items l.now) (handed (I.left input.old) (I.faults input.old) output errors)) (given w.new (L.items l.now) (handed (I.left input.new) (I.faults input.new) output errors)) result }
+{
+    let file = file_arg(vals)?;
+    let count = count_arg(&w.heap, vals)?;
+    read_from(Ask::Bytes(count), file, arg(vals, 0), w, l, buffer, input)
+}
+
+// Reads a text from a file, which is an error where that is not the input.
+fn read_from<L: Locals, I: Source>(
+    ask: Ask,
+    file: File,
+    named: Val,
+    w: &mut World,
+    l: &L,
+    buffer: &mut Vec<u8>,
+    input: &mut I,
+) -> Result<Outcome, Halt>
+    requires locals { All (IsLive (extent_of w.old.heap)) (L.items l.now) }
+    requires live { IsLive (extent_of w.old.heap) named }
+    ensures { (output errors : SinkState) → Applies (read_from (asked_in ask) (keys.file_of file) (value_in (extent_of w.old.heap) named)) (given w.old (L.items l.now) (handed (I.left input.old) (I.faults input.old) output errors)) (given w.new (L.items l.now) (handed (I.left input.new) (I.faults input.new) output errors)) result }
+{
+    if file != File::Input {
+        return Err(Halt::Error(212, Some(named)));
+    }
+    read_input(ask, w, l, buffer, input)
+}
+
+// Reads a text from the input, and gives it.
+fn read_input<L: Locals, I: Source>(
+    ask: Ask,
+    w: &mut World,
+    l: &L,
+    buffer: &mut Vec<u8>,
+    input: &mut I,
+) -> Result<Outcome, Halt>
+    requires { All (IsLive (extent_of w.old.heap)) (L.items l.now) }
+    ensures { (output errors : SinkState) → Applies (reads_from (asked_in ask)) (given w.old (L.items l.now) (handed (I.left input.old) (I.faults input.old) output errors)) (given w.new (L.items l.now) (handed (I.left input.new) (I.faults input.new) output errors)) result }
+{
+    match read_text(ask, w, l, buffer, input)? {
+        Some(text) => Ok(Outcome::Gives(Item::Val(Val::Text(text)))),
+        None => Ok(Outcome::Fails),
+    }
+}

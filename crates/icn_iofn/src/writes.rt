@@ -1,0 +1,73 @@
+// Writing.
+ghost use Rattle.std.specs.Prelude.{◌≡◌, ℕ, List, Option, map};
+ghost use Rattle.std.specs.List.{All};
+ghost use Rattle.icn_defs.specs.InputOutput as rows;
+ghost use Rattle.icn_heap.specs.Extents.{Extent, IsLive, value_in};
+ghost use Rattle.icn_heap.specs.Heaps.{extent_of};
+ghost use Rattle.icn_streams.specs.Answers.{given};
+ghost use Rattle.icn_streams.specs.Applies.{Applies};
+ghost use Rattle.icn_streams.specs.Handed.{handed};
+ghost use Rattle.icn_iofn.specs.Writing.{write_by};
+
+use crate::pieces::check_pieces;
+use crate::putting::put_line;
+use icn_args::arg;
+use icn_host::{Fault, Sink};
+use icn_value::{File, Item, Val};
+use icn_vars::{Halt, Locals, Outcome, World};
+
+/// `write(x, ..)`, and `writes(x, ..)` where no lines end. It gives its last argument, or null. The errors are 109 about a value
+/// that is neither a text nor a file nor null, and 213 about the input. All arguments are checked before anything is put.
+pub fn write<L: Locals, O: Sink, E: Sink>(
+    ends: bool,
+    vals: &[Val],
+    w: &World,
+    l: &L,
+    buffer: &mut Vec<u8>,
+    out: &mut O,
+    err: &mut E,
+) -> Result<Outcome, Halt>
+    requires locals { All (IsLive (extent_of w.now.heap)) (L.items l.now) }
+    requires live { All (IsLive (extent_of w.now.heap)) vals.now }
+    ensures { (left : Option (List ℕ)) (faults : ℕ) → Applies (write_by ends (map (value_in (extent_of w.now.heap)) vals.now)) (given w.now (L.items l.now) (handed left faults (O.state out.old) (E.state err.old))) (given w.now (L.items l.now) (handed left faults (O.state out.new) (E.state err.new))) result }
+{
+    check_pieces(vals)?;
+    match put_line(&w.heap, vals, ends, File::Output, buffer, out, err) {
+        Ok(()) => Ok(Outcome::Gives(Item::Val(last_of(vals)))),
+        Err(Fault::Failed) => Err(Halt::WriteFault),
+        Err(Fault::NoMemory) => Err(Halt::NoMemory),
+    }
+}
+
+/// `stop(x, ..)`: what `write` puts is put from the error output on, and the program ends with status 1. The errors are those of
+/// `write`.
+pub fn stop<L: Locals, O: Sink, E: Sink>(
+    vals: &[Val],
+    w: &World,
+    l: &L,
+    buffer: &mut Vec<u8>,
+    out: &mut O,
+    err: &mut E,
+) -> Result<Outcome, Halt>
+    requires locals { All (IsLive (extent_of w.now.heap)) (L.items l.now) }
+    requires live { All (IsLive (extent_of w.now.heap)) vals.now }
+    ensures { (left : Option (List ℕ)) (faults : ℕ) → Applies (rows.stop_row (map (value_in (extent_of w.now.heap)) vals.now)) (given w.now (L.items l.now) (handed left faults (O.state out.old) (E.state err.old))) (given w.now (L.items l.now) (handed left faults (O.state out.new) (E.state err.new))) result }
+{
+    check_pieces(vals)?;
+    match put_line(&w.heap, vals, true, File::Errout, buffer, out, err) {
+        Ok(()) => Err(Halt::Ends(1)),
+        Err(Fault::Failed) => Err(Halt::WriteFault),
+        Err(Fault::NoMemory) => Err(Halt::NoMemory),
+    }
+}
+
+// The last argument, or null.
+fn last_of(vals: &[Val]) -> Val
+    ensures value { (all : Extent) → value_in all result ≡ rows.last_of (map (value_in all) vals.now) }
+    ensures live { (all : Extent) → All (IsLive all) vals.now → IsLive all result }
+{
+    if vals.is_empty() {
+        return Val::Null;
+    }
+    arg(vals, vals.len() - 1)
+}
