@@ -9,3 +9,6 @@ pub mod Deref
 pub mod PartSteps
 pub mod ReturnSteps
 pub mod FallSteps
+pub mod ScanSteps
+pub mod LeaveSteps
+pub mod TextSteps

@@ -144,6 +144,11 @@ live_suspend t reach m why k w =
       cells = subst (λ (n : ℕ). AreLive t reach n (copy_up m.cells onto)) same (live_copy t reach (own m) m.cells onto k.cells live);
     }
 
+pub suspend_owner : (m : FlatStack) (why : Why) → IsRooted m.registers m.cells → own (suspend why m) ≡ own m
+suspend_owner m why k =
+    let x : Cell = Suspension why m.registers m.place in
+    owner_copy m.cells (x ∷ m.cells) m.registers (rooted_on x m.cells m.registers k) ∙ owner_on x m.cells m.registers k
+
 -- what is left suspended with the operands of lower cells
 pub record LeavesLive (t : Tables) (reach : Reach) (count : ℕ) (n : FlatStack) : Type 0 where
   pub rest : IsLiveStack t reach n

@@ -20,7 +20,7 @@ use Rattle.icn_code.specs.Codes.{Tables}
 use Rattle.icn_control.specs.Living.{with_locals, IsLivePair, MaybeLivePair, IsLiveWhy, IsFrame, locals_at, IsMarkOf, IsRooted, AreLive, IsLiveStack, variable_count}
 use Rattle.icn_control.proofs.LiveCells.{live_cut, live_pair}
 use Rattle.icn_control.proofs.LiveCalls.{own, live_onto}
-use Rattle.icn_control.proofs.LiveSets.{Replaces, live_replace}
+use Rattle.icn_control.proofs.LiveSets.{Replaces, live_replace, owner_replace}
 
 -- Resuming
 
@@ -53,6 +53,7 @@ live_resume t reach m n why e k = by_height m.registers.newest e
 pub record SwapsLive (t : Tables) (reach : Reach) (before : ℕ) (old : Pair) (n : FlatStack) : Type 0 where
   pub pair_live : IsLivePair reach.extent old
   pub rest : IsLiveStack t reach n
+  pub same : own n ≡ before
 
 pub live_swap : (t : Tables) (reach : Reach) (m n : FlatStack) (oldest : Bool) (pair old : Pair) → swap_by oldest pair m ≡ Some (old, n) → IsLivePair reach.extent pair → IsLiveStack t reach m → SwapsLive t reach (own m) old n
 live_swap t reach m n oldest pair old e p k = by_choice oldest e
@@ -65,6 +66,7 @@ live_swap t reach m n oldest pair old e p k = by_choice oldest e
         record {
           pair_live = subst (λ (w : Option Cell). MaybeLivePair reach.extent (pair_of w)) at (live_pair t reach (own m) (length m.cells - h) m.cells k.cells);
           rest = live_replace t reach m h before after at f k;
+          same = owner_replace t reach m h before after at f;
         }
 
     by_cell : (h : ℕ) (cell : Option Cell) → cell_at h m.cells ≡ cell → with_pair pair h m cell ≡ Some (old, n) → SwapsLive t reach (own m) old n

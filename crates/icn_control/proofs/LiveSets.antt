@@ -77,6 +77,9 @@ live_replace t reach m h old new e k l =
       cells = subst (λ (c : ℕ). AreLive t reach c (slice_set m.cells i new)) (owner_set t reach m.cells i old new m.registers e k) (live_set t reach (own m) i m.cells old new e k l.cells);
     }
 
+pub owner_replace : (t : Tables) (reach : Reach) (m : FlatStack) (h : ℕ) (old new : Cell) → cell_at h m.cells ≡ Some old → Replaces t reach old new → locals_at m.registers (set_cell h new m.cells) ≡ own m
+owner_replace t reach m h old new e k = sym (owner_set t reach m.cells (length m.cells - h) old new m.registers e k)
+
 -- Labels and counts
 
 pub live_relabel : (t : Tables) (reach : Reach) (m n : FlatStack) (label : ℕ) → relabel label m ≡ Some n → IsLiveStack t reach m → IsLiveStack t reach n

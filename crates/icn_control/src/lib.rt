@@ -3,6 +3,7 @@
 
 mod activation;
 mod failing;
+mod initial;
 mod limits;
 mod literals;
 mod machine;
@@ -10,12 +11,14 @@ mod marks;
 mod on_stack;
 mod returns;
 mod scans;
+mod texts;
 mod turns;
 mod values;
 mod world;
 
 pub use activation::Activation;
 pub use failing::{Due, fall};
+pub use initial::init;
 pub use limits::{give_value, limit};
 pub use literals::{push_global, push_integer, push_local};
 pub use machine::{Machine, Stage};
@@ -24,8 +27,9 @@ pub use on_stack::{
     change_label, drop_mark, drop_operand, duplicate, give_limited, give_suspended, go_to,
     open_mark, push_below, push_null, put,
 };
-pub use returns::{give_back, leave_failing, result_of, suspend_with};
-pub use scans::{swap_if_scanning, swap_pairs};
+pub use returns::{fail_procedure, give_back, leave_failing, result_of, suspend_with};
+pub use scans::{leave_scan, swap_if_scanning, swap_pairs};
+pub use texts::push_string;
 pub use turns::go_back;
 pub use values::value_of;
 pub use world::{restore_pair, set_pair};

@@ -7,14 +7,15 @@ ghost use Rattle.icn_vars.specs.Worlds.{reach_of, world_of};
 ghost use Rattle.icn_frames.specs.Stacks as flat;
 ghost use Rattle.icn_control.specs.Living.{IsLiveStack};
 ghost use Rattle.icn_control.specs.Pairs.{paired};
+ghost use Rattle.icn_control.specs.Parts.{DoesWith};
 ghost use Rattle.icn_control.specs.Standing.{pair_in, stack_in};
 ghost use Rattle.icn_run.specs.Stacks.{Frames as FramesRead, flat as calls};
 ghost use Rattle.icn_run.specs.Step.{State, Store, maybe_exchanged, pair_now, with_world};
 
 use crate::world::set_pair;
 use icn_cells::Stack;
-use icn_frames::{Cell, Frames};
-use icn_vars::World;
+use icn_frames::{Cell, Frames, Why};
+use icn_vars::{Halt, World};
 
 /// Exchanges the pair of the world with that of the oldest open scan of the procedure, or of the newest one. One must be open.
 /// It takes no memory.
@@ -43,5 +44,26 @@ pub fn swap_if_scanning<K: Stack<Cell> + Drop>(frames: &mut Frames<K>, world: &m
 {
     if frames.scanning() {
         swap_pairs(frames, world, true);
+    }
+}
+
+/// Leaves the newest open scan, which must be there, with the top operand as its result. The error is want of memory.
+pub fn leave_scan<K: Stack<Cell> + Drop>(
+    frames: &mut Frames<K>,
+    world: &mut World,
+) -> Result<(), Halt>
+    requires operand { IsSome (flat.pop frames.old.flat) }
+    requires scan { IsSome frames.old.flat.registers.scan }
+    requires live { (tables : Tables) × IsLiveStack tables (reach_of world.old []) frames.old.flat }
+    ensures step { DoesWith Instrs.Escan world.old frames.old.flat world.new frames.new.flat result }
+    ensures live { (tables : Tables) → IsLiveStack tables (reach_of world.old []) frames.old.flat → OnOk result (IsLiveStack tables (reach_of world.new []) frames.new.flat) }
+    ensures heap { world.new.heap ≡ world.old.heap }
+    ensures reach { reach_of world.new [] ≡ reach_of world.old [] }
+{
+    let x = frames.pop();
+    swap_pairs(frames, world, false);
+    match frames.suspend(Why::Escan, Some(x)) {
+        Ok(()) => Ok(()),
+        Err(_) => Err(Halt::NoMemory),
     }
 }

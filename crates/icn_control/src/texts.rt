@@ -1,0 +1,63 @@
+// Texts of the code.
+ghost use Rattle.std.specs.Prelude.{◌≡◌, ◌<◌, [], Some, length, slice_get, OnOk, IfOk};
+ghost use Rattle.icn_code.specs.Codes.{Tables};
+ghost use Rattle.icn_code.specs.Seen.{tables_of};
+ghost use Rattle.icn_code.specs.declared.instr.Instr.TheVariants as Instrs;
+ghost use Rattle.icn_heap.specs.Extents.{IsText, text_in};
+ghost use Rattle.icn_heap.specs.Heaps.{extent_of, heap_of};
+ghost use Rattle.icn_vars.specs.Worlds.{KeepsItems, reach_of, world_of};
+ghost use Rattle.icn_run.specs.Stacks.{Frames as FramesRead};
+ghost use Rattle.icn_run.specs.Step.{Store};
+ghost use Rattle.icn_control.specs.Living.{IsLiveStack};
+ghost use Rattle.icn_control.specs.Parts.{RunsWith};
+ghost use Rattle.icn_control.specs.Standing.{done};
+
+use icn_cells::Stack;
+use icn_code::Code;
+use icn_frames::{Cell, Frames};
+use icn_value::{Item, Span, Val};
+use icn_vars::World;
+use std::alloc::AllocError;
+
+/// Pushes a text of the code, by its place, which must be there. It is not charged. The error is want of memory.
+pub fn push_string<K: Stack<Cell> + Drop>(
+    frames: &mut Frames<K>,
+    world: &mut World,
+    code: &Code,
+    place: u32,
+) -> Result<(), AllocError>
+    requires place { place < length (tables_of code.now).strings }
+    requires live { (tables : Tables) × IsLiveStack tables (reach_of world.old []) frames.old.flat }
+    ensures step { OnOk result ((st : Store FramesRead) → st.world ≡ world_of world.old → RunsWith (done (extent_of world.old.heap) (tables_of code.now) (Instrs.Str place) frames.old.flat st) st world.new frames.new.flat) }
+    ensures live { (tables : Tables) → IsLiveStack tables (reach_of world.old []) frames.old.flat → OnOk result (IsLiveStack tables (reach_of world.new []) frames.new.flat) }
+    ensures kept { KeepsItems (reach_of world.old []) (reach_of world.new []) }
+    ensures heap { heap_of world.new.heap ≡ heap_of world.old.heap }
+{
+    let text = string_at(code, place);
+    let span = hold(world, text)?;
+    frames.push(Item::Val(Val::Text(span)))?;
+    Ok(())
+}
+
+// A text of the code.
+fn string_at(code: &Code, place: u32) -> &[u8]
+    requires { place < length (tables_of code.now).strings }
+    ensures { slice_get (tables_of code.now).strings place ≡ Some result.now }
+{
+    match code.strings.get(place as usize) {
+        Some(text) => text.as_slice(),
+        None => unreachable!(),
+    }
+}
+
+// Keeps a text in the heap of a world, without a charge.
+#[tactic(auto, using(icn_vars::proofs::Growing::grows))]
+fn hold(world: &mut World, bytes: &[u8]) -> Result<Span, AllocError>
+    ensures live { IfOk result (IsText (extent_of world.new.heap)) }
+    ensures bytes { IfOk result (λ span. text_in (extent_of world.new.heap) span ≡ bytes.now) }
+    ensures kept { KeepsItems (reach_of world.old []) (reach_of world.new []) }
+    ensures world { world_of world.new ≡ world_of world.old }
+    ensures heap { heap_of world.new.heap ≡ heap_of world.old.heap }
+{
+    world.heap.hold(bytes)
+}
