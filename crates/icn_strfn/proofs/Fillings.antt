@@ -40,7 +40,7 @@ copies-append m n text =
     ap concat (sym (replicate-append-replicate m n text)) ∙ concat-append (replicate m text) (replicate n text)
 
 -- copies of a text with bytes are at least as many bytes
-no_less : (n len : ℕ) → 1 ≤ len → n ≤ n * len
+pub no_less : (n len : ℕ) → 1 ≤ len → n ≤ n * len
 no_less n len some = omega (arith, mul-le-mul_left n some)
 
 -- the first bytes and the last bytes of copies are those of the text

@@ -5,3 +5,4 @@ mod Images
 mod Trims
 mod KeptArguments
 mod NamedRecords
+mod TooLong

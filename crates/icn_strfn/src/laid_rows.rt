@@ -46,6 +46,10 @@ pub fn field_row<L: Locals>(
     let val = arg(args, 0);
     let other = arg(args, 2);
     let (span, fill) = two_texts(w, l, val, other, DefaultText::Blank)?;
+    let limit = w.heap.strings_limit();
+    if width > limit {
+        return Err(Stop::Error(306, None));
+    }
     let made = laid_out(
         *w.globals.allocator(),
         layout,

@@ -100,6 +100,11 @@ pub fn repl_row<L: Locals>(w: &mut World, l: &L, args: &[Val]) -> Result<Outcome
         return Err(Stop::Error(205, Some(times)));
     };
     let span = text_of(w, l, val)?;
+    let len = w.heap.bytes(span).len() as u64;
+    let limit = w.heap.strings_limit();
+    if count.saturating_mul(len) > limit {
+        return Err(Stop::Error(306, None));
+    }
     let made = repeated(*w.globals.allocator(), w.heap.bytes(span), count as usize)?;
     built(w, l, &made)
 }

@@ -1,0 +1,66 @@
+-- A text that is longer than the limit is refused, whatever was charged before.
+use Rattle.std.proofs.Common.{◌≡◌, refl, ap, ℕ, ◌+◌, ◌-◌, ◌*◌, ◌/◌, ◌^◌, ◌<◌, ◌≤◌, min, nat_le, false, List, [], ◌∷◌, ◌++◌, length, take, drop, None, arith, length-append, length-take, length-drop}
+use Rattle.std.proofs.lemmas.Bool.{lt-leb}
+use Rattle.icn_value.specs.Store.{Setting}
+use Rattle.icn_defs.specs.Rows.{Error, builds}
+use Rattle.icn_defs.specs.Strings.{filled_left, filled_right, filling}
+use Rattle.icn_strfn.specs.declared.layouts.Layout.{Layout}
+use Rattle.icn_strfn.specs.declared.layouts.Layout.TheVariants.{Left, Right, Center}
+use Rattle.icn_strfn.specs.Layouts.{laid_out}
+use Rattle.icn_strfn.proofs.Fillings.{copies, length-copies, no_less}
+
+pub too_long : (text : List ℕ) (setting : Setting) → setting.world.heap.bounds.strings < length text → builds text setting ≡ Error 306 None setting
+too_long text setting long =
+    let test : nat_le (setting.world.heap.strings + length text) setting.world.heap.bounds.strings ≡ false =
+    lt-leb (setting.world.heap.strings + length text) setting.world.heap.bounds.strings (omega arith) in
+    rw test refl
+
+filling_some : (fill : List ℕ) → 1 ≤ length (filling fill)
+filling_some [] = omega arith
+filling_some (byte ∷ bytes) = omega arith
+
+length-filled_left : (fill : List ℕ) (count : ℕ) → length (filled_left fill count) ≡ count
+length-filled_left fill count =
+    let part : length (filled_left fill count) ≡ min count (length (copies count (filling fill))) = length-take count (copies count (filling fill)) in
+    let all : length (copies count (filling fill)) ≡ count * length (filling fill) = length-copies count (filling fill) in
+    let enough : count ≤ count * length (filling fill) = no_less count (length (filling fill)) (filling_some fill) in
+    omega arith
+
+length-filled_right : (fill : List ℕ) (count : ℕ) → length (filled_right fill count) ≡ count
+length-filled_right fill count =
+    let part : length (filled_right fill count) ≡ length (copies count (filling fill)) - (length (copies count (filling fill)) - count) =
+    length-drop (length (copies count (filling fill)) - count) (copies count (filling fill)) in
+    let all : length (copies count (filling fill)) ≡ count * length (filling fill) = length-copies count (filling fill) in
+    let enough : count ≤ count * length (filling fill) = no_less count (length (filling fill)) (filling_some fill) in
+    omega arith
+
+-- a field has its width
+pub length-laid_out : (layout : Layout) (text fill : List ℕ) (width : ℕ) → length (laid_out layout text width fill) ≡ width
+length-laid_out Left text fill width =
+    let whole = length-append (take width text) (filled_right fill (width - length text)) in
+    let front = length-take width text in
+    let end = length-filled_right fill (width - length text) in
+    omega (arith, whole, front, end)
+length-laid_out Right text fill width =
+    let whole = length-append (filled_left fill (width - length text)) (drop (length text - width) text) in
+    let front = length-filled_left fill (width - length text) in
+    let end = length-drop (length text - width) text in
+    omega (arith, whole, front, end)
+length-laid_out Center text fill width =
+    let missing = width - length text in
+    let lost = (length text - width + 1) / 2 in
+    let whole = length-append (filled_left fill (missing / 2)) (take width (drop lost text) ++ filled_right fill (missing - missing / 2)) in
+    let inner = length-append (take width (drop lost text)) (filled_right fill (missing - missing / 2)) in
+    let front = length-filled_left fill (missing / 2) in
+    let middle = length-take width (drop lost text) in
+    let left = length-drop lost text in
+    let end = length-filled_right fill (missing - missing / 2) in
+    omega (arith, whole, inner, front, middle, left, end)
+
+-- so many copies are longer than a limit that their length passes, also where it is no number of 64 bits
+pub repeated_long : (count : ℕ) (text : List ℕ) (len product limit : ℕ) {bound : ℕ} → len ≡ length text → product ≡ min (count * len) (2 ^ 64 - 1) → limit ≡ bound → limit < product
+    → bound < length (copies count text)
+repeated_long count text len product limit same is bounds above =
+    let whole : length (copies count text) ≡ count * length text = length-copies count text in
+    let turned : count * len ≡ count * length text = ap (λ k. count * k) same in
+    omega arith
