@@ -4,3 +4,4 @@ pub mod Mains
 pub mod Asked
 pub mod Runs
 pub mod Answers
+pub mod Causes

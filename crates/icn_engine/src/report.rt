@@ -1,8 +1,8 @@
 // The report of a run's end.
 ghost use Rattle.std.specs.Prelude.{◌≡◌, ◌≤◌, IfOk, OnOk, OnErr, IsErrOf};
 ghost use Rattle.icn_host.specs.Counts.{CountsOnce};
-ghost use Rattle.icn_host.specs.Sinks.{Gains, GainsPart};
-ghost use Rattle.icn_report.specs.Puts.{Leads};
+ghost use Rattle.icn_host.specs.Sinks.{GainsPart};
+ghost use Rattle.icn_report.specs.Puts.{Leads, PutsAll};
 ghost use Rattle.icn_run.specs.Reports.{error_text, report_of};
 
 use crate::fault::RunFault;
@@ -14,7 +14,7 @@ use std::alloc::{AllocError, Global};
 
 /// Puts the report of a run that ended so, if it has one.
 pub fn report<E: Sink>(alloc: Global, ending: Ending, err: &mut E) -> Result<(), RunFault>
-    ensures ok { OnOk result (Gains (E.state err.old).held (E.state err.new).held (report_of ending)) }
+    ensures ok { OnOk result (PutsAll (E.state err.old) (E.state err.new) (report_of ending)) }
     ensures err { OnErr result (GainsPart (E.state err.old).held (E.state err.new).held (report_of ending)) }
     ensures leads { OnErr result (Leads (E.state err.old) (E.state err.new) (report_of ending)) }
     ensures cause { CountsOnce (E.state err.old).faults (E.state err.new).faults (IsErrOf result RunFault.WriteFault) }
@@ -29,7 +29,7 @@ pub fn report<E: Sink>(alloc: Global, ending: Ending, err: &mut E) -> Result<(),
 }
 
 fn put<E: Sink>(line: &[u8], err: &mut E) -> Result<(), RunFault>
-    ensures ok { OnOk result (Gains (E.state err.old).held (E.state err.new).held line.now) }
+    ensures ok { OnOk result (PutsAll (E.state err.old) (E.state err.new) line.now) }
     ensures err { OnErr result (GainsPart (E.state err.old).held (E.state err.new).held line.now) }
     ensures leads { OnErr result (Leads (E.state err.old) (E.state err.new) line.now) }
     ensures cause { CountsOnce (E.state err.old).faults (E.state err.new).faults (IsErrOf result RunFault.WriteFault) }

@@ -1,13 +1,12 @@
 // The run of a code.
 ghost use Rattle.std.specs.Prelude.{◌≡◌, ◌≤◌, ◌⊎◌, Err, IfErr, IfOk, IfSome, OnErr, IsErrOf, true};
-ghost use Rattle.icn_host.specs.Counts.{CountsOnce, Rose};
-ghost use Rattle.icn_host.specs.Sinks.{Gains};
-ghost use Rattle.icn_report.specs.Puts.{Leads};
+ghost use Rattle.icn_report.specs.Puts.{Leads, PutsAll};
 ghost use Rattle.icn_code.specs.Seen.{tables_of};
 ghost use Rattle.icn_verify.specs.Given.{HaveShapes};
 ghost use Rattle.icn_run.specs.Built.{is_built};
 ghost use Rattle.icn_run.specs.Reports.{report_of};
 ghost use Rattle.icn_engine.specs.Asked.{run_of};
+ghost use Rattle.icn_engine.specs.Causes.{EndsAtFirstFault};
 ghost use Rattle.icn_engine.specs.Runs.{Breaks, Ends, Leaves};
 
 use crate::fault::RunFault;
@@ -42,13 +41,10 @@ pub fn run<I: Source, O: Sink, E: Sink>(
     ensures err { IfErr result (λ fault. IfSome (I.left input.old) (λ left.
         Leaves fault (run_of code.now.code words.now limits left) (I.left input.new) (O.state out.old).held (O.state out.new).held (E.state err.old).held (E.state err.new).held)) }
     // Whatever the input tells, the report was put, or of some report a first part.
-    ensures reported { IfOk result (λ ending. Gains (E.state err.old).held (E.state err.new).held (report_of ending)) }
+    ensures reported { IfOk result (λ ending. PutsAll (E.state err.old) (E.state err.new) (report_of ending)) }
     ensures error_line { OnErr result ((ending : Ending) × Leads (E.state err.old) (E.state err.new) (report_of ending)) }
-    ensures read_fault { CountsOnce (I.faults input.old) (I.faults input.new) (IsErrOf result RunFault.ReadFault) }
-    ensures write_fault { IsErrOf result RunFault.WriteFault → Rose (O.state out.old).faults (O.state out.new).faults ⊎ Rose (E.state err.old).faults (E.state err.new).faults }
-    ensures output_faults { (O.state out.old).faults ≤ (O.state out.new).faults }
-    ensures error_faults { (E.state err.old).faults ≤ (E.state err.new).faults }
-    ensures error_wants { (E.state err.old).wants ≤ (E.state err.new).wants }
+    ensures first_fault { EndsAtFirstFault (I.faults input.old) (I.faults input.new) (O.state out.old) (O.state out.new)
+        (E.state err.old) (E.state err.new) result }
 {
     run_shaped(alloc, code.code(), words, limits, input, out, err)
 }
@@ -69,13 +65,10 @@ fn run_shaped<I: Source, O: Sink, E: Sink>(
         Ends (run_of code.now words.now limits left) ending (I.left input.new) (O.state out.old).held (O.state out.new).held (E.state err.old).held (E.state err.new).held)) }
     ensures err { OnErr result (IfSome (I.left input.old) (λ left.
         Breaks (run_of code.now words.now limits left) (I.left input.new) (O.state out.old).held (O.state out.new).held (E.state err.old).held (E.state err.new).held)) }
-    ensures reported { IfOk result (λ ending. Gains (E.state err.old).held (E.state err.new).held (report_of ending)) }
+    ensures reported { IfOk result (λ ending. PutsAll (E.state err.old) (E.state err.new) (report_of ending)) }
     ensures error_line { OnErr result ((ending : Ending) × Leads (E.state err.old) (E.state err.new) (report_of ending)) }
-    ensures read_fault { CountsOnce (I.faults input.old) (I.faults input.new) (IsErrOf result RunFault.ReadFault) }
-    ensures write_fault { IsErrOf result RunFault.WriteFault → Rose (O.state out.old).faults (O.state out.new).faults ⊎ Rose (E.state err.old).faults (E.state err.new).faults }
-    ensures output_faults { (O.state out.old).faults ≤ (O.state out.new).faults }
-    ensures error_faults { (E.state err.old).faults ≤ (E.state err.new).faults }
-    ensures error_wants { (E.state err.old).wants ≤ (E.state err.new).wants }
+    ensures first_fault { EndsAtFirstFault (I.faults input.old) (I.faults input.new) (O.state out.old) (O.state out.new)
+        (E.state err.old) (E.state err.new) result }
     ensures unread { IsErrOf result RunFault.ReadFault → ⊥ }
     ensures input { input.new ≡ input.old }
 {

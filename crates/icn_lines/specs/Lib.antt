@@ -3,3 +3,4 @@ pub mod Refusing
 pub mod Reporting
 pub mod Faulting
 pub mod Telling
+pub mod Causes

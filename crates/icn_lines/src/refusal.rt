@@ -1,11 +1,9 @@
 // The line of an answer that no program ran for.
-ghost use Rattle.std.specs.Prelude.{◌≡◌, ◌≢◌, ◌≤◌, OnOk, OnErr, IsErrOf};
-ghost use Rattle.icn_host.specs.Counts.{CountsOnce, HasCause};
-ghost use Rattle.icn_host.specs.Sinks.{Gains};
-ghost use Rattle.icn_report.specs.Puts.{Leads, Puts};
+ghost use Rattle.std.specs.Prelude.{◌≡◌, ◌≤◌, OnOk, IfErr};
+ghost use Rattle.icn_report.specs.Puts.{LeadsBy, PutsAll};
 ghost use Rattle.icn_engine.specs.Answers.{IsFault};
-ghost use Rattle.icn_lines.specs.Lines.{fault_line, line_of};
-ghost use Rattle.icn_lines.specs.Refusing.{Refuses};
+ghost use Rattle.icn_lines.specs.Lines.{line_of};
+ghost use Rattle.icn_lines.specs.Refusing.{PutsOwn, Refuses};
 
 use crate::lines::{FILE_FAULT, NO_MEMORY, READ_FAULT, line_of};
 use icn_engine::Answer;
@@ -23,8 +21,7 @@ pub fn refuse<E: Sink>(
     err: &mut E,
 ) -> Answer
     ensures line { Refuses usage.now name.now answer (E.state err.old) (E.state err.new) result }
-    ensures cause { HasCause (E.state err.old).faults (E.state err.new).faults
-        ((result ≡ Answer.WriteFault) × (answer ≢ Answer.WriteFault)) }
+    ensures faults { (E.state err.old).faults ≤ (E.state err.new).faults }
     ensures wants { (E.state err.old).wants ≤ (E.state err.new).wants }
 {
     if answer.is_fault() {
@@ -44,7 +41,7 @@ pub fn refuse<E: Sink>(
 /// Puts a fault's own line, as far as it can be put.
 pub fn own_line<E: Sink>(fault: &Answer, err: &mut E)
     requires { IsFault fault.now }
-    ensures puts { Puts (E.state err.old) (E.state err.new) (fault_line fault.now) }
+    ensures puts { PutsOwn fault.now (E.state err.old) (E.state err.new) }
     ensures faults { (E.state err.old).faults ≤ (E.state err.new).faults }
     ensures wants { (E.state err.old).wants ≤ (E.state err.new).wants }
 {
@@ -64,9 +61,9 @@ fn named_line<E: Sink>(
     answer: &Answer,
     err: &mut E,
 ) -> Result<(), Fault>
-    ensures ok { OnOk result (Gains (E.state err.old).held (E.state err.new).held (line_of usage.now name.now answer.now)) }
-    ensures err { OnErr result (Leads (E.state err.old) (E.state err.new) (line_of usage.now name.now answer.now)) }
-    ensures cause { CountsOnce (E.state err.old).faults (E.state err.new).faults (IsErrOf result Fault.Failed) }
+    ensures ok { OnOk result (PutsAll (E.state err.old) (E.state err.new) (line_of usage.now name.now answer.now)) }
+    ensures err { IfErr result (λ fault. LeadsBy fault (E.state err.old) (E.state err.new) (line_of usage.now name.now answer.now)) }
+    ensures faults { (E.state err.old).faults ≤ (E.state err.new).faults }
     ensures wants { (E.state err.old).wants ≤ (E.state err.new).wants }
 {
     let line = line_of(alloc, usage, name, answer)?;

@@ -2,17 +2,36 @@
 use Rattle.std.specs.Prelude.{◌≡◌, ◌⊎◌, ℕ, List}
 use Rattle.icn_host.specs.Counts.{one_more}
 use Rattle.icn_host.specs.Sinks.{Gains, GainsPart, SinkState}
-
--- a part of a line was put, since the sink failed, or since it wanted memory
-pub data Stops (before after : SinkState) (line : List ℕ) : Type 0 where
-  broken : after.faults ≡ one_more before.faults → after.wants ≡ before.wants → GainsPart before.held after.held line → Stops before after line
-  wanted : after.wants ≡ one_more before.wants → after.faults ≡ before.faults → GainsPart before.held after.held line → Stops before after line
+use Rattle.icn_host.specs.declared.fault.Fault.{Fault}
+use Rattle.icn_host.specs.declared.fault.Fault.TheVariants.{Failed, NoMemory}
 
 -- all of a line was put, and no count rose
 pub record PutsAll (before after : SinkState) (line : List ℕ) : Type 0 where
   pub gains : Gains before.held after.held line
   pub faults : after.faults ≡ before.faults
   pub wants : after.wants ≡ before.wants
+
+-- a part of a line was put, since the sink failed
+pub record BreaksOff (before after : SinkState) (line : List ℕ) : Type 0 where
+  pub part : GainsPart before.held after.held line
+  pub faults : after.faults ≡ one_more before.faults
+  pub wants : after.wants ≡ before.wants
+
+-- a part of a line was put, since the sink wanted memory
+pub record RunsShort (before after : SinkState) (line : List ℕ) : Type 0 where
+  pub part : GainsPart before.held after.held line
+  pub faults : after.faults ≡ before.faults
+  pub wants : after.wants ≡ one_more before.wants
+
+-- a part of a line was put, and this is the cause
+abbrev pub StopsBy : Fault → SinkState → SinkState → List ℕ → Type 0
+StopsBy Failed before after line = BreaksOff before after line
+StopsBy NoMemory before after line = RunsShort before after line
+
+-- a part of a line was put, whatever the cause
+pub data Stops (before after : SinkState) (line : List ℕ) : Type 0 where
+  broken : BreaksOff before after line → Stops before after line
+  wanted : RunsShort before after line → Stops before after line
 
 -- how a line was put: all of it, or a part
 pub data Puts (before after : SinkState) (line : List ℕ) : Type 0 where
@@ -22,3 +41,8 @@ pub data Puts (before after : SinkState) (line : List ℕ) : Type 0 where
 -- a line was not begun, or a part of it was put
 abbrev pub Leads : SinkState → SinkState → List ℕ → Type 0
 Leads before after line = (after ≡ before) ⊎ Stops before after line
+
+-- a line was not put whole, and this is the cause; where memory was wanting, it may be that the line was not begun
+abbrev pub LeadsBy : Fault → SinkState → SinkState → List ℕ → Type 0
+LeadsBy Failed before after line = BreaksOff before after line
+LeadsBy NoMemory before after line = (after ≡ before) ⊎ RunsShort before after line

@@ -1,8 +1,7 @@
 // Puts of lines.
-ghost use Rattle.std.specs.Prelude.{◌≡◌, ◌≤◌, OnOk, OnErr, IsErrOf};
+ghost use Rattle.std.specs.Prelude.{◌≡◌, ◌≤◌, OnOk, IfErr, IsErrOf};
 ghost use Rattle.icn_host.specs.Counts.{CountsOnce};
-ghost use Rattle.icn_host.specs.Sinks.{Gains};
-ghost use Rattle.icn_report.specs.Puts.{Leads, Puts};
+ghost use Rattle.icn_report.specs.Puts.{Puts, PutsAll, StopsBy};
 
 use icn_host::{Fault, Sink};
 
@@ -12,8 +11,8 @@ use icn_host::{Fault, Sink};
 ///
 /// The sink's: a part of the line was put then.
 pub fn put_line<E: Sink>(line: &[u8], err: &mut E) -> Result<(), Fault>
-    ensures ok { OnOk result (Gains (E.state err.old).held (E.state err.new).held line.now) }
-    ensures err { OnErr result (Leads (E.state err.old) (E.state err.new) line.now) }
+    ensures ok { OnOk result (PutsAll (E.state err.old) (E.state err.new) line.now) }
+    ensures err { IfErr result (λ fault. StopsBy fault (E.state err.old) (E.state err.new) line.now) }
     ensures cause { CountsOnce (E.state err.old).faults (E.state err.new).faults (IsErrOf result Fault.Failed) }
     ensures want { CountsOnce (E.state err.old).wants (E.state err.new).wants (IsErrOf result Fault.NoMemory) }
 {

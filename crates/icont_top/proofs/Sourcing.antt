@@ -17,7 +17,7 @@ use Rattle.icn_prep.specs.SourceLines.{Source, source_lines}
 use Rattle.icn_prep.proofs.Faults.{fault_of_text}
 use Rattle.icn_form.specs.declared.tree.Program.{Program}
 use Rattle.icn_engine.specs.declared.answer.Answer.{Answer}
-use Rattle.icn_engine.specs.declared.answer.Answer.TheVariants.{Refused, Command, NoMemory}
+use Rattle.icn_engine.specs.declared.answer.Answer.TheVariants.{Refused, Command, FileFault, NoMemory}
 use Rattle.icn_engine.specs.Answers.{IsFault}
 use Rattle.icn_lines.proofs.Reports.{ran_no_fault, wrote_no_fault}
 use Rattle.icont_top.specs.Job.{Job, IsJob, wrong_words, refuses, writes, runs}
@@ -39,6 +39,16 @@ pub are_scanned : (lines : List SourceLine) (tokens : List Token) → joined_len
 are_scanned lines tokens within e =
     let count = tokens_counted lines tokens e in
     record { few = omega arith; sized = all_sized tokens (tokens_sound lines tokens e); formed = all_formed tokens (tokens_sound lines tokens e) }
+
+-- the answer says that the files failed only where they did
+pub file_fault_from : (name : List ℕ) (fault : PrepFault) (answer : Answer) → (answer ≡ fault_answer name fault) ⊎ (answer ≡ NoMemory) → answer ≡ FileFault → fault ≡ Prep.FileFault
+file_fault_from name fault answer (inr none) e = let both : NoMemory ≡ FileFault = sym none ∙ e in cc
+file_fault_from name fault answer (inl is) e = of_fault name fault (sym is ∙ e) where
+  of_fault : (name : List ℕ) (fault : PrepFault) → fault_answer name fault ≡ FileFault → fault ≡ Prep.FileFault
+  of_fault name Prep.Missing e = cc
+  of_fault name (Prep.Broken rule file line) e = cc
+  of_fault name Prep.FileFault e = refl
+  of_fault name Prep.NoMemory e = cc
 
 -- No job asks for a fault
 

@@ -12,7 +12,8 @@ use Rattle.std.proofs.lemmas.Bool.Decides.{nat_tests}
 use Rattle.icn_host.specs.FileMaps.{FileMap, Sets, SetsPart}
 use Rattle.icn_host.proofs.SinkSteps.{gains_nothing}
 use Rattle.icn_host.specs.Sinks.{SinkState}
-use Rattle.icn_report.proofs.Putting.{puts_nothing}
+use Rattle.icn_host.specs.declared.fault.Fault.TheVariants.{Failed, NoMemory as Wants}
+use Rattle.icn_report.proofs.Putting.{leads_of, puts_nothing}
 use Rattle.icn_report.specs.Puts.{Puts, all, Leads}
 use Rattle.icn_code.specs.Codes.{Tables}
 use Rattle.icn_code.specs.Rules.{keeps_rules}
@@ -32,10 +33,12 @@ use Rattle.icn_engine.specs.declared.answer.Answer.{Answer}
 use Rattle.icn_engine.specs.declared.answer.Answer.TheVariants.{Wrote, Ran, Command, FileFault, ReadFault, WriteFault, NoMemory}
 use Rattle.icn_engine.specs.Answers.{IsFault}
 use Rattle.icn_engine.specs.Runs.{Ends}
+use Rattle.icn_lines.specs.Causes.{EndsAtFirst, outside}
 use Rattle.icn_lines.specs.Faulting.{IsOfRun, LeavesBy}
 use Rattle.icn_lines.specs.Lines.{fault_line, line_of, put_by}
-use Rattle.icn_lines.proofs.Reports.{line_alone, ran_no_fault, wrote_no_fault}
-use Rattle.icn_lines.specs.Refusing.{Refuses, put, own, write_fault, want}
+use Rattle.icn_lines.proofs.Counted.{no_cause, refused_ends, unmoved}
+use Rattle.icn_lines.proofs.Reports.{line_alone, puts_own, ran_no_fault, wrote_no_fault}
+use Rattle.icn_lines.specs.Refusing.{PutsOwn, Refuses, put, own, write_fault, want}
 use Rattle.icont_top.specs.declared.making.Made.{Made}
 use Rattle.icont_top.specs.Answered.{IsAnswered, IsCommand, fault as answered_fault, refused as answered_refused, ran as answered_ran}
 use Rattle.icont_top.specs.Job.{refusal, writing, running, image_file, IsJob, refuses, writes, runs}
@@ -71,12 +74,12 @@ pub refused : {words : List (List ℕ)} {files : FileMap} {left : List ℕ} (ans
     → held' ≡ held → left' ≡ Some left → Refuses usage [] answer before after given → Outcome words files left given (told held left' out before) (told held' left' out after)
 refused answer given held held' left' out before after (inl f) same d (put n h) = absurd (n f)
 refused {left = left} answer given held held' left' out before after (inr is) same d (put n h) =
-    done (refusal left answer) is (record { answered = refl; files = same; left = d; output = gains_nothing out; errors = h })
-refused answer given held held' left' out before after asks same d (own f puts) = fault f (idle before same refl refl (inl refl) puts)
+    done (refusal left answer) is (record { answered = refl; files = same; left = d; output = gains_nothing out; errors = h.gains })
+refused answer given held held' left' out before after asks same d (own f puts) = fault f (idle before same refl refl (inl refl) (puts_own _ _ answer puts))
 refused answer given held held' left' out before after (inl f) same d (write_fault n leads) = absurd (n f)
-refused answer given held held' left' out before after (inr is) same d (write_fault n leads) = fault refl (idle after same refl refl (begins_of answer before after is leads) (all (puts_nothing after)))
+refused answer given held held' left' out before after (inr is) same d (write_fault n stops) = fault refl (idle after same refl refl (begins_of answer before after is (leads_of _ _ _ Failed stops)) (all (puts_nothing after)))
 refused answer given held held' left' out before after (inl f) same d (want n between leads puts) = absurd (n f)
-refused answer given held held' left' out before after (inr is) same d (want n between leads puts) = fault refl (idle between same refl refl (begins_of answer before between is leads) puts)
+refused answer given held held' left' out before after (inr is) same d (want n between leads puts) = fault refl (idle between same refl refl (begins_of answer before between is (leads_of _ _ _ Wants leads)) puts)
 
 pub asked_file : {words : List (List ℕ)} {files : FileMap} (left name : List ℕ) (run : Option (List (List ℕ))) (answer : Answer) → asked words ≡ Asks name run → IsFault answer ⊎ ComesTo files name (Err answer) → Asked words files left answer
 asked_file left name run answer e (inl f) = inl f
@@ -149,9 +152,9 @@ wrote_outcome left name program left' out sunk e is sets d =
 
 pub torn_outcome : {words : List (List ℕ)} {files : FileMap} {held held' : Option FileMap} (left name : List ℕ) (run : Option (List (List ℕ))) (program : Program) (answer : Answer) (left' out : Option (List ℕ)) (before after : SinkState)
     → asked words ≡ Asks name run → ComesTo files name (Ok program) → SetsPart held held' (image_file name program).name (image_file name program).bytes → (answer ≡ FileFault) ⊎ (answer ≡ NoMemory)
-    → Puts before after (fault_line answer) → Outcome words files left answer (told held left' out before) (told held' left' out after)
-torn_outcome left name run program answer left' out before after e is sets (inl same) puts = fault (rw same refl) (torn name run program (record { asks = e; is = is }) sets refl refl puts)
-torn_outcome left name run program answer left' out before after e is sets (inr same) puts = fault (rw same refl) (torn name run program (record { asks = e; is = is }) sets refl refl puts)
+    → PutsOwn answer before after → Outcome words files left answer (told held left' out before) (told held' left' out after)
+torn_outcome left name run program answer left' out before after e is sets (inl same) puts = fault (rw same refl) (torn name run program (record { asks = e; is = is }) sets refl refl (puts_own _ _ answer puts))
+torn_outcome left name run program answer left' out before after e is sets (inr same) puts = fault (rw same refl) (torn name run program (record { asks = e; is = is }) sets refl refl (puts_own _ _ answer puts))
 
 leaves_meant : {program : Program} {tables : Tables} → BreaksAs program tables → (answer : Answer) (run : Run) (left' out out' err err' : Option (List ℕ)) → run.tables ≡ tables
     → LeavesBy answer run left' out out' err err' → MeaningLeavesBy answer (evaluation_of program run) left' out out' err err'
@@ -180,11 +183,11 @@ pub run_ended : {left' out out' : Option (List ℕ)} {before after : SinkState} 
 run_ended {left'} {out} {out'} {before} {after} tables words left bounds ending e ends =
     ran ending refl (subst (λ run. Ends run ending left' out out' before.held after.held) (run_as tables words left bounds e) ends)
 
-pub run_broken : {left' out out' : Option (List ℕ)} {before between after : SinkState} (tables : Tables) (words : List (List ℕ)) (left : List ℕ) (bounds : Bounds) (answer : Answer) → bounds ≡ default_limits → IsFault answer
-    → before.faults ≤ between.faults → before.wants ≤ between.wants → LeavesBy answer (record { tables = tables; words = words; bounds = bounds; left = left }) left' out out' before.held between.held → Puts between after (fault_line answer)
+pub run_broken : {left' out out' : Option (List ℕ)} {before after : SinkState} (between : SinkState) (tables : Tables) (words : List (List ℕ)) (left : List ℕ) (bounds : Bounds) (answer : Answer) → bounds ≡ default_limits → IsFault answer
+    → before.faults ≤ between.faults → before.wants ≤ between.wants → LeavesBy answer (record { tables = tables; words = words; bounds = bounds; left = left }) left' out out' before.held between.held → PutsOwn answer between after
     → IsRanOrBroken (run_by tables words left) answer left' out out' before after
-run_broken {left'} {out} {out'} {before} {between} tables words left bounds answer e f faults wants stood puts =
-    broken between f faults wants (subst (λ run. LeavesBy answer run left' out out' before.held between.held) (run_as tables words left bounds e) stood) puts
+run_broken {left'} {out} {out'} {before} between tables words left bounds answer e f faults wants stood puts =
+    broken between f faults wants (subst (λ run. LeavesBy answer run left' out out' before.held between.held) (run_as tables words left bounds e) stood) (puts_own _ _ answer puts)
 
 -- an answer that refuses a file writes no image
 pub not_written : {before after : SinkState} (answer given : Answer) → IsOfRead answer → Refuses usage [] answer before after given → HasWritten given → ⊥
@@ -220,23 +223,43 @@ not_command answer _ is (own f puts) w = not_read answer is w where
 not_command answer _ is (write_fault n leads) w = w
 not_command answer _ is (want n between leads puts) w = w
 
-pub no_read_fault : {before after : SinkState} (answer given : Answer) → IsOfRead answer → Refuses usage [] answer before after given → given ≡ ReadFault → ⊥
-no_read_fault answer _ is (put n h) e = rw e at is
-no_read_fault answer _ is (own f puts) e = rw e at is
-no_read_fault answer _ is (write_fault n leads) e = cc
-no_read_fault answer _ is (want n between leads puts) e = cc
+pub not_read_fault : (answer : Answer) → IsOfRead answer → answer ≡ ReadFault → ⊥
+not_read_fault answer is e = rw e at is
 
-pub file_fault_of : {before after : SinkState} (answer given : Answer) → Refuses usage [] answer before after given → given ≡ FileFault → answer ≡ FileFault
-file_fault_of answer _ (put n h) e = e
-file_fault_of answer _ (own f puts) e = e
-file_fault_of answer _ (write_fault n leads) e = cc
-file_fault_of answer _ (want n between leads puts) e = cc
+pub not_written_fault : (answer : Answer) → IsOfRead answer → answer ≡ WriteFault → ⊥
+not_written_fault answer is e = rw e at is
+
+-- which answers a run can give
+
+pub run_no_file : (answer : Answer) → IsOfRun answer → answer ≡ FileFault → ⊥
+run_no_file answer is e = rw e at is
+
+pub run_no_absence : (answer : Answer) → IsOfRun answer → IsAbsence answer → ⊥
+run_no_absence (Ran ending) is a = a
+run_no_absence ReadFault is a = a
+run_no_absence WriteFault is a = a
+run_no_absence NoMemory is a = a
+run_no_absence _ is a = is
 
 pub absence_of : {before after : SinkState} (answer given : Answer) → Refuses usage [] answer before after given → IsAbsence given → IsAbsence answer
 absence_of answer _ (put n h) is = is
 absence_of answer _ (own f puts) is = is
 absence_of answer _ (write_fault n leads) is = absurd is
 absence_of answer _ (want n between leads puts) is = absurd is
+
+-- faulty words
+pub command_ends : {files absences input : ℕ} {out before after : SinkState} (given : Answer) → Refuses usage [] (Command 1) before after given → before.faults ≤ after.faults → before.wants ≤ after.wants
+    → EndsAtFirst given (IsAbsence given) (outside files absences input out before) (outside files absences input out after)
+command_ends given line faults wants =
+    refused_ends (Command 1) given (λ e. no_write e) (λ e. no_read e) (unmoved (λ e. no_file e)) (no_cause (λ (a : IsAbsence (Command 1)). a)) (absence_of (Command 1) given line) line faults wants where
+      no_write : Command 1 ≡ WriteFault → ⊥
+      no_write e = cc
+
+      no_read : Command 1 ≡ ReadFault → ⊥
+      no_read e = cc
+
+      no_file : Command 1 ≡ FileFault → ⊥
+      no_file e = cc
 
 -- the files as they were before they were read
 pub held_as : {words : List (List ℕ)} {files : FileMap} {left : List ℕ} {answer : Answer} {left' out : Option (List ℕ)} {before : SinkState} {after : Told} (held held' : Option FileMap) → held' ≡ held
@@ -259,3 +282,15 @@ is_torn answer (inr e) = rw e refl
 
 pub torn_answered : {words : List (List ℕ)} {files : FileMap} (answer : Answer) → (answer ≡ FileFault) ⊎ (answer ≡ NoMemory) → IsAnswered words files answer
 torn_answered answer is = answered_fault answer (is_torn answer is)
+
+pub torn_no_absence : (answer : Answer) → (answer ≡ FileFault) ⊎ (answer ≡ NoMemory) → IsAbsence answer → ⊥
+torn_no_absence answer (inl e) a = rw e at a
+torn_no_absence answer (inr e) a = rw e at a
+
+pub torn_no_read : (answer : Answer) → (answer ≡ FileFault) ⊎ (answer ≡ NoMemory) → answer ≡ ReadFault → ⊥
+torn_no_read answer (inl e) r = let both : FileFault ≡ ReadFault = sym e ∙ r in cc
+torn_no_read answer (inr e) r = let both : NoMemory ≡ ReadFault = sym e ∙ r in cc
+
+pub torn_no_write : (answer : Answer) → (answer ≡ FileFault) ⊎ (answer ≡ NoMemory) → answer ≡ WriteFault → ⊥
+torn_no_write answer (inl e) w = let both : FileFault ≡ WriteFault = sym e ∙ w in cc
+torn_no_write answer (inr e) w = let both : NoMemory ≡ WriteFault = sym e ∙ w in cc

@@ -1,6 +1,6 @@
 // The code and the image of a named file.
 ghost use Rattle.std.specs.Prelude.{◌≡◌, ◌⊎◌, IfSome, IfOk, IfErr, IsErrOf, true, false};
-ghost use Rattle.icn_host.specs.Counts.{HasCause};
+ghost use Rattle.icn_host.specs.Counts.{CountsOnce, HasCause};
 ghost use Rattle.icn_tree.specs.declared.rule.Rule.TheVariants.{K3};
 ghost use Rattle.icn_code.specs.Seen.{tables_of};
 ghost use Rattle.icn_decls.specs.Spelled.{AreScanned};
@@ -46,7 +46,7 @@ pub fn make<F: Files>(alloc: Global, name: &str, files: &mut F) -> Result<Made, 
     ensures built { IfOk result (λ made. is_built (tables_of made.code.code) ≡ true) }
     ensures others { IfErr result IsOfRead }
     ensures files { F.held files.new ≡ F.held files.old }
-    ensures file_fault { HasCause (F.faults files.old) (F.faults files.new) (IsErrOf result Answer.FileFault) }
+    ensures file_fault { CountsOnce (F.faults files.old) (F.faults files.new) (IsErrOf result Answer.FileFault) }
     ensures absence { HasCause (F.absences files.old) (F.absences files.new) (IsErrOfAbsence result) }
 {
     match source_tokens(alloc, name, files) {

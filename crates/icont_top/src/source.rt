@@ -1,6 +1,6 @@
 // What is read of a named file, up to its tokens.
 ghost use Rattle.std.specs.Prelude.{◌≡◌, ◌⊎◌, IfSome, IfOk, IfErr, IsErrOf};
-ghost use Rattle.icn_host.specs.Counts.{HasCause};
+ghost use Rattle.icn_host.specs.Counts.{CountsOnce, HasCause};
 ghost use Rattle.icn_tree.specs.Tokens.{tokens_of};
 ghost use Rattle.icn_decls.specs.Spelled.{AreScanned};
 ghost use Rattle.icn_engine.specs.declared.answer.Answer.TheVariants.{Missing};
@@ -32,7 +32,7 @@ pub fn source_tokens<F: Files>(
     ensures scanned { IfOk result (λ source. AreScanned source.tokens.items) }
     ensures others { IfErr result IsOfRead }
     ensures files { F.held files.new ≡ F.held files.old }
-    ensures file_fault { HasCause (F.faults files.old) (F.faults files.new) (IsErrOf result Answer.FileFault) }
+    ensures file_fault { CountsOnce (F.faults files.old) (F.faults files.new) (IsErrOf result Answer.FileFault) }
     ensures absence { HasCause (F.absences files.old) (F.absences files.new) (IsErrOfAbsence result) }
 {
     match preprocess(alloc, name, files) {
@@ -63,7 +63,8 @@ fn line_tokens(alloc: Global, lines: Lines) -> Result<SourceTokens, Answer>
 
 // The answer where the file of this name gives no lines.
 fn fault_answer(alloc: Global, name: &str, fault: PrepFault) -> Answer
-    ensures { (result ≡ fault_answer name.now fault) ⊎ (result ≡ Answer.NoMemory) }
+    ensures given { (result ≡ fault_answer name.now fault) ⊎ (result ≡ Answer.NoMemory) }
+    ensures file_fault { fault ≡ PrepFault.FileFault → result ≡ Answer.FileFault }
 {
     match fault {
         PrepFault::Missing => missing(alloc, name),

@@ -1,15 +1,16 @@
 // The top call.
-ghost use Rattle.std.specs.Prelude.{◌≡◌, ◌⊎◌, ◌≤◌, ℕ, List, [], Ok, Some, map, string_bytes, IfSome, true};
-ghost use Rattle.icn_host.specs.Counts.{HasCause, Rose};
+ghost use Rattle.std.specs.Prelude.{◌≡◌, ◌↔◌, ◌⊎◌, ◌≤◌, ℕ, List, [], Ok, Some, map, string_bytes, IfSome, true};
+ghost use Rattle.icn_host.specs.Counts.{Rose};
 ghost use Rattle.icn_host.specs.FileMaps.{FileMap};
 ghost use Rattle.icn_host.specs.Sinks.{Gains};
-ghost use Rattle.icn_report.specs.Puts.{Puts};
 ghost use Rattle.icn_code.specs.Seen.{tables_of};
 ghost use Rattle.icn_run.specs.Built.{is_built};
 ghost use Rattle.icn_form.specs.declared.tree.Program.{Program};
 ghost use Rattle.icn_engine.specs.Answers.{IsFault, IsRefusal};
+ghost use Rattle.icn_lines.specs.Causes.{EndsAtFirst, RunEndsAtFirst, outside};
 ghost use Rattle.icn_lines.specs.Faulting.{IsOfRun};
-ghost use Rattle.icn_lines.specs.Lines.{fault_line, put_by};
+ghost use Rattle.icn_lines.specs.Lines.{put_by};
+ghost use Rattle.icn_lines.specs.Refusing.{PutsOwn};
 ghost use Rattle.icn_lines.specs.Reporting.{Reports};
 ghost use Rattle.icont_top.specs.Answered.{IsAnswered, IsCommand, IsCommanded};
 ghost use Rattle.icont_top.specs.Asking.{asking};
@@ -79,15 +80,11 @@ pub fn icont_main<F: Files, I: Source, O: Sink, E: Sink>(
     ensures refused { IsRefusal result → (O.state out.new).held ≡ (O.state out.old).held }
     ensures unread { IsRefusal result → I.left input.new ≡ I.left input.old }
 
-    // A fault is answered only where the count of its object rose, and an absence (also of an included file) only where that
-    // count did. No count falls.
-    ensures file_fault { HasCause (F.faults files.old) (F.faults files.new) (result ≡ Answer.FileFault) }
-    ensures absence { HasCause (F.absences files.old) (F.absences files.new) (IsAbsence result) }
-    ensures read_fault { HasCause (I.faults input.old) (I.faults input.new) (result ≡ Answer.ReadFault) }
-    ensures write_fault { result ≡ Answer.WriteFault → Rose (O.state out.old).faults (O.state out.new).faults ⊎ Rose (E.state err.old).faults (E.state err.new).faults }
-    ensures output_faults { (O.state out.old).faults ≤ (O.state out.new).faults }
-    ensures error_faults { (E.state err.old).faults ≤ (E.state err.new).faults }
-    ensures error_wants { (E.state err.old).wants ≤ (E.state err.new).wants }
+    // The first fault ends the call: its object's count rose once, and no other count of faults did but at the put of the fault's
+    // own line. An absence (also of an included file) is answered only where that count rose.
+    ensures causes { EndsAtFirst result (IsAbsence result)
+        (outside (F.faults files.old) (F.absences files.old) (I.faults input.old) (O.state out.old) (E.state err.old))
+        (outside (F.faults files.new) (F.absences files.new) (I.faults input.new) (O.state out.new) (E.state err.new)) }
 {
     match asked(words) {
         Some(asked) => file_answer(alloc, asked, files, input, out, err),
@@ -115,13 +112,9 @@ fn file_answer<F: Files, I: Source, O: Sink, E: Sink>(
     ensures untouched { IsRefusal result → F.held files.new ≡ F.held files.old }
     ensures refused { IsRefusal result → (O.state out.new).held ≡ (O.state out.old).held }
     ensures unread { IsRefusal result → I.left input.new ≡ I.left input.old }
-    ensures file_fault { HasCause (F.faults files.old) (F.faults files.new) (result ≡ Answer.FileFault) }
-    ensures absence { HasCause (F.absences files.old) (F.absences files.new) (IsAbsence result) }
-    ensures read_fault { HasCause (I.faults input.old) (I.faults input.new) (result ≡ Answer.ReadFault) }
-    ensures write_fault { result ≡ Answer.WriteFault → Rose (O.state out.old).faults (O.state out.new).faults ⊎ Rose (E.state err.old).faults (E.state err.new).faults }
-    ensures output_faults { (O.state out.old).faults ≤ (O.state out.new).faults }
-    ensures error_faults { (E.state err.old).faults ≤ (E.state err.new).faults }
-    ensures error_wants { (E.state err.old).wants ≤ (E.state err.new).wants }
+    ensures causes { EndsAtFirst result (IsAbsence result)
+        (outside (F.faults files.old) (F.absences files.old) (I.faults input.old) (O.state out.old) (E.state err.old))
+        (outside (F.faults files.new) (F.absences files.new) (I.faults input.new) (O.state out.new) (E.state err.new)) }
 {
     match make(alloc, asked.name, files) {
         Ok(made) => image_answer(alloc, &made, asked, files, input, out, err),
@@ -150,13 +143,9 @@ fn image_answer<F: Files, I: Source, O: Sink, E: Sink>(
     ensures reported { Reports usage [] (E.state err.old) (E.state err.new) result }
     ensures answered { (words : List (List ℕ)) (held : FileMap) (program : Program) → read words ≡ asking asked.entry → ComesTo held asked.entry.name.now (Ok program) → IsAnswered words held result }
     ensures no_refusal { IsRefusal result → ⊥ }
-    ensures file_fault { HasCause (F.faults files.old) (F.faults files.new) (result ≡ Answer.FileFault) }
-    ensures absences { F.absences files.new ≡ F.absences files.old }
-    ensures read_fault { HasCause (I.faults input.old) (I.faults input.new) (result ≡ Answer.ReadFault) }
-    ensures write_fault { result ≡ Answer.WriteFault → Rose (O.state out.old).faults (O.state out.new).faults ⊎ Rose (E.state err.old).faults (E.state err.new).faults }
-    ensures output_faults { (O.state out.old).faults ≤ (O.state out.new).faults }
-    ensures error_faults { (E.state err.old).faults ≤ (E.state err.new).faults }
-    ensures error_wants { (E.state err.old).wants ≤ (E.state err.new).wants }
+    ensures causes { EndsAtFirst result (IsAbsence result)
+        (outside (F.faults files.old) (F.absences files.old) (I.faults input.old) (O.state out.old) (E.state err.old))
+        (outside (F.faults files.new) (F.absences files.new) (I.faults input.new) (O.state out.new) (E.state err.new)) }
 {
     one_spelling();
     code_runs_as_meant();
@@ -171,9 +160,9 @@ fn image_answer<F: Files, I: Source, O: Sink, E: Sink>(
 
 // The answer where the image could not be written.
 fn torn_answer<E: Sink>(fault: Fault, err: &mut E) -> Answer
-    ensures failed { result ≡ Answer.FileFault → fault ≡ Fault.Failed }
+    ensures failed { (result ≡ Answer.FileFault) ↔ (fault ≡ Fault.Failed) }
     ensures others { (result ≡ Answer.FileFault) ⊎ (result ≡ Answer.NoMemory) }
-    ensures puts { Puts (E.state err.old) (E.state err.new) (fault_line result) }
+    ensures puts { PutsOwn result (E.state err.old) (E.state err.new) }
     ensures faults { (E.state err.old).faults ≤ (E.state err.new).faults }
     ensures wants { (E.state err.old).wants ≤ (E.state err.new).wants }
 {
@@ -199,11 +188,8 @@ fn run_answer<I: Source, O: Sink, E: Sink>(
         (E.state err.old) (E.state err.new)) }
     ensures reported { Reports usage [] (E.state err.old) (E.state err.new) result }
     ensures others { IsOfRun result }
-    ensures read_fault { HasCause (I.faults input.old) (I.faults input.new) (result ≡ Answer.ReadFault) }
-    ensures write_fault { result ≡ Answer.WriteFault → Rose (O.state out.old).faults (O.state out.new).faults ⊎ Rose (E.state err.old).faults (E.state err.new).faults }
-    ensures output_faults { (O.state out.old).faults ≤ (O.state out.new).faults }
-    ensures error_faults { (E.state err.old).faults ≤ (E.state err.new).faults }
-    ensures error_wants { (E.state err.old).wants ≤ (E.state err.new).wants }
+    ensures causes { RunEndsAtFirst result (I.faults input.old) (I.faults input.new) (O.state out.old) (O.state out.new)
+        (E.state err.old) (E.state err.new) }
 {
     match run(alloc, code, words, Limits::standard(), input, out, err) {
         Ok(ending) => Answer::Ran(ending),

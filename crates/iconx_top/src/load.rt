@@ -1,6 +1,6 @@
 // The image that is to run.
 ghost use Rattle.std.specs.Prelude.{◌≡◌, ◌⊎◌, ℕ, List, Some, None, IfSome, IfOk, IfErr, IsErrOf, true};
-ghost use Rattle.icn_host.specs.Counts.{HasCause};
+ghost use Rattle.icn_host.specs.Counts.{CountsOnce, HasCause};
 ghost use Rattle.icn_code.specs.Seen.{tables_of};
 ghost use Rattle.icn_run.specs.Built.{is_built};
 ghost use Rattle.iconx_top.specs.Loading.{IsChecked, IsErrOfAbsence, IsJudgement, IsLoaded, IsOfImage, IsOfLoading, Takes, of_image};
@@ -22,7 +22,7 @@ pub fn load<F: Files>(alloc: Global, name: &str, files: &mut F) -> Result<Verifi
     ensures built { IfOk result (λ verified. is_built (tables_of verified.code) ≡ true) }
     ensures others { IfErr result IsOfLoading }
     ensures files { F.held files.new ≡ F.held files.old }
-    ensures file_fault { HasCause (F.faults files.old) (F.faults files.new) (IsErrOf result Answer.FileFault) }
+    ensures file_fault { CountsOnce (F.faults files.old) (F.faults files.new) (IsErrOf result Answer.FileFault) }
     ensures absence { HasCause (F.absences files.old) (F.absences files.new) (IsErrOfAbsence result) }
 {
     let mut bytes = Vec::new(alloc);

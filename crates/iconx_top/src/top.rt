@@ -1,6 +1,6 @@
 // The top call.
 ghost use Rattle.std.specs.Prelude.{◌≡◌, ◌≢◌, ◌⊎◌, ◌≤◌, ℕ, List, Option, [], Ok, Some, map, string_bytes, IfSome, IsErrOf, true};
-ghost use Rattle.icn_host.specs.Counts.{HasCause, Rose};
+ghost use Rattle.icn_host.specs.Counts.{Rose};
 ghost use Rattle.icn_host.specs.FileMaps.{FileMap};
 ghost use Rattle.icn_host.specs.Sinks.{Gains};
 ghost use Rattle.icn_code.specs.Seen.{tables_of};
@@ -9,6 +9,7 @@ ghost use Rattle.icn_engine.specs.Answers.{IsFault, IsRefusal};
 ghost use Rattle.iconx_top.specs.Answered.{IsAnswered};
 ghost use Rattle.iconx_top.specs.Asking.{asking};
 ghost use Rattle.iconx_top.specs.Commanded.{IsCommand, IsCommanded};
+ghost use Rattle.icn_lines.specs.Causes.{EndsAtFirst, RunEndsAtFirst, outside};
 ghost use Rattle.icn_lines.specs.Faulting.{IsOfRun};
 ghost use Rattle.icn_lines.specs.Lines.{put_by};
 ghost use Rattle.iconx_top.specs.Loading.{IsAbsence, IsLoaded};
@@ -66,13 +67,12 @@ pub fn iconx_main<F: Files, I: Source, O: Sink, E: Sink>(
     ensures refused { IsRefusal result → (O.state out.new).held ≡ (O.state out.old).held }
     ensures unread { IsRefusal result → I.left input.new ≡ I.left input.old }
     ensures files { F.held files.new ≡ F.held files.old }
-    ensures file_fault { HasCause (F.faults files.old) (F.faults files.new) (result ≡ Answer.FileFault) }
-    ensures absence { HasCause (F.absences files.old) (F.absences files.new) (IsAbsence result) }
-    ensures read_fault { HasCause (I.faults input.old) (I.faults input.new) (result ≡ Answer.ReadFault) }
-    ensures write_fault { result ≡ Answer.WriteFault → Rose (O.state out.old).faults (O.state out.new).faults ⊎ Rose (E.state err.old).faults (E.state err.new).faults }
-    ensures output_faults { (O.state out.old).faults ≤ (O.state out.new).faults }
-    ensures error_faults { (E.state err.old).faults ≤ (E.state err.new).faults }
-    ensures error_wants { (E.state err.old).wants ≤ (E.state err.new).wants }
+
+    // The first fault ends the call: its object's count rose once, and no other count of faults did but at the put of the fault's
+    // own line. An absence is answered only where that count rose.
+    ensures causes { EndsAtFirst result (IsAbsence result)
+        (outside (F.faults files.old) (F.absences files.old) (I.faults input.old) (O.state out.old) (E.state err.old))
+        (outside (F.faults files.new) (F.absences files.new) (I.faults input.new) (O.state out.new) (E.state err.new)) }
 {
     match asked(words) {
         Ok(asked) => image_answer(alloc, asked, files, input, out, err),
@@ -98,13 +98,9 @@ fn image_answer<F: Files, I: Source, O: Sink, E: Sink>(
     ensures refused { IsRefusal result → (O.state out.new).held ≡ (O.state out.old).held }
     ensures unread { IsRefusal result → I.left input.new ≡ I.left input.old }
     ensures files { F.held files.new ≡ F.held files.old }
-    ensures file_fault { HasCause (F.faults files.old) (F.faults files.new) (result ≡ Answer.FileFault) }
-    ensures absence { HasCause (F.absences files.old) (F.absences files.new) (IsAbsence result) }
-    ensures read_fault { HasCause (I.faults input.old) (I.faults input.new) (result ≡ Answer.ReadFault) }
-    ensures write_fault { result ≡ Answer.WriteFault → Rose (O.state out.old).faults (O.state out.new).faults ⊎ Rose (E.state err.old).faults (E.state err.new).faults }
-    ensures output_faults { (O.state out.old).faults ≤ (O.state out.new).faults }
-    ensures error_faults { (E.state err.old).faults ≤ (E.state err.new).faults }
-    ensures error_wants { (E.state err.old).wants ≤ (E.state err.new).wants }
+    ensures causes { EndsAtFirst result (IsAbsence result)
+        (outside (F.faults files.old) (F.absences files.old) (I.faults input.old) (O.state out.old) (E.state err.old))
+        (outside (F.faults files.new) (F.absences files.new) (I.faults input.new) (O.state out.new) (E.state err.new)) }
 {
     match load(alloc, run.image, files) {
         Ok(verified) => run_answer(alloc, &verified, run, input, out, err),
@@ -128,11 +124,8 @@ fn run_answer<I: Source, O: Sink, E: Sink>(
         (told told_files (I.left input.new) (O.state out.new).held (E.state err.new))) }
     ensures reported { (name : List ℕ) → Reports usage name (E.state err.old) (E.state err.new) result }
     ensures others { IsOfRun result }
-    ensures read_fault { HasCause (I.faults input.old) (I.faults input.new) (result ≡ Answer.ReadFault) }
-    ensures write_fault { result ≡ Answer.WriteFault → Rose (O.state out.old).faults (O.state out.new).faults ⊎ Rose (E.state err.old).faults (E.state err.new).faults }
-    ensures output_faults { (O.state out.old).faults ≤ (O.state out.new).faults }
-    ensures error_faults { (E.state err.old).faults ≤ (E.state err.new).faults }
-    ensures error_wants { (E.state err.old).wants ≤ (E.state err.new).wants }
+    ensures causes { RunEndsAtFirst result (I.faults input.old) (I.faults input.new) (O.state out.old) (O.state out.new)
+        (E.state err.old) (E.state err.new) }
 {
     match run(alloc, code, asked.arguments, asked.limits, input, out, err) {
         Ok(ending) => Answer::Ran(ending),

@@ -18,4 +18,4 @@ returns-in_err-report-clause-err g c =
     (report_broke (λ left. run_of c.args.code.now c.args.words.now c.args.limits left) (λ left. refl) _ _ _ _ _ c.in_ok-ending.ending c.in_ok-ending.ensures.ok c.in_err-report.ensures.err)
 
 pub returns-clause-ok : goal.returns-clause-ok
-returns-clause-ok g c = ends_told (λ left. run_of c.args.code.now c.args.words.now c.args.limits left) (λ left. refl) _ _ _ _ _ c.in_ok-ending.ending c.in_ok-ending.ensures.ok c.in_ok-report.ensures.ok
+returns-clause-ok g c = ends_told (λ left. run_of c.args.code.now c.args.words.now c.args.limits left) (λ left. refl) _ _ _ _ _ c.in_ok-ending.ending c.in_ok-ending.ensures.ok c.in_ok-report.ensures.ok.gains

@@ -15,7 +15,7 @@ pub returns-in-Ok-clause-others : goal.returns-in-Ok-clause-others
 returns-in-Ok-clause-others g c = of_read c.make_tokens.result c.make_tokens.ensures.others
 
 pub returns-in-Ok-clause-file_fault : goal.returns-in-Ok-clause-file_fault
-returns-in-Ok-clause-file_fault g c = record { later = c.in-Ok.ensures.file_fault.later; rose = λ is. absurd (no_file_fault c.make_tokens.result c.make_tokens.ensures.others is) }
+returns-in-Ok-clause-file_fault g c = record { later = c.in-Ok.ensures.file_fault.later; rose = λ is. absurd (no_file_fault c.make_tokens.result c.make_tokens.ensures.others is); stayed = λ n. c.in-Ok.ensures.file_fault.stayed (λ is. cc) }
 
 pub returns-in-Ok-clause-absence : goal.returns-in-Ok-clause-absence
 returns-in-Ok-clause-absence g c = record { later = c.in-Ok.ensures.absence.later; rose = λ is. absurd (no_absence c.make_tokens.result c.make_tokens.ensures.others is) }

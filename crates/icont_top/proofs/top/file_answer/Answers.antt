@@ -1,8 +1,10 @@
-use Rattle.std.proofs.Common.{map, ap, arith, Err}
+use Rattle.std.proofs.Common.{map}
 use Rattle.std.specs.Prelude.{string_bytes}
 use Rattle.std.specs.Option.{option_map}
 use Rattle.icn_lines.proofs.Reports.{reports_of}
-use Rattle.icont_top.proofs.Topmost.{absence_of, answer_put, asked_file, at_some, file_answered, file_fault_of, held_as, if_some, line_put, no_read_fault, not_command, not_written, refused}
+use Rattle.icn_engine.specs.declared.answer.Answer.TheVariants.{FileFault}
+use Rattle.icn_lines.proofs.Counted.{after_read, err_counts, refused_ends}
+use Rattle.icont_top.proofs.Topmost.{absence_of, answer_put, asked_file, at_some, file_answered, held_as, if_some, line_put, not_command, not_read_fault, not_written, not_written_fault, refused}
 use Rattle.icont_top.proofs.top.file_answer.Goals as goal
 
 pub returns-in-Ok-clause-outcome : goal.returns-in-Ok-clause-outcome
@@ -31,11 +33,10 @@ returns-in-Err-clause-answered g c words asks =
 pub returns-in-Err-clause-command : goal.returns-in-Err-clause-command
 returns-in-Err-clause-command g c is = not_command c.in-Err.answer c.refuse.result c.in-Err.ensures.others c.refuse.ensures.line is
 
-pub returns-in-Err-clause-file_fault : goal.returns-in-Err-clause-file_fault
-returns-in-Err-clause-file_fault g c = record { later = c.in-Err.ensures.file_fault.later; rose = λ is. c.in-Err.ensures.file_fault.rose (ap (λ answer. Err answer) (file_fault_of c.in-Err.answer c.refuse.result c.refuse.ensures.line is)) }
+pub returns-in-Ok-clause-causes : goal.returns-in-Ok-clause-causes
+returns-in-Ok-clause-causes g c = after_read c.image_answer.result (c.in-Ok.ensures.file_fault.stayed (λ e. cc)) c.in-Ok.ensures.absence.later c.image_answer.ensures.causes
 
-pub returns-in-Err-clause-absence : goal.returns-in-Err-clause-absence
-returns-in-Err-clause-absence g c = record { later = c.in-Err.ensures.absence.later; rose = λ is. c.in-Err.ensures.absence.rose (absence_of c.in-Err.answer c.refuse.result c.refuse.ensures.line is) }
-
-pub returns-in-Err-clause-read_fault : goal.returns-in-Err-clause-read_fault
-returns-in-Err-clause-read_fault g c = record { later = omega arith; rose = λ is. absurd (no_read_fault c.in-Err.answer c.refuse.result c.in-Err.ensures.others c.refuse.ensures.line is) }
+pub returns-in-Err-clause-causes : goal.returns-in-Err-clause-causes
+returns-in-Err-clause-causes g c =
+    refused_ends c.in-Err.answer c.refuse.result (not_written_fault c.in-Err.answer c.in-Err.ensures.others) (not_read_fault c.in-Err.answer c.in-Err.ensures.others)
+    (err_counts c.in-Err.answer FileFault c.in-Err.ensures.file_fault) c.in-Err.ensures.absence (absence_of c.in-Err.answer c.refuse.result c.refuse.ensures.line) c.refuse.ensures.line c.refuse.ensures.faults c.refuse.ensures.wants

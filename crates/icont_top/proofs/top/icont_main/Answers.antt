@@ -1,9 +1,10 @@
 use Rattle.std.proofs.Common.{refl, sym, inr}
 use Rattle.icn_engine.specs.declared.answer.Answer.TheVariants.{Command}
+use Rattle.icn_lines.proofs.Counted.{faultless_of}
 use Rattle.icn_lines.proofs.Reports.{line_of_reports, reports_of}
 use Rattle.icont_top.specs.Job.{wrong_words}
 use Rattle.icont_top.specs.Answered.{wrong_words as by_words}
-use Rattle.icont_top.proofs.Topmost.{answer_put, if_some, refused}
+use Rattle.icont_top.proofs.Topmost.{answer_put, command_ends, if_some, refused}
 use Rattle.icont_top.proofs.top.icont_main.Goals as goal
 
 pub returns-in-None-clause-outcome : goal.returns-in-None-clause-outcome
@@ -23,3 +24,12 @@ returns-in-None-clause-fault_line g c = reports_of refl c.refuse.ensures.line
 pub returns-in-None-clause-answered : goal.returns-in-None-clause-answered
 returns-in-None-clause-answered g c =
     if_some (g.F.Files.held c.args.files.now) _ (λ held e. answer_put (Command 1) c.refuse.result (by_words (sym c.in-None.ensures)) c.refuse.ensures.line)
+
+pub returns-in-None-clause-causes : goal.returns-in-None-clause-causes
+returns-in-None-clause-causes g c = command_ends c.refuse.result c.refuse.ensures.line c.refuse.ensures.faults c.refuse.ensures.wants
+
+pub returns-in-None-clause-faultless : goal.returns-in-None-clause-faultless
+returns-in-None-clause-faultless g c = faultless_of c.refuse.result (command_ends {absences = 0} {out = g.O.Sink.state c.args.out.now} c.refuse.result c.refuse.ensures.line c.refuse.ensures.faults c.refuse.ensures.wants)
+
+pub returns-in-Some-clause-faultless : goal.returns-in-Some-clause-faultless
+returns-in-Some-clause-faultless g c = faultless_of c.file_answer.result c.file_answer.ensures.causes

@@ -1,9 +1,12 @@
-use Rattle.std.proofs.Common.{map}
+use Rattle.std.proofs.Common.{map, ap, arith, Err}
 use Rattle.std.specs.Prelude.{string_bytes}
 use Rattle.icn_code.specs.Seen.{tables_of}
-use Rattle.icn_lines.proofs.Reports.{own_reports}
+use Rattle.icn_engine.specs.declared.answer.Answer.TheVariants.{Wrote}
+use Rattle.icn_lines.proofs.Counted.{none_counts, own_counts}
+use Rattle.icn_lines.proofs.Reports.{own_reports, wrote_no_fault}
+use Rattle.icont_top.proofs.Matching.{same_Err}
 use Rattle.icont_top.specs.Answered.{wrote}
-use Rattle.icont_top.proofs.Topmost.{asks_none, asks_some, at_some, if_some, is_torn, ran_outcome, run_answered, sets_image, sets_part, torn_answered, torn_outcome, wrote_outcome}
+use Rattle.icont_top.proofs.Topmost.{asks_none, asks_some, at_some, if_some, is_torn, ran_outcome, run_answered, run_no_absence, run_no_file, sets_image, sets_part, torn_answered, torn_no_absence, torn_no_read, torn_no_write, torn_outcome, wrote_outcome}
 use Rattle.icont_top.proofs.top.image_answer.Goals as goal
 
 pub returns-in-Some-clause-outcome : goal.returns-in-Some-clause-outcome
@@ -37,3 +40,32 @@ returns-in-Err-clause-reported g c = own_reports c.torn_answer.result (is_torn c
 
 pub returns-in-Err-clause-answered : goal.returns-in-Err-clause-answered
 returns-in-Err-clause-answered g c words held program asks comes = torn_answered c.torn_answer.result c.torn_answer.ensures.others
+
+pub returns-in-Some-clause-causes : goal.returns-in-Some-clause-causes
+returns-in-Some-clause-causes g c = record {
+  file_fault = record {
+    later = c.in-Ok.ensures.cause.later;
+    rose = λ e. absurd (run_no_file c.run_answer.result c.run_answer.ensures.others e);
+    stayed = λ _. c.in-Ok.ensures.cause.stayed (λ e. cc);
+  };
+  absence = record { later = omega (arith, c.in-Ok.ensures.absences); rose = λ a. absurd (run_no_absence c.run_answer.result c.run_answer.ensures.others a) };
+  others = c.run_answer.ensures.causes;
+}
+
+pub returns-in-None-clause-causes : goal.returns-in-None-clause-causes
+returns-in-None-clause-causes g c = record {
+  file_fault = record { later = c.in-Ok.ensures.cause.later; rose = λ e. cc; stayed = λ _. c.in-Ok.ensures.cause.stayed (λ e. cc) };
+  absence = record { later = omega (arith, c.in-Ok.ensures.absences); rose = λ a. absurd a };
+  others = none_counts Wrote wrote_no_fault;
+}
+
+pub returns-in-Err-clause-causes : goal.returns-in-Err-clause-causes
+returns-in-Err-clause-causes g c = record {
+  file_fault = record {
+    later = c.in-Err.ensures.cause.later;
+    rose = λ e. c.in-Err.ensures.cause.rose (ap (λ f. Err f) (c.torn_answer.ensures.failed.0 e));
+    stayed = λ n. c.in-Err.ensures.cause.stayed (λ e. n (c.torn_answer.ensures.failed.1 (same_Err _ _ e)));
+  };
+  absence = record { later = omega (arith, c.in-Err.ensures.absences); rose = λ a. absurd (torn_no_absence c.torn_answer.result c.torn_answer.ensures.others a) };
+  others = own_counts c.torn_answer.result (torn_no_write c.torn_answer.result c.torn_answer.ensures.others) (torn_no_read c.torn_answer.result c.torn_answer.ensures.others) c.torn_answer.ensures.puts c.torn_answer.ensures.faults c.torn_answer.ensures.wants;
+}

@@ -2,7 +2,9 @@ use Rattle.std.proofs.Common.{map}
 use Rattle.std.specs.Prelude.{string_bytes}
 use Rattle.icn_value.specs.Limited.{limits_of}
 use Rattle.iconx_top.proofs.Answering.{answer_put, load_answered, run_answered}
-use Rattle.iconx_top.proofs.Refused.{asked_load, at_some, held_as, if_some, refused}
+use Rattle.iconx_top.proofs.Refused.{absence_of, asked_load, at_some, held_as, if_some, load_no_read, load_no_write, refused, run_no_absence, run_no_file}
+use Rattle.icn_engine.specs.declared.answer.Answer.TheVariants.{FileFault}
+use Rattle.icn_lines.proofs.Counted.{err_counts, refused_ends}
 use Rattle.icn_lines.proofs.Reports.{reports_of}
 use Rattle.iconx_top.proofs.Reported.{line_put}
 use Rattle.iconx_top.proofs.top.image_answer.Goals as goal
@@ -35,3 +37,19 @@ pub returns-in-Ok-clause-answered : goal.returns-in-Ok-clause-answered
 returns-in-Ok-clause-answered g c words asks =
     if_some (g.F.Files.held c.args.files.now) _ (λ held e. run_answered (limits_of c.args.run.limits) c.args.run.image.now (map string_bytes c.args.run.arguments.now) c.in-Ok.verified c.run_answer.result asks
     (at_some _ (g.F.Files.held c.args.files.now) held e c.in-Ok.ensures.loaded) c.run_answer.ensures.others)
+
+pub returns-in-Ok-clause-causes : goal.returns-in-Ok-clause-causes
+returns-in-Ok-clause-causes g c = record {
+  file_fault = record {
+    later = c.in-Ok.ensures.file_fault.later;
+    rose = λ e. absurd (run_no_file c.run_answer.result c.run_answer.ensures.others e);
+    stayed = λ _. c.in-Ok.ensures.file_fault.stayed (λ e. cc);
+  };
+  absence = record { later = c.in-Ok.ensures.absence.later; rose = λ a. absurd (run_no_absence c.run_answer.result c.run_answer.ensures.others a) };
+  others = c.run_answer.ensures.causes;
+}
+
+pub returns-in-Err-clause-causes : goal.returns-in-Err-clause-causes
+returns-in-Err-clause-causes g c =
+    refused_ends c.in-Err.answer c.refuse.result (load_no_write c.in-Err.answer c.in-Err.ensures.others) (load_no_read c.in-Err.answer c.in-Err.ensures.others)
+    (err_counts c.in-Err.answer FileFault c.in-Err.ensures.file_fault) c.in-Err.ensures.absence (absence_of c.in-Err.answer c.refuse.result c.refuse.ensures.line) c.refuse.ensures.line c.refuse.ensures.faults c.refuse.ensures.wants
