@@ -3,7 +3,9 @@ use Rattle.std.proofs.Common.{◌≡◌, ℕ, zero, suc, ◌+◌, List, [], ◌�
 use Rattle.std.specs.List.{flat_map}
 use Rattle.std.proofs.lemmas.List.{at_drop_more}
 use Rattle.icn_tree.specs.declared.tree.Locals.{Locals as LocalsItem}
-use Rattle.icn_tree.specs.TreeOf.{locals_of}
+use Rattle.icn_tree.specs.declared.tree.Decl.{Decl}
+use Rattle.icn_tree.specs.Trees.{Declaration}
+use Rattle.icn_tree.specs.TreeOf.{declaration_of, locals_of}
 use Rattle.icn_unit.specs.declared.unit.UnitName.{UnitName}
 use Rattle.icn_translate.specs.Drafts.{with_name, with_names}
 use Rattle.icn_translate.specs.ProcCodes.{local_entries, local_texts, texts_of}
@@ -42,3 +44,17 @@ pub all_declared : (start names last ps qs first second : List (List ℕ)) → s
     → names ≡ with_names start first → last ≡ with_names names second → last ≡ with_names [] (ps ++ qs)
 all_declared start names last ps qs first second e f g h k =
     k ∙ ap (with_names names) g ∙ ap (λ all. with_names all qs) (h ∙ ap (with_names start) f ∙ ap (λ all. with_names all ps) e) ∙ sym (names_then [] ps qs)
+
+-- one more declaration, with what it gives
+pub part_step : {A : Type 0} (parts : Declaration → List A) (decls : List Decl) (i : ℕ) (decl : Decl) (done later : List A) → i < length decls → decl ≡ get_or decls i decl
+    → later ≡ done ++ parts (declaration_of decl)
+    → later ++ flat_map parts (map declaration_of (drop (i + 1) decls)) ≡ done ++ flat_map parts (map declaration_of (drop i decls))
+part_step parts decls i decl done later within is e =
+    let rest = flat_map parts (map declaration_of (drop (i + 1) decls)) in
+    ap (λ all. all ++ rest) e ∙ append_assoc done (parts (declaration_of decl)) rest
+    ∙ ap (λ (next : Decl). done ++ flat_map parts (map declaration_of (next ∷ drop (i + 1) decls))) is
+    ∙ sym (at_drop_more (λ rest. done ++ flat_map parts (map declaration_of rest)) decls i decl within)
+
+pub seen_more : {A B : Type 0} (f : A → B) (xs : List A) (x : A) → map f (xs ++ x ∷ []) ≡ map f xs ++ f x ∷ []
+seen_more f [] x = refl
+seen_more f (y ∷ xs) x = ap (λ ys. f y ∷ ys) (seen_more f xs x)

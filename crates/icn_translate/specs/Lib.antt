@@ -4,3 +4,4 @@ pub mod Translation
 pub mod Instructions
 pub mod Open
 pub mod Drafts
+pub mod FileUnits

@@ -3,8 +3,10 @@
 
 mod builder;
 mod expr;
+mod file;
 mod forms;
 mod marks;
 mod procedure;
 
+pub use file::{proc_codes, unit_decls};
 pub use procedure::proc_code;

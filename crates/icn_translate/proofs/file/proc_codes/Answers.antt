@@ -1,0 +1,10 @@
+use Rattle.std.proofs.Common.{map, ◌∙◌}
+use Rattle.icn_unit.specs.UnitViews.{proc_seen}
+use Rattle.icn_translate.specs.FileUnits.{codes_in}
+use Rattle.icn_translate.proofs.Entries.{part_step}
+use Rattle.icn_translate.proofs.file.proc_codes.Goals as goal
+
+pub loop-decl-preserved : goal.loop-decl-preserved
+loop-decl-preserved c =
+    part_step codes_in c.args.decls.now c.loop-decl.decl-index c.decl-item.result (map proc_seen c.loop-decl.codes.items) _ c.loop-decl-test.true c.decl-item.is c.in_ok-put_codes.ensures
+    ∙ c.loop-decl.invariant
