@@ -10,6 +10,7 @@ mod operands;
 mod scanning;
 mod sets;
 mod texts;
+mod values;
 mod variables;
 
 pub use arithmetic::{
@@ -28,6 +29,7 @@ pub use null::{dereference_row, is_not_null_row, is_null_row, size_row};
 pub use scanning::tab_match_row;
 pub use sets::{difference_row, intersection_row, union_row};
 pub use texts::{complement_row, concatenate_row};
+pub use values::{apply_to_values, wants_values};
 pub use variables::{
     assign_row, reversible_assign_row, reversible_swap_row, swap_row, undo_assign_again,
     undo_exchange_again,
