@@ -2,12 +2,14 @@
 #![tactic(auto)]
 
 mod adding;
+mod applying;
 mod ends;
 mod keys;
 mod making;
 mod making_rows;
 
 pub use adding::{push, put};
+pub use applying::first;
 pub use ends::{get, pull};
 pub use keys::{delete, insert, key, key_again, member};
 pub use making_rows::{copy, list, set, table};
