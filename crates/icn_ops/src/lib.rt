@@ -4,9 +4,11 @@
 mod arithmetic;
 mod comparisons;
 mod counting;
+mod elements;
 mod lists;
 mod null;
 mod operands;
+mod parts;
 mod scanning;
 mod sets;
 mod texts;
@@ -24,6 +26,10 @@ pub use comparisons::{
     not_equivalent_row,
 };
 pub use counting::{counting_again, to_by_row};
+pub use elements::{
+    list_items_from, record_fields_from, set_members_from, table_values_from, text_bytes_from,
+    variable_bytes_from,
+};
 pub use lists::concatenate_lists_row;
 pub use null::{dereference_row, is_not_null_row, is_null_row, size_row};
 pub use scanning::tab_match_row;
