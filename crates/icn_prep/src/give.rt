@@ -109,8 +109,9 @@ pub fn leave_empty(reading: &mut Reading, place: &Place) -> Result<(), PrepFault
     give(reading, place, none, LiteralState::Outside)
 }
 
-/// Adds the name of a file, and answers its place.
+/// Adds the name of a file, and answers its place. A line was given for each name before it, so that places have room.
 pub fn add_name(reading: &mut Reading, name: &[u8]) -> Result<u32, PrepFault>
+    requires { vec_len reading.old.names ≤ reading.old.size }
     ensures place { IfOk result (λ place. place ≡ length reading.old.names.items) }
     ensures state { OnOk result (state_of reading.new ≡ record (state_of reading.old) { names = reading.old.names.items ++ name.now ∷ [] }) }
     ensures fault { IfErr result (λ fault. fault ≡ NoMemory) }
@@ -118,9 +119,7 @@ pub fn add_name(reading: &mut Reading, name: &[u8]) -> Result<u32, PrepFault>
     ensures first { OnOk result (0 < vec_len reading.old.names → slice_get reading.new.names.items 0 ≡ slice_get reading.old.names.items 0) }
     ensures kept { OnOk result (vec_len reading.new.names ≡ vec_len reading.old.names + 1) }
 {
-    let Ok(place) = u32::try_from(reading.names.len()) else {
-        return Err(PrepFault::NoMemory);
-    };
+    let place = reading.names.len() as u32;
     let name = Bytes::from_slice(reading.alloc, name)?;
     reading.names.push(name)?;
     Ok(place)

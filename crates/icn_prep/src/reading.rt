@@ -1,5 +1,5 @@
 // What reading has come to.
-ghost use Rattle.std.specs.Prelude.{◌≡◌, ◌≤◌, IsTrue};
+ghost use Rattle.std.specs.Prelude.{◌≡◌, ◌≤◌, ◌+◌, IsTrue, vec_len};
 ghost use Rattle.icn_tree.specs.SourceTexts.{names_files};
 ghost use Rattle.icn_prep.specs.Sizes.{ended_len};
 
@@ -25,5 +25,6 @@ pub struct Reading {
     pub literal: LiteralState,
     ghost counted: { size ≡ ended_len lines.items },
     ghost within: { size ≤ 16777217 },
+    ghost few: { vec_len names ≤ size + 1 },
     ghost named: { IsTrue (names_files names.items lines.items) },
 }

@@ -66,6 +66,7 @@ pub fn preprocess<F: Files>(alloc: Global, name: &str, files: &mut F) -> Result<
 // A file from its first line on.
 fn begin_file(reading: &mut Reading, name: &str, content: Vec<u8>) -> Result<OpenFile, PrepFault>
     requires short { vec_len content ≤ 16777216 }
+    requires few { vec_len reading.old.names ≤ reading.old.size }
     ensures place { IfOk result (λ file. place_of file.place ≡ start_of (length reading.old.names.items)) }
     ensures content { IfOk result (λ file. file.content.items ≡ content.items) }
     ensures at { IfOk result (λ file. file.at ≡ 0) }
