@@ -12,3 +12,4 @@ pub mod FallSteps
 pub mod ScanSteps
 pub mod LeaveSteps
 pub mod TextSteps
+pub mod TransferSteps

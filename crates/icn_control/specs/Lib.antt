@@ -5,3 +5,4 @@ pub mod Pairs
 pub mod Parts
 pub mod Results
 pub mod Falls
+pub mod Landing

@@ -4,6 +4,7 @@
 mod activation;
 mod failing;
 mod initial;
+mod laws;
 mod limits;
 mod literals;
 mod machine;
@@ -19,6 +20,7 @@ mod world;
 pub use activation::Activation;
 pub use failing::{Due, fall};
 pub use initial::init;
+pub use laws::transfers_are_read;
 pub use limits::{give_value, limit};
 pub use literals::{push_global, push_integer, push_local};
 pub use machine::{Machine, Stage};
