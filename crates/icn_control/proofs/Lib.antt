@@ -13,3 +13,5 @@ pub mod ScanSteps
 pub mod LeaveSteps
 pub mod TextSteps
 pub mod TransferSteps
+pub mod LiveTables
+pub mod ExhaustSteps

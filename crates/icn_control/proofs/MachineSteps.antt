@@ -15,12 +15,12 @@ use Rattle.icn_run.specs.Step.{State, Store, running, instruction, scans_left, a
 use Rattle.icn_control.specs.Living.{IsLiveStack}
 use Rattle.icn_control.specs.Standing.{stack_in, maybe_pair_in, GoesOnLeaving}
 use Rattle.icn_control.specs.Pairs.{maybe_paired}
-use Rattle.icn_control.specs.Machines.{store_in, running_of, AreLiveStacks}
+use Rattle.icn_control.specs.Machines.{store_in, running_of, IsLiveRunning, AreLiveStacks}
 
 -- another stack runs, which is of the world
 pub stacks_on : (tables : Tables) (reach : Reach) (table : Table) (m n : FlatStack) → table.running ≡ Some m → (IsLiveStack tables reach m → IsLiveStack tables reach n) → AreLiveStacks tables reach table
     → AreLiveStacks tables reach (record table { running = Some n })
-stacks_on tables reach table m n e f k = record { runs = f (subst (λ (w : Option FlatStack). IsLiveStack tables reach (running_of w)) e k.runs); coexps = k.coexps }
+stacks_on tables reach table m n e f k = record { runs = f (subst (λ (w : Option FlatStack). IsLiveRunning tables reach w) e k.runs); coexps = k.coexps }
 
 -- a pair came back
 pub restored : (names : Names) (outside : Outside) (w v : World) (turns : ℕ) (begun : List Bool) (table : Table) (pair : Option HeldPair)

@@ -1,14 +1,22 @@
 -- What transfers between co-expressions come to, once tables and stacks are read.
-use Rattle.std.specs.Prelude.{◌≡◌, ℕ, Bool, List, Option, None, Some}
+use Rattle.std.specs.Prelude.{◌≡◌, ℕ, Bool, true, false, List, Option, None, Some}
 use Rattle.icn_value.specs.declared.val.Val.{Val}
 use Rattle.icn_value.specs.Store.{Names, Outside, World}
 use Rattle.icn_heap.specs.Extents.{Extent, value_in}
 use Rattle.icn_frames.specs.Stacks.{FlatStack}
+use Rattle.icn_coexp.specs.declared.table.Went.{Went}
+use Rattle.icn_coexp.specs.declared.table.Went.TheVariants as Wents
 use Rattle.icn_coexp.specs.Transfers.{Table, enter_other, exhaust, give}
 use Rattle.icn_run.specs.Stacks.{Frames, flat}
 use Rattle.icn_run.specs.Step.{State, Store, Waiting, Exhausted, running, failing, hopping, activator_of, entered_by, passed_failure, passed_value, with_status}
 use Rattle.icn_control.specs.Machines.{store_in}
 use Rattle.icn_control.specs.Standing.{stack_in}
+
+-- whether another co-expression is active after a transfer
+abbrev pub is_moved : Went → Bool
+is_moved Wents.Moved = true
+is_moved (Wents.Same value) = false
+is_moved Wents.Exhausted = false
 
 -- what a store has beside its co-expressions, and the texts by which they are read
 pub record Beside : Type 0 where

@@ -108,8 +108,14 @@ pub record IsLiveCoexp (tables : Tables) (reach : Reach) (number : ℕ) (coexp :
   pub values : All (IsLive reach.extent) coexp.values
   pub count : 0 < number → length coexp.values ≡ variable_count tables coexp.proc
 
+-- the stack that runs, if one does
+abbrev pub IsLiveRunning : Tables → Reach → Option FlatStack → Type 0
+IsLiveRunning tables reach (Some m) = IsLiveStack tables reach m
+IsLiveRunning tables reach None = ⊤
+
+-- all stacks of a table hold what is of the world
 pub record AreLiveStacks (tables : Tables) (reach : Reach) (table : Table) : Type 0 where
-  pub runs : IsLiveStack tables reach (running_of table.running)
+  pub runs : IsLiveRunning tables reach table.running
   pub coexps : (n : ℕ) (coexp : Coexp) → slice_get table.coexps n ≡ Some coexp → IsLiveCoexp tables reach n coexp
 
 -- what a world may name, with no locals

@@ -3,6 +3,7 @@
 
 mod activation;
 mod failing;
+mod hops;
 mod initial;
 mod laws;
 mod limits;
@@ -19,6 +20,7 @@ mod world;
 
 pub use activation::Activation;
 pub use failing::{Due, fall};
+pub use hops::exhaust;
 pub use initial::init;
 pub use laws::transfers_are_read;
 pub use limits::{give_value, limit};
