@@ -15,3 +15,4 @@ pub mod TextSteps
 pub mod TransferSteps
 pub mod LiveTables
 pub mod ExhaustSteps
+pub mod TurnSteps

@@ -1,5 +1,5 @@
 -- What transfers leave is of the world.
-use Rattle.std.proofs.Common.{◌≡◌, ◌≢◌, ◌⊎◌, ℕ, zero, suc, List, [], ◌∷◌, length, slice_get, slice_set, Option, Some, None, inl, inr, refl, sym, ap, ◌∙◌, subst}
+use Rattle.std.proofs.Common.{◌≡◌, ℕ, List, length, slice_get, Option, Some, None, inl, inr, refl, sym, ap, ◌∙◌, subst}
 use Rattle.std.proofs.lemmas.List.{length-set}
 use Rattle.std.proofs.lemmas.Option.{same_Some}
 use Rattle.icn_vars.specs.Worlds.{Reach}
@@ -9,7 +9,6 @@ use Rattle.icn_coexp.specs.Transfers as table
 use Rattle.icn_coexp.specs.Transfers.{Coexp, Table, exhaust, source}
 use Rattle.icn_code.specs.Codes.{Tables}
 use Rattle.icn_run.specs.Step.{Status, Fresh, Active, Waiting, Exhausted}
-use Rattle.icn_control.specs.Living.{IsLiveStack}
 use Rattle.icn_control.specs.Machines.{IsLiveStatus, IsLiveCoexp, AreLiveStacks}
 
 -- each co-expression is live

@@ -34,6 +34,6 @@ pub use on_stack::{
 pub use returns::{fail_procedure, give_back, leave_failing, result_of, suspend_with};
 pub use scans::{leave_scan, swap_if_scanning, swap_pairs};
 pub use texts::push_string;
-pub use turns::go_back;
+pub use turns::{begin_again, go_back, reenter};
 pub use values::value_of;
 pub use world::{restore_pair, set_pair};

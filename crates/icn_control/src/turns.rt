@@ -5,9 +5,13 @@ ghost use Rattle.icn_value.specs.Limited.{limits_of};
 ghost use Rattle.icn_heap.specs.Heaps.{heap_of};
 ghost use Rattle.icn_code.specs.Codes.{Tables};
 ghost use Rattle.icn_code.specs.declared.instr.Instr.TheVariants as Instrs;
-ghost use Rattle.icn_control.specs.Machines.{IsSound, StandsAt, does};
+ghost use Rattle.icn_run.specs.Calls.{Proc};
+ghost use Rattle.icn_run.specs.Stacks.{flat as calls};
+ghost use Rattle.icn_run.specs.Step.{resumed, running, turn};
+ghost use Rattle.icn_control.specs.Machines.{IsSound, StandsAt, does, stack_seen, store_seen};
 
 use crate::machine::{Machine, Stage};
+use crate::scans::swap_if_scanning;
 use icn_cells::Stack;
 use icn_frames::Cell;
 
@@ -23,5 +27,34 @@ pub fn go_back<K: Stack<Cell> + Drop>(m: &mut Machine<K>, label: u32) -> Stage
     }
     m.turns += 1;
     m.stacks.frames().go(label);
+    Stage::Runs
+}
+
+/// Something begins again, as a turn: a repeated alternation to which failing came back. It takes no memory.
+pub fn begin_again<K: Stack<Cell> + Drop>(m: &mut Machine<K>) -> Stage
+    requires bounds { (heap_of m.old.world.heap).bounds ≡ limits_of m.old.limits }
+    ensures step { (tables : Tables) (outside : Outside) → StandsAt tables outside (turn tables (store_seen tables outside m.old) (running (stack_seen m.old))) m.new result }
+    ensures sound { (tables : Tables) → IsSound tables m.old → IsSound tables m.new }
+{
+    if m.turns >= m.limits.turns {
+        return Stage::AtBound;
+    }
+    m.turns += 1;
+    Stage::Runs
+}
+
+/// A procedure that was suspended goes on, as a turn; of its scans its own pair comes back. It takes no memory.
+pub fn reenter<K: Stack<Cell> + Drop>(m: &mut Machine<K>) -> Stage
+    requires runs { IsSome m.old.stacks.table.running }
+    requires bounds { (heap_of m.old.world.heap).bounds ≡ limits_of m.old.limits }
+    requires sound { (tables : Tables) × IsSound tables m.old }
+    ensures step { (tables : Tables) (outside : Outside) → StandsAt tables outside (resumed calls tables Proc (stack_seen m.old) (store_seen tables outside m.old)) m.new result }
+    ensures sound { (tables : Tables) → IsSound tables m.old → IsSound tables m.new }
+{
+    if m.turns >= m.limits.turns {
+        return Stage::AtBound;
+    }
+    m.turns += 1;
+    swap_if_scanning(m.stacks.frames(), &mut m.world);
     Stage::Runs
 }

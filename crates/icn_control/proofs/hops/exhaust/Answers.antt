@@ -1,10 +1,8 @@
-use Rattle.std.proofs.Common.{◌≡◌, ℕ, suc, ◌+◌, true, nat_lt, [], sym, ap, ◌∙◌, add-one}
+use Rattle.std.proofs.Common.{◌≡◌, ℕ, true, nat_lt, [], sym, ap, ◌∙◌, add-one}
 use Rattle.icn_value.specs.Limited.{Bounds}
-use Rattle.icn_value.specs.Store.{Outside}
 use Rattle.icn_heap.specs.Heaps.{extent_of, heap_of}
 use Rattle.icn_vars.specs.Worlds.{reach_of, world_of}
 use Rattle.icn_coexp.specs.Transfers.{Table}
-use Rattle.icn_code.specs.Codes.{Tables}
 use Rattle.icn_run.specs.Stacks.{Frames}
 use Rattle.icn_run.specs.Step.{State, failing, hopping, all_names}
 use Rattle.icn_control.specs.Machines.{running_of, stack_seen, store_in}
