@@ -201,3 +201,15 @@ pub mark_shape : (entries : List Entry) (entry : Entry) (in_create : Bool) (oute
 mark_shape entries entry in_create outer index once is h =
     let built = (once.built index entry (sym h)).1 in
     sym (ap (λ n. shape_outside in_create (stack_at (stacks_of entries) n)) (sym is) ∙ ap (shape_outside in_create) built)
+
+-- one stack more, or none
+pub more_entered : (old new : List Entry) (entry : Entry) → IsEntered old entry new → length (stacks_of new) ≤ length (stacks_of old) + 1
+more_entered old new entry entered = more_of entered.is where
+  more_of : (new ≡ old) ⊎ ((new ≡ old ++ entry ∷ []) × ((k : ℕ) → slice_get old k ≡ Some entry → ⊥)) → length (stacks_of new) ≤ length (stacks_of old) + 1
+  more_of (inl same) = let e = ap (λ s. length (stacks_of s)) same in omega arith
+  more_of (inr pushed) =
+      let e = ap length pushed.0 in
+      let f = length-append old (entry ∷ []) in
+      let g = length-stacks_of old in
+      let h = length-stacks_of new in
+      omega arith

@@ -1,5 +1,5 @@
 // The stacks of levels that stand outside others.
-ghost use Rattle.std.specs.Prelude.{◌≡◌, [], ◌∷◌, ◌<◌, length, slice_get, IfOk, OnOk, OnErr, IfSome};
+ghost use Rattle.std.specs.Prelude.{◌≡◌, [], ◌∷◌, ◌+◌, ◌^◌, ◌<◌, ◌≤◌, length, slice_get, IfOk, OnOk, OnErr, IfSome};
 ghost use Rattle.std.specs.Option.{option_map};
 ghost use Rattle.icn_verify.specs.Entries.{IsEntered};
 ghost use Rattle.icn_verify.specs.Shapes.{look_of, before_mark, start_shape};
@@ -50,6 +50,14 @@ fn entered(entries: &mut IndexSet<Entry>, entry: Entry) -> Result<usize, AllocEr
     Ok(index)
 }
 
+// The number of the stack that an entry makes. The empty stack has the number 0.
+fn number_of(index: usize) -> u32
+    requires { index + 1 < 2 ^ 32 }
+    ensures { result ≡ index + 1 }
+{
+    index as u32 + 1
+}
+
 impl Arena {
     ghost use Rattle.icn_verify.specs.Stacks.{stack_at, shape_in, sent_in, IsHeld, Grows};
     ghost use Rattle.icn_verify.specs.Passing.{same_shape};
@@ -76,19 +84,17 @@ impl Arena {
         }
     }
 
-    /// The number of the stack with one more level on it. So many stacks that no number is left can't come, since a procedure
-    /// has fewer instructions; they would be want of memory.
+    /// The number of the stack with one more level on it. There has to be room for one more number.
     pub fn nest(&mut self, level: Level, outer: u32) -> Result<u32, AllocError>
-        requires { outer < length self.old }
+        requires held { outer < length self.old }
+        requires room { length self.old < 2 ^ 32 }
         ensures grows { IfOk result (λ _. Grows self.old self.new) }
+        ensures more { OnOk result (length self.new ≤ length self.old + 1) }
         ensures held { IfOk result (λ number. number < length self.new) }
         ensures stack { IfOk result (λ number. stack_at self.new number ≡ level ∷ stack_at self.old outer) }
     {
-        if self.entries.len() >= u32::MAX as usize {
-            return Err(AllocError);
-        }
         let index = entered(&mut self.entries, Entry { level, outer })?;
-        Ok(index as u32 + 1)
+        Ok(number_of(index))
     }
 
     /// The shape before the innermost mark.

@@ -1,5 +1,5 @@
 // One forward pass over a procedure.
-ghost use Rattle.std.specs.Prelude.{◌≡◌, ◌<◌, ◌^◌, List, length, IfOk, OnOk};
+ghost use Rattle.std.specs.Prelude.{◌≡◌, ◌+◌, ◌<◌, ◌≤◌, ◌^◌, List, length, IfOk, OnOk};
 ghost use Rattle.std.specs.Option.{ForSome};
 ghost use Rattle.icn_verify.specs.declared.shape.Level.{Level as OneLevel};
 ghost use Rattle.icn_verify.specs.Shapes.{with_mark};
@@ -18,8 +18,10 @@ use std::alloc::{AllocError, Global};
 
 // The shape with an empty mark inside its innermost level.
 fn with_mark(arena: &mut Arena, kind: LevelKind, flat: Flat) -> Result<Flat, AllocError>
-    requires { IsHeld arena.old flat }
+    requires held { IsHeld arena.old flat }
+    requires room { length arena.old < 2 ^ 32 }
     ensures grows { OnOk result (Grows arena.old arena.new) }
+    ensures more { OnOk result (length arena.new ≤ length arena.old + 1) }
     ensures held { IfOk result (λ marked. IsHeld arena.new marked) }
     ensures shape { IfOk result (λ marked. shape_in arena.new marked ≡ with_mark kind (shape_in arena.old flat)) }
 {
@@ -58,8 +60,10 @@ fn with_operands(flat: Flat, operands: u32) -> Flat
 // What a change leaves of the levels. More open scans than 32 bits count can't come, since a procedure has fewer instructions;
 // they would be want of memory.
 fn changed(arena: &mut Arena, change: Change, flat: Flat) -> Result<Flat, AllocError>
-    requires { IsHeld arena.old flat }
+    requires held { IsHeld arena.old flat }
+    requires room { length arena.old < 2 ^ 32 }
     ensures grows { OnOk result (Grows arena.old arena.new) }
+    ensures more { OnOk result (length arena.new ≤ length arena.old + 1) }
     ensures held { IfOk result (λ left. IsHeld arena.new left) }
     ensures shape { IfOk result (λ left. shape_in arena.new left ≡ changed change (shape_in arena.old flat)) }
 {
@@ -82,8 +86,10 @@ fn changed(arena: &mut Arena, change: Change, flat: Flat) -> Result<Flat, AllocE
 // The shape that an instruction leaves. More operands than 32 bits count can't come, since a procedure has fewer instructions;
 // they would be want of memory.
 fn after(arena: &mut Arena, row: Row, flat: Flat) -> Result<Flat, AllocError>
-    requires { IsHeld arena.old flat }
+    requires held { IsHeld arena.old flat }
+    requires room { length arena.old < 2 ^ 32 }
     ensures grows { OnOk result (Grows arena.old arena.new) }
+    ensures more { OnOk result (length arena.new ≤ length arena.old + 1) }
     ensures held { IfOk result (λ left. IsHeld arena.new left) }
     ensures shape { IfOk result (λ left. shape_in arena.new left ≡ after row (shape_in arena.old flat)) }
 {
@@ -220,6 +226,8 @@ fn send_one(
     requires kept { AreKept arena.old slots.old }
     requires held { IsHeld arena.old flat }
     requires room { place < 2 ^ 32 }
+    requires few { length arena.old < 2 ^ 32 }
+    ensures more { OnOk result (length arena.new ≤ length arena.old + 1) }
     ensures table { OnOk result (table_in arena.new slots.new ≡ sent (table_in arena.old slots.old) place instr (one (shape_in arena.old flat))) }
     ensures kept { OnOk result (AreKept arena.new slots.new) }
 {
@@ -234,6 +242,8 @@ fn send_one(
 fn send(arena: &mut Arena, slots: &mut [Slot], place: usize, instr: Instr) -> Result<(), AllocError>
     requires kept { AreKept arena.old slots.old }
     requires room { place < 2 ^ 32 }
+    requires few { length arena.old < 2 ^ 32 }
+    ensures more { OnOk result (length arena.new ≤ length arena.old + 1) }
     ensures table { OnOk result (table_in arena.new slots.new ≡ sent (table_in arena.old slots.old) place instr (seen_at (table_in arena.old slots.old) place)) }
     ensures kept { OnOk result (AreKept arena.new slots.new) }
 {
@@ -271,6 +281,7 @@ fn judge(
     instrs: &[Instr],
 ) -> Result<Option<(Rule, usize)>, AllocError>
     requires kept { AreKept arena.old slots.old }
+    requires few { length arena.old ≤ 1 }
     requires room { length instrs.now < 2 ^ 32 }
     ensures { IfOk result (λ found. found ≡ judged (table_in arena.old slots.old) 0 instrs.now) }
 {
