@@ -9,6 +9,7 @@ mod lists;
 mod null;
 mod operands;
 mod parts;
+mod random;
 mod scanning;
 mod sets;
 mod texts;
@@ -32,6 +33,7 @@ pub use elements::{
 };
 pub use lists::concatenate_lists_row;
 pub use null::{dereference_row, is_not_null_row, is_null_row, size_row};
+pub use random::{random_field, random_item, random_member, random_value};
 pub use scanning::tab_match_row;
 pub use sets::{difference_row, intersection_row, union_row};
 pub use texts::{complement_row, concatenate_row};
