@@ -1,2 +1,3 @@
 mod Places
 mod Occurrences
+mod Moved
