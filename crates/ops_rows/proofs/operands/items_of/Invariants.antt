@@ -1,0 +1,15 @@
+use Rattle.std.proofs.Common.{[], length}
+use Rattle.std.specs.List.{All}
+use Rattle.icn_heap.specs.Extents.{IsLive}
+use Rattle.icn_heap.specs.Heaps.{extent_of}
+use Rattle.icn_vars.specs.Worlds.{IsLiveItem, reach_of}
+use Rattle.ops_rows.proofs.operands.items_of.Given as goal
+
+abbrev pub invariant-loop-first : goal.invariant-loop-first
+invariant-loop-first l = record {
+  live : All (IsLiveItem (reach_of l.w [])) l.items.items;
+  left : All (IsLive (extent_of l.w.heap)) l.rest;
+}
+
+abbrev pub decreases-loop-first : goal.decreases-loop-first
+decreases-loop-first l = length l.rest
