@@ -16,3 +16,4 @@ pub mod TransferSteps
 pub mod LiveTables
 pub mod ExhaustSteps
 pub mod TurnSteps
+pub mod FailSteps

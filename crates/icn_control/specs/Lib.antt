@@ -6,3 +6,4 @@ pub mod Parts
 pub mod Results
 pub mod Falls
 pub mod Landing
+pub mod Failing

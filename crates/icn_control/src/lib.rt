@@ -3,6 +3,7 @@
 
 mod activation;
 mod failing;
+mod failing_step;
 mod hops;
 mod initial;
 mod laws;
@@ -20,6 +21,7 @@ mod world;
 
 pub use activation::Activation;
 pub use failing::{Due, fall};
+pub use failing_step::fail_once;
 pub use hops::exhaust;
 pub use initial::init;
 pub use laws::transfers_are_read;

@@ -1,0 +1,37 @@
+use Rattle.std.proofs.Common.{◌≡◌, Option, Some, length, [], sym, ap, ◌∙◌, subst}
+use Rattle.icn_heap.specs.declared.heap.Heap.{Heap as HeldHeap}
+use Rattle.icn_heap.specs.Heaps.{extent_of, heap_of}
+use Rattle.icn_vars.specs.Worlds.{Reach, reach_of, world_of}
+use Rattle.icn_frames.specs.Stacks.{FlatStack}
+use Rattle.icn_code.specs.Codes.{Tables}
+use Rattle.icn_run.specs.Stacks.{Frames, flat}
+use Rattle.icn_run.specs.Step.{Store, all_names, fails, stuck}
+use Rattle.icn_control.specs.Living.{IsLiveStack}
+use Rattle.icn_control.specs.Machines.{AreLiveStacks, running_of, store_in}
+use Rattle.icn_control.specs.Standing.{stack_in}
+use Rattle.icn_control.proofs.MachineSteps.{stacks_on}
+use Rattle.icn_control.proofs.FailSteps.{due_at}
+use Rattle.icn_control.proofs.failing_step.fail_once.Goals as goal
+
+pub fall-requires-clause-goes_on : goal.fall-requires-clause-goes_on
+fall-requires-clause-goes_on g c =
+    let m = c.args.m.now in
+    let t : Tables = c.requires.goes_on.0 in
+    let st : Store Frames = store_in (all_names t) c.requires.goes_on.1.0 (world_of m.world) m.turns m.begun.items (extent_of m.world.heap) m.stacks.table in
+    (t, (st, subst (λ (x : Option FlatStack). fails flat t (stack_in (extent_of m.world.heap) (running_of x)) st ≡ stuck → ⊥) c.frames.ensures.running c.requires.goes_on.1.1))
+
+pub returns-clause-step : goal.returns-clause-step
+returns-clause-step g c tables outside =
+    let m = c.args.m.now in
+    due_at (all_names tables) outside tables m.world c.fall.new.world m.turns m.begun.items m.stacks.table c.frames.result.now.flat c.fall.new.frames.flat c.fall.result c.frames.ensures.running c.fall.ensures.heap (c.fall.ensures.step tables)
+
+pub returns-clause-sound : goal.returns-clause-sound
+returns-clause-sound g c tables k =
+    let m = c.args.m.now in
+    let on = stacks_on tables (reach_of m.world []) m.stacks.table c.frames.result.now.flat c.fall.new.frames.flat c.frames.ensures.running
+    (λ l. subst (λ (r : Reach). IsLiveStack tables r c.fall.new.frames.flat) c.fall.ensures.reach (c.fall.ensures.live tables l)) k.stacks in
+    record {
+      stacks = subst (λ (r : Reach). AreLiveStacks tables r (record m.stacks.table { running = Some c.fall.new.frames.flat })) (sym c.fall.ensures.reach) on;
+      bounds = ap (λ (h : HeldHeap). (heap_of h).bounds) c.fall.ensures.heap ∙ k.bounds;
+      counts = ap (λ (h : HeldHeap). length (heap_of h).coexps) c.fall.ensures.heap ∙ k.counts;
+    }

@@ -1,0 +1,28 @@
+// One step of failing, over the machine.
+ghost use Rattle.std.specs.Prelude.{◌≡◌, ◌≢◌, IsSome};
+ghost use Rattle.icn_value.specs.Limited.{limits_of};
+ghost use Rattle.icn_value.specs.Store.{Outside};
+ghost use Rattle.icn_heap.specs.Heaps.{heap_of};
+ghost use Rattle.icn_code.specs.Codes.{Tables};
+ghost use Rattle.icn_run.specs.Stacks.{flat as calls};
+ghost use Rattle.icn_run.specs.Step.{fails, stuck};
+ghost use Rattle.icn_control.specs.Failing.{DueAt};
+ghost use Rattle.icn_control.specs.Machines.{IsSound, stack_seen, store_seen};
+
+use crate::failing::{Due, fall};
+use crate::machine::Machine;
+use icn_cells::Stack;
+use icn_frames::Cell;
+
+/// One step of failing, but for the turns and the ends that are due after it. It takes no memory.
+pub fn fail_once<K: Stack<Cell> + Drop>(m: &mut Machine<K>) -> Due
+    requires runs { IsSome m.old.stacks.table.running }
+    requires sound { (tables : Tables) × IsSound tables m.old }
+    requires goes_on { (tables : Tables) × ((outside : Outside) × (fails calls tables (stack_seen m.old) (store_seen tables outside m.old) ≢ stuck)) }
+    ensures step { (tables : Tables) (outside : Outside) → DueAt tables outside (fails calls tables (stack_seen m.old) (store_seen tables outside m.old)) m.new result }
+    ensures sound { (tables : Tables) → IsSound tables m.old → IsSound tables m.new }
+    ensures runs { IsSome m.new.stacks.table.running }
+    ensures limits { m.new.limits ≡ m.old.limits }
+{
+    fall(m.stacks.frames(), &mut m.world)
+}
