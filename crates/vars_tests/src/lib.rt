@@ -12,8 +12,8 @@ ghost use Rattle.icn_vars.specs.Worlds.{IsLiveVariable, KeepsItems, reach_of, va
 #[cfg(test)]
 mod tests {
     use icn_heap::Heap;
-    use icn_value::{Item, Limits, Root, Val, VarRef};
-    use icn_vars::{Assignment, Locals, Stop, World, assign, deref, undo};
+    use icn_value::{Item, KeywordVariable, Limits, Root, Val, VarRef};
+    use icn_vars::{Assignment, Exchange, Locals, Stop, World, assign, deref, exchange, undo};
     use std::alloc::{AllocError, Global};
     use std::process::Abort;
     use std::test::Fail;
@@ -128,6 +128,87 @@ mod tests {
         Ok(())
     }
 
+    // Of two parts of one text, the one that begins first moves the other, and back.
+    fn parts_exchanged(
+        rt: &impl Abort,
+        w: &mut World,
+        l: &mut Slots,
+        whole: Val,
+        ab: Val,
+        cde: Val,
+    ) -> Result<(), Fail>
+        requires global { 0 < length w.old.globals.items }
+        requires locals { All (IsLive (extent_of w.old.heap)) l.old.vals.items }
+        requires whole { IsLive (extent_of w.old.heap) whole }
+        requires ab { IsLive (extent_of w.old.heap) ab }
+        requires cde { IsLive (extent_of w.old.heap) cde }
+    {
+        let global = VarRef::Whole(Root::Global(0));
+        let left = VarRef::Part {
+            root: Root::Global(0),
+            place: 1,
+            len: 2,
+        };
+        let right = VarRef::Part {
+            root: Root::Global(0),
+            place: 3,
+            len: 3,
+        };
+        let left_now = VarRef::Part {
+            root: Root::Global(0),
+            place: 1,
+            len: 3,
+        };
+        let right_now = VarRef::Part {
+            root: Root::Global(0),
+            place: 4,
+            len: 2,
+        };
+        assert_eq!(rt; assign(w, l, global, whole), Ok(Assignment::Done(global)));
+        assert_eq!(rt;
+            exchange(w, l, left, right, ab, cde),
+            Ok(Exchange::Done(left_now, right_now))
+        );
+        let exchanged = deref(w, l, Item::Var(global));
+        assert_eq!(rt; bytes(w, exchanged), b"cdeabf".as_slice());
+        assert_eq!(rt;
+            exchange(w, l, right_now, left_now, ab, cde),
+            Ok(Exchange::Done(right, left))
+        );
+        let back = deref(w, l, Item::Var(global));
+        assert_eq!(rt; bytes(w, back), b"abcdef".as_slice());
+        Ok(())
+    }
+
+    // `&pos` is one of the subject.
+    fn keywords_assigned(
+        rt: &impl Abort,
+        w: &mut World,
+        l: &mut Slots,
+        hello: Val,
+    ) -> Result<(), Fail>
+        requires locals { All (IsLive (extent_of w.old.heap)) l.old.vals.items }
+        requires hello { IsLive (extent_of w.old.heap) hello }
+    {
+        let subject = VarRef::Whole(Root::Keyword(KeywordVariable::Subject));
+        let position = VarRef::Whole(Root::Keyword(KeywordVariable::Position));
+        assert_eq!(rt; assign(w, l, subject, hello), Ok(Assignment::Done(subject)));
+        assert_eq!(rt;
+            assign(w, l, position, Val::Integer(7)),
+            Ok(Assignment::OutOfRange)
+        );
+        assert_eq!(rt;
+            assign(w, l, position, Val::Integer(0)),
+            Ok(Assignment::Done(position))
+        );
+        assert_eq!(rt; deref(w, l, Item::Var(position)), Ok(Val::Integer(6)));
+        assert_eq!(rt;
+            assign(w, l, position, hello),
+            Err(Stop::Error(101, Some(hello)))
+        );
+        Ok(())
+    }
+
     #[test]
     fn a_part_covers_what_it_got(rt: HostRuntime) -> Result<(), Fail> {
         let mut w = world(rt.alloc())?;
@@ -138,6 +219,28 @@ mod tests {
         let ipp = Val::Text(w.heap.hold(b"ipp")?);
         let x = Val::Text(w.heap.hold(b"x")?);
         part_of_hello(&rt, &mut w, &mut l, hello, ipp, x)
+    }
+
+    #[test]
+    fn exchanges_overlapping_parts(rt: HostRuntime) -> Result<(), Fail> {
+        let mut w = world(rt.alloc())?;
+        let mut l = Slots {
+            vals: Vec::new(rt.alloc()),
+        };
+        let whole = Val::Text(w.heap.hold(b"abcdef")?);
+        let ab = Val::Text(w.heap.hold(b"ab")?);
+        let cde = Val::Text(w.heap.hold(b"cde")?);
+        parts_exchanged(&rt, &mut w, &mut l, whole, ab, cde)
+    }
+
+    #[test]
+    fn assigns_keywords(rt: HostRuntime) -> Result<(), Fail> {
+        let mut w = world(rt.alloc())?;
+        let mut l = Slots {
+            vals: Vec::new(rt.alloc()),
+        };
+        let hello = Val::Text(w.heap.hold(b"hello")?);
+        keywords_assigned(&rt, &mut w, &mut l, hello)
     }
 
     #[test]
@@ -167,5 +270,40 @@ mod tests {
             VarRef::Whole(Root::Local(0)),
             Val::Integer(7),
         )
+    }
+
+    #[test]
+    fn assigns_in_structures(rt: HostRuntime) -> Result<(), Fail> {
+        let mut w = world(rt.alloc())?;
+        let mut l = Slots {
+            vals: Vec::new(rt.alloc()),
+        };
+        let Val::List(list) = w.heap.make_list(2, Val::Null)? else {
+            return Err(Fail::from("no list"));
+        };
+        let element = VarRef::Whole(Root::Element { list, number: 2 });
+        let gone = VarRef::Whole(Root::Element { list, number: 3 });
+        assigned_and_undone(&rt, &mut w, &mut l, element, Val::Integer(5))?;
+        assert_eq!(rt;
+            assign(&mut w, &mut l, gone, Val::Null),
+            Err(Stop::Error(205, None))
+        );
+        Ok(())
+    }
+
+    #[test]
+    fn assigns_keys_of_a_table(rt: HostRuntime) -> Result<(), Fail> {
+        let mut w = world(rt.alloc())?;
+        let mut l = Slots {
+            vals: Vec::new(rt.alloc()),
+        };
+        let Val::Table(table) = w.heap.make_table(Val::Integer(9))? else {
+            return Err(Fail::from("no table"));
+        };
+        let key = VarRef::Whole(Root::Key {
+            table,
+            key: Val::Integer(1),
+        });
+        assigned_and_undone(&rt, &mut w, &mut l, key, Val::Integer(5))
     }
 }
