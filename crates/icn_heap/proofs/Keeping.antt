@@ -138,7 +138,7 @@ module _ {a b : Extent} (keeps : Keeps a b) where
   table_stays table is = record { default = keeps.live table.default is.default; pairs = All-weaker (IsSoundPair a) (IsSoundPair b) pair_stays table.pairs is.pairs }
 
   record_stays : (held : HeldRecord) → IsSoundRecord a held → IsSoundRecord b held
-  record_stays held is = record { live = live_kept held.values is.live }
+  record_stays held is = record { live = live_kept held.values is.live; few = is.few }
 
   pub sound_kept : (parts : Parts) → AreSound a parts → AreSound b parts
   sound_kept parts are = record {

@@ -303,7 +303,10 @@ module _ (parts : Parts) (is : IsSound parts) (id : ℕ) (there : id < length pa
       (with_field id place (value_in (extent_in parts) val) (heap_over (extent_in parts) parts))
   field_changes place val live =
       record_changes parts is (le_refl _) is.charged.within id
-      (record { live = All-set (IsLive (extent_in parts)) (slice_index_or parts.records id no_fields).values place val live record_sound.live })
+      (record {
+        live = All-set (IsLive (extent_in parts)) (slice_index_or parts.records id no_fields).values place val live record_sound.live;
+        few = rw (length-set (slice_index_or parts.records id no_fields).values place val) record_sound.few;
+      })
       (ap (λ fields. let r : Record = record { kind = (slice_index_or parts.records id no_fields).kind; fields = fields } in r) (map-set (value_in (extent_in parts)) (slice_index_or parts.records id no_fields).values place val)
       ∙ ap (λ (r : Record). let q : Record = record { kind = r.kind; fields = slice_set r.fields place (value_in (extent_in parts) val) } in q) (sym (record_view (extent_in parts) parts id)))
 

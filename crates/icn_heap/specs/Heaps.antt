@@ -22,6 +22,10 @@ heap_of heap = heap_over (extent_in (parts_of heap)) (parts_of heap)
 abbrev pub with_cells : ℕ → Heap → Heap
 with_cells sum heap = record heap { cells = sum }
 
+-- the heap with this many bytes of strings charged
+abbrev pub with_strings : ℕ → Heap → Heap
+with_strings sum heap = record heap { strings = sum }
+
 -- the heap of no texts and no structures, but `&main`, which has given nothing
 abbrev pub empty_heap : Bounds → Heap
 empty_heap bounds = record { lists = []; sets = []; tables = []; records = []; coexps = 0 ∷ []; strings = 0; cells = 0; bounds = bounds }

@@ -146,8 +146,10 @@ pub record IsSoundTable (all : Extent) (table : Entries) : Type 0 where
   pub default : IsLive all table.default
   pub pairs : All (IsSoundPair all) table.pairs
 
+-- the fields are of the heap, and there are so few that each place is a number of 16 bits
 pub record IsSoundRecord (all : Extent) (held : HeldRecord) : Type 0 where
   pub live : All (IsLive all) held.values
+  pub few : length held.values ≤ 2 ^ 16
 
 -- the structures are sound, by an extent
 pub record AreSound (all : Extent) (parts : Parts) : Type 0 where
@@ -182,7 +184,7 @@ IsSoundTable-prop : (all : Extent) (table : Entries) → IsProp (IsSoundTable al
 IsSoundTable-prop all table = hlevel (IsLive-prop, IsSoundPair-prop)
 
 IsSoundRecord-prop : (all : Extent) (held : HeldRecord) → IsProp (IsSoundRecord all held)
-IsSoundRecord-prop all held = hlevel IsLive-prop
+IsSoundRecord-prop all held = hlevel (IsLive-prop, props)
 
 AreSound-prop : (all : Extent) (parts : Parts) → IsProp (AreSound all parts)
 AreSound-prop all parts = hlevel (IsSoundList-prop, IsSoundMember-prop, IsSoundTable-prop, IsSoundRecord-prop, props)

@@ -5,7 +5,7 @@ use icn_value::Val;
 use std::alloc::AllocError;
 
 impl Heap {
-    ghost use Rattle.std.specs.Prelude.{◌≡◌, ◌≤◌, map, length, slice_get, slice_range, IfOk, IfSome};
+    ghost use Rattle.std.specs.Prelude.{◌≡◌, ◌≤◌, ◌^◌, map, length, slice_get, slice_range, IfOk, IfSome};
     ghost use Rattle.std.specs.List.{All};
     ghost use Rattle.std.specs.Option.{option_map};
     ghost use Rattle.icn_value.specs.declared.val.Val.TheVariants.{List, Set, Table, Rec};
@@ -78,12 +78,13 @@ impl Heap {
         Ok(pairs)
     }
 
-    /// The values of the fields of a record. It takes no memory.
+    /// The values of the fields of a record, of which there are so few that each place is a `u16`. It takes no memory.
     #[tactic(auto, unfolding(crate::specs::Heaps::extent_of))]
     pub fn fields(&self, rec: u32) -> &[Val]
         requires { IsLive (extent_of self.now) (Rec rec) }
         ensures fields { map (value_in (extent_of self.now)) result.now ≡ (record_at (heap_of self.now) rec).fields }
         ensures live { All (IsLive (extent_of self.now)) result.now }
+        ensures few { length result.now ≤ 2 ^ 16 }
     {
         record_ref(&self.records, rec).values()
     }

@@ -168,9 +168,9 @@ impl Region {
         })
     }
 
-    // How many bytes more may be charged.
+    /// How many bytes more may be charged. It takes no memory.
     #[tactic(auto, unfolding(crate::specs::Regions::limit_of, crate::specs::Regions::sum_of))]
-    fn room(&self) -> u64
+    pub fn room(&self) -> u64
         ensures { sum_of self.now + result ≡ limit_of self.now }
     {
         self.limit - self.sum

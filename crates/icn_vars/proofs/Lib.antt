@@ -8,3 +8,4 @@ pub mod PartChanges
 pub mod Exchanges
 pub mod Starting
 pub mod Holding
+pub mod HeapRows

@@ -121,7 +121,7 @@ fn assign_random<L: Locals>(w: &mut World, l: &L, val: Val) -> Result<bool, Stop
 /// The place that a position means in a text of so many bytes, from 1 on: at or below 0 it counts from the end. `None` comes exactly
 /// where it is out of range. It takes no memory.
 pub fn place_of(position: i64, size: u64) -> Option<u64>
-    requires { size < 2 ^ 63 - 1 }
+    requires { size < 2 ^ 63 }
     ensures place { result ≡ place_of position size }
     ensures low { IfSome result (λ place. 1 ≤ place) }
     ensures high { IfSome result (λ place. place ≤ size + 1) }
