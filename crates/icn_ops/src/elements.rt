@@ -1,7 +1,7 @@
 // The elements of a value, one after the other.
-ghost use Rattle.std.specs.Prelude.{◌≡◌, ◌<◌, ◌≤◌, ◌^◌, length};
+ghost use Rattle.std.specs.Prelude.{◌≡◌, ◌<◌, ◌^◌, length};
 ghost use Rattle.std.specs.List.{All};
-ghost use Rattle.icn_value.specs.Store.{record_at, set_at, table_at};
+ghost use Rattle.icn_value.specs.Store.{set_at, table_at};
 ghost use Rattle.icn_value.specs.declared.val.Val.TheVariants.{List as ListVal, Rec, Set, Table};
 ghost use Rattle.icn_defs.specs.Elements.{list_items_from, record_fields_from, set_members_from, table_values_from, text_bytes_from, variable_bytes_from};
 ghost use Rattle.icn_heap.specs.Extents.{IsLive, IsText, text_in};
@@ -174,7 +174,6 @@ pub fn record_fields_from<L: Locals>(
     place: u64,
 ) -> Result<Outcome, Halt>
     requires rec { IsLive (extent_of w.now.heap) (Rec rec) }
-    requires few { length (record_at (heap_of w.now.heap) rec).fields ≤ 2 ^ 16 }
     ensures row { Answers w.now (L.items l.now) w.now (L.items l.now) (record_fields_from rec place) result }
     ensures live { IsLiveAnswer (reach_of w.now (L.items l.now)) result }
 {

@@ -1,12 +1,10 @@
 // Elements at random.
-ghost use Rattle.std.specs.Prelude.{◌≤◌, ◌^◌, length};
 ghost use Rattle.std.specs.List.{All};
-ghost use Rattle.icn_value.specs.Store.{record_at};
 ghost use Rattle.icn_value.specs.declared.val.Val.TheVariants.{List as ListVal, Rec, Set, Table};
 ghost use Rattle.icn_defs.specs.Conversions.{Collected, Listed, Recorded, Tabled};
 ghost use Rattle.icn_defs.specs.Elements.{random_of};
 ghost use Rattle.icn_heap.specs.Extents.{IsLive, value_in};
-ghost use Rattle.icn_heap.specs.Heaps.{extent_of, heap_of};
+ghost use Rattle.icn_heap.specs.Heaps.{extent_of};
 ghost use Rattle.icn_vars.specs.Outcomes.{IsLiveAnswer};
 ghost use Rattle.icn_vars.specs.Worlds.{KeepsItems, item_in, reach_of};
 ghost use Rattle.icn_args.specs.Words.{Answers};
@@ -89,7 +87,6 @@ pub fn random_value<L: Locals>(w: &mut World, l: &L, x: Item, table: u32) -> Res
 pub fn random_field<L: Locals>(w: &mut World, l: &L, x: Item, rec: u32) -> Result<Outcome, Halt>
     requires locals { All (IsLive (extent_of w.old.heap)) (L.items l.now) }
     requires rec { IsLive (extent_of w.old.heap) (Rec rec) }
-    requires few { length (record_at (heap_of w.old.heap) rec).fields ≤ 2 ^ 16 }
     ensures row { Answers w.old (L.items l.now) w.new (L.items l.now) (random_of (item_in (extent_of w.old.heap) x) (value_in (extent_of w.old.heap) (Rec rec)) (Recorded rec)) result }
     ensures live { IsLiveAnswer (reach_of w.new (L.items l.now)) result }
     ensures locals { All (IsLive (extent_of w.new.heap)) (L.items l.now) }
