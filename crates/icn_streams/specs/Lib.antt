@@ -1,4 +1,3 @@
-pub mod Named
 pub mod Handed
 pub mod Answers
 pub mod Applies
