@@ -1,5 +1,5 @@
 -- Settings whose values name only what has a name: each procedure value, and the kind of each record.
-use Rattle.std.specs.Prelude.{◌<◌, List, length}
+use Rattle.std.specs.Prelude.{◌<◌, List, length, Option, None, Some}
 use Rattle.std.specs.List.{All}
 use Rattle.icn_structs.specs.Numbered.{Numbered}
 use Rattle.icn_value.specs.Values.{Value, Null, Integer, Text, Chars, Std, Procedure, ARecord, AList, ASet, ATable, ACoexp, Root, Global, Static, Local, Element, Field, Key, Keyword, Variable, Whole, Part, Item, Val, Var}
@@ -19,6 +19,11 @@ ValueNamed names (AList id) = Unit {0}
 ValueNamed names (ASet id) = Unit {0}
 ValueNamed names (ATable id) = Unit {0}
 ValueNamed names (ACoexp id) = Unit {0}
+
+-- the value that is there, if any, names what has a name
+abbrev pub OptionNamed : Names → Option Value → Type 0
+OptionNamed names None = Unit {0}
+OptionNamed names (Some value) = ValueNamed names value
 
 abbrev pub RootNamed : Names → Root → Type 0
 RootNamed names (Global place) = Unit {0}

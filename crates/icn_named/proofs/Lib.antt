@@ -1,0 +1,3 @@
+mod Entries
+mod RowValues
+pub mod RowsNamed
