@@ -186,3 +186,9 @@ set_local_is m i v s' t p e =
     let q : i < length (locals m) = omega (arith, l) in
     let F : List Cell → FlatStack = λ w. record m { cells = w } in
     ap F (e ∙ sym (set_from_one (locals m) b i v s (holds_locals m t) to q))
+
+-- all of them set to what they are
+pub set_locals_same : (m : FlatStack) → Sound m.cells m.registers → set_locals (locals m) m ≡ m
+set_locals_same m t =
+    let F : List Cell → FlatStack = λ w. record m { cells = w } in
+    ap F (set_from_same (locals m) m.registers.base m.cells (holds_locals m t))

@@ -88,6 +88,9 @@ impl<K: Stack<Cell> + Drop> Frames<K> {
     pub fn local_count(&self) -> u64
         ensures count { result ≡ flat.local_count self.now.flat }
         ensures all { result ≡ length (flat.locals self.now.flat) }
+
+        // Each has a cell of its own, so that nothing changes where all are set to what they are.
+        ensures same { flat.set_locals (flat.locals self.now.flat) self.now.flat ≡ self.now.flat }
     {
         match self.cells.get(self.registers.base - 1) {
             Cell::Base { locals, .. } => locals,
