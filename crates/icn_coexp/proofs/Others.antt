@@ -1,7 +1,7 @@
 -- A transfer changes at most the one that is left and the one that is entered; one is active.
-use Rattle.std.proofs.Common.{◌≡◌, ◌≢◌, ℕ, List, slice_get, Option, Some, None, refl, sym, ap, ◌∙◌, subst}
+use Rattle.std.proofs.Common.{◌≡◌, ◌≢◌, ◌<◌, ℕ, zero, suc, false, List, [], ◌∷◌, slice_get, Option, Some, None, IsSome, refl, sym, ap, ◌∙◌, subst, arith}
 use Rattle.std.specs.Option.{option_map}
-use Rattle.std.proofs.lemmas.Option.{slice_get-map}
+use Rattle.std.proofs.lemmas.Option.{same_Some, slice_get-map}
 use Rattle.icn_value.specs.declared.val.Val.{Val}
 use Rattle.icn_frames.specs.Stacks.{FlatStack}
 use Rattle.icn_run.specs.Step as code
@@ -10,7 +10,7 @@ use Rattle.icn_coexp.specs.declared.entries.Status.{Status}
 use Rattle.icn_coexp.specs.declared.entries.Status.TheVariants.{Fresh, Active, Waiting, Exhausted}
 use Rattle.icn_coexp.specs.declared.entries.Running.{Running}
 use Rattle.icn_coexp.specs.declared.entries.Running.TheVariants.{On, HopDue}
-use Rattle.icn_coexp.specs.Transfers.{Coexp, Table, status_in, status_of, source, with_status, with_status_in, with_activator, with_activator_in, waiting, wait_on, begin_by, give_by, fail_by, enter_other, give, exhaust, active_status, OneIsActive, KeepsOthers}
+use Rattle.icn_coexp.specs.Transfers.{Coexp, Table, status_in, status_of, source, with_status, with_status_in, with_activator, with_activator_in, waiting, wait_on, begin_by, give_by, fail_by, enter_other, enter_with, give, exhaust, exhausted_of, active_status, OneIsActive, KeepsOthers}
 use Rattle.icn_coexp.specs.Keeping.{status_seen, coexp_seen, running_seen, table_seen, StatusFits, RunsAs, IsHere, Kept}
 use Rattle.icn_coexp.proofs.Puts.{put_other}
 use Rattle.icn_coexp.proofs.Moves.{here_entry}
@@ -101,3 +101,56 @@ one_is K es a running k =
     by_entry : (n : ℕ) (o : Option (Entry K)) → slice_get es n ≡ o → status_in (option_map coexp_seen o) ≡ code.Active → n ≡ a
     by_entry n None g x = cc
     by_entry n (Some e) g x = alone_case K a n e e.status (k.all n e g).status x
+
+-- `&main`
+
+begun_case : (K : Type 0) (active : Option ℕ) (e : Entry K) (s : Status K) → StatusFits active 0 e s → status_seen s ≢ code.Fresh
+begun_case K active e (Fresh f) h = λ x. absurd (omega (arith, h.0))
+begun_case K active e Active h = λ x. cc
+begun_case K active e (Waiting f) h = λ x. cc
+begun_case K active e Exhausted h = λ x. cc
+
+goes_on_case : (K : Type 0) (active : Option ℕ) (e : Entry K) (s : Status K) → StatusFits active 0 e s → status_seen s ≢ code.Exhausted
+goes_on_case K active e (Fresh f) h = λ x. cc
+goes_on_case K active e Active h = λ x. cc
+goes_on_case K active e (Waiting f) h = λ x. cc
+goes_on_case K active e Exhausted h = λ x. absurd (omega (arith, h))
+
+pub main_begun : (K : Type 0) (es : List (Entry K)) (a : ℕ) (running : Running K) → Kept es a running → status_of 0 (table_seen es a running) ≢ code.Fresh
+main_begun K [] a running k = absurd k.here
+main_begun K (e ∷ es) a running k = begun_case K (Some a) e e.status (k.all 0 e refl).status
+
+pub main_goes_on : (K : Type 0) (es : List (Entry K)) (a : ℕ) (running : Running K) → Kept es a running → status_of 0 (table_seen es a running) ≢ code.Exhausted
+main_goes_on K [] a running k = absurd k.here
+main_goes_on K (e ∷ es) a running k = goes_on_case K (Some a) e e.status (k.all 0 e refl).status
+
+-- one that is entered and is not exhausted runs
+
+activator_next : (n a : ℕ) (c : Coexp) (cs : List Coexp) (o : Option Coexp) → with_activator_in (suc n) a (c ∷ cs) o ≡ c ∷ with_activator_in n a cs o
+activator_next n a c cs (Some x) = refl
+activator_next n a c cs None = refl
+
+activator_status : (n a i : ℕ) (cs : List Coexp) → status_in (slice_get (with_activator n a cs) i) ≡ status_in (slice_get cs i)
+activator_status n a i [] = refl
+activator_status zero a zero (c ∷ cs) = refl
+activator_status zero a (suc i) (c ∷ cs) = refl
+activator_status (suc n) a zero (c ∷ cs) = ap (λ (w : List Coexp). status_in (slice_get w 0)) (activator_next n a c cs (slice_get cs n))
+activator_status (suc n) a (suc i) (c ∷ cs) =
+    ap (λ (w : List Coexp). status_in (slice_get w (suc i))) (activator_next n a c cs (slice_get cs n)) ∙ activator_status n a i cs
+
+begin_runs : (n : ℕ) (t u : Table) (o : Option Coexp) → status_in o ≡ code.Fresh → Some (begin_by n t o) ≡ Some u → IsSome u.running
+begin_runs n t u None x e = cc
+begin_runs n t u (Some c) x e = subst (λ (w : Table). IsSome w.running) (same_Some _ _ e) refl
+
+given_runs : (n : ℕ) (v : Val) (t u : Table) (s : code.Status FlatStack) → status_of n t ≡ s → give_by n v t s ≡ Some u → exhausted_of s ≡ false → IsSome u.running
+given_runs n v t u code.Fresh h e x = begin_runs n t u (slice_get t.coexps n) h e
+given_runs n v t u code.Active h e x = cc
+given_runs n v t u (code.Waiting m) h e x = subst (λ (w : Table). IsSome w.running) (same_Some _ _ e) refl
+given_runs n v t u code.Exhausted h e x = cc
+
+pub entered_runs : (n : ℕ) (v : Val) (t u : Table) → enter_other n v t ≡ Some u → n ≢ t.active → exhausted_of (status_of n t) ≡ false → IsSome u.running
+entered_runs n v t u e d x =
+    let left : Table = waiting t in
+    let next : Table = record left { coexps = with_activator n t.active left.coexps } in
+    let same : status_of n next ≡ status_of n t = activator_status n t.active n left.coexps ∙ ap status_in (wait_others t n t.running d) in
+    given_runs n v next u (status_of n next) refl e (ap exhausted_of same ∙ x)

@@ -1,6 +1,7 @@
 // The table of co-expressions.
-ghost use Rattle.std.specs.Prelude.{◌≡◌, ◌<◌, ◌^◌, ℕ, Option, Some, length, slice_get, IsSome, is_some, IfOk, OnOk, OnErr};
-ghost use Rattle.icn_coexp.specs.Transfers.{first_table, source, values_of, with_stack, with_new, with_copy, give, exhaust, went_to, Activates, KeepsOthers, KeepsRoom, OneIsActive};
+ghost use Rattle.std.specs.Prelude.{◌≡◌, ◌≢◌, ◌<◌, ◌^◌, ℕ, Option, Some, length, slice_get, IsSome, is_some, IfOk, OnOk, OnErr};
+ghost use Rattle.icn_run.specs.Step.{Fresh, Exhausted};
+ghost use Rattle.icn_coexp.specs.Transfers.{first_table, source, status_of, values_of, with_stack, with_new, with_copy, give, exhaust, went_to, Activates, KeepsOthers, KeepsRoom, OneIsActive};
 
 use crate::entries::{
     Entry, Running, Status, fail_to, give_to, is_exhausted, replace_status, set_activator, wait,
@@ -77,6 +78,10 @@ impl<K: Stack<Cell> + Drop> Stacks<K> {
 
         // At any time exactly one is active, or none where a hop is due.
         ensures one { OneIsActive self.now.table }
+
+        // `&main` has begun, and is never exhausted.
+        ensures begun { status_of 0 self.now.table ≢ Fresh }
+        ensures never { status_of 0 self.now.table ≢ Exhausted }
     {
         self.active
     }
