@@ -9,6 +9,7 @@ use Rattle.icn_run.specs.Chains as L
 use Rattle.icn_run.specs.Chains.{Label, fixed, flagged, Reason, because, scanning, Chain, chain, Suspensions, none, Outer, Linked, Parked, Frame, at_base, in_call, frame_of, outer_of}
 use Rattle.icn_run_laws.specs.Rendered.{Name, flag_name, limit_name, Kept, Flag, Changed, Count, Saved, Locals, flag_kept, NCell, n_base, n_call, n_mark, n_limit, n_operand, World, Owned, shown_label, count_of, shown, render, IsFlag, Ok, AllOk, FlatScans, IsFlat, f_chain, f_none, f_mark, now, Next}
 use Rattle.icn_run_laws.specs.Laws.{Both, With, SameDropped}
+use Rattle.icn_run_laws.specs.SecondLaw.{LacksCell}
 use Rattle.icn_run_laws.proofs.Lists.{some_inj, get_set_same, length_map, r_cut, r_get, r_set}
 use Rattle.icn_run_laws.proofs.Worlds.{IsLocals, Change, change_next, put_shown, put_ok, FlagAt, is_up, is_down, is_labelled, flag_at, flag_there, index_got, got_count, put_count, count_put, put_flag, flag_put, label_up, own_up, label_set, own_set}
 use Rattle.icn_run_laws.proofs.Flatten.{as_mark, under, raise_scans, found, same_proc}
@@ -54,9 +55,9 @@ module _ (repeats : ℕ → ℕ → Bool) (Opens : ℕ → ℕ → Option ℕ �
   abbrev Wt : {A : Type 0} → World → ℕ → A × Linked → A × Frames → Type 0
   Wt w s x y = With Next Nw w s x y
 
-  -- a procedure has a mark at a place that is not told
-  abbrev pub Lacks : ℕ → ℕ → Type 0
-  Lacks p label = (q : ℕ) × (l : Option ℕ) × (repeats p q ≡ false) × Opens p q l
+  -- the innermost mark has no cell
+  abbrev pub Lacks : Linked → Type 0
+  Lacks m' = LacksCell repeats Opens (outer_of m'.chain) (L.proc_of (frame_of (outer_of m'.chain)))
 
   module _ (w : World) (s q : ℕ) (r : Registers) (c : Chain) (cells : List NCell) (f : IsFlat repeats Opens c cells r) (o : AllOk w s cells) where
     -- Labels
@@ -82,15 +83,15 @@ module _ (repeats : ℕ → ℕ → Bool) (Opens : ℕ → ℕ → Option ℕ �
         let d = flag_put w flag false ((flag, label) ∷ L.forgotten flag w.kept.relabels) (label_set w flag label) (λ f. absurd (f (get_set_same w.kept.flags flag b.0 false b.1))) x.0 (Changed label) b.0 b.1 (ap (λ l. flag_kept l false) (own_set w flag label)) in
         relabel_to label l flag p r' above below e g x.0 (Changed label) x.2 tt (subst (λ h. Owned w (flag_name flag) s h x.0) (sym g) x.1) d (changed_shows false label p l r' te)
 
-    relabel_view : (label : ℕ) {outer : Outer} → View repeats Opens cells r.mark r.base outer → L.proc_of (frame_of outer) ≡ S.proc (Fr w cells r q) → Both (Lacks (S.proc (Fr w cells r q)) label) (Tn w s) (L.relabelled label (Li w c q) outer) (S.relabel label (Fr w cells r q))
-    relabel_view label (v_base {p} {a} n above e g) pe = subst (λ x. Both (Lacks (S.proc (Fr w cells r q)) label) (Tn w s) None (S.relabelled label (Fr w cells r q) x)) (sym (r_get w.kept above (n_base p a n) [] r.mark e g)) tt
-    relabel_view label (v_call {p} {a} {level} {q = q'} n r' above below e g i) pe = subst (λ x. Both (Lacks (S.proc (Fr w cells r q)) label) (Tn w s) None (S.relabelled label (Fr w cells r q) x)) (sym (r_get w.kept above (n_call p a n level r' q') below r.mark e g)) tt
-    relabel_view label (v_limit {n} r' above below e g b i) pe = subst (λ x. Both (Lacks (S.proc (Fr w cells r q)) label) (Tn w s) None (S.relabelled label (Fr w cells r q) x)) (sym (r_get w.kept above (n_limit n r') below r.mark e g)) tt
-    relabel_view label (v_mark {label = fixed l} {outside = chain items' su' scans' outer'} r' above below e g b ok i) pe =
-        subst (λ x. Both (Lacks (S.proc (Fr w cells r q)) label) (Tn w s) None (S.relabelled label (Fr w cells r q) x)) (sym (r_get w.kept above (n_mark (fixed l) r') below r.mark e g)) (subst (λ p. Lacks p label) pe (ok.0, l, ok.1, ok.2))
-    relabel_view label (v_mark {label = flagged l flag p} r' above below e g b ok i) pe =
+    relabel_view : (label : ℕ) {outer : Outer} → View repeats Opens cells r.mark r.base outer → Both (LacksCell repeats Opens outer (L.proc_of (frame_of outer))) (Tn w s) (L.relabelled label (Li w c q) outer) (S.relabel label (Fr w cells r q))
+    relabel_view label (v_base {p} {a} n above e g) = subst (λ x. Both ⊥ (Tn w s) None (S.relabelled label (Fr w cells r q) x)) (sym (r_get w.kept above (n_base p a n) [] r.mark e g)) tt
+    relabel_view label (v_call {p} {a} {level} {q = q'} n r' above below e g i) = subst (λ x. Both ⊥ (Tn w s) None (S.relabelled label (Fr w cells r q) x)) (sym (r_get w.kept above (n_call p a n level r' q') below r.mark e g)) tt
+    relabel_view label (v_limit {n} r' above below e g b i) = subst (λ x. Both ⊥ (Tn w s) None (S.relabelled label (Fr w cells r q) x)) (sym (r_get w.kept above (n_limit n r') below r.mark e g)) tt
+    relabel_view label (v_mark {label = fixed l} {outside = chain items' su' scans' outer'} r' above below e g b ok i) =
+        subst (λ x. Both (LacksCell repeats Opens (L.mark (fixed l) (chain items' su' scans' outer')) (L.proc_of (frame_of (L.mark (fixed l) (chain items' su' scans' outer'))))) (Tn w s) None (S.relabelled label (Fr w cells r q) x)) (sym (r_get w.kept above (n_mark (fixed l) r') below r.mark e g)) (ok.0, l, ok.1, ok.2)
+    relabel_view label (v_mark {label = flagged l flag p} r' above below e g b ok i) =
         let m = as_mark w.kept (flagged l flag p) r' in
-        subst (λ x. Both (Lacks (S.proc (Fr w cells r q)) label) (Tn w s) (Some (L.relabelled_if (label == p) label flag (Li w c q))) (S.relabelled label (Fr w cells r q) x)) (sym (r_get w.kept above (n_mark (flagged l flag p) r') below r.mark e g ∙ ap Some m.2))
+        subst (λ x. Both ⊥ (Tn w s) (Some (L.relabelled_if (label == p) label flag (Li w c q))) (S.relabelled label (Fr w cells r q) x)) (sym (r_get w.kept above (n_mark (flagged l flag p) r') below r.mark e g ∙ ap Some m.2))
         (relabel_flagged label l flag p r' above below e g (label == p) refl)
 
     -- Limits
@@ -187,9 +188,9 @@ module _ (repeats : ℕ → ℕ → Bool) (Opens : ℕ → ℕ → Option ℕ �
         subst (λ y. Sd (L.repeated l flag p outside (Li w c q) (slice_index_or w.kept.flags flag false)) (S.dropped (Fr w cells r q) y)) (sym (r_cut w.kept above (n_mark (flagged l flag p) r') below r.mark e g ∙ ap (λ y. shown_label y l p r' ∷ render w.kept below) x.1.holds))
         (dropped_flagged l flag p outside r' below i ok ob x.0 x.1 (flag_at w.kept flag x.0 x.1.holds))
 
-  pub on_relabel : (label : ℕ) (w : World) (s : ℕ) (m' : Linked) (m : Frames) → Nw w s m' m → Both (Lacks (S.proc m) label) (Tn w s) (L.relabel label m') (S.relabel label m)
+  pub on_relabel : (label : ℕ) (w : World) (s : ℕ) (m' : Linked) (m : Frames) → Nw w s m' m → Both (Lacks m') (Tn w s) (L.relabel label m') (S.relabel label m)
   on_relabel label w s m' m (now {q} {r} cells (f_chain {items} {s = su} {scans} {outer} z e b out fs sc) o) =
-      relabel_view w s q r (chain items su scans outer) cells (f_chain z e b out fs sc) o label (view repeats Opens (map n_operand items) e out) (on_proc repeats Opens w s (Li w (chain items su scans outer) q) (Fr w cells r q) (now cells (f_chain z e b out fs sc) o))
+      relabel_view w s q r (chain items su scans outer) cells (f_chain z e b out fs sc) o label (view repeats Opens (map n_operand items) e out)
 
   pub on_count : (w : World) (s : ℕ) (m' : Linked) (m : Frames) → Nw w s m' m → Both ⊥ (Wt w s) (L.count_down m') (S.count_down m)
   on_count w s m' m (now {q} {r} cells (f_chain {items} {s = su} {scans} {outer} z e b out fs sc) o) =

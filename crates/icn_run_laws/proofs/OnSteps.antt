@@ -13,7 +13,7 @@ use Rattle.icn_run.specs.Calls.{Pair, Why, Alt, Op as Operating, Scan, Escan, Pr
 use Rattle.icn_run.specs.Step.{Program, Launch, Status, Fresh, Active, Waiting, Exhausted, Coexp, Store, State, running, failing, over, stuck, with_found, parted, turn_if, turn, steps, step, here, with_world, with_at, valued, made, with_value, with_values, pushed, outcome, list_made, instrs_of, statics_before, with_pair, pair_now, scans_left, exchanged, maybe_exchanged, swapped_back, all_left, coexp_at, status_of, activator_of, with_status, with_activator, activated, fail_by, passed_failure, begun_by, give_by, passed_value, hop, exhausted, counted_result, result_given, is_main, is_create_body, with_new, coexp_made, refreshed_from, refreshed, entered_by, entered_if, activation, entered, filled, collected, with_parameters, called_if, called, constructed, chosen, pushed_or_fails, integer_called, Callee, IsProc, IsRecord, IsFunc, IsNothing, callee_of, callee_called, invoked, invoked_with, elements_called, applied_to_elements, field_place, field_taken, field_of, with_result, returned, proc_fails, without_mark, mark_dropped, resumed, resumed_or_dropped, fails, members_of, standing, with_popped, with_taken, unmarked, limited, limited_result, scan_opened, initial_if, initial_done, activation_of, operated, field_applied, instruction, instruction_at, begun_if, start_of, start, first_store, main_of}
 use Rattle.icn_defs.specs.Keeping.{KeepsIn}
 use Rattle.icn_run_laws.specs.Laws.{Both, Then, With, SameDropped, Agrees}
-use Rattle.icn_run_laws.specs.SameStates.{IsMade, LostAt, mark_of, Opens, RowsKeep, SameStatus, SameCoexp, alike, Rests, lift, Ready, Same, same_running, same_failing, same_hopping, same_over, same_stuck, lost}
+use Rattle.icn_run_laws.specs.SameStates.{IsMade, IsLacking, mark_of, Opens, RowsKeep, SameStatus, SameCoexp, alike, Rests, lift, Ready, Same, same_running, same_failing, same_hopping, same_over, same_stuck, lost}
 use Rattle.icn_run_laws.proofs.Coexps.{rest_map, rest_get, rest_set, rest_out, rest_more, rest_at, same_status, same_activator, status_set, activator_set}
 
 pub both_map : {A' A : Type 0} (L : Type 0) (Q R : A' → A → Type 0) (o' : Option A') (o : Option A) → ((x' : A') (x : A) → Q x' x → R x' x) → Both L Q o' o → Both L R o' o
@@ -22,12 +22,12 @@ both_map L Q R None (Some x) f h = h
 both_map L Q R (Some x') None f h = h
 both_map L Q R (Some x') (Some x) f h = f x' x h
 
-module _ {K M K' M' : Type 0} (C' : Calls K' M') (C : Calls K M) (P : Program) (Lacks : ℕ → ℕ → Type 0) (G : Agrees C' C (Opens P) Lacks) (keep : RowsKeep) where
+module _ {K M K' M' : Type 0} (C' : Calls K' M') (C : Calls K M) (P : Program) (Lacks : M' → Type 0) (Lost : Type 0) (G : Agrees C' C (Opens P) Lacks) (keep : RowsKeep) where
   abbrev pub Rd : ℕ → M' → M → List (Coexp K') → List (Coexp K) → Type 0
-  Rd s m' m ks' ks = Ready C' C P Lacks G s m' m ks' ks
+  Rd s m' m ks' ks = Ready C' C P Lacks Lost G s m' m ks' ks
 
   abbrev pub Sm : State K' M' → State K M → Type 0
-  Sm s' s = Same C' C P Lacks G s' s
+  Sm s' s = Same C' C P Lacks Lost G s' s
 
   abbrev pub Nw : G.W → ℕ → M' → M → Type 0
   Nw w s m' m = G.Now w s m' m
@@ -90,7 +90,7 @@ module _ {K M K' M' : Type 0} (C' : Calls K' M') (C : Calls K M) (P : Program) (
   w_found Q (Some x') None n' n h f = absurd h
   w_found Q (Some x') (Some x) n' n h f = f x' x h
 
-  w_lacking : {A' A : Type 0} (Lack : Type 0) → (Lack → LostAt P Lacks) → (Q : A' → A → Type 0) (o' : Option A') (o : Option A) (n' : A' → State K' M') (n : A → State K M) → Both Lack Q o' o → ((x' : A') (x : A) → Q x' x → Sm (n' x') (n x)) → Sm (with_found o' n') (with_found o n)
+  w_lacking : {A' A : Type 0} (Lack : Type 0) → (Lack → Lost) → (Q : A' → A → Type 0) (o' : Option A') (o : Option A) (n' : A' → State K' M') (n : A → State K M) → Both Lack Q o' o → ((x' : A') (x : A) → Q x' x → Sm (n' x') (n x)) → Sm (with_found o' n') (with_found o n)
   w_lacking Lack g Q None None n' n h f = same_stuck
   w_lacking Lack g Q None (Some x) n' n h f = lost (g h)
   w_lacking Lack g Q (Some x') None n' n h f = absurd h
@@ -525,71 +525,71 @@ module _ {K M K' M' : Type 0} (C' : Calls K' M') (C : Calls K M) (P : Program) (
   l_static k m' m st ks' h = subst (λ p. Sm (pushed C' (Var (Whole (Static (statics_before P p + k)))) m' (lift st ks')) (instruction C P (I.Static k) m st)) (sym (G.proc h.world st.active m' m h.here)) (p_push _ m' m st ks' h)
 
   -- the place is that of the next instruction
-  pub l_instruction : (i : Instr) (m' : M') (m : M) (st : Store K) (ks' : List (Coexp K')) → slice_get (instrs_of P (C.proc m)) (pred (C.place m)) ≡ Some i → Rd st.active m' m ks' st.coexps → Sm (instruction C' P i m' (lift st ks')) (instruction C P i m st)
-  l_instruction I.Pnull m' m st ks' e h = p_push (Val Null) m' m st ks' h
-  l_instruction (I.Int k) m' m st ks' e h = w_same (slice_get P.integers k) (λ n. pushed C' (Val (Integer n)) m' (lift st ks')) (λ n. pushed C (Val (Integer n)) m st) (λ x. p_push (Val (Integer x)) m' m st ks' h)
-  l_instruction (I.Str k) m' m st ks' e h = w_same (slice_get P.strings k) (λ n. pushed C' (Val (Text n)) m' (lift st ks')) (λ n. pushed C (Val (Text n)) m st) (λ x. p_push (Val (Text x)) m' m st ks' h)
-  l_instruction (I.Cset k) m' m st ks' e h = w_same (slice_get P.csets k) (λ n. pushed C' (Val (Chars (members_of n))) m' (lift st ks')) (λ n. pushed C (Val (Chars (members_of n))) m st) (λ x. p_push (Val (Chars (members_of x))) m' m st ks' h)
-  l_instruction (I.Local k) m' m st ks' e h = p_push _ m' m st ks' h
-  l_instruction (I.Static k) m' m st ks' e h = l_static k m' m st ks' h
-  l_instruction (I.Global k) m' m st ks' e h = p_push _ m' m st ks' h
-  l_instruction (I.Keywd keyword) m' m st ks' e h = l_keyword keyword m' m st ks' h
-  l_instruction I.Pop m' m st ks' e h = w_popped m' m st ks' h (λ item m. running m (lift st ks')) (λ item m. running m st) (λ item a' a r. same_running st ks' r)
-  l_instruction I.Dup m' m st ks' e h = w_popped m' m st ks' h (λ item below. pushed C' item m' (lift st ks')) (λ item below. pushed C item m st) (λ item a' a r. p_push item m' m st ks' h)
-  l_instruction (I.Op op) m' m st ks' e h = l_op op m' m st ks' h
-  l_instruction (I.Llist k) m' m st ks' e h = w_taken k m' m st ks' h (λ items m. turn P (lift st ks') (λ st. with_values C' items m st (λ values. list_made C' values m st (λ list m st. pushed C' (Val list) m st)))) (λ items m. turn P st (λ st. with_values C items m st (λ values. list_made C values m st (λ list m st. pushed C (Val list) m st))))
+  pub l_instruction : (i : Instr) (m' : M') (m : M) (st : Store K) (ks' : List (Coexp K')) → slice_get (instrs_of P (C.proc m)) (pred (C.place m)) ≡ Some i → Rd st.active m' m ks' st.coexps → ((label : ℕ) → i ≡ I.Chfail label → Lacks m' → Lost) → Sm (instruction C' P i m' (lift st ks')) (instruction C P i m st)
+  l_instruction I.Pnull m' m st ks' e h d = p_push (Val Null) m' m st ks' h
+  l_instruction (I.Int k) m' m st ks' e h d = w_same (slice_get P.integers k) (λ n. pushed C' (Val (Integer n)) m' (lift st ks')) (λ n. pushed C (Val (Integer n)) m st) (λ x. p_push (Val (Integer x)) m' m st ks' h)
+  l_instruction (I.Str k) m' m st ks' e h d = w_same (slice_get P.strings k) (λ n. pushed C' (Val (Text n)) m' (lift st ks')) (λ n. pushed C (Val (Text n)) m st) (λ x. p_push (Val (Text x)) m' m st ks' h)
+  l_instruction (I.Cset k) m' m st ks' e h d = w_same (slice_get P.csets k) (λ n. pushed C' (Val (Chars (members_of n))) m' (lift st ks')) (λ n. pushed C (Val (Chars (members_of n))) m st) (λ x. p_push (Val (Chars (members_of x))) m' m st ks' h)
+  l_instruction (I.Local k) m' m st ks' e h d = p_push _ m' m st ks' h
+  l_instruction (I.Static k) m' m st ks' e h d = l_static k m' m st ks' h
+  l_instruction (I.Global k) m' m st ks' e h d = p_push _ m' m st ks' h
+  l_instruction (I.Keywd keyword) m' m st ks' e h d = l_keyword keyword m' m st ks' h
+  l_instruction I.Pop m' m st ks' e h d = w_popped m' m st ks' h (λ item m. running m (lift st ks')) (λ item m. running m st) (λ item a' a r. same_running st ks' r)
+  l_instruction I.Dup m' m st ks' e h d = w_popped m' m st ks' h (λ item below. pushed C' item m' (lift st ks')) (λ item below. pushed C item m st) (λ item a' a r. p_push item m' m st ks' h)
+  l_instruction (I.Op op) m' m st ks' e h d = l_op op m' m st ks' h
+  l_instruction (I.Llist k) m' m st ks' e h d = w_taken k m' m st ks' h (λ items m. turn P (lift st ks') (λ st. with_values C' items m st (λ values. list_made C' values m st (λ list m st. pushed C' (Val list) m st)))) (λ items m. turn P st (λ st. with_values C items m st (λ values. list_made C values m st (λ list m st. pushed C (Val list) m st))))
       (λ items a' a r. w_turn st ks' (λ st. with_values C' items a' st (λ values. list_made C' values a' st (λ list m st. pushed C' (Val list) m st))) (λ st. with_values C items a st (λ values. list_made C values a st (λ list m st. pushed C (Val list) m st)))
       (w_values items a' a (TurnOf st) ks' r (λ values. list_made C' values a' (lift (TurnOf st) ks') (λ list m st. pushed C' (Val list) m st)) (λ values. list_made C values a (TurnOf st) (λ list m st. pushed C (Val list) m st))
       (λ vs. w_list vs a' a (TurnOf st) ks' r (λ list m st. pushed C' (Val list) m st) (λ list m st. pushed C (Val list) m st) (λ v b' b seen q. p_push (Val v) b' b (with_at seen (TurnOf st)) ks' q))))
-  l_instruction (I.Field k) m' m st ks' e h = w_taken 1 m' m st ks' h (λ items m. turn P (lift st ks') (field_applied C' P k items m)) (λ items m. turn P st (field_applied C P k items m))
+  l_instruction (I.Field k) m' m st ks' e h d = w_taken 1 m' m st ks' h (λ items m. turn P (lift st ks') (field_applied C' P k items m)) (λ items m. turn P st (field_applied C P k items m))
       (λ items a' a r. w_turn st ks' (field_applied C' P k items a') (field_applied C P k items a) (a_field_applied k items a' a (TurnOf st) ks' r))
-  l_instruction (I.Invoke k) m' m st ks' e h = w_taken (suc k) m' m st ks' h (λ items m. turn P (lift st ks') (invoked_with C' P items m)) (λ items m. turn P st (invoked_with C P items m))
+  l_instruction (I.Invoke k) m' m st ks' e h d = w_taken (suc k) m' m st ks' h (λ items m. turn P (lift st ks') (invoked_with C' P items m)) (λ items m. turn P st (invoked_with C P items m))
       (λ items a' a r. w_turn st ks' (invoked_with C' P items a') (invoked_with C P items a) (a_invoked_with items a' a (TurnOf st) ks' r))
-  l_instruction I.Appl m' m st ks' e h = w_taken 2 m' m st ks' h (λ items m. turn P (lift st ks') (applied_to_elements C' P items m)) (λ items m. turn P st (applied_to_elements C P items m))
+  l_instruction I.Appl m' m st ks' e h d = w_taken 2 m' m st ks' h (λ items m. turn P (lift st ks') (applied_to_elements C' P items m)) (λ items m. turn P st (applied_to_elements C P items m))
       (λ items a' a r. w_turn st ks' (applied_to_elements C' P items a') (applied_to_elements C P items a) (a_applied items a' a (TurnOf st) ks' r))
-  l_instruction (I.Mark l) m' m st ks' e h = same_running st ks' (r_mark (Some l) st.active m' m ks' st.coexps e h)
-  l_instruction I.Mark0 m' m st ks' e h = same_running st ks' (r_mark None st.active m' m ks' st.coexps e h)
-  l_instruction I.Unmark m' m st ks' e h = w_unmarked m' m st ks' h running running (λ a' a w r. same_running (with_world w st) ks' r)
-  l_instruction I.Eret m' m st ks' e h = w_popped m' m st ks' h (λ item m. with_value C' item m (lift st ks') (λ value. unmarked C' m (lift st ks') (pushed C' (Val value)))) (λ item m. with_value C item m st (λ value. unmarked C m st (pushed C (Val value))))
+  l_instruction (I.Mark l) m' m st ks' e h d = same_running st ks' (r_mark (Some l) st.active m' m ks' st.coexps e h)
+  l_instruction I.Mark0 m' m st ks' e h d = same_running st ks' (r_mark None st.active m' m ks' st.coexps e h)
+  l_instruction I.Unmark m' m st ks' e h d = w_unmarked m' m st ks' h running running (λ a' a w r. same_running (with_world w st) ks' r)
+  l_instruction I.Eret m' m st ks' e h d = w_popped m' m st ks' h (λ item m. with_value C' item m (lift st ks') (λ value. unmarked C' m (lift st ks') (pushed C' (Val value)))) (λ item m. with_value C item m st (λ value. unmarked C m st (pushed C (Val value))))
       (λ item a' a r. w_value item a' a st ks' r (λ value. unmarked C' a' (lift st ks') (pushed C' (Val value))) (λ value. unmarked C a st (pushed C (Val value)))
       (λ v. w_unmarked a' a st ks' r (pushed C' (Val v)) (pushed C (Val v)) (λ b' b w q. p_push (Val v) b' b (with_world w st) ks' q)))
-  l_instruction I.Esusp m' m st ks' e h = w_popped m' m st ks' h (λ item m. with_found (C'.suspend_mark m) (λ m. pushed C' item m (lift st ks'))) (λ item m. with_found (C.suspend_mark m) (λ m. pushed C item m st)) (λ item a' a r. l_esusp item a' a st ks' r)
-  l_instruction I.Limit m' m st ks' e h = w_popped m' m st ks' h (λ item m. with_value C' item m (lift st ks') (λ value. limited C' value (integer_of value) m (lift st ks'))) (λ item m. with_value C item m st (λ value. limited C value (integer_of value) m st))
+  l_instruction I.Esusp m' m st ks' e h d = w_popped m' m st ks' h (λ item m. with_found (C'.suspend_mark m) (λ m. pushed C' item m (lift st ks'))) (λ item m. with_found (C.suspend_mark m) (λ m. pushed C item m st)) (λ item a' a r. l_esusp item a' a st ks' r)
+  l_instruction I.Limit m' m st ks' e h d = w_popped m' m st ks' h (λ item m. with_value C' item m (lift st ks') (λ value. limited C' value (integer_of value) m (lift st ks'))) (λ item m. with_value C item m st (λ value. limited C value (integer_of value) m st))
       (λ item a' a r. w_value item a' a st ks' r (λ value. limited C' value (integer_of value) a' (lift st ks')) (λ value. limited C value (integer_of value) a st) (λ v. l_limited v (integer_of v) a' a st ks' r))
-  l_instruction I.Lsusp m' m st ks' e h = w_popped m' m st ks' h (λ item m. with_found (C'.count_down m) (parted (λ count m. limited_result C' item count m (lift st ks')))) (λ item m. with_found (C.count_down m) (parted (λ count m. limited_result C item count m st)))
+  l_instruction I.Lsusp m' m st ks' e h d = w_popped m' m st ks' h (λ item m. with_found (C'.count_down m) (parted (λ count m. limited_result C' item count m (lift st ks')))) (λ item m. with_found (C.count_down m) (parted (λ count m. limited_result C item count m st)))
       (λ item a' a r. w_found (RdWith {A = ℕ} st.active ks' st.coexps) (C'.count_down a') (C.count_down a) (parted (λ count m. limited_result C' item count m (lift st ks'))) (parted (λ count m. limited_result C item count m st))
       (b_with st.active a' a ks' st.coexps (C'.count_down a') (C.count_down a) r (G.count_down r.world st.active a' a r.here))
       (λ x' x q. subst (λ k. Sm (limited_result C' item k x'.1 (lift st ks')) (limited_result C item x.0 x.1 st)) (sym q.0) (l_limited_result item x.0 x'.1 x.1 st ks' q.1)))
-  l_instruction I.Efail m' m st ks' e h = same_failing st ks' h
-  l_instruction (I.Chfail l) m' m st ks' e h = w_lacking (Lacks (C.proc m) l) (λ x. (C.proc m, pred (C.place m), l, e, x)) (λ a' a. Rd st.active a' a ks' st.coexps) (C'.relabel l m') (C.relabel l m) (λ m. running m (lift st ks')) (λ m. running m st)
-      (b_then (Lacks (C.proc m) l) st.active m' m ks' st.coexps (C'.relabel l m') (C.relabel l m) h (G.relabel l h.world st.active m' m h.here)) (λ a' a r. same_running st ks' r)
-  l_instruction (I.Goto l) m' m st ks' e h = same_running st ks' (r_go l st.active m' m ks' st.coexps h)
-  l_instruction (I.Loop l) m' m st ks' e h = w_turn st ks' (running (C'.go l m')) (running (C.go l m)) (same_running (TurnOf st) ks' (r_go l st.active m' m ks' st.coexps h))
-  l_instruction I.Bscan m' m st ks' e h = w_popped m' m st ks' h (λ item m. with_value C' item m (lift st ks') (λ value. made C' (text_row value (here C' m (lift st ks'))) m (lift st ks') (scan_opened C'))) (λ item m. with_value C item m st (λ value. made C (text_row value (here C m st)) m st (scan_opened C)))
+  l_instruction I.Efail m' m st ks' e h d = same_failing st ks' h
+  l_instruction (I.Chfail l) m' m st ks' e h d = w_lacking (Lacks m') (d l refl) (λ a' a. Rd st.active a' a ks' st.coexps) (C'.relabel l m') (C.relabel l m) (λ m. running m (lift st ks')) (λ m. running m st)
+      (b_then (Lacks m') st.active m' m ks' st.coexps (C'.relabel l m') (C.relabel l m) h (G.relabel l h.world st.active m' m h.here)) (λ a' a r. same_running st ks' r)
+  l_instruction (I.Goto l) m' m st ks' e h d = same_running st ks' (r_go l st.active m' m ks' st.coexps h)
+  l_instruction (I.Loop l) m' m st ks' e h d = w_turn st ks' (running (C'.go l m')) (running (C.go l m)) (same_running (TurnOf st) ks' (r_go l st.active m' m ks' st.coexps h))
+  l_instruction I.Bscan m' m st ks' e h d = w_popped m' m st ks' h (λ item m. with_value C' item m (lift st ks') (λ value. made C' (text_row value (here C' m (lift st ks'))) m (lift st ks') (scan_opened C'))) (λ item m. with_value C item m st (λ value. made C (text_row value (here C m st)) m st (scan_opened C)))
       (λ item a' a r. w_value item a' a st ks' r (λ value. made C' (text_row value (here C' a' (lift st ks'))) a' (lift st ks') (scan_opened C')) (λ value. made C (text_row value (here C a st)) a st (scan_opened C))
       (λ v. w_made (text_row v) (keep.scanned v) a' a st ks' r (scan_opened C') (scan_opened C) (λ x b' b seen q. l_scan x b' b (with_at seen st) ks' q)))
-  l_instruction I.Escan m' m st ks' e h = w_popped m' m st ks' h (λ item m. exchanged (C'.swap_newest (pair_now st) m) (λ m. pushed C' item (C'.suspend Escan m)) (lift st ks')) (λ item m. exchanged (C.swap_newest (pair_now st) m) (λ m. pushed C item (C.suspend Escan m)) st)
+  l_instruction I.Escan m' m st ks' e h d = w_popped m' m st ks' h (λ item m. exchanged (C'.swap_newest (pair_now st) m) (λ m. pushed C' item (C'.suspend Escan m)) (lift st ks')) (λ item m. exchanged (C.swap_newest (pair_now st) m) (λ m. pushed C item (C.suspend Escan m)) st)
       (λ item a' a r. w_exchanged (C'.swap_newest (pair_now st) a') (C.swap_newest (pair_now st) a) st ks' (λ m. pushed C' item (C'.suspend Escan m)) (λ m. pushed C item (C.suspend Escan m)) (b_newest (pair_now st) st.active a' a ks' st.coexps r)
       (λ b' b w q. p_push item _ _ (with_world w st) ks' (r_suspend Escan st.active b' b ks' st.coexps q)))
-  l_instruction I.Ccase m' m st ks' e h = l_below m' m st ks' h
-  l_instruction (I.Init l) m' m st ks' e h = l_init l m' m st ks' h
-  l_instruction I.Psusp m' m st ks' e h = w_popped m' m st ks' h
+  l_instruction I.Ccase m' m st ks' e h d = l_below m' m st ks' h
+  l_instruction (I.Init l) m' m st ks' e h d = l_init l m' m st ks' h
+  l_instruction I.Psusp m' m st ks' e h d = w_popped m' m st ks' h
       (λ item below. with_result C' item m' (lift st ks') (λ result. maybe_exchanged (C'.swap_oldest (pair_now st) m') m' (lift st ks') (λ m. returned (C'.suspend_proc m) (pushed C' result))))
       (λ item below. with_result C item m st (λ result. maybe_exchanged (C.swap_oldest (pair_now st) m) m st (λ m. returned (C.suspend_proc m) (pushed C result))))
       (λ item a' a r. w_result item m' m st ks' h (λ result. maybe_exchanged (C'.swap_oldest (pair_now st) m') m' (lift st ks') (λ m. returned (C'.suspend_proc m) (pushed C' result))) (λ result. maybe_exchanged (C.swap_oldest (pair_now st) m) m st (λ m. returned (C.suspend_proc m) (pushed C result)))
       (λ result. l_psusp result m' m st ks' h))
-  l_instruction I.Pret m' m st ks' e h = w_popped m' m st ks' h (λ item m. with_result C' item m (lift st ks') (λ result. returned (C'.leave m) (pushed C' result) (all_left C' m (lift st ks')))) (λ item m. with_result C item m st (λ result. returned (C.leave m) (pushed C result) (all_left C m st)))
+  l_instruction I.Pret m' m st ks' e h d = w_popped m' m st ks' h (λ item m. with_result C' item m (lift st ks') (λ result. returned (C'.leave m) (pushed C' result) (all_left C' m (lift st ks')))) (λ item m. with_result C item m st (λ result. returned (C.leave m) (pushed C result) (all_left C m st)))
       (λ item a' a r. w_result item a' a st ks' r (λ result. returned (C'.leave a') (pushed C' result) (all_left C' a' (lift st ks'))) (λ result. returned (C.leave a) (pushed C result) (all_left C a st))
       (λ result. w_all_left a' a st ks' r (pushed C' result) (pushed C result) (λ b' b w q. p_push result b' b (with_world w st) ks' q)))
-  l_instruction I.Pfail m' m st ks' e h = either_as (is_create_body C' m' (lift st ks')) (is_create_body C m st) _ _ _ _ (create_eq m' m st ks' h) same_stuck (l_proc_fails m' m st ks' h)
-  l_instruction (I.Create l) m' m st ks' e h = l_create l m' m st ks' h
-  l_instruction I.Coact m' m st ks' e h = w_taken 2 m' m st ks' h (λ items m. turn P (lift st ks') (activation_of C' items m)) (λ items m. turn P st (activation_of C items m))
+  l_instruction I.Pfail m' m st ks' e h d = either_as (is_create_body C' m' (lift st ks')) (is_create_body C m st) _ _ _ _ (create_eq m' m st ks' h) same_stuck (l_proc_fails m' m st ks' h)
+  l_instruction (I.Create l) m' m st ks' e h d = l_create l m' m st ks' h
+  l_instruction I.Coact m' m st ks' e h d = w_taken 2 m' m st ks' h (λ items m. turn P (lift st ks') (activation_of C' items m)) (λ items m. turn P st (activation_of C items m))
       (λ items a' a r. w_turn st ks' (activation_of C' items a') (activation_of C items a) (c_activation_of items a' a (TurnOf st) ks' r))
-  l_instruction I.Coret m' m st ks' e h = either_as (is_create_body C' m' (lift st ks')) (is_create_body C m st) _ _ _ _ (create_eq m' m st ks' h)
+  l_instruction I.Coret m' m st ks' e h d = either_as (is_create_body C' m' (lift st ks')) (is_create_body C m st) _ _ _ _ (create_eq m' m st ks' h)
       (w_popped m' m st ks' h (λ item m. turn P (lift st ks') (λ st. with_value C' item m st (λ value. result_given C' value m st))) (λ item m. turn P st (λ st. with_value C item m st (λ value. result_given C value m st)))
       (λ item a' a r. w_turn st ks' (λ st. with_value C' item a' st (λ value. result_given C' value a' st)) (λ st. with_value C item a st (λ value. result_given C value a st))
       (w_value item a' a (TurnOf st) ks' r (λ value. result_given C' value a' (lift (TurnOf st) ks')) (λ value. result_given C value a (TurnOf st)) (λ v. c_result v a' a (TurnOf st) ks' r)))) same_stuck
-  l_instruction I.Cofail m' m st ks' e h = either_as (is_create_body C' m' (lift st ks')) (is_create_body C m st) _ _ _ _ (create_eq m' m st ks' h) (c_exhausted m' m st ks' h) same_stuck
+  l_instruction I.Cofail m' m st ks' e h d = either_as (is_create_body C' m' (lift st ks')) (is_create_body C m st) _ _ _ _ (create_eq m' m st ks' h) (c_exhausted m' m st ks' h) same_stuck
 
   -- Failing
 
@@ -658,34 +658,43 @@ module _ {K M K' M' : Type 0} (C' : Calls K' M') (C : Calls K M) (P : Program) (
 
   -- Steps
 
-  at_instruction : (m' : M') (m : M) (st : Store K) (ks' : List (Coexp K')) → Rd st.active m' m ks' st.coexps → (o : Option Instr) → slice_get (instrs_of P (C.proc m)) (C.place m) ≡ o
+  at_instruction : (m' : M') (m : M) (st : Store K) (ks' : List (Coexp K')) → Rd st.active m' m ks' st.coexps
+      → ((label : ℕ) → slice_get (instrs_of P (C.proc m)) (C.place m) ≡ Some (I.Chfail label) → Lacks (C'.go (suc (C.place m)) m') → Lost)
+      → (o : Option Instr) → slice_get (instrs_of P (C.proc m)) (C.place m) ≡ o
       → Sm (with_found o (λ instr. instruction C' P instr (C'.go (suc (C.place m)) m') (lift st ks'))) (with_found o (λ instr. instruction C P instr (C.go (suc (C.place m)) m) st))
-  at_instruction m' m st ks' h None e = same_stuck
-  at_instruction m' m st ks' h (Some i) e = l_instruction i (C'.go (suc (C.place m)) m') (C.go (suc (C.place m)) m) st ks'
+  at_instruction m' m st ks' h d None e = same_stuck
+  at_instruction m' m st ks' h d (Some i) e = l_instruction i (C'.go (suc (C.place m)) m') (C.go (suc (C.place m)) m) st ks'
       (ap (λ p. slice_get (instrs_of P p) (pred (C.place (C.go (suc (C.place m)) m)))) (G.go_proc (suc (C.place m)) m) ∙ ap (λ q. slice_get (instrs_of P (C.proc m)) (pred q)) (G.go_place (suc (C.place m)) m) ∙ e)
-      (r_go (suc (C.place m)) st.active m' m ks' st.coexps h)
+      (r_go (suc (C.place m)) st.active m' m ks' st.coexps h) (λ label is. d label (e ∙ ap Some is))
 
-  s_running : (m' : M') (m : M) (st : Store K) (ks' : List (Coexp K')) → Rd st.active m' m ks' st.coexps → Sm (step C' P (running m' (lift st ks'))) (step C P (running m st))
-  s_running m' m st ks' h =
-      subst (λ p. Sm (with_found (slice_get (instrs_of P p) (C'.place m')) (λ instr. instruction C' P instr (C'.go (suc (C'.place m')) m') (lift st ks'))) (step C P (running m st))) (sym (G.proc h.world st.active m' m h.here))
-      (subst (λ q. Sm (with_found (slice_get (instrs_of P (C.proc m)) q) (λ instr. instruction C' P instr (C'.go (suc q) m') (lift st ks'))) (step C P (running m st))) (sym (G.place h.world st.active m' m h.here))
-      (at_instruction m' m st ks' h (instruction_at C P m) refl))
+  s_running : (m' : M') (m : M) (st : Store K) (ks' : List (Coexp K')) → Rd st.active m' m ks' st.coexps
+      → (IsLacking C' P Lacks (running m' (lift st ks')) → Lost) → Sm (step C' P (running m' (lift st ks'))) (step C P (running m st))
+  s_running m' m st ks' h d =
+      let proc : C'.proc m' ≡ C.proc m = G.proc h.world st.active m' m h.here in
+      let place : C'.place m' ≡ C.place m = G.place h.world st.active m' m h.here in
+      subst (λ p. Sm (with_found (slice_get (instrs_of P p) (C'.place m')) (λ instr. instruction C' P instr (C'.go (suc (C'.place m')) m') (lift st ks'))) (step C P (running m st))) (sym proc)
+      (subst (λ q. Sm (with_found (slice_get (instrs_of P (C.proc m)) q) (λ instr. instruction C' P instr (C'.go (suc q) m') (lift st ks'))) (step C P (running m st))) (sym place)
+      (at_instruction m' m st ks' h (λ label is lacks. d (
+        label,
+        ap (λ p. slice_get (instrs_of P p) (C'.place m')) proc ∙ ap (slice_get (instrs_of P (C.proc m))) place ∙ is,
+        subst (λ q. Lacks (C'.go (suc q) m')) (sym place) lacks,
+      )) (instruction_at C P m) refl))
 
   -- one step of the first is one step of the second, or two, where the next one opens a mark
-  pub one_step : {s' : State K' M'} {s : State K M} → Sm s' s → Reaches (step C' P s') (step C P s)
-  one_step (same_running {m'} {m} st ks' h) = inl (s_running m' m st ks' h)
-  one_step (same_failing {m'} {m} st ks' h) = f_fails m' m st ks' h
-  one_step (same_hopping {m'} {m} st ks' h) = inl (c_hop h.world m' m st ks' h.holds h.rests)
-  one_step same_over = inl same_over
-  one_step same_stuck = inl same_stuck
-  one_step (lost x) = inl (lost x)
+  pub one_step : {s' : State K' M'} {s : State K M} → (IsLacking C' P Lacks s' → Lost) → Sm s' s → Reaches (step C' P s') (step C P s)
+  one_step d (same_running {m'} {m} st ks' h) = inl (s_running m' m st ks' h d)
+  one_step d (same_failing {m'} {m} st ks' h) = f_fails m' m st ks' h
+  one_step d (same_hopping {m'} {m} st ks' h) = inl (c_hop h.world m' m st ks' h.holds h.rests)
+  one_step d same_over = inl same_over
+  one_step d same_stuck = inl same_stuck
+  one_step d (lost x) = inl (lost x)
 
   counted : {s' : State K' M'} {s : State K M} → Reaches s' s → (d : ℕ) × Sm s' (steps C P d s)
   counted (inl x) = (0, x)
   counted (inr x) = (1, x.1)
 
-  pub same_step : {s' : State K' M'} {s : State K M} → Sm s' s → (d : ℕ) × Sm (step C' P s') (steps C P (suc d) s)
-  same_step h = counted (one_step h)
+  pub same_step : {s' : State K' M'} {s : State K M} → (IsLacking C' P Lacks s' → Lost) → Sm s' s → (d : ℕ) × Sm (step C' P s') (steps C P (suc d) s)
+  same_step d h = counted (one_step d h)
 
   -- The start
 
@@ -746,28 +755,32 @@ module _ {K M K' M' : Type 0} (C' : Calls K' M') (C : Calls K M) (P : Program) (
   stays_at z e zero = refl
   stays_at z e (suc m) = ap (steps C P m) e ∙ stays_at z e m
 
+  -- what is lost once the first machine, from here on, lacks something
+  abbrev Loses : State K' M' → Type 0
+  Loses s' = (k : ℕ) → IsLacking C' P Lacks (steps C' P k s') → Lost
+
   -- what the first machine comes to, the second comes to
-  pub forward : (n : ℕ) (s' : State K' M') (s : State K M) → Sm s' s → (k : ℕ) × Sm (steps C' P n s') (steps C P k s)
-  forward zero s' s h = (0, h)
-  forward (suc n) s' s h =
-      let g = same_step h in
-      let a = forward n (step C' P s') (steps C P (suc g.0) s) g.1 in
+  pub forward : (n : ℕ) (s' : State K' M') (s : State K M) → Loses s' → Sm s' s → (k : ℕ) × Sm (steps C' P n s') (steps C P k s)
+  forward zero s' s d h = (0, h)
+  forward (suc n) s' s d h =
+      let g = same_step (d 0) h in
+      let a = forward n (step C' P s') (steps C P (suc g.0) s) (λ k. d (suc k)) g.1 in
       let b = after (suc g.0) a.0 s in
       (b.0, subst (λ x. Sm (steps C' P n (step C' P s')) x) (sym b.1) a.1)
 
   -- where the second machine comes to a state at which it stays, the first comes to one that is the same
-  pub backward : (z : State K M) → step C P z ≡ z → (n : ℕ) (s' : State K' M') (s : State K M) → Sm s' s → steps C P n s ≡ z → (k : ℕ) × Sm (steps C' P k s') z
-  backward z fixed zero s' s h e = (0, subst (λ x. Sm s' x) e h)
-  backward z fixed (suc n) s' s h e =
-      let g = same_step h in
+  pub backward : (z : State K M) → step C P z ≡ z → (n : ℕ) (s' : State K' M') (s : State K M) → Loses s' → Sm s' s → steps C P n s ≡ z → (k : ℕ) × Sm (steps C' P k s') z
+  backward z fixed zero s' s d h e = (0, subst (λ x. Sm s' x) e h)
+  backward z fixed (suc n) s' s d h e =
+      let g = same_step (d 0) h in
       let shift : steps C P n (steps C P (suc g.0) s) ≡ z = swap_steps g.0 n (step C P s) ∙ ap (steps C P g.0) e ∙ stays_at z fixed g.0 in
-      let a = backward z fixed n (step C' P s') (steps C P (suc g.0) s) g.1 shift in
+      let a = backward z fixed n (step C' P s') (steps C P (suc g.0) s) (λ k. d (suc k)) g.1 shift in
       (suc a.0, a.1)
 
   pub was_over : (ending : Ending) (outside : Outside) (s : State K M) → Sm (over ending outside) s → s ≡ over ending outside
   was_over ending outside s same_over = refl
 
-  pub is_over : (ending : Ending) (outside : Outside) (s' : State K' M') → Sm s' (over ending outside) → (s' ≡ over ending outside) ⊎ ((s' ≡ stuck) × LostAt P Lacks)
+  pub is_over : (ending : Ending) (outside : Outside) (s' : State K' M') → Sm s' (over ending outside) → (s' ≡ over ending outside) ⊎ ((s' ≡ stuck) × Lost)
   is_over ending outside s' same_over = inl refl
   is_over ending outside s' (lost x) = inr (refl, x)
 
@@ -775,6 +788,6 @@ module _ {K M K' M' : Type 0} (C' : Calls K' M') (C : Calls K M) (P : Program) (
   is_stuck s' same_stuck = refl
   is_stuck s' (lost x) = refl
 
-  pub was_stuck : (s : State K M) → Sm stuck s → (s ≡ stuck) ⊎ LostAt P Lacks
+  pub was_stuck : (s : State K M) → Sm stuck s → (s ≡ stuck) ⊎ Lost
   was_stuck s same_stuck = inl refl
   was_stuck s (lost x) = inr x

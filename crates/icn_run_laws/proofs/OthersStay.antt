@@ -11,18 +11,18 @@ use Rattle.icn_code.specs.Codes.{Proc as Procedure, RecordType}
 use Rattle.icn_run.specs.Rows.{Value, Null, Integer, Text, Chars, Procedure as ProcedureValue, ARecord, AList, ACoexp, Local, Field, Whole, Part, Item, Val, Var, Outcome, Fails, Gives, Suspends, Error, Ends, Operation, Function, apply, again, value_row, list_row, record_row, text_row, coexpression_row, integer_of, number_of, keyword_item, list_at, record_at}
 use Rattle.icn_run.specs.Calls.{Pair, Why, Alt, Op as Operating, Scan, Escan, Proc, Dropped, NoMark, Goes, Repeats, Outside as WithoutLabel, Calls}
 use Rattle.icn_run.specs.Step.{Program, Fresh, Coexp, Store, State, running, failing, hopping, over, stuck, with_found, parted, turn_if, turn, here, with_at, valued, made, with_value, with_values, pushed, outcome, list_made, pair_now, with_pair, scans_left, exchanged, maybe_exchanged, swapped_back, all_left, is_main, is_create_body, with_new, coexp_made, refreshed_from, refreshed, filled, entered, collected, with_parameters, called_if, called, constructed, pushed_or_fails, integer_called, chosen, Callee, IsProc, IsRecord, IsFunc, IsNothing, callee_of, callee_called, invoked, invoked_with, plain, elements_called, applied_to_elements, field_place, field_taken, field_of, field_applied, with_result, finished, returned, proc_fails, without_mark, mark_dropped, resumed, resumed_or_dropped, fails, members_of, standing, with_popped, with_taken, unmarked, limited, limited_result, scan_opened, initial_if, operated, statics_before, instruction, instruction_at, step}
-use Rattle.icn_run_laws.specs.OthersStay.{is_transfer, IsNew, Stay, StayIn, is_no_mark, EndsBody, OthersStay}
+use Rattle.icn_run_laws.specs.OthersStay.{is_transfer, IsNew, IsMadeAgain, Adds, AddsNone, Stay, StayIn, is_no_mark, EndsBody, OthersStay}
 
-module _ {K M : Type 0} (C : Calls K M) (P : Program) (before : Store K) where
+module _ {K M : Type 0} (C : Calls K M) (P : Program) (IsAdded : Coexp K → Type 0) (before : Store K) where
   abbrev Q : State K M → Type 0
-  Q state = StayIn before state
+  Q state = StayIn IsAdded before state
 
   -- nothing was made yet
   record Same (st : Store K) : Type 0 where
     active : st.active ≡ before.active
     coexps : st.coexps ≡ before.coexps
 
-  stay : (st : Store K) → Same st → Stay before st
+  stay : (st : Store K) → Same st → Stay IsAdded before st
   stay st h = record { active = h.active; coexps = inl h.coexps }
 
   q_if : (b : Bool) (x y : State K M) → Q x → Q y → Q (if b then x else y)
@@ -138,31 +138,47 @@ module _ {K M : Type 0} (C : Calls K M) (P : Program) (before : Store K) where
   q_field_applied k (item ∷ items) m st h = q_value item m st (λ value. field_of C P k value m st) h (λ v. q_field k v m st h)
 
   -- one that is made is added
-  q_new : (values : List Value) (proc place : ℕ) (m : M) (st : Store K) → Same st → Q (coexp_made C values proc place m st)
-  q_new values proc place m st h = q_made (coexpression_row (length values) (here C m st)) m st (λ value m st. pushed C (Val value) m (with_new values proc place st)) h (λ v a st' h'.
-      record { active = h'.active; coexps = inr (record { status = Fresh; activator = zero; values = values; proc = proc; place = place }, refl, ap (λ x. x ++ record { status = Fresh; activator = zero; values = values; proc = proc; place = place } ∷ []) h'.coexps) })
+  q_new : (values : List Value) (proc place : ℕ) (m : M) (st : Store K) → Same st → ((new : Coexp K) → IsNew values proc place new → IsAdded new)
+      → Q (coexp_made C values proc place m st)
+  q_new values proc place m st h added = q_made (coexpression_row (length values) (here C m st)) m st (λ value m st. pushed C (Val value) m (with_new values proc place st)) h (λ v a st' h'.
+      let new : Coexp K = record { status = Fresh; activator = zero; values = values; proc = proc; place = place } in
+      record { active = h'.active; coexps = inr (new, added new refl, ap (λ x. x ++ new ∷ []) h'.coexps) })
 
-  q_refreshed_from : (o : Option (Coexp K)) (m : M) (st : Store K) → Same st → Q (refreshed_from C o m st)
-  q_refreshed_from (Some c) m st h = q_new c.values c.proc c.place m st h
-  q_refreshed_from None m st h = tt
+  -- one that is made again from one that is there
+  abbrev AddsAgain : Type 0
+  AddsAgain = (new : Coexp K) → IsMadeAgain before.coexps new → IsAdded new
 
-  q_refreshed : (v : Value) (m : M) (st : Store K) → Same st → Q (refreshed C v m st)
-  q_refreshed (ACoexp zero) m st h = tt
-  q_refreshed (ACoexp (suc n)) m st h = q_refreshed_from (slice_get st.coexps (suc n)) m st h
-  q_refreshed Null m st h = tt
-  q_refreshed (Integer x) m st h = tt
-  q_refreshed (Text x) m st h = tt
-  q_refreshed (Chars x) m st h = tt
-  q_refreshed (Std x) m st h = tt
-  q_refreshed (ProcedureValue x) m st h = tt
-  q_refreshed (ARecord x) m st h = tt
-  q_refreshed (AList x) m st h = tt
-  q_refreshed (ASet x) m st h = tt
-  q_refreshed (ATable x) m st h = tt
+  q_refreshed_from : (n : ℕ) (o : Option (Coexp K)) (m : M) (st : Store K) → slice_get st.coexps n ≡ o → Same st → AddsAgain
+      → Q (refreshed_from C o m st)
+  q_refreshed_from n (Some c) m st e h added = q_new c.values c.proc c.place m st h (λ new is. added new (record {
+    number = n;
+    old = c;
+    there = ap (λ (l : List (Coexp K)). slice_get l n) (sym h.coexps) ∙ e;
+    again = is;
+  }))
+  q_refreshed_from n None m st e h added = tt
 
-  q_operated : (op : Op) (items : List Item) (m : M) (st : Store K) → Same st → Q (operated C op items m st)
-  q_operated Ops.Refresh (item ∷ items) m st h = q_value item m st (λ value. refreshed C value m st) h (λ v. q_refreshed v m st h)
-  q_operated op items m st h = q_outcome (apply st.names (Operation op) items (here C m st)) m st h
+  q_refreshed : (v : Value) (m : M) (st : Store K) → Same st → AddsAgain → Q (refreshed C v m st)
+  q_refreshed (ACoexp zero) m st h added = tt
+  q_refreshed (ACoexp (suc n)) m st h added = q_refreshed_from (suc n) (slice_get st.coexps (suc n)) m st refl h added
+  q_refreshed Null m st h added = tt
+  q_refreshed (Integer x) m st h added = tt
+  q_refreshed (Text x) m st h added = tt
+  q_refreshed (Chars x) m st h added = tt
+  q_refreshed (Std x) m st h added = tt
+  q_refreshed (ProcedureValue x) m st h added = tt
+  q_refreshed (ARecord x) m st h added = tt
+  q_refreshed (AList x) m st h added = tt
+  q_refreshed (ASet x) m st h added = tt
+  q_refreshed (ATable x) m st h added = tt
+
+  -- which one an instruction may add, at the place of the next one
+  abbrev Allows : Instr → M → Type 0
+  Allows instr m = (new : Coexp K) → Adds C instr m before new → IsAdded new
+
+  q_operated : (op : Op) (items : List Item) (start m : M) (st : Store K) → Same st → Allows (I.Op op) start → Q (operated C op items m st)
+  q_operated Ops.Refresh (item ∷ items) start m st h added = q_value item m st (λ value. refreshed C value m st) h (λ v. q_refreshed v m st h added)
+  q_operated op items start m st h added = q_outcome (apply st.names (Operation op) items (here C m st)) m st h
 
   -- marks, scans and frames
 
@@ -224,47 +240,47 @@ module _ {K M : Type 0} (C : Calls K M) (P : Program) (before : Store K) where
   q_initial true label m st h = stay st h
   q_initial false label m st h = record { active = h.active; coexps = inl h.coexps }
 
-  q_instruction : (instr : Instr) (m : M) (st : Store K) → Same st → is_transfer instr ≡ false → Q (instruction C P instr m st)
-  q_instruction I.Pnull m st h d = stay st h
-  q_instruction (I.Int k) m st h d = q_found (slice_get P.integers k) _ (λ n. stay st h)
-  q_instruction (I.Str k) m st h d = q_found (slice_get P.strings k) _ (λ n. stay st h)
-  q_instruction (I.Cset k) m st h d = q_found (slice_get P.csets k) _ (λ n. stay st h)
-  q_instruction (I.Local k) m st h d = stay st h
-  q_instruction (I.Static k) m st h d = stay st h
-  q_instruction (I.Global k) m st h d = stay st h
-  q_instruction (I.Keywd k) m st h d = q_one (keyword_item (standing C m st) k) m st h
-  q_instruction I.Pop m st h d = q_found (C.pop m) _ (λ x. stay st h)
-  q_instruction I.Dup m st h d = q_found (C.pop m) _ (λ x. stay st h)
-  q_instruction (I.Op op) m st h d = q_found (C.take (arity op) m) _ (λ x. q_turn st (operated C op x.0 x.1) h (λ st' h'. q_operated op x.0 x.1 st' h'))
-  q_instruction (I.Llist k) m st h d = q_found (C.take k m) _ (λ x. q_turn st (λ st. with_values C x.0 x.1 st (λ values. list_made C values x.1 st (λ list m st. pushed C (Val list) m st))) h (λ st' h'.
+  q_instruction : (instr : Instr) (m : M) (st : Store K) → Same st → is_transfer instr ≡ false → Allows instr m → Q (instruction C P instr m st)
+  q_instruction I.Pnull m st h d added = stay st h
+  q_instruction (I.Int k) m st h d added = q_found (slice_get P.integers k) _ (λ n. stay st h)
+  q_instruction (I.Str k) m st h d added = q_found (slice_get P.strings k) _ (λ n. stay st h)
+  q_instruction (I.Cset k) m st h d added = q_found (slice_get P.csets k) _ (λ n. stay st h)
+  q_instruction (I.Local k) m st h d added = stay st h
+  q_instruction (I.Static k) m st h d added = stay st h
+  q_instruction (I.Global k) m st h d added = stay st h
+  q_instruction (I.Keywd k) m st h d added = q_one (keyword_item (standing C m st) k) m st h
+  q_instruction I.Pop m st h d added = q_found (C.pop m) _ (λ x. stay st h)
+  q_instruction I.Dup m st h d added = q_found (C.pop m) _ (λ x. stay st h)
+  q_instruction (I.Op op) m st h d added = q_found (C.take (arity op) m) _ (λ x. q_turn st (operated C op x.0 x.1) h (λ st' h'. q_operated op x.0 m x.1 st' h' added))
+  q_instruction (I.Llist k) m st h d added = q_found (C.take k m) _ (λ x. q_turn st (λ st. with_values C x.0 x.1 st (λ values. list_made C values x.1 st (λ list m st. pushed C (Val list) m st))) h (λ st' h'.
       q_values x.0 x.1 st' (λ values. list_made C values x.1 st' (λ list m st. pushed C (Val list) m st)) h' (λ vs. q_list vs x.1 st' (λ list m st. pushed C (Val list) m st) h' (λ v a st'' h''. stay st'' h''))))
-  q_instruction (I.Field k) m st h d = q_found (C.take 1 m) _ (λ x. q_turn st (field_applied C P k x.0 x.1) h (λ st' h'. q_field_applied k x.0 x.1 st' h'))
-  q_instruction (I.Invoke k) m st h d = q_found (C.take (suc k) m) _ (λ x. q_turn st (invoked_with C P x.0 x.1) h (λ st' h'. q_invoked_with x.0 x.1 st' h'))
-  q_instruction I.Appl m st h d = q_found (C.take 2 m) _ (λ x. q_turn st (applied_to_elements C P x.0 x.1) h (λ st' h'. q_applied x.0 x.1 st' h'))
-  q_instruction (I.Mark l) m st h d = stay st h
-  q_instruction I.Mark0 m st h d = stay st h
-  q_instruction I.Unmark m st h d = q_unmarked m st running h (λ a st' h'. stay st' h')
-  q_instruction I.Eret m st h d = q_found (C.pop m) _ (λ x. q_value x.0 x.1 st (λ value. unmarked C x.1 st (pushed C (Val value))) h (λ v. q_unmarked x.1 st (pushed C (Val v)) h (λ a st' h'. stay st' h')))
-  q_instruction I.Esusp m st h d = q_found (C.pop m) _ (λ x. q_found (C.suspend_mark x.1) (λ m. pushed C x.0 m st) (λ a. stay st h))
-  q_instruction I.Limit m st h d = q_found (C.pop m) _ (λ x. q_value x.0 x.1 st (λ value. limited C value (integer_of value) x.1 st) h (λ v. q_limited v (integer_of v) x.1 st h))
-  q_instruction I.Lsusp m st h d = q_found (C.pop m) _ (λ x. q_found (C.count_down x.1) (parted (λ count m. limited_result C x.0 count m st)) (λ y. q_result x.0 y.0 y.1 st h))
-  q_instruction I.Efail m st h d = stay st h
-  q_instruction (I.Chfail l) m st h d = q_found (C.relabel l m) _ (λ a. stay st h)
-  q_instruction (I.Goto l) m st h d = stay st h
-  q_instruction (I.Loop l) m st h d = q_turn st (running (C.go l m)) h (λ st' h'. stay st' h')
-  q_instruction I.Bscan m st h d = q_found (C.pop m) _ (λ x. q_value x.0 x.1 st (λ value. made C (text_row value (here C x.1 st)) x.1 st (scan_opened C)) h (λ v. q_made (text_row v (here C x.1 st)) x.1 st (scan_opened C) h (λ u a st' h'. q_scan u a st' h')))
-  q_instruction I.Escan m st h d = q_found (C.pop m) _ (λ x. q_exchanged (C.swap_newest (pair_now st) x.1) (λ m. pushed C x.0 (C.suspend Escan m)) st h (λ a st' h'. stay st' h'))
-  q_instruction I.Ccase m st h d = q_found (C.below m) _ (λ item. stay st h)
-  q_instruction (I.Init l) m st h d = q_initial (slice_index_or st.begun (C.proc m) true) l m st h
-  q_instruction I.Psusp m st h d = q_found (C.pop m) _ (λ x. q_with_result x.0 m st (λ result. maybe_exchanged (C.swap_oldest (pair_now st) m) m st (λ m. returned (C.suspend_proc m) (pushed C result))) h (λ result.
+  q_instruction (I.Field k) m st h d added = q_found (C.take 1 m) _ (λ x. q_turn st (field_applied C P k x.0 x.1) h (λ st' h'. q_field_applied k x.0 x.1 st' h'))
+  q_instruction (I.Invoke k) m st h d added = q_found (C.take (suc k) m) _ (λ x. q_turn st (invoked_with C P x.0 x.1) h (λ st' h'. q_invoked_with x.0 x.1 st' h'))
+  q_instruction I.Appl m st h d added = q_found (C.take 2 m) _ (λ x. q_turn st (applied_to_elements C P x.0 x.1) h (λ st' h'. q_applied x.0 x.1 st' h'))
+  q_instruction (I.Mark l) m st h d added = stay st h
+  q_instruction I.Mark0 m st h d added = stay st h
+  q_instruction I.Unmark m st h d added = q_unmarked m st running h (λ a st' h'. stay st' h')
+  q_instruction I.Eret m st h d added = q_found (C.pop m) _ (λ x. q_value x.0 x.1 st (λ value. unmarked C x.1 st (pushed C (Val value))) h (λ v. q_unmarked x.1 st (pushed C (Val v)) h (λ a st' h'. stay st' h')))
+  q_instruction I.Esusp m st h d added = q_found (C.pop m) _ (λ x. q_found (C.suspend_mark x.1) (λ m. pushed C x.0 m st) (λ a. stay st h))
+  q_instruction I.Limit m st h d added = q_found (C.pop m) _ (λ x. q_value x.0 x.1 st (λ value. limited C value (integer_of value) x.1 st) h (λ v. q_limited v (integer_of v) x.1 st h))
+  q_instruction I.Lsusp m st h d added = q_found (C.pop m) _ (λ x. q_found (C.count_down x.1) (parted (λ count m. limited_result C x.0 count m st)) (λ y. q_result x.0 y.0 y.1 st h))
+  q_instruction I.Efail m st h d added = stay st h
+  q_instruction (I.Chfail l) m st h d added = q_found (C.relabel l m) _ (λ a. stay st h)
+  q_instruction (I.Goto l) m st h d added = stay st h
+  q_instruction (I.Loop l) m st h d added = q_turn st (running (C.go l m)) h (λ st' h'. stay st' h')
+  q_instruction I.Bscan m st h d added = q_found (C.pop m) _ (λ x. q_value x.0 x.1 st (λ value. made C (text_row value (here C x.1 st)) x.1 st (scan_opened C)) h (λ v. q_made (text_row v (here C x.1 st)) x.1 st (scan_opened C) h (λ u a st' h'. q_scan u a st' h')))
+  q_instruction I.Escan m st h d added = q_found (C.pop m) _ (λ x. q_exchanged (C.swap_newest (pair_now st) x.1) (λ m. pushed C x.0 (C.suspend Escan m)) st h (λ a st' h'. stay st' h'))
+  q_instruction I.Ccase m st h d added = q_found (C.below m) _ (λ item. stay st h)
+  q_instruction (I.Init l) m st h d added = q_initial (slice_index_or st.begun (C.proc m) true) l m st h
+  q_instruction I.Psusp m st h d added = q_found (C.pop m) _ (λ x. q_with_result x.0 m st (λ result. maybe_exchanged (C.swap_oldest (pair_now st) m) m st (λ m. returned (C.suspend_proc m) (pushed C result))) h (λ result.
       q_maybe (C.swap_oldest (pair_now st) m) m st (λ m. returned (C.suspend_proc m) (pushed C result)) h (λ a st' h'. q_returned (C.suspend_proc a) (pushed C result) st' h' (λ b. stay st' h'))))
-  q_instruction I.Pret m st h d = q_found (C.pop m) _ (λ x. q_with_result x.0 x.1 st (λ result. returned (C.leave x.1) (pushed C result) (all_left C x.1 st)) h (λ result.
+  q_instruction I.Pret m st h d added = q_found (C.pop m) _ (λ x. q_with_result x.0 x.1 st (λ result. returned (C.leave x.1) (pushed C result) (all_left C x.1 st)) h (λ result.
       q_all (C.swap_oldest (pair_now st) x.1) st (λ st. returned (C.leave x.1) (pushed C result) st) h (λ st' h'. q_returned (C.leave x.1) (pushed C result) st' h' (λ b. stay st' h'))))
-  q_instruction I.Pfail m st h d = q_if (is_create_body C m st) _ _ tt (q_proc_fails m st h)
-  q_instruction (I.Create l) m st h d = q_turn st (coexp_made C (C.locals m) (C.proc m) (C.place m) (C.go l m)) h (λ st' h'. q_new (C.locals m) (C.proc m) (C.place m) (C.go l m) st' h')
-  q_instruction I.Coact m st h d = absurd (cc)
-  q_instruction I.Coret m st h d = absurd (cc)
-  q_instruction I.Cofail m st h d = absurd (cc)
+  q_instruction I.Pfail m st h d added = q_if (is_create_body C m st) _ _ tt (q_proc_fails m st h)
+  q_instruction (I.Create l) m st h d added = q_turn st (coexp_made C (C.locals m) (C.proc m) (C.place m) (C.go l m)) h (λ st' h'. q_new (C.locals m) (C.proc m) (C.place m) (C.go l m) st' h' added)
+  q_instruction I.Coact m st h d added = absurd (cc)
+  q_instruction I.Coret m st h d added = absurd (cc)
+  q_instruction I.Cofail m st h d added = absurd (cc)
 
   -- failing
 
@@ -291,6 +307,8 @@ module _ {K M : Type 0} (C : Calls K M) (P : Program) (before : Store K) where
 
 pub others_stay : {K M : Type 0} (C : Calls K M) (P : Program) → OthersStay C P
 others_stay C P = record {
-  instructions = λ m st instr e d. rw e (q_instruction C P st instr (C.go (suc (C.place m)) m) st (record { active = refl; coexps = refl }) d);
-  failure = λ m st d. q_back C P st (C.resume m) m st (λ a b c. d (record { nothing_comes_back = a; no_mark = b; in_body = c })) (record { active = refl; coexps = refl });
+  instructions = λ m st instr e d. rw e (q_instruction C P (Adds C instr (C.go (suc (C.place m)) m) st) st instr (C.go (suc (C.place m)) m) st
+      (record { active = refl; coexps = refl }) d (λ new is. is));
+  failure = λ m st d. q_back C P AddsNone st (C.resume m) m st (λ a b c. d (record { nothing_comes_back = a; no_mark = b; in_body = c }))
+      (record { active = refl; coexps = refl });
 }

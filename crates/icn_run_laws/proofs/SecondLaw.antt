@@ -2,16 +2,16 @@
 use Rattle.std.proofs.Common.{◌≡◌, ℕ, zero, suc, ◌⊎◌, inl, inr, List, [], ◌∷◌, length, arith, Bool, true, false, refl, sym, ap, ◌∙◌, subst}
 use Rattle.icn_code.specs.Codes.{Tables}
 use Rattle.icn_run.specs.Stacks.{Frames, flat, empty, locals as flat_locals, set_locals as flat_set_locals}
-use Rattle.icn_run.specs.Chains.{Parked, Linked, linked, locals, set_locals, empty as no_chain}
+use Rattle.icn_run.specs.Chains.{fixed, flagged, Outer, base, call, mark, limit, outer_of, Parked, Linked, linked, locals, set_locals, empty as no_chain}
 use Rattle.icn_run.specs.Rows.{Value}
 use Rattle.icn_run.specs.Calls.{Calls}
-use Rattle.icn_run.specs.Step.{Program, Launch, Observed, observed, State, over, stuck, step, steps}
+use Rattle.icn_run.specs.Step.{Program, Launch, Observed, observed, State, running, failing, hopping, over, stuck, step, steps}
 use Rattle.icn_run.proofs.Observing.{over_seen, flat_once}
 use Rattle.icn_run.specs.FlatStep as F
 use Rattle.icn_run.specs.LinkedStep as L
 use Rattle.icn_run.specs.LinkedStep.{repeats_anywhere}
-use Rattle.icn_run_laws.specs.SameStates.{LostAt, Opens, RowsKeep}
-use Rattle.icn_run_laws.specs.SecondLaw.{MissingCell, FlatStuck, LinkedStuck, RunsAgree, RunsAgreeAt}
+use Rattle.icn_run_laws.specs.SameStates.{IsLacking, Opens, RowsKeep}
+use Rattle.icn_run_laws.specs.SecondLaw.{LacksCell, MissingCell, FlatStuck, LinkedStuck, RunsAgree, RunsAgreeAt}
 use Rattle.icn_run_laws.proofs.OnMarks.{Lacks}
 use Rattle.icn_run_laws.proofs.RowsKeep.{rows_keep}
 use Rattle.icn_run_laws.proofs.OnLinked.{linked_agrees, at_start}
@@ -21,17 +21,8 @@ module _ (keep : RowsKeep) (repeats : ℕ → ℕ → Bool) (tables : Tables) (l
   abbrev pub P : Program
   P = tables
 
-  abbrev pub May : ℕ → ℕ → Type 0
+  abbrev pub May : Linked → Type 0
   May = Lacks repeats (Opens P)
-
-  abbrev Missing : Type 0
-  Missing = LostAt P May
-
-  missing_cell : Missing → MissingCell repeats tables
-  missing_cell x = record { proc = x.0; setting = x.1; label = x.2; mark = x.4.0; mark_label = x.4.1; sets = x.3; opens = x.4.3; missing = x.4.2 }
-
-  abbrev pub Sames : State Parked Linked → State Frames Frames → Type 0
-  Sames s' s = Sm (linked repeats) flat P May (linked_agrees repeats (Opens P)) keep s' s
 
   -- the two stacks before the first
   abbrev Blank : Linked → Frames → Type 0
@@ -52,19 +43,40 @@ module _ (keep : RowsKeep) (repeats : ℕ → ℕ → Bool) (tables : Tables) (l
       let none : values ≡ [] = no_values values (e ∙ ap (λ m. length (flat_locals m)) b.1) in
       (ap (λ v. set_locals v m') none ∙ ap (set_locals []) b.0, ap (λ v. flat_set_locals v m) none ∙ ap (flat_set_locals []) b.1)
 
-  pub starts : Sames (L.start repeats P launch) (F.start P launch)
-  starts = same_start (linked repeats) flat P May (linked_agrees repeats (Opens P)) keep (at_start repeats (Opens P)).0 Blank (λ m' m b. subst Holds (sym b.0) (at_start repeats (Opens P)).1) no_locals set_none launch no_chain empty (refl, refl)
+  -- whatever is said of the state behind one that lacks something
+  pub starts_so : (Lost : Type 0) → Sm (linked repeats) flat P May Lost (linked_agrees repeats (Opens P)) keep (L.start repeats P launch) (F.start P launch)
+  starts_so Lost = same_start (linked repeats) flat P May Lost (linked_agrees repeats (Opens P)) keep (at_start repeats (Opens P)).0 Blank (λ m' m b. subst Holds (sym b.0) (at_start repeats (Opens P)).1) no_locals set_none launch no_chain empty (refl, refl)
+
+  abbrev Missing : Type 0
+  Missing = MissingCell repeats tables launch
+
+  abbrev pub Sames : State Parked Linked → State Frames Frames → Type 0
+  Sames s' s = Sm (linked repeats) flat P May Missing (linked_agrees repeats (Opens P)) keep s' s
+
+  starts : Sames (L.start repeats P launch) (F.start P launch)
+  starts = starts_so Missing
+
+  -- a state of the run that lacks something is one in which a cell is missing
+  missing_at : (k : ℕ) (s : State Parked Linked) → L.steps repeats P k (L.start repeats P launch) ≡ s → IsLacking (linked repeats) P May s → Missing
+  missing_at k (running m st) e x = record { count = k; stack = m; store = st; comes = e; label = x.0; sets = x.1; missing = x.2 }
+  missing_at k (failing m st) e x = absurd x
+  missing_at k (hopping m st) e x = absurd x
+  missing_at k (over ending outside) e x = absurd x
+  missing_at k stuck e x = absurd x
+
+  missing_cell : (k : ℕ) → IsLacking (linked repeats) P May (steps (linked repeats) P k (L.start repeats P launch)) → Missing
+  missing_cell k x = missing_at k (L.steps repeats P k (L.start repeats P launch)) refl x
 
   pub to_flat : (seen : Observed) → L.Runs repeats tables launch seen → F.Runs tables launch seen
   to_flat seen run =
-      let a = forward (linked repeats) flat P May (linked_agrees repeats (Opens P)) keep run.count (L.start repeats P launch) (F.start P launch) starts in
-      record { count = a.0; is = ap observed (was_over (linked repeats) flat P May (linked_agrees repeats (Opens P)) keep seen.ending seen.outside (F.steps P a.0 (F.start P launch)) (subst (λ s. Sames s (F.steps P a.0 (F.start P launch))) (over_seen _ seen run.is) a.1)) }
+      let a = forward (linked repeats) flat P May Missing (linked_agrees repeats (Opens P)) keep run.count (L.start repeats P launch) (F.start P launch) missing_cell starts in
+      record { count = a.0; is = ap observed (was_over (linked repeats) flat P May Missing (linked_agrees repeats (Opens P)) keep seen.ending seen.outside (F.steps P a.0 (F.start P launch)) (subst (λ s. Sames s (F.steps P a.0 (F.start P launch))) (over_seen _ seen run.is) a.1)) }
 
   to_linked_or : (seen : Observed) → F.Runs tables launch seen → L.Runs repeats tables launch seen ⊎ (LinkedStuck repeats tables launch × Missing)
-  to_linked_or seen run = by_end (is_over (linked repeats) flat P May (linked_agrees repeats (Opens P)) keep seen.ending seen.outside (L.steps repeats P a.0 (L.start repeats P launch)) a.1)
+  to_linked_or seen run = by_end (is_over (linked repeats) flat P May Missing (linked_agrees repeats (Opens P)) keep seen.ending seen.outside (L.steps repeats P a.0 (L.start repeats P launch)) a.1)
     where
       a : (k : ℕ) × Sames (L.steps repeats P k (L.start repeats P launch)) (over seen.ending seen.outside)
-      a = backward (linked repeats) flat P May (linked_agrees repeats (Opens P)) keep (over seen.ending seen.outside) refl run.count (L.start repeats P launch) (F.start P launch) starts (over_seen _ seen run.is)
+      a = backward (linked repeats) flat P May Missing (linked_agrees repeats (Opens P)) keep (over seen.ending seen.outside) refl run.count (L.start repeats P launch) (F.start P launch) missing_cell starts (over_seen _ seen run.is)
 
       by_end : ((L.steps repeats P a.0 (L.start repeats P launch)) ≡ over seen.ending seen.outside) ⊎ ((L.steps repeats P a.0 (L.start repeats P launch) ≡ stuck) × Missing)
           → L.Runs repeats tables launch seen ⊎ (LinkedStuck repeats tables launch × Missing)
@@ -73,52 +85,51 @@ module _ (keep : RowsKeep) (repeats : ℕ → ℕ → Bool) (tables : Tables) (l
 
   pub stuck_linked : FlatStuck tables launch → LinkedStuck repeats tables launch
   stuck_linked run =
-      let a = backward (linked repeats) flat P May (linked_agrees repeats (Opens P)) keep stuck refl run.count (L.start repeats P launch) (F.start P launch) starts run.is in
-      record { count = a.0; is = is_stuck (linked repeats) flat P May (linked_agrees repeats (Opens P)) keep (L.steps repeats P a.0 (L.start repeats P launch)) a.1 }
+      let a = backward (linked repeats) flat P May Missing (linked_agrees repeats (Opens P)) keep stuck refl run.count (L.start repeats P launch) (F.start P launch) missing_cell starts run.is in
+      record { count = a.0; is = is_stuck (linked repeats) flat P May Missing (linked_agrees repeats (Opens P)) keep (L.steps repeats P a.0 (L.start repeats P launch)) a.1 }
 
   stuck_flat_or : LinkedStuck repeats tables launch → FlatStuck tables launch ⊎ Missing
-  stuck_flat_or run = by_end (was_stuck (linked repeats) flat P May (linked_agrees repeats (Opens P)) keep (F.steps P a.0 (F.start P launch)) (subst (λ s. Sames s (F.steps P a.0 (F.start P launch))) run.is a.1))
+  stuck_flat_or run = by_end (was_stuck (linked repeats) flat P May Missing (linked_agrees repeats (Opens P)) keep (F.steps P a.0 (F.start P launch)) (subst (λ s. Sames s (F.steps P a.0 (F.start P launch))) run.is a.1))
     where
       a : (k : ℕ) × Sames (L.steps repeats P run.count (L.start repeats P launch)) (F.steps P k (F.start P launch))
-      a = forward (linked repeats) flat P May (linked_agrees repeats (Opens P)) keep run.count (L.start repeats P launch) (F.start P launch) starts
+      a = forward (linked repeats) flat P May Missing (linked_agrees repeats (Opens P)) keep run.count (L.start repeats P launch) (F.start P launch) missing_cell starts
 
       by_end : (F.steps P a.0 (F.start P launch) ≡ stuck) ⊎ Missing → FlatStuck tables launch ⊎ Missing
       by_end (inl e) = inl (record { count = a.0; is = e })
       by_end (inr x) = inr x
 
   pub runs_agree_at : RunsAgreeAt repeats tables launch
-  runs_agree_at = record { to_linked = λ seen run. named seen (to_linked_or seen run); to_flat = to_flat; stuck_linked = stuck_linked; stuck_flat = λ run. named_stuck (stuck_flat_or run) }
-    where
-      named : (seen : Observed) → L.Runs repeats tables launch seen ⊎ (LinkedStuck repeats tables launch × Missing) → L.Runs repeats tables launch seen ⊎ (LinkedStuck repeats tables launch × MissingCell repeats tables)
-      named seen (inl x) = inl x
-      named seen (inr x) = inr (x.0, missing_cell x.1)
-
-      named_stuck : FlatStuck tables launch ⊎ Missing → FlatStuck tables launch ⊎ MissingCell repeats tables
-      named_stuck (inl x) = inl x
-      named_stuck (inr x) = inr (missing_cell x)
+  runs_agree_at = record { to_linked = to_linked_or; to_flat = to_flat; stuck_linked = stuck_linked; stuck_flat = stuck_flat_or }
 
   -- where no cell is missing
-  pub runs_agree : (MissingCell repeats tables → ⊥) → RunsAgree repeats tables launch
+  pub runs_agree : (Missing → ⊥) → RunsAgree repeats tables launch
   runs_agree none_missing = record { to_linked = λ seen run. only seen (to_linked_or seen run); to_flat = to_flat; stuck_linked = stuck_linked; stuck_flat = λ run. only_stuck (stuck_flat_or run) }
     where
       only : (seen : Observed) → L.Runs repeats tables launch seen ⊎ (LinkedStuck repeats tables launch × Missing) → L.Runs repeats tables launch seen
       only seen (inl x) = x
-      only seen (inr x) = absurd (none_missing (missing_cell x.1))
+      only seen (inr x) = absurd (none_missing x.1)
 
       only_stuck : FlatStuck tables launch ⊎ Missing → FlatStuck tables launch
       only_stuck (inl x) = x
-      only_stuck (inr x) = absurd (none_missing (missing_cell x))
+      only_stuck (inr x) = absurd (none_missing x)
 
 -- where labels may change everywhere none is
-pub none_anywhere : (tables : Tables) → MissingCell repeats_anywhere tables → ⊥
-none_anywhere tables x = let e : true ≡ false = x.missing in cc
+pub none_anywhere : (tables : Tables) (launch : Launch) → MissingCell repeats_anywhere tables launch → ⊥
+none_anywhere tables launch x = none_here (outer_of x.stack.chain) ((linked repeats_anywhere).proc x.stack) x.missing
+  where
+    none_here : (outer : Outer) (proc : ℕ) → LacksCell repeats_anywhere (Opens tables) outer proc → ⊥
+    none_here (mark (fixed label) outside) proc h = let e : true ≡ false = h.2 in cc
+    none_here (mark (flagged label flag place) outside) proc h = h
+    none_here (limit count outside) proc h = h
+    none_here (base p a) proc h = h
+    none_here (call p a level place caller) proc h = h
 
 -- with the rows that stand here
 
 pub everywhere : (tables : Tables) (launch : Launch) → RunsAgree repeats_anywhere tables launch
-everywhere tables launch = runs_agree rows_keep repeats_anywhere tables launch (none_anywhere tables)
+everywhere tables launch = runs_agree rows_keep repeats_anywhere tables launch (none_anywhere tables launch)
 
-pub covered : (repeats : ℕ → ℕ → Bool) (tables : Tables) (launch : Launch) → (MissingCell repeats tables → ⊥) → RunsAgree repeats tables launch
+pub covered : (repeats : ℕ → ℕ → Bool) (tables : Tables) (launch : Launch) → (MissingCell repeats tables launch → ⊥) → RunsAgree repeats tables launch
 covered repeats tables launch = runs_agree rows_keep repeats tables launch
 
 pub told : (repeats : ℕ → ℕ → Bool) (tables : Tables) (launch : Launch) → RunsAgreeAt repeats tables launch

@@ -12,24 +12,24 @@ use Rattle.icn_run_laws.proofs.ScansApart.{ScansApart}
 use Rattle.icn_run_laws.proofs.OnLinked.{linked_agrees, now_apart}
 use Rattle.icn_run_laws.proofs.OnSteps.{Sm, same_step}
 use Rattle.icn_run_laws.proofs.OnMarks.{Lacks}
-use Rattle.icn_run_laws.proofs.SecondLaw.{starts}
+use Rattle.icn_run_laws.proofs.SecondLaw.{starts_so}
 
 module _ (repeats : ℕ → ℕ → Bool) (tables : Tables) where
   abbrev Q : Program
   Q = tables
 
   abbrev Sames : State Parked Linked → State Frames Frames → Type 0
-  Sames l f = Sm (linked repeats) flat Q (Lacks repeats (Opens Q)) (linked_agrees repeats (Opens Q)) rows_keep l f
+  Sames l f = Sm (linked repeats) flat Q (Lacks repeats (Opens Q)) (Unit {0}) (linked_agrees repeats (Opens Q)) rows_keep l f
 
   pub record Shadowed (l : State Parked Linked) : Type 0 where
     pub shadow : State Frames Frames
     pub same : Sames l shadow
 
   pub shadowed_start : (launch : Launch) → Shadowed (L.start repeats Q launch)
-  shadowed_start launch = record { shadow = F.start Q launch; same = starts rows_keep repeats tables launch }
+  shadowed_start launch = record { shadow = F.start Q launch; same = starts_so rows_keep repeats tables launch (Unit {0}) }
 
   pub shadowed_step : (l : State Parked Linked) → Shadowed l → Shadowed (step (linked repeats) Q l)
-  shadowed_step l g = let s = same_step (linked repeats) flat Q (Lacks repeats (Opens Q)) (linked_agrees repeats (Opens Q)) rows_keep g.same in record { shadow = steps flat Q (suc s.0) g.shadow; same = s.1 }
+  shadowed_step l g = let s = same_step (linked repeats) flat Q (Lacks repeats (Opens Q)) (Unit {0}) (linked_agrees repeats (Opens Q)) rows_keep (λ x. tt) g.same in record { shadow = steps flat Q (suc s.0) g.shadow; same = s.1 }
 
   abbrev ApartAt : State Parked Linked → Type 0
   ApartAt (running m st) = ScansApart m

@@ -4,8 +4,9 @@ use Rattle.std.specs.Prelude.{slice_get, drop}
 use Rattle.std.specs.Option.{option_and_then}
 use Rattle.icn_run.specs.Rows.{Item}
 use Rattle.icn_run.specs.Calls.{Pair, Why, Alt, Proc}
-use Rattle.icn_run.specs.Stacks.{Cell, base, call, local, mark, limit, suspension, operand, Registers, Frames, cut, cell_at, copy_up, push, suspend, mark_suspended, suspend_mark, proc_suspended, suspend_proc, resumed, resume, unmarked, unmark}
-use Rattle.icn_run_laws.specs.StackLaws.{IsBare, AreOnTop, SameUpTo, Suspended, Suspends, Resumed, Resumes, IsMarkOn, Unmarked, Unmarks}
+use Rattle.icn_run.specs.Stacks.{Cell, base, call, local, mark, limit, suspension, operand, Registers, Frames, cut, cell_at, copy_up, pair_at, oldest, scan_after, push, suspend, mark_suspended, suspend_mark, proc_suspended, suspend_proc, resumed, resume, unmarked, unmark}
+use Rattle.icn_run_laws.specs.StackLaws.{IsBare, AreOnTop, SameUpTo, IsCallFrom, Suspended, registers_within, Suspends, Resumed, Resumes, IsMarkOn, Unmarked, EndsLimit, Unmarks}
+use Rattle.icn_run.specs.Step.{Store, parted, with_found, running, scans_left}
 use Rattle.icn_run_laws.proofs.Lists.{no_some, some_inj, get_seam}
 
 -- what is copied are the operands on top
@@ -61,9 +62,10 @@ kept_below cells above below cell e height some low =
 
 -- Suspending
 
-suspended_by : (why : Why) (before : Frames) (items : List Item) (result : Item) (after : Frames) → after.cells ≡ operand result ∷ (map operand items ++ suspension why before.registers before.place ∷ before.cells) → after.registers.newest ≡ Some (suc (length before.cells))
-    → Suspended why before items result after
-suspended_by why before items result after e n =
+suspended_by : (why : Why) (before : Frames) (outside : Registers) (place : ℕ) (items : List Item) (result : Item) (after : Frames)
+    → after.cells ≡ operand result ∷ (map operand items ++ suspension why before.registers before.place ∷ before.cells)
+    → after.registers ≡ record outside { newest = Some (suc (length before.cells)) } → after.place ≡ place → Suspended why before outside place items result after
+suspended_by why before outside place items result after e n at =
     let frame : Cell = suspension why before.registers before.place in
     let above : List Cell = operand result ∷ (map operand items ++ frame ∷ []) in
     let whole : after.cells ≡ above ++ before.cells = e ∙ ap (λ l. operand result ∷ l) (sym (joined (map operand items) frame before.cells)) in
@@ -71,42 +73,59 @@ suspended_by why before items result after e n =
       below = λ height some low. ap (cell_at height) whole ∙ same_onto above before.cells height some low;
       frame = ap (cell_at (suc (length before.cells))) e ∙ at_top (operand result ∷ map operand items) before.cells frame;
       above = e;
-      newest = n;
+      registers = n;
+      place = at;
     }
   where
     joined : (xs : List Cell) (y : Cell) (ys : List Cell) → (xs ++ y ∷ []) ++ ys ≡ xs ++ y ∷ ys
     joined [] y ys = refl
     joined (x ∷ xs) y ys = ap (λ l. x ∷ l) (joined xs y ys)
 
-suspends_in_mark : (why : Why) (m : Frames) (items : List Item) (result : Item) → AreOnTop items m.cells → Suspended why m items result (push result (suspend why m))
-suspends_in_mark why m items result h = suspended_by why m items result (push result (suspend why m)) (ap (λ l. operand result ∷ l) (copied items m.cells (suspension why m.registers m.place ∷ m.cells) h)) refl
+suspends_in_mark : (why : Why) (m : Frames) (items : List Item) (result : Item) → AreOnTop items m.cells
+    → Suspended why m (registers_within why m) m.place items result (push result (suspend why m))
+suspends_in_mark why m items result h =
+    suspended_by why m (registers_within why m) m.place items result (push result (suspend why m))
+    (ap (λ l. operand result ∷ l) (copied items m.cells (suspension why m.registers m.place ∷ m.cells) h)) refl refl
 
-mark_by : (m : Frames) (cell : Cell) (outside : List Cell) (items : List Item) (result : Item) (after : Frames) → mark_suspended m (cell ∷ outside) ≡ Some after → AreOnTop items outside → Suspended Alt m items result (push result after)
-mark_by m (mark l c r) outside items result after e h =
-    suspended_by Alt m items result (push result after) (ap (λ (x : Frames). operand result ∷ x.cells) (sym (some_inj e)) ∙ ap (λ l. operand result ∷ l) (copied items outside (suspension Alt m.registers m.place ∷ m.cells) h)) (ap (λ (x : Frames). x.registers.newest) (sym (some_inj e)))
-mark_by m (limit n r) outside items result after e h =
-    suspended_by Alt m items result (push result after) (ap (λ (x : Frames). operand result ∷ x.cells) (sym (some_inj e)) ∙ ap (λ l. operand result ∷ l) (copied items outside (suspension Alt m.registers m.place ∷ m.cells) h)) (ap (λ (x : Frames). x.registers.newest) (sym (some_inj e)))
-mark_by m (base p n) outside items result after e h = no_some after e
-mark_by m (call p n l r q) outside items result after e h = no_some after e
-mark_by m (local v) outside items result after e h = no_some after e
-mark_by m (suspension w r q) outside items result after e h = no_some after e
-mark_by m (operand x) outside items result after e h = no_some after e
+-- what goes on outside, with these registers and at this place
+outside_by : (why : Why) (m after : Frames) (outside : List Cell) (registers : Registers) (place : ℕ) (items : List Item) (result : Item)
+    → record {
+      cells = copy_up outside (suspension why m.registers m.place ∷ m.cells);
+      registers = record registers { newest = Some (suc (length m.cells)) };
+      place = place;
+    } ≡ after
+    → AreOnTop items outside → Suspended why m registers place items result (push result after)
+outside_by why m after outside registers place items result e h =
+    suspended_by why m registers place items result (push result after)
+    (ap (λ (x : Frames). operand result ∷ x.cells) (sym e) ∙ ap (λ l. operand result ∷ l) (copied items outside (suspension why m.registers m.place ∷ m.cells) h))
+    (ap (λ (x : Frames). x.registers) (sym e)) (ap (λ (x : Frames). x.place) (sym e))
 
-proc_by : (m : Frames) (cell : Cell) (outside : List Cell) (items : List Item) (result : Item) (after : Frames) → proc_suspended m (cell ∷ outside) ≡ Some after → AreOnTop items outside → Suspended Proc m items result (push result after)
-proc_by m (call p n l r q) outside items result after e h =
-    suspended_by Proc m items result (push result after) (ap (λ (x : Frames). operand result ∷ x.cells) (sym (some_inj e)) ∙ ap (λ l. operand result ∷ l) (copied items outside (suspension Proc m.registers m.place ∷ m.cells) h)) (ap (λ (x : Frames). x.registers.newest) (sym (some_inj e)))
-proc_by m (base p n) outside items result after e h = no_some after e
-proc_by m (mark l c r) outside items result after e h = no_some after e
-proc_by m (limit n r) outside items result after e h = no_some after e
-proc_by m (local v) outside items result after e h = no_some after e
-proc_by m (suspension w r q) outside items result after e h = no_some after e
-proc_by m (operand x) outside items result after e h = no_some after e
+mark_by : (m : Frames) (cell : Cell) (outside : List Cell) (registers : Registers) (items : List Item) (result : Item) (after : Frames)
+    → mark_suspended m (cell ∷ outside) ≡ Some after → IsMarkOn registers cell → AreOnTop items outside → Suspended Alt m registers m.place items result (push result after)
+mark_by m (mark l c r) outside registers items result after e is h = subst (λ (kept : Registers). Suspended Alt m kept m.place items result (push result after)) is (outside_by Alt m after outside r m.place items result (some_inj e) h)
+mark_by m (limit n r) outside registers items result after e is h = subst (λ (kept : Registers). Suspended Alt m kept m.place items result (push result after)) is (outside_by Alt m after outside r m.place items result (some_inj e) h)
+mark_by m (base p n) outside registers items result after e is h = no_some after e
+mark_by m (call p n l r q) outside registers items result after e is h = no_some after e
+mark_by m (local v) outside registers items result after e is h = no_some after e
+mark_by m (suspension w r q) outside registers items result after e is h = no_some after e
+mark_by m (operand x) outside registers items result after e is h = no_some after e
+
+proc_by : (m : Frames) (cell : Cell) (outside : List Cell) (registers : Registers) (place : ℕ) (items : List Item) (result : Item) (after : Frames)
+    → proc_suspended m (cell ∷ outside) ≡ Some after → IsCallFrom registers place cell → AreOnTop items outside → Suspended Proc m registers place items result (push result after)
+proc_by m (call p n l r q) outside registers place items result after e is h = subst (λ (kept : Registers). Suspended Proc m kept place items result (push result after)) is.0
+    (subst (λ (back : ℕ). Suspended Proc m r back items result (push result after)) is.1 (outside_by Proc m after outside r q items result (some_inj e) h))
+proc_by m (base p n) outside registers place items result after e is h = no_some after e
+proc_by m (mark l c r) outside registers place items result after e is h = no_some after e
+proc_by m (limit n r) outside registers place items result after e is h = no_some after e
+proc_by m (local v) outside registers place items result after e is h = no_some after e
+proc_by m (suspension w r q) outside registers place items result after e is h = no_some after e
+proc_by m (operand x) outside registers place items result after e is h = no_some after e
 
 pub suspends : Suspends
 suspends = record {
   in_mark = suspends_in_mark;
-  mark = λ m after cell outside items result e at h. mark_by m cell outside items result after (ap (mark_suspended m) (sym at) ∙ e) h;
-  proc = λ m after cell outside items result e at h. proc_by m cell outside items result after (ap (proc_suspended m) (sym at) ∙ e) h;
+  mark = λ m after cell outside registers items result e at is h. mark_by m cell outside registers items result after (ap (mark_suspended m) (sym at) ∙ e) is h;
+  proc = λ m after cell outside registers place items result e at is h. proc_by m cell outside registers place items result after (ap (proc_suspended m) (sym at) ∙ e) is h;
 }
 
 -- Resuming
@@ -140,10 +159,11 @@ resumes m why after e = by m.registers.newest refl
 
 -- Dropping a mark
 
-unmarked_by : (m after : Frames) (cell : Cell) (registers : Registers) (below : List Cell) → IsMarkOn registers cell → cut m.registers.mark m.cells ≡ cell ∷ below → record m { cells = below; registers = registers } ≡ after → Unmarked m after
-unmarked_by m after cell registers below is c e =
+unmarked_by : (m after : Frames) (cell : Cell) (registers : Registers) (below : List Cell) (pair : Option Pair) → IsMarkOn registers cell → cut m.registers.mark m.cells ≡ cell ∷ below
+    → record m { cells = below; registers = registers } ≡ after → pair_at m.cells (oldest registers.scan m) ≡ pair → Unmarked m after pair
+unmarked_by m after cell registers below pair is c e f =
     let o = split (length m.cells - m.registers.mark) m.cells cell below c in
-    subst (Unmarked m) e (record {
+    subst (λ (left : Frames). Unmarked m left pair) e (record {
       above = o.0;
       marks = cell;
       is_mark = is;
@@ -151,11 +171,12 @@ unmarked_by m after cell registers below is c e =
       start = start_at m.registers.mark m.cells o.0 below cell o.1 o.2;
       kept = kept_below m.cells o.0 below cell o.1;
       place = refl;
+      saved = sym f;
     })
 
-unmarked_at : (m after : Frames) (pair : Option Pair) (cells : List Cell) → cut m.registers.mark m.cells ≡ cells → unmarked m cells ≡ Some (after, pair) → Unmarked m after
-unmarked_at m after pair (mark l b r ∷ below) c e = unmarked_by m after (mark l b r) r below refl c (ap (λ (x : Frames × Option Pair). x.0) (some_inj e))
-unmarked_at m after pair (limit k r ∷ below) c e = unmarked_by m after (limit k r) r below refl c (ap (λ (x : Frames × Option Pair). x.0) (some_inj e))
+unmarked_at : (m after : Frames) (pair : Option Pair) (cells : List Cell) → cut m.registers.mark m.cells ≡ cells → unmarked m cells ≡ Some (after, pair) → Unmarked m after pair
+unmarked_at m after pair (mark l b r ∷ below) c e = unmarked_by m after (mark l b r) r below pair refl c (ap (λ (x : Frames × Option Pair). x.0) (some_inj e)) (ap (λ (x : Frames × Option Pair). x.1) (some_inj e))
+unmarked_at m after pair (limit k r ∷ below) c e = unmarked_by m after (limit k r) r below pair refl c (ap (λ (x : Frames × Option Pair). x.0) (some_inj e)) (ap (λ (x : Frames × Option Pair). x.1) (some_inj e))
 unmarked_at m after pair [] c e = no_some (after, pair) e
 unmarked_at m after pair (base p k ∷ below) c e = no_some (after, pair) e
 unmarked_at m after pair (call p k l r q ∷ below) c e = no_some (after, pair) e
@@ -165,6 +186,12 @@ unmarked_at m after pair (operand x ∷ below) c e = no_some (after, pair) e
 
 pub unmarks : Unmarks
 unmarks = record {
-  drops = λ m after pair e. unmarked_at m after pair (cut m.registers.mark m.cells) refl e;
-  last_result = λ item m st. refl;
+  drops = drops;
+  last_result = λ item m after pair st e. record {
+    unmarked = drops m after pair e;
+    goes_on = ap (λ (o : Option (Frames × Option Pair)). with_found o (parted (λ outside pair. running (push item outside) (scans_left pair st)))) e;
+  };
 }
+  where
+    drops : (m after : Frames) (pair : Option Pair) → unmark m ≡ Some (after, pair) → Unmarked m after pair
+    drops m after pair e = unmarked_at m after pair (cut m.registers.mark m.cells) refl e

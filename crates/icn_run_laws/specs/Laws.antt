@@ -28,8 +28,8 @@ SameDropped C Opens Next Now w s (Outside m') (Outside m) = Then Next Now w s m'
 SameDropped C Opens Next Now w s (Repeats m') (Repeats m) = Then Next Now w s m' m ⊎ Reopened C Opens Next Now w s m' m
 SameDropped C Opens Next Now w s d' d = ⊥
 
--- C' agrees with C, but for what C' may lack where a procedure sets a label. A world tells what the stacks share.
-pub record Agrees {K M K' M' : Type 0} (C' : Calls K' M') (C : Calls K M) (Opens : ℕ → ℕ → Option ℕ → Type 0) (Lacks : ℕ → ℕ → Type 0) : Type 1 where
+-- C' agrees with C, but for stacks of C' that lack what setting a label wants. A world tells what the stacks share.
+pub record Agrees {K M K' M' : Type 0} (C' : Calls K' M') (C : Calls K M) (Opens : ℕ → ℕ → Option ℕ → Type 0) (Lacks : M' → Type 0) : Type 1 where
   pub W : Type 0
   pub Now : W → ℕ → M' → M → Type 0
   pub Away : W → ℕ → K' → K → Type 0
@@ -55,7 +55,7 @@ pub record Agrees {K M K' M' : Type 0} (C' : Calls K' M') (C : Calls K M) (Opens
   pub take : (n : ℕ) (w : W) (s : ℕ) (m' : M') (m : M) → Now w s m' m → Both ⊥ (With Next Now w s) (C'.take n m') (C.take n m)
   pub mark : (label : Option ℕ) (w : W) (s : ℕ) (m' : M') (m : M) → Now w s m' m → Opens (C.proc m) (pred (C.place m)) label → Then Next Now w s (C'.mark label m') (C.mark label m)
   pub limit : (count : ℕ) (w : W) (s : ℕ) (m' : M') (m : M) → Now w s m' m → Then Next Now w s (C'.limit count m') (C.limit count m)
-  pub relabel : (label : ℕ) (w : W) (s : ℕ) (m' : M') (m : M) → Now w s m' m → Both (Lacks (C.proc m) label) (Then Next Now w s) (C'.relabel label m') (C.relabel label m)
+  pub relabel : (label : ℕ) (w : W) (s : ℕ) (m' : M') (m : M) → Now w s m' m → Both (Lacks m') (Then Next Now w s) (C'.relabel label m') (C.relabel label m)
   pub count_down : (w : W) (s : ℕ) (m' : M') (m : M) → Now w s m' m → Both ⊥ (With Next Now w s) (C'.count_down m') (C.count_down m)
   pub unmark : (w : W) (s : ℕ) (m' : M') (m : M) → Now w s m' m → Both ⊥ (λ x y. Then Next Now w s x.0 y.0 × (x.1 ≡ y.1)) (C'.unmark m') (C.unmark m)
   pub drop_mark : (w : W) (s : ℕ) (m' : M') (m : M) → Now w s m' m → SameDropped C Opens Next Now w s (C'.drop_mark m') (C.drop_mark m)

@@ -7,7 +7,7 @@ use Rattle.icn_run.specs.Rows.{Value, Item, Val, Setting, Names, Outside, Residu
 use Rattle.icn_defs.specs.StepRows.{Applied}
 use Rattle.icn_defs.specs.Keeping.{KeepsIn}
 use Rattle.icn_run.specs.Calls.{Calls}
-use Rattle.icn_run.specs.Step.{Program, Status, Fresh, Active, Waiting, Exhausted, Coexp, Store, State, running, failing, hopping, over, stuck, instrs_of}
+use Rattle.icn_run.specs.Step.{Program, Status, Fresh, Active, Waiting, Exhausted, Coexp, Store, State, running, failing, hopping, over, stuck, instrs_of, instruction_at}
 use Rattle.icn_run_laws.specs.Laws.{Agrees}
 
 -- A mark with this label, or with none, stands at the place.
@@ -18,9 +18,10 @@ mark_of None = Instrs.Mark0
 abbrev pub Opens : Program → ℕ → ℕ → Option ℕ → Type 0
 Opens P proc place label = slice_get (instrs_of P proc) place ≡ Some (mark_of label)
 
--- a procedure sets a label, and something lacks for that
-abbrev pub LostAt : Program → (ℕ → ℕ → Type 0) → Type 0
-LostAt P Lacks = (proc : ℕ) × (place : ℕ) × (label : ℕ) × (slice_get (instrs_of P proc) place ≡ Some (Instrs.Chfail label)) × Lacks proc label
+-- a label is to be set, and the stack lacks what that wants
+abbrev pub IsLacking : {K M : Type 0} → Calls K M → Program → (M → Type 0) → State K M → Type 0
+IsLacking C P Lacks (running m st) = (label : ℕ) × (instruction_at C P m ≡ Some (Instrs.Chfail label)) × Lacks (C.go (suc (C.place m)) m)
+IsLacking C P Lacks state = ⊥
 
 -- it gives a value, or is an error
 abbrev pub IsMade : Outcome → Type 0
@@ -61,7 +62,7 @@ Rests A ks' ks = ⊥
 abbrev pub lift : {K' K : Type 0} → Store K → List (Coexp K') → Store K'
 lift st ks' = record { world = st.world; outside = st.outside; turns = st.turns; begun = st.begun; coexps = ks'; active = st.active; names = st.names }
 
-module _ {K M K' M' : Type 0} (C' : Calls K' M') (C : Calls K M) (P : Program) (Lacks : ℕ → ℕ → Type 0) (G : Agrees C' C (Opens P) Lacks) where
+module _ {K M K' M' : Type 0} (C' : Calls K' M') (C : Calls K M) (P : Program) (Lacks : M' → Type 0) (Lost : Type 0) (G : Agrees C' C (Opens P) Lacks) where
   -- stack s runs, and the others wait
   pub record Ready (s : ℕ) (m' : M') (m : M) (ks' : List (Coexp K')) (ks : List (Coexp K)) : Type 0 where
     pub world : G.W
@@ -74,10 +75,11 @@ module _ {K M K' M' : Type 0} (C' : Calls K' M') (C : Calls K M) (P : Program) (
     pub holds : G.Holds world m'
     pub rests : Rests (λ i k' k. G.Away world i k' k) ks' ks
 
+  -- where something lacked, the second machine may be in any state
   pub data Same : State K' M' → State K M → Type 0 where
     same_running : {m' : M'} {m : M} (st : Store K) (ks' : List (Coexp K')) → Ready st.active m' m ks' st.coexps → Same (running m' (lift st ks')) (running m st)
     same_failing : {m' : M'} {m : M} (st : Store K) (ks' : List (Coexp K')) → Ready st.active m' m ks' st.coexps → Same (failing m' (lift st ks')) (failing m st)
     same_hopping : {m' : M'} {m : M} (st : Store K) (ks' : List (Coexp K')) → Idle m' ks' st.coexps → Same (hopping m' (lift st ks')) (hopping m st)
     same_over : {ending : Ending} {outside : Outside} → Same (over ending outside) (over ending outside)
     same_stuck : Same stuck stuck
-    lost : {s : State K M} → LostAt P Lacks → Same stuck s
+    lost : {s : State K M} → Lost → Same stuck s

@@ -1,11 +1,12 @@
 -- The run of a code on linked marks and its run on flat stacks agree.
-use Rattle.std.specs.Prelude.{◌≡◌, ℕ, Bool, false, ◌⊎◌, Option, Some, slice_get}
+use Rattle.std.specs.Prelude.{◌≡◌, ℕ, Bool, false, ◌⊎◌, Option, Some}
 use Rattle.icn_code.specs.Codes.{Tables}
-use Rattle.icn_run.specs.Step.{Observed, Launch, instrs_of, stuck}
+use Rattle.icn_run.specs.Chains.{fixed, Outer, mark, Linked, Parked, linked, outer_of}
+use Rattle.icn_run.specs.Step.{Observed, Launch, Store, instruction_at, running, stuck}
 use Rattle.icn_run.specs.FlatStep as Flat
 use Rattle.icn_run.specs.LinkedStep as Linked
 use Rattle.icn_code.specs.declared.instr.Instr.TheVariants as Instrs
-use Rattle.icn_run_laws.specs.SameStates.{mark_of}
+use Rattle.icn_run_laws.specs.SameStates.{Opens}
 
 -- a run lacks something
 pub record FlatStuck (tables : Tables) (launch : Launch) : Type 0 where
@@ -16,16 +17,20 @@ pub record LinkedStuck (repeats : ℕ → ℕ → Bool) (tables : Tables) (launc
   pub count : ℕ
   pub is : Linked.steps repeats tables count (Linked.start repeats tables launch) ≡ stuck
 
--- A procedure has a `chfail`, and a mark at a place that is not told as one where labels may change.
-pub record MissingCell (repeats : ℕ → ℕ → Bool) (tables : Tables) : Type 0 where
-  pub proc : ℕ
-  pub setting : ℕ
+-- The innermost mark has no cell for its label: the procedure has a mark at a place that is not told as one where labels may change.
+abbrev pub LacksCell : (ℕ → ℕ → Bool) → (ℕ → ℕ → Option ℕ → Type 0) → Outer → ℕ → Type 0
+LacksCell repeats IsMark (mark (fixed label) outside) proc = (place : ℕ) × (label : Option ℕ) × (repeats proc place ≡ false) × IsMark proc place label
+LacksCell repeats IsMark outer proc = ⊥
+
+-- The run on linked marks comes to a `chfail` in a mark that has no cell for its label.
+pub record MissingCell (repeats : ℕ → ℕ → Bool) (tables : Tables) (launch : Launch) : Type 0 where
+  pub count : ℕ
+  pub stack : Linked
+  pub store : Store Parked
+  pub comes : Linked.steps repeats tables count (Linked.start repeats tables launch) ≡ running stack store
   pub label : ℕ
-  pub mark : ℕ
-  pub mark_label : Option ℕ
-  pub sets : slice_get (instrs_of tables proc) setting ≡ Some (Instrs.Chfail label)
-  pub opens : slice_get (instrs_of tables proc) mark ≡ Some (mark_of mark_label)
-  pub missing : repeats proc mark ≡ false
+  pub sets : instruction_at (linked repeats) tables stack ≡ Some (Instrs.Chfail label)
+  pub missing : LacksCell repeats (Opens tables) (outer_of stack.chain) ((linked repeats).proc stack)
 
 -- Both end alike, or lack something, or neither.
 pub record RunsAgree (repeats : ℕ → ℕ → Bool) (tables : Tables) (launch : Launch) : Type 0 where
@@ -34,9 +39,9 @@ pub record RunsAgree (repeats : ℕ → ℕ → Bool) (tables : Tables) (launch 
   pub stuck_linked : FlatStuck tables launch → LinkedStuck repeats tables launch
   pub stuck_flat : LinkedStuck repeats tables launch → FlatStuck tables launch
 
--- Where a cell may be missing, the run on linked marks may lack more.
+-- The run on linked marks may lack more only where it comes to a missing cell.
 pub record RunsAgreeAt (repeats : ℕ → ℕ → Bool) (tables : Tables) (launch : Launch) : Type 0 where
-  pub to_linked : (observed : Observed) → Flat.Runs tables launch observed → Linked.Runs repeats tables launch observed ⊎ (LinkedStuck repeats tables launch × MissingCell repeats tables)
+  pub to_linked : (observed : Observed) → Flat.Runs tables launch observed → Linked.Runs repeats tables launch observed ⊎ (LinkedStuck repeats tables launch × MissingCell repeats tables launch)
   pub to_flat : (observed : Observed) → Linked.Runs repeats tables launch observed → Flat.Runs tables launch observed
   pub stuck_linked : FlatStuck tables launch → LinkedStuck repeats tables launch
-  pub stuck_flat : LinkedStuck repeats tables launch → FlatStuck tables launch ⊎ MissingCell repeats tables
+  pub stuck_flat : LinkedStuck repeats tables launch → FlatStuck tables launch ⊎ MissingCell repeats tables launch

@@ -17,7 +17,7 @@ ghost use Rattle.icn_run_laws.specs.StackLaws.{Suspends, Resumes, Unmarks};
 /// The run of any code on flat stacks and its run on linked marks agree.
 pub fn second_law()
     ensures everywhere { (tables : Tables) (launch : Launch) → RunsAgree repeats_anywhere tables launch }
-    ensures covered { (repeats : ℕ → ℕ → Bool) (tables : Tables) (launch : Launch) → (MissingCell repeats tables → ⊥) → RunsAgree repeats tables launch }
+    ensures covered { (repeats : ℕ → ℕ → Bool) (tables : Tables) (launch : Launch) → (MissingCell repeats tables launch → ⊥) → RunsAgree repeats tables launch }
     ensures told { (repeats : ℕ → ℕ → Bool) (tables : Tables) (launch : Launch) → RunsAgreeAt repeats tables launch }
 {}
 
@@ -27,8 +27,9 @@ pub fn runs_end()
     ensures on_marks { (repeats : ℕ → ℕ → Bool) (most : ℕ) (code : Program) → Forward most code → (launch : Launch) → EndsFrom (linked repeats) code (Linked.start repeats code launch) }
 {}
 
-/// An instruction that passes no control to another co-expression leaves the stack, the activator and the status of each as they were, on both machines; one
-/// that makes a co-expression adds it.
+/// An instruction that passes no control to another co-expression leaves what waits of each, its activator and its status as they were, and no co-expression
+/// is added but by `create` and by refreshing: one that has the present locals, or what the old one was made with. The stack of one that waits is, on linked
+/// marks, its chain.
 pub fn others_stay()
     ensures on_stacks { (code : Program) → OthersStay flat code }
     ensures on_marks { (repeats : ℕ → ℕ → Bool) (code : Program) → OthersStay (linked repeats) code }

@@ -27,7 +27,8 @@ use Rattle.icn_run_safe.specs.Ended.{AreOver}
 use Rattle.icn_run_safe.proofs.Entries.{within}
 use Rattle.icn_run_safe.proofs.Keeping.{here_proc}
 use Rattle.icn_run_safe.proofs.Steps.{M}
-use Rattle.icn_run_safe.proofs.NoStuck.{shapes_of, shaped, step_ok, start_safe, runs_ok}
+use Rattle.icn_run_safe.specs.Facts.{shapes_of}
+use Rattle.icn_run_safe.proofs.NoStuck.{shaped, step_ok, start_safe, runs_ok}
 
 -- no procedure has more instructions
 abbrev most : List Procedure → ℕ
@@ -87,7 +88,7 @@ module _ (tables : Tables) (have : HaveShapes tables) (ok : TablesOk tables) (ke
   stacks_seen : (launch : Launch) → (seen : Observed) × Flat.Runs tables launch seen
   stacks_seen launch = let o = marks_seen launch in (o.0, (everywhere tables launch).to_flat o.0 o.1)
 
-  told_ends : (repeats : ℕ → ℕ → Bool) (launch : Launch) (seen : Observed) → Marks.Runs repeats tables launch seen ⊎ (LinkedStuck repeats tables launch × MissingCell repeats tables) → EndsFrom (linked repeats) tables (Marks.start repeats tables launch)
+  told_ends : (repeats : ℕ → ℕ → Bool) (launch : Launch) (seen : Observed) → Marks.Runs repeats tables launch seen ⊎ (LinkedStuck repeats tables launch × MissingCell repeats tables launch) → EndsFrom (linked repeats) tables (Marks.start repeats tables launch)
   told_ends repeats launch seen (inl run) = record { count = run.count; is_end = subst IsEnd (sym (over_seen _ seen run.is)) tt }
   told_ends repeats launch seen (inr lost) = record { count = lost.0.count; is_end = subst IsEnd (sym lost.0.is) tt }
 
@@ -95,6 +96,6 @@ module _ (tables : Tables) (have : HaveShapes tables) (ok : TablesOk tables) (ke
   are_over = record {
     flat = stacks_seen;
     linked = marks_seen;
-    covered = λ repeats none launch. let o = stacks_seen launch in (o.0, (covered repeats tables launch none).to_linked o.0 o.1);
+    covered = λ repeats launch none. let o = stacks_seen launch in (o.0, (covered repeats tables launch none).to_linked o.0 o.1);
     told = λ repeats launch. let o = stacks_seen launch in told_ends repeats launch o.0 ((told repeats tables launch).to_linked o.0 o.1);
   }

@@ -1,6 +1,7 @@
 -- What stands at each state that a run of verified code comes to.
-use Rattle.std.proofs.Common.{◌≡◌, ◌≢◌, ◌⊎◌, inl, inr, ℕ, zero, suc, ◌≤◌, Bool, true, List, [], ◌∷◌, length, Option, Some, None, refl, sym, ap, ◌∙◌, subst}
+use Rattle.std.proofs.Common.{◌≡◌, ◌≢◌, ◌⊎◌, inl, inr, ℕ, zero, suc, ◌<◌, ◌≤◌, Bool, true, false, List, [], ◌∷◌, length, Option, Some, None, refl, sym, ap, ◌∙◌, subst, arith}
 use Rattle.std.specs.Prelude.{is_some, not, ◌&&◌}
+use Rattle.std.specs.Option.{option_map}
 use Rattle.icn_code.specs.declared.instr.Instr.{Instr}
 use Rattle.icn_code.specs.Codes.{Tables}
 use Rattle.icn_verify.specs.declared.shape.Level.{Level}
@@ -8,7 +9,8 @@ use Rattle.icn_verify.specs.declared.shape.LevelKind.{LevelKind}
 use Rattle.icn_verify.specs.Shapes.{PlainShape}
 use Rattle.icn_verify.specs.Given.{HaveShapes}
 use Rattle.icn_run.specs.Stacks.{Frames, flat}
-use Rattle.icn_run.specs.Chains.{Chain, chain, Outer, base, call, mark, limit, Parked, Linked, linked, outer_of, scans_of}
+use Rattle.icn_run.specs.Rows.{Item}
+use Rattle.icn_run.specs.Chains.{Chain, chain, Outer, base, call, mark, limit, Parked, Linked, linked, outer_of, scans_of, taken, take_from}
 use Rattle.icn_run.specs.Step.{Launch, State, Store, running, stuck, instrs_of, instruction_at, instruction, with_found, is_main, step, steps}
 use Rattle.icn_run.specs.FlatStep as Flat
 use Rattle.icn_run.specs.LinkedStep as Marks
@@ -20,14 +22,14 @@ use Rattle.icn_run_laws.proofs.RowsKeep.{rows_keep}
 use Rattle.icn_run_laws.proofs.OnLinked.{linked_agrees}
 use Rattle.icn_run_laws.proofs.OnMarks.{Lacks}
 use Rattle.icn_run_laws.proofs.OnSteps.{Sm, IsAtMark, one_step}
-use Rattle.icn_run_laws.proofs.SecondLaw.{starts}
+use Rattle.icn_run_laws.proofs.SecondLaw.{starts_so}
 use Rattle.icn_run_safe.specs.Within.{RowsStayWithin}
 use Rattle.icn_run_safe.specs.Shaped.{Known, local_count, ChainOk, OuterOk, Safe, Shaped}
 use Rattle.icn_run_safe.specs.NoStuck.{TablesOk}
-use Rattle.icn_run_safe.specs.Facts.{operands_of, mark_count, marks, IsShapedAt, IsFlatShapedAt, IsMarkDue, GoesOn, Stands, AreShaped}
+use Rattle.icn_run_safe.specs.Facts.{operands_of, mark_count, marks, IsShapedAt, IsFlatShapedAt, IsMarkDue, GoesOn, Stands, AreShaped, shapes_of}
 use Rattle.icn_run_safe.proofs.Keeping.{here_proc, here_create, locals_ok, take_ok}
 use Rattle.icn_run_safe.proofs.Marks.{not_true}
-use Rattle.icn_run_safe.proofs.NoStuck.{shapes_of, shaped, step_ok, start_safe, runs_ok, never_stuck}
+use Rattle.icn_run_safe.proofs.NoStuck.{shaped, step_ok, start_safe, runs_ok, never_stuck}
 
 -- a step more is one after those that were made
 more_steps : {K M : Type 0} (C : Calls K M) (tables : Tables) (n : ℕ) (s : State K M) → steps C tables (suc n) s ≡ step C tables (steps C tables n s)
@@ -79,7 +81,7 @@ module _ (tables : Tables) (have : HaveShapes tables) (ok : TablesOk tables) (ke
   -- Flat stacks follow linked ones
 
   abbrev Sames : State Parked Linked → State Frames Frames → Type 0
-  Sames l f = Sm (linked repeats_anywhere) flat tables (Lacks repeats_anywhere (Opens tables)) (linked_agrees repeats_anywhere (Opens tables)) rows_keep l f
+  Sames l f = Sm (linked repeats_anywhere) flat tables (Lacks repeats_anywhere (Opens tables)) (Unit {0}) (linked_agrees repeats_anywhere (Opens tables)) rows_keep l f
 
   record Near (f : State Frames Frames) : Type 0 where
     state : State Parked Linked
@@ -87,7 +89,7 @@ module _ (tables : Tables) (have : HaveShapes tables) (ok : TablesOk tables) (ke
     same : Sames state f
 
   abbrev IsDue : State Frames Frames → Type 0
-  IsDue f = IsAtMark (linked repeats_anywhere) flat tables (Lacks repeats_anywhere (Opens tables)) (linked_agrees repeats_anywhere (Opens tables)) rows_keep f
+  IsDue f = IsAtMark (linked repeats_anywhere) flat tables (Lacks repeats_anywhere (Opens tables)) (Unit {0}) (linked_agrees repeats_anywhere (Opens tables)) rows_keep f
 
   -- it follows one, or its next step, which opens a mark, leads to one that does
   abbrev Follows : State Frames Frames → Type 0
@@ -95,7 +97,7 @@ module _ (tables : Tables) (have : HaveShapes tables) (ok : TablesOk tables) (ke
 
   follows_next : (f : State Frames Frames) → Follows f → Follows (step flat tables f)
   follows_next f (inr x) = inl x.1
-  follows_next f (inl x) = by (one_step (linked repeats_anywhere) flat tables (Lacks repeats_anywhere (Opens tables)) (linked_agrees repeats_anywhere (Opens tables)) rows_keep x.same)
+  follows_next f (inl x) = by (one_step (linked repeats_anywhere) flat tables (Lacks repeats_anywhere (Opens tables)) (Unit {0}) (linked_agrees repeats_anywhere (Opens tables)) rows_keep (λ lacks. tt) x.same)
     where
       next : State Parked Linked
       next = step marks tables x.state
@@ -116,6 +118,26 @@ module _ (tables : Tables) (have : HaveShapes tables) (ok : TablesOk tables) (ke
   both_there R (Some x) None h e = absurd h
   both_there R (Some x) (Some y) h e = refl
 
+  none_there : {A B : Type 0} (R : A → B → Type 0) (o' : Option A) (o : Option B) → Both ⊥ R o' o → is_some o' ≡ false → is_some o ≡ false
+  none_there R None None h e = refl
+  none_there R None (Some x) h e = absurd h
+  none_there R (Some x) o h e = let b : true ≡ false = e in cc
+
+  none_left : (n : ℕ) (items found : List Item) → length items < n → is_some (taken n items found) ≡ false
+  none_left zero items found less = absurd (omega (arith, less))
+  none_left (suc n) [] found less = refl
+  none_left (suc n) (item ∷ items) found less = none_left n items (item ∷ found) (omega (arith, less))
+
+  map_none : {A B : Type 0} (f : A → B) (o : Option A) → is_some o ≡ false → is_some (option_map f o) ≡ false
+  map_none f None e = refl
+  map_none f (Some x) e = e
+
+  -- more operands than there are can't be taken
+  none_taken : (m : Linked) (c : Chain) → m.chain ≡ c → (n : ℕ) → length (operands_of m.chain) < n → is_some (marks.take n m) ≡ false
+  none_taken m (chain items suspensions scans outer) e n less =
+      let few : length items < n = subst (λ c. length (operands_of c) < n) e less in
+      subst (λ c. is_some (take_from n m c) ≡ false) (sym e) (map_none _ (taken n items []) (none_left n items [] few))
+
   abbrev ShapedIn : State Frames Frames → Type 0
   ShapedIn (running m st) = IsFlatShapedAt tables sh m st
   ShapedIn state = Unit {0}
@@ -132,6 +154,9 @@ module _ (tables : Tables) (have : HaveShapes tables) (ok : TablesOk tables) (ke
         here = there;
         fine = given.fine (flat.proc m) m.place facts.shape there;
         operands = λ n l. both_there _ (marks.take n m') (flat.take n m) (G.take n h.world st.active m' m h.here) (some_taken m' (lift st ks') safe n l);
+        no_more = none_there _ (marks.take (suc facts.shape.inner.operands) m') (flat.take (suc facts.shape.inner.operands) m)
+            (G.take (suc facts.shape.inner.operands) h.world st.active m' m h.here)
+            (none_taken m' m'.chain refl (suc facts.shape.inner.operands) (omega (arith, facts.operands)));
         in_create = ap (λ b. b && not (is_main st.active)) (sym (G.is_base h.world st.active m' m h.here)) ∙ facts.in_create;
         locals = ap length (sym (G.locals h.world st.active m' m h.here)) ∙ facts.locals ∙ ap (local_count tables) proc;
       }
@@ -148,7 +173,7 @@ module _ (tables : Tables) (have : HaveShapes tables) (ok : TablesOk tables) (ke
   stands_at launch n m st e = record {
     goes_on = goes_on flat tables m st (instruction_at flat tables m) refl (λ z.
         (never_stuck tables have ok keep).flat launch (record { count = suc n; is = more_steps flat tables n (Flat.start tables launch) ∙ ap (step flat tables) e ∙ z }));
-    shaped = by (running m st) (subst Follows e (follows_all n (Flat.start tables launch) (inl (record { state = Marks.start repeats_anywhere tables launch; safe = start_safe tables sh given keep ok launch; same = starts rows_keep repeats_anywhere tables launch })))) refl;
+    shaped = by (running m st) (subst Follows e (follows_all n (Flat.start tables launch) (inl (record { state = Marks.start repeats_anywhere tables launch; safe = start_safe tables sh given keep ok launch; same = starts_so rows_keep repeats_anywhere tables launch (Unit {0}) })))) refl;
   }
     where
       by : (f : State Frames Frames) → Follows f → f ≡ running m st → IsFlatShapedAt tables sh m st ⊎ IsMarkDue tables m

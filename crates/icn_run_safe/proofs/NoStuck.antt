@@ -18,6 +18,7 @@ use Rattle.icn_run_laws.proofs.SecondLaw.{everywhere, covered}
 use Rattle.icn_run_safe.specs.Within.{Each, ValueWithin, SettingWithin, OutcomeWithin, RowsStayWithin}
 use Rattle.icn_run_safe.specs.Shaped.{Known, MemoryOk, MemoryOf, StatusOk, Entered, CoexpOk, StoreOk, Safe, Shaped}
 use Rattle.icn_run_safe.specs.NoStuck.{TablesOk, IsNeverStuck}
+use Rattle.icn_run_safe.specs.Facts.{shapes_by, shapes_of}
 use Rattle.icn_run_safe.proofs.Entries.{each_append, each_replicate, each_drop, stands, set_length}
 use Rattle.icn_run_safe.proofs.Keeping.{with_activation, grow_activation, here_proc}
 use Rattle.icn_run_safe.proofs.Marks.{begin_ok}
@@ -31,10 +32,6 @@ use Rattle.icn_run_safe.proofs.Instructions.{instruction_ok}
 abbrev Shapes : Option Procedure → Type 0
 Shapes o = (proc : Procedure) → o ≡ Some proc → (shapes : ℕ → Option PlainShape) × HasShapes proc.instrs shapes
 
-abbrev shapes_by : (o : Option Procedure) → Shapes o → ℕ → Option PlainShape
-shapes_by None f place = None
-shapes_by (Some proc) f place = (f proc refl).0 place
-
 starts_by : (o : Option Procedure) (f : Shapes o) (x : Procedure) → o ≡ Some x → shapes_by o f 0 ≡ Some (start_shape false)
 starts_by None f x e = no_some x e
 starts_by (Some proc) f x e = (f proc refl).1.start
@@ -42,9 +39,6 @@ starts_by (Some proc) f x e = (f proc refl).1.start
 fine_by : (o : Option Procedure) (f : Shapes o) (place : ℕ) (S : PlainShape) → shapes_by o f place ≡ Some S → IsFine (option_map_or (λ (entry : Procedure). entry.instrs) o []) (shapes_by o f) place S
 fine_by None f place S e = no_some S e
 fine_by (Some proc) f place S e = (f proc refl).1.each place S e
-
-abbrev pub shapes_of : (tables : Tables) → HaveShapes tables → ℕ → ℕ → Option PlainShape
-shapes_of tables have p = shapes_by (slice_get tables.procs p) (have p)
 
 pub shaped : (tables : Tables) (have : HaveShapes tables) → TablesOk tables → Shaped tables (shapes_of tables have)
 shaped tables have ok = record {
@@ -165,7 +159,7 @@ pub never_stuck : (tables : Tables) → HaveShapes tables → TablesOk tables �
 never_stuck tables have ok keep = record {
   linked = linked_never;
   flat = flat_never;
-  covered = λ repeats none launch run. flat_never launch ((covered repeats tables launch none).stuck_flat run);
+  covered = λ repeats launch none run. flat_never launch ((covered repeats tables launch none).stuck_flat run);
 }
   where
     linked_never : (launch : Launch) → LinkedStuck repeats_anywhere tables launch → ⊥

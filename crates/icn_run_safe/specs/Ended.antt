@@ -10,9 +10,9 @@ use Rattle.icn_run_laws.specs.Measure.{EndsFrom}
 use Rattle.icn_run_laws.specs.SecondLaw.{MissingCell}
 
 -- On flat stacks and on linked marks each run is over at some time, by its bound on turns at the latest; on linked marks where only some have cells too, if
--- none is missing, and if one is, it is over or lacks something.
+-- it comes to none that is missing, and if it does, it is over or lacks something.
 pub record AreOver (tables : Tables) : Type 0 where
   pub flat : (launch : Launch) → (seen : Observed) × Flat.Runs tables launch seen
   pub linked : (launch : Launch) → (seen : Observed) × Linked.Runs repeats_anywhere tables launch seen
-  pub covered : (repeats : ℕ → ℕ → Bool) → (MissingCell repeats tables → ⊥) → (launch : Launch) → (seen : Observed) × Linked.Runs repeats tables launch seen
+  pub covered : (repeats : ℕ → ℕ → Bool) (launch : Launch) → (MissingCell repeats tables launch → ⊥) → (seen : Observed) × Linked.Runs repeats tables launch seen
   pub told : (repeats : ℕ → ℕ → Bool) (launch : Launch) → EndsFrom (on_marks repeats) tables (Linked.start repeats tables launch)

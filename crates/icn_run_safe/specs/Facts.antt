@@ -1,9 +1,9 @@
 -- What stands at each state that a run of verified code comes to, in the words of its shapes.
-use Rattle.std.specs.Prelude.{◌≡◌, ◌≢◌, ◌⊎◌, ℕ, suc, ◌≤◌, Bool, true, is_some, List, length, Option, Some}
+use Rattle.std.specs.Prelude.{◌≡◌, ◌≢◌, ◌⊎◌, ℕ, suc, ◌≤◌, Bool, true, false, is_some, List, length, Option, Some, None, slice_get, refl}
 use Rattle.icn_code.specs.declared.instr.Instr.{Instr}
-use Rattle.icn_code.specs.Codes.{Tables}
+use Rattle.icn_code.specs.Codes.{Tables, Proc as Procedure}
 use Rattle.icn_verify.specs.Shapes.{PlainShape}
-use Rattle.icn_verify.specs.Given.{IsFine}
+use Rattle.icn_verify.specs.Given.{IsFine, HasShapes, HaveShapes}
 use Rattle.icn_run.specs.Rows.{Item}
 use Rattle.icn_run.specs.Stacks.{Frames, flat}
 use Rattle.icn_run.specs.Chains.{Chain, chain, Outer, base, call, mark, limit, Parked, Linked, linked, outer_of, scans_of}
@@ -47,28 +47,38 @@ pub record GoesOn {K M : Type 0} (C : Calls K M) (tables : Tables) (m : M) (st :
   pub stands : instruction_at C tables m ≡ Some instr
   pub lacks_nothing : instruction C tables instr (C.go (suc (C.place m)) m) st ≢ stuck
 
--- The same of a flat stack: so many operands stand on top.
+-- The same of a flat stack, as far as its calls tell: the operands of its innermost mark, the procedure that runs, and its locals.
 pub record IsFlatShapedAt (tables : Tables) (shapes : ℕ → ℕ → Option PlainShape) (m : Frames) (st : Store Frames) : Type 0 where
   pub shape : PlainShape
   pub here : shapes (flat.proc m) m.place ≡ Some shape
   pub fine : IsFine (instrs_of tables (flat.proc m)) (shapes (flat.proc m)) m.place shape
   pub operands : (n : ℕ) → n ≤ shape.inner.operands → is_some (flat.take n m) ≡ true
+  pub no_more : is_some (flat.take (suc shape.inner.operands) m) ≡ false
   pub in_create : is_create_body flat m st ≡ shape.in_create
   pub locals : length (flat.locals m) ≡ local_count tables (flat.proc m)
 
--- a mark is due that failure came back to
+-- a mark is due, as where failure came back to one
 abbrev pub IsMarkDue : Tables → Frames → Type 0
 IsMarkDue tables m = (label : Option ℕ) × (instruction_at flat tables m ≡ Some (mark_of label))
 
--- an instruction is due that lacks nothing, and the stack has its shape, but where failure came back to a mark
+-- An instruction is due that lacks nothing. The stack has its shape; where a mark is due, nothing is said of it if failure came back to that mark.
 pub record Stands (tables : Tables) (shapes : ℕ → ℕ → Option PlainShape) (m : Frames) (st : Store Frames) : Type 0 where
   pub goes_on : GoesOn flat tables m st
   pub shaped : IsFlatShapedAt tables shapes m st ⊎ IsMarkDue tables m
 
--- of each state in which a run has an instruction due
+-- Of each state in which a run has an instruction due. Of those in which it fails nothing is said.
 pub record AreShaped (tables : Tables) (shapes : ℕ → ℕ → Option PlainShape) : Type 0 where
   pub on_marks : (launch : Launch) (n : ℕ) (m : Linked) (st : Store Parked) → Marks.steps repeats_anywhere tables n (Marks.start repeats_anywhere tables launch) ≡ running m st → IsShapedAt tables shapes m st
   pub on_stacks : (launch : Launch) (n : ℕ) (m : Frames) (st : Store Frames) → Flat.steps tables n (Flat.start tables launch) ≡ running m st → Stands tables shapes m st
 
 abbrev pub HasFacts : Tables → Type 0
 HasFacts tables = (shapes : ℕ → ℕ → Option PlainShape) × AreShaped tables shapes
+
+-- the shapes of a procedure by its number; where there is no such procedure, no place has one
+abbrev pub shapes_by : (entry : Option Procedure)
+    → ((proc : Procedure) → entry ≡ Some proc → (shapes : ℕ → Option PlainShape) × HasShapes proc.instrs shapes) → ℕ → Option PlainShape
+shapes_by None given place = None
+shapes_by (Some proc) given place = (given proc refl).0 place
+
+abbrev pub shapes_of : (tables : Tables) → HaveShapes tables → ℕ → ℕ → Option PlainShape
+shapes_of tables have number = shapes_by (slice_get tables.procs number) (have number)

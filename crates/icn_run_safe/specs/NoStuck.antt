@@ -15,9 +15,9 @@ pub record TablesOk (tables : Tables) : Type 0 where
   pub globals : Each (ValueWithin 1) (map (global_value tables) tables.globals)
   pub main : (n : ℕ) → main_of tables ≡ Some n → n < length tables.procs
 
--- No run of the code lacks what an instruction needs, neither on linked marks nor on flat stacks, nor on linked marks where only some have cells, if none
--- is missing.
+-- No run of the code lacks what an instruction needs, neither on linked marks nor on flat stacks, nor on linked marks where only some have cells, if the
+-- run comes to none that is missing.
 pub record IsNeverStuck (tables : Tables) : Type 0 where
   pub linked : (launch : Launch) → LinkedStuck repeats_anywhere tables launch → ⊥
   pub flat : (launch : Launch) → FlatStuck tables launch → ⊥
-  pub covered : (repeats : ℕ → ℕ → Bool) → (MissingCell repeats tables → ⊥) → (launch : Launch) → LinkedStuck repeats tables launch → ⊥
+  pub covered : (repeats : ℕ → ℕ → Bool) (launch : Launch) → (MissingCell repeats tables launch → ⊥) → LinkedStuck repeats tables launch → ⊥

@@ -8,7 +8,7 @@ ghost use Rattle.icn_verify.specs.Faults.{IsVerified};
 ghost use Rattle.icn_verify.specs.Given.{HaveShapes};
 ghost use Rattle.icn_run_safe.specs.Within.{RowsStayWithin};
 ghost use Rattle.icn_run_safe.specs.Ended.{AreOver};
-ghost use Rattle.icn_run_safe.specs.Facts.{HasFacts};
+ghost use Rattle.icn_run_safe.specs.Facts.{AreShaped, HasFacts, shapes_of};
 ghost use Rattle.icn_run_safe.specs.NoStuck.{IsNeverStuck};
 
 /// No run of verified code lacks what an instruction needs.
@@ -17,11 +17,11 @@ pub fn never_stuck()
     ensures shaped { (tables : Tables) → keeps_rules tables ≡ true → HaveShapes tables → IsNeverStuck tables }
 {}
 
-/// At each state in which a run of verified code has an instruction due, the stack has the shape of the place, the instruction finds what it wants, and the
-/// procedure has all its locals.
+/// At each state in which a run of verified code has an instruction due, the instruction finds what it wants, the stack has the shape of the place, whatever
+/// shapes the verifier gave, and the procedure has all its locals. On flat stacks the shape is left unsaid where a mark is due that failure came back to.
 pub fn reached_states()
     ensures verified { (tables : Tables) → keeps_rules tables ≡ true → IsVerified tables → HasFacts tables }
-    ensures shaped { (tables : Tables) → keeps_rules tables ≡ true → HaveShapes tables → HasFacts tables }
+    ensures shaped { (tables : Tables) → keeps_rules tables ≡ true → (have : HaveShapes tables) → AreShaped tables (shapes_of tables have) }
 {}
 
 /// Where what a row is given names no co-expression but those that are there, nor does what it leaves and gives.

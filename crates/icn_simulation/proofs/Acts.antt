@@ -17,7 +17,7 @@ use Rattle.icn_simulation.specs.Linkage.{Here, f_operation}
 use Rattle.icn_simulation.specs.Standing.{Nest, top, Proper, w_top, Breaks, b_mark, b_scan, b_loop, b_control, b_each, Nexts, n_mark, n_scan, n_loop, n_each, Stands, s_absent, s_present, StandsCases, s_none, s_default, s_pass, s_guard, StandsRest, e_end, e_passed, e_blank, e_bounded, s_nil}
 use Rattle.icn_simulation.specs.Relation.{At, proc_in, OfWorks, k_goto, k_args, k_cut, OfSurroundings, v_scan, v_mark, v_limit, OfMark, m_plain, m_loop, m_control, m_each, OfAction, a_go, a_pop, a_give, a_fail, a_pass, a_body, a_try, a_rest, a_off, OfChoices, r_do, linked_of, store_of, at_eval, at_succeed, at_fail}
 use Rattle.icn_simulation.specs.Ground.{Ground, machine}
-use Rattle.icn_simulation.proofs.Basics.{LState, To, stepped, Reach, Goes, Live, run, fails, ran, stay, goes, then_reach, at_step, opens, loads, on_turn}
+use Rattle.icn_simulation.proofs.Basics.{LState, To, stepped, Reach, Goes, Live, run, fails, ran, stay, goes, then_reach, at_step, opens, loads, on_turn, sets_none}
 use Rattle.icn_simulation.specs.Linkage.{l_null}
 use Rattle.icn_simulation.proofs.Leaving.{oldest, away, away_snoc, front_of, left_by, all_by, rest_of, called}
 
@@ -43,6 +43,7 @@ module _ (G : Ground) where
         by = stepped G p m st ls h
             ∙ unmark_to (oldest_until (first_scan z) (os ++ z)) os (chain xs s z o) m (suc p) st ls
             (front_of os z d);
+        whole = sets_none G p m st ls h refl;
       }
 
   pub unmarks_limit : {xs : List Item} {s : Suspensions} {z : List ℕ} {o : Outer} (c : ℕ) (zs : List Item)
@@ -56,6 +57,7 @@ module _ (G : Ground) where
         by = stepped G p m st ls h
             ∙ unmark_to (oldest_until (first_scan z) (os ++ z)) os (chain xs s z o) m (suc p) st ls
             (front_of os z d);
+        whole = sets_none G p m st ls h refl;
       }
 
   -- what the run comes to: it is followed by one on flat stacks, so that open scans are another each
@@ -88,17 +90,17 @@ module _ (G : Ground) where
   pub pops : {xs : List Item} {s : Suspensions} {z : List ℕ} {o : Outer} (x : Item) (p : ℕ) (st : M.Store)
       (ls : List (S.Coexp Parked)) → At G.L o p I.Pop
       → To G (run (chain (x ∷ xs) s z o) p st ls) (run (chain xs s z o) (suc p) st ls)
-  pops {xs} {s} {z} {o} x p st ls h = at_step G p (chain (x ∷ xs) s z o) st ls h
+  pops {xs} {s} {z} {o} x p st ls h = at_step G p (chain (x ∷ xs) s z o) st ls h refl
 
   pub gotos : {xs : List Item} {s : Suspensions} {z : List ℕ} {o : Outer} {q : ℕ} (p : ℕ) (st : M.Store)
       (ls : List (S.Coexp Parked)) → At G.L o p (I.Goto q)
       → To G (run (chain xs s z o) p st ls) (run (chain xs s z o) q st ls)
-  gotos {xs} {s} {z} {o} p st ls h = at_step G p (chain xs s z o) st ls h
+  gotos {xs} {s} {z} {o} p st ls h = at_step G p (chain xs s z o) st ls h refl
 
   pub efails : {xs : List Item} {s : Suspensions} {z : List ℕ} {o : Outer} (p : ℕ) (st : M.Store)
       (ls : List (S.Coexp Parked)) → At G.L o p I.Efail
       → To G (run (chain xs s z o) p st ls) (fails (chain xs s z o) (suc p) st ls)
-  efails {xs} {s} {z} {o} p st ls h = at_step G p (chain xs s z o) st ls h
+  efails {xs} {s} {z} {o} p st ls h = at_step G p (chain xs s z o) st ls h refl
 
   pub off_goes : {first : Bool} {n : Nest} {v : Surroundings} {xs : List Item} {s : Suspensions}
       {z : List ℕ} {o : Outer} (w p : ℕ) (st : M.Store) (ls : List (S.Coexp Parked))
@@ -106,7 +108,7 @@ module _ (G : Ground) where
       → OfSurroundings G.L first n v z o → Goes G w (MA.off v st) (run (chain xs s z o) p st ls)
   off_goes {v = v} {xs = xs} {s = s} {z = z} {o = o} w0 p st ls live w h v1 = let d = called G w v1 in
       let m = chain xs s z o in
-      goes G w0 (at_step G p m st ls h)
+      goes G w0 (at_step G p m st ls h refl)
       (subst (λ b. Reach G (MA.off v st)
       (if b then S.stuck else S.proc_fails (machine G) (linked_of m (suc p) st) (store_of st ls)))
       (sym (d.no_body st.active live.0))
@@ -150,7 +152,7 @@ module _ (G : Ground) where
       then_reach G (pops _ p st ls h) (stay G (at_eval live.0 live.1 e v k r))
   on_try p st ls live (s_pass c) v k r = on_try p st ls live c v k r
   on_try {value = value} {xs = xs} {s = s} {z = z} p st ls live (s_guard o h1 c h2 h3 h4 b g cs) v k r =
-      then_reach G (opens G p st ls o) (then_reach G (at_step G (suc p) _ st ls h1)
+      then_reach G (opens G p st ls o) (then_reach G (at_step G (suc p) _ st ls h1 refl)
       (stay G (at_eval live.0 live.1 c (v_mark (m_plain v))
       (k_args {xs = Val value ∷ []} {ys = []} s_nil h2 f_operation refl refl (v_mark (m_plain v))
       (k_cut h3 r (a_pop h4 (a_go b v (k_goto g k))))) (r_do (a_try cs v k) r))))
@@ -165,7 +167,7 @@ module _ (G : Ground) where
       then_reach G (loads G p st ls h l) (stay G (at_succeed live.0 live.1 k r))
   on_action p st ls live (a_fail h) r = then_reach G (efails p st ls h) (stay G (at_fail live.0 live.1 r))
   on_action {xs = xs} {s = s} {z = z} {o = o} p st ls live (a_pass {p' = p'} h e v k) r =
-      then_reach G (at_step G p _ st ls h)
+      then_reach G (at_step G p _ st ls h refl)
       (on_turn G st ls _ (λ st'. ran (linked_of (chain xs s z o) p' st) st')
       (stay G (at_eval live.0 live.1 e v k r)))
   on_action p st ls live (a_body s_absent a m) r = on_action p st ls live a r

@@ -23,11 +23,12 @@ use Rattle.icn_simulation.specs.Standing.{StandsRoutine, e_plain, e_initial}
 use Rattle.icn_simulation.specs.Relation.{v_main, r_end, a_frame, c_all, c_none, t_active, linked_of, store_of}
 use Rattle.icn_simulation.specs.Ground.{Ground, code_of, machine, OfCallee, o_routine}
 use Rattle.icn_simulation.specs.Begins.{OfMain, no_main, a_main, Begins}
-use Rattle.icn_simulation.proofs.Basics.{LState, Reach, Live, run, then_reach, on_made, errored}
+use Rattle.icn_simulation.proofs.Basics.{LState, Misses, Reach, Live, run, then_reach, on_made, errored}
 use Rattle.icn_simulation.proofs.Acts.{on_rest}
 use Rattle.icn_simulation.proofs.Applied.{inits, fitted_filled}
 use Rattle.icn_run_laws.proofs.Shadowed.{shadowed_start}
-use Rattle.icn_simulation.proofs.Runs.{good_steps, after, shift, forward, backward, was_over}
+use Rattle.icn_run_laws.specs.SecondLaw.{MissingCell}
+use Rattle.icn_simulation.proofs.Runs.{good_steps, after, shift, forward, backward, was_over, reach_misses}
 
 module _ (G : Ground) where
   first_coexp : S.Coexp Parked
@@ -205,3 +206,8 @@ module _ (G : Ground) where
       let o = was_over G {ending = seen.ending} {outside = seen.outside} back.1 in
       let a = after_steps back.0 o.count refl o.is in
       record { count = a.0; is = ap observed a.1 ∙ ap (λ x. Some (record_of seen.ending x)) o.outside_is }
+
+  -- the run of the code never comes to a mark that has no cell for a label which is to be set
+  pub none_missing : (launch : Launch) → Begins G.L → MissingCell G.L.repeats G.L.tables launch → ⊥
+  none_missing launch b x = reach_misses G x.count (starts launch b) (shadowed_start G.L.repeats G.L.tables launch)
+      (subst (Misses G) (sym x.comes) (x.label, x.sets, x.missing))

@@ -27,7 +27,7 @@ use Rattle.icn_simulation.specs.Linkage.{Applies, f_operation, f_call, f_spread,
 use Rattle.icn_simulation.specs.Standing.{Nest, StandsCreate, StandsRoutine, e_plain, e_initial}
 use Rattle.icn_simulation.specs.Relation.{At, proc_in, activation_in, a_frame, OfWorks, OfSurroundings, v_call, OfChoices, r_call, OfStatus, t_fresh, t_active, t_waiting, t_after, t_exhausted, OfAll, c_all, linked_of, store_of, at_succeed, at_fail, at_lost}
 use Rattle.icn_simulation.specs.Ground.{Ground, code_of, machine, OfCallee, o_routine, o_kind, o_function, o_nothing}
-use Rattle.icn_simulation.proofs.Basics.{LState, To, stepped, Reach, Goes, Live, run, stay, goes, then_reach, on_turn, on_answer, on_value, on_values, on_made, errored}
+use Rattle.icn_simulation.proofs.Basics.{LState, To, stepped, Reach, Goes, Live, run, stay, goes, then_reach, on_turn, on_answer, on_value, on_values, on_made, errored, sets_none}
 use Rattle.icn_simulation.proofs.Leaving.{level_in, same_activation, same_level}
 use Rattle.icn_simulation.proofs.Acts.{on_rest}
 use Rattle.icn_simulation.proofs.Coexps.{look, Made, not_made, was_made, find_made, all_more, status_all, activator_all, on_entered}
@@ -146,6 +146,7 @@ module _ (G : Ground) where
       record {
         by = stepped G 0 (chain xs s z o) st ls h
             ∙ ap (λ b. S.initial_if (machine G) b l (linked_of (chain xs s z o) 1 st) (store_of st ls)) (sym e);
+        whole = sets_none G 0 (chain xs s z o) st ls h refl;
       }
 
   on_begin : {first : Bool} {k : Works} {r : Choices} {initial : Initial} {body : Trees} {xs : List Item}
@@ -458,6 +459,7 @@ module _ (G : Ground) where
         by = stepped G q (chain zs s z o) st ls h
             ∙ takes xs ys (suc q) st (λ items m.
             S.turn (code_of G) (store_of st ls) (S.operated (machine G) op items m)) en ez;
+        whole = sets_none G q (chain zs s z o) st ls h refl;
       })
       (on_turn G st ls _ _ (on_operated op (reverse xs) (suc q) _ ls live v k r))
   on_applied {ys = ys} {zs = zs} {s = s} {z = z} {o = o} xs w q st ls live f_call en ez h v k r =
@@ -465,6 +467,7 @@ module _ (G : Ground) where
         by = stepped G q (chain zs s z o) st ls h
             ∙ takes xs ys (suc q) st (λ items m.
             S.turn (code_of G) (store_of st ls) (S.invoked_with (machine G) (code_of G) items m)) en ez;
+        whole = sets_none G q (chain zs s z o) st ls h refl;
       })
       (on_turn G st ls _ _ (on_calling (reverse xs) (suc q) _ ls (reversed xs en) live v k r))
   on_applied {ys = ys} {zs = zs} {s = s} {z = z} {o = o} xs w q st ls live f_spread en ez h v k r =
@@ -472,6 +475,7 @@ module _ (G : Ground) where
         by = stepped G q (chain zs s z o) st ls h
             ∙ takes xs ys (suc q) st (λ items m.
             S.turn (code_of G) (store_of st ls) (S.applied_to_elements (machine G) (code_of G) items m)) en ez;
+        whole = sets_none G q (chain zs s z o) st ls h refl;
       })
       (on_turn G st ls _ _ (on_spreading (reverse xs) (suc q) _ ls (reversed xs en) live v k r))
   on_applied {ys = ys} {zs = zs} {s = s} {z = z} {o = o} xs w q st ls live f_list en ez h v k r =
@@ -482,6 +486,7 @@ module _ (G : Ground) where
             (λ st. S.with_values (machine G) items m st
             (λ values. S.list_made (machine G) values m st (λ list m st. S.pushed (machine G) (Val list) m st))))
             en ez;
+        whole = sets_none G q (chain zs s z o) st ls h refl;
       })
       (on_turn G st ls _ _ (on_collecting (reverse xs) (suc q) _ ls live v k r))
   on_applied {ys = ys} {zs = zs} {s = s} {z = z} {o = o} xs w q st ls live
@@ -490,6 +495,7 @@ module _ (G : Ground) where
         by = stepped G q (chain zs s z o) st ls h
             ∙ takes xs ys (suc q) st (λ items m.
             S.turn (code_of G) (store_of st ls) (S.field_applied (machine G) (code_of G) field items m)) en ez;
+        whole = sets_none G q (chain zs s z o) st ls h refl;
       })
       (on_turn G st ls _ _ (on_taking name field (reverse xs) (suc q) _ ls (reversed xs en) f live v k r))
   on_applied {ys = ys} {zs = zs} {s = s} {z = z} {o = o} xs w q st ls live f_activate en ez h v k r =
@@ -497,5 +503,6 @@ module _ (G : Ground) where
         by = stepped G q (chain zs s z o) st ls h
             ∙ takes xs ys (suc q) st (λ items m.
             S.turn (code_of G) (store_of st ls) (S.activation_of (machine G) items m)) en ez;
+        whole = sets_none G q (chain zs s z o) st ls h refl;
       })
       (on_turn G st ls _ _ (on_activating (reverse xs) (suc q) _ ls (reversed xs en) live v k r))

@@ -1,6 +1,6 @@
 -- The words that the steps of the first law are proved with: what the code comes to, turns, and what
 -- outcomes of rows become.
-use Rattle.std.proofs.Common.{◌≡◌, ℕ, suc, ◌+◌, Bool, true, false, ◌<◌, ◌≤◌, ◌⊎◌, inl, inr, List, [], ◌∷◌, ◌++◌, length, Option, Some, None, refl, sym, ap, ◌∙◌, subst, arith}
+use Rattle.std.proofs.Common.{◌≡◌, ℕ, zero, suc, ◌+◌, Bool, true, false, ◌<◌, ◌≤◌, ◌⊎◌, inl, inr, List, [], ◌∷◌, ◌++◌, length, Option, Some, None, refl, sym, ap, ◌∙◌, subst, arith}
 use Rattle.std.specs.Prelude.{nat_lt, if◌then◌else◌}
 use Rattle.icn_code.specs.declared.instr.Instr.{Instr}
 use Rattle.icn_code.specs.declared.instr.Instr.TheVariants as I
@@ -16,6 +16,9 @@ use Rattle.icn_meaning.specs.Contexts.{Works, Nothing, ◌and_then◌, Choices, 
 use Rattle.icn_meaning.specs.Turns as MT
 use Rattle.icn_run.specs.Chains.{outer_of, proc_of, frame_of, fixed, flagged, Chain, chain, Suspensions, none, Outer, mark, Parked, Linked, opened}
 use Rattle.icn_run.specs.Step as S
+use Rattle.icn_run_laws.specs.SameStates.{IsLacking, Opens as IsMark}
+use Rattle.icn_run_laws.proofs.Lists.{some_inj}
+use Rattle.icn_run_laws.proofs.OnMarks.{Lacks}
 use Rattle.icn_simulation.specs.Linkage.{Here, Loads, l_null, l_integer, l_string, l_cset, l_local, l_static, l_global, Opens, o_mark, o_mark0}
 use Rattle.icn_simulation.specs.Relation.{proc_in, activation_in, OfWorks, OfChoices, OfAll, linked_of, store_of, Rel, at_succeed, at_fail, at_over, r_resume}
 use Rattle.icn_simulation.specs.Ground.{Ground, code_of, machine}
@@ -63,16 +66,26 @@ weight (M.succeed x (M.Args form xs es v and_then k) r st) = first_weight es
 weight (M.succeed x (M.Update o y v and_then k) r st) = suc (weigh y)
 weight state = 0
 
--- from l the code comes to a state that corresponds to s
+-- a label is to be set in a mark that has no cell for it
+abbrev pub Misses : Ground → LState → Type 0
+Misses G l = IsLacking (machine G) (code_of G) (Lacks G.L.repeats (IsMark (code_of G))) l
+
+-- from l the code comes to a state that corresponds to s, and misses nothing on the way
 pub record Reach (G : Ground) (s : M.State) (l : LState) : Type 0 where
   pub turns : ℕ
   pub to : LState
   pub comes : l_steps G turns l ≡ to
   pub rel : Rel G.L s to
+  pub whole : (n : ℕ) → n < turns → Misses G (l_steps G n l) → ⊥
 
--- one step of the code
+-- one step of the code, which misses nothing
 pub record To (G : Ground) (l l' : LState) : Type 0 where
   pub by : l_step G l ≡ l'
+  pub whole : Misses G l → ⊥
+
+abbrev pub is_chfail : Instr → Bool
+is_chfail (I.Chfail label) = true
+is_chfail i = false
 
 pub record Goes (G : Ground) (w : ℕ) (s : M.State) (l : LState) : Type 0 where
   pub reach : Reach G s l
@@ -94,18 +107,27 @@ Live G first active cos ls = (first ≡ (S.is_main active)) × OfAll G.L cos ls
 
 module _ (G : Ground) where
   pub stay : {s : M.State} {l : LState} → Rel G.L s l → Reach G s l
-  stay {s} {l} h = record { turns = 0; to = l; comes = refl; rel = h }
+  stay {s} {l} h = record { turns = 0; to = l; comes = refl; rel = h; whole = λ n less x. absurd (omega (arith, less)) }
 
   pub silent : {s : M.State} {l : LState} (w : ℕ) → Rel G.L s l → weight s < w → Goes G w s l
   silent w h lt = record { reach = stay h; less = inr lt }
 
   pub goes : {s : M.State} {l l' : LState} (w : ℕ) → To G l l' → Reach G s l' → Goes G w s l
-  goes w e g = record {
-    reach = record
-        { turns = suc g.turns; to = g.to; comes = ap (l_steps G g.turns) e.by ∙ g.comes; rel = g.rel };
+  goes {l = l} w e g = record {
+    reach = record {
+      turns = suc g.turns;
+      to = g.to;
+      comes = ap (l_steps G g.turns) e.by ∙ g.comes;
+      rel = g.rel;
+      whole = on_the_way;
+    };
     less =
         inl (omega arith);
   }
+    where
+      on_the_way : (n : ℕ) → n < suc g.turns → Misses G (l_steps G n l) → ⊥
+      on_the_way zero less x = e.whole x
+      on_the_way (suc n) less x = g.whole n (omega (arith, less)) (subst (λ l. Misses G (l_steps G n l)) e.by x)
 
   pub then_reach : {s : M.State} {l l' : LState} → To G l l' → Reach G s l' → Reach G s l
   then_reach e g = (goes 0 e g).reach
@@ -117,11 +139,19 @@ module _ (G : Ground) where
   stepped p m st ls h = ap (λ i. S.with_found i
       (λ i. S.instruction (machine G) (code_of G) i (linked_of m (suc p) st) (store_of st ls))) h
 
+  -- another instruction sets no label
+  pub sets_none : {i : Instr} (p : ℕ) (m : Chain) (st : M.Store) (ls : List (S.Coexp Parked))
+      → Here G.L (proc_of (frame_of (outer_of m))) p i → is_chfail i ≡ false → Misses G (run m p st ls) → ⊥
+  sets_none {i} p m st ls h other x = no_chfail i (some_inj (sym h ∙ x.1)) other
+    where
+      no_chfail : (i : Instr) → i ≡ I.Chfail x.0 → is_chfail i ≡ false → ⊥
+      no_chfail i e other = let b : true ≡ false = sym (ap is_chfail e) ∙ other in cc
+
   pub at_step : {i : Instr} (p : ℕ) (m : Chain) (st : M.Store) (ls : List (S.Coexp Parked))
-      → Here G.L (proc_of (frame_of (outer_of m))) p i
+      → Here G.L (proc_of (frame_of (outer_of m))) p i → is_chfail i ≡ false
       → To G (run m p st ls) (S.instruction (machine G) (code_of G) i (linked_of m (suc p) st)
       (store_of st ls))
-  at_step p m st ls h = record { by = stepped p m st ls h }
+  at_step p m st ls h other = record { by = stepped p m st ls h; whole = sets_none p m st ls h other }
 
   -- a mark is opened
   open_if : (b : Bool) (label : Option ℕ) (m : Chain) (p : ℕ) (st : M.Store) (ls : List (S.Coexp Parked))
@@ -143,11 +173,13 @@ module _ (G : Ground) where
       record {
         by = stepped p (chain xs s z o) st ls h
             ∙ open_if (G.L.repeats (proc_in o) p) (Some l) (chain xs s z o) p st ls e;
+        whole = sets_none p (chain xs s z o) st ls h refl;
       }
   opens {xs} {s} {z} {o} p st ls (o_mark0 h e) =
       record {
         by = stepped p (chain xs s z o) st ls h
             ∙ open_if (G.L.repeats (proc_in o) p) None (chain xs s z o) p st ls e;
+        whole = sets_none p (chain xs s z o) st ls h refl;
       }
 
   pub opens_flagged : {xs : List Item} {s : Suspensions} {z : List ℕ} {o : Outer} (p : ℕ) (st : M.Store)
@@ -162,6 +194,7 @@ module _ (G : Ground) where
             (opened (flagged None (length st.flags) p) (linked_of m (suc p) st))
             { flags = st.flags ++ false ∷ [] } else opened (fixed None) (linked_of m (suc p) st))
             (store_of st ls)) e;
+        whole = sets_none p m st ls h refl;
       }
 
   -- an item is pushed
@@ -188,8 +221,19 @@ module _ (G : Ground) where
   pub loads : {i : Instr} {x : Item} {xs : List Item} {s : Suspensions} {z : List ℕ} {o : Outer} (p : ℕ)
       (st : M.Store) (ls : List (S.Coexp Parked)) → Here G.L (proc_in o) p i → Loads G.L (proc_in o) i x
       → To G (run (chain xs s z o) p st ls) (run (chain (x ∷ xs) s z o) (suc p) st ls)
-  loads {xs = xs} {s = s} {z = z} {o = o} p st ls h l =
-      record { by = stepped p (chain xs s z o) st ls h ∙ loaded (suc p) st ls refl l }
+  loads {xs = xs} {s = s} {z = z} {o = o} p st ls h l = record {
+    by = stepped p (chain xs s z o) st ls h ∙ loaded (suc p) st ls refl l;
+    whole = sets_none p (chain xs s z o) st ls h (loads_no_label l);
+  }
+    where
+      loads_no_label : {i : Instr} {x : Item} → Loads G.L (proc_in o) i x → is_chfail i ≡ false
+      loads_no_label l_null = refl
+      loads_no_label (l_integer h) = refl
+      loads_no_label (l_string h) = refl
+      loads_no_label (l_cset h) = refl
+      loads_no_label l_local = refl
+      loads_no_label l_static = refl
+      loads_no_label l_global = refl
 
   -- A turn
 

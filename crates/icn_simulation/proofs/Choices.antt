@@ -16,7 +16,7 @@ use Rattle.icn_simulation.specs.Linkage.{Here}
 use Rattle.icn_simulation.specs.Standing.{Nest, in_mark, Stands, StandsMaybe, s_absent, s_present}
 use Rattle.icn_simulation.specs.Relation.{At, proc_in, activation_in, OfWorks, k_esusp, k_raise, k_cut, OfSurroundings, v_mark, m_plain, a_fail, OfChoices, r_end, r_call, r_exhaust, r_alt, r_mark0, r_limit, r_efail, r_do, r_again, r_resume, r_restore, r_reenter, r_back, t_exhausted, linked_of, store_of, at_eval, at_fail, at_over}
 use Rattle.icn_simulation.specs.Ground.{Ground, code_of, machine}
-use Rattle.icn_simulation.proofs.Basics.{stepped, Reach, Goes, Live, run, fails, ran, stay, goes, then_reach, opens, on_turn}
+use Rattle.icn_simulation.proofs.Basics.{stepped, Reach, Goes, Live, run, fails, ran, stay, goes, then_reach, opens, on_turn, sets_none}
 use Rattle.icn_simulation.proofs.Leaving.{oldest, same_scans}
 use Rattle.icn_simulation.proofs.Acts.{pops, efails, on_action}
 use Rattle.icn_simulation.proofs.Coexps.{look, status_all}
@@ -37,6 +37,7 @@ module _ (G : Ground) where
         by = stepped G p m st ls h
             ∙ ap (λ b. if (true && not b) then S.exhausted (machine G) (code_of G) (linked_of m (suc p) st)
             (store_of st ls) else S.stuck) (sym live.0 ∙ e);
+        whole = sets_none G p m st ls h refl;
       })
       (on_turn G st ls _ _ (failed (record st { turns = suc st.turns }) live))
     where
@@ -92,30 +93,31 @@ module _ (G : Ground) where
             if (true && not b) then S.exhausted (machine G) (code_of G)
             (linked_of (chain xs none [] (base j a)) p st)
             (store_of st ls) else (if b then S.over M.Done st.outside else S.stuck)) (sym live.0 ∙ e);
+        whole = λ x. x;
       })
       (stay G at_over)
-  on_choices p st ls live (r_call r) = goes G 0 (record { by = refl }) (on_choices _ st ls live r).reach
-  on_choices p st ls live (r_exhaust e h) = goes G 0 (record { by = refl }) (on_exhaust _ st ls live e h)
-  on_choices p st ls live (r_alt r) = goes G 0 (record { by = refl }) (on_choices _ st ls live r).reach
-  on_choices p st ls live (r_mark0 r) = goes G 0 (record { by = refl }) (on_choices p st ls live r).reach
-  on_choices p st ls live (r_limit r) = goes G 0 (record { by = refl }) (on_choices p st ls live r).reach
+  on_choices p st ls live (r_call r) = goes G 0 (record { by = refl; whole = λ x. x }) (on_choices _ st ls live r).reach
+  on_choices p st ls live (r_exhaust e h) = goes G 0 (record { by = refl; whole = λ x. x }) (on_exhaust _ st ls live e h)
+  on_choices p st ls live (r_alt r) = goes G 0 (record { by = refl; whole = λ x. x }) (on_choices _ st ls live r).reach
+  on_choices p st ls live (r_mark0 r) = goes G 0 (record { by = refl; whole = λ x. x }) (on_choices p st ls live r).reach
+  on_choices p st ls live (r_limit r) = goes G 0 (record { by = refl; whole = λ x. x }) (on_choices p st ls live r).reach
   on_choices p st ls live (r_efail h r) =
-      goes G 0 (record { by = refl }) (then_reach G (efails G _ st ls h) (on_choices _ st ls live r).reach)
-  on_choices p st ls live (r_do a r) = goes G 0 (record { by = refl }) (on_action G _ st ls live a r)
+      goes G 0 (record { by = refl; whole = λ x. x }) (then_reach G (efails G _ st ls h) (on_choices _ st ls live r).reach)
+  on_choices p st ls live (r_do a r) = goes G 0 (record { by = refl; whole = λ x. x }) (on_action G _ st ls live a r)
   on_choices p st ls live (r_again {f = f} e h1 h2 v k r) =
-      goes G 0 (record { by = refl })
+      goes G 0 (record { by = refl; whole = λ x. x })
       (on_again f _ _ (slice_index_or st.flags f false) _ p st ls live e h1 h2 v k r)
   on_choices p st ls live (r_resume {m = m} {o = o} k r) =
-      goes G 0 (record { by = refl })
+      goes G 0 (record { by = refl; whole = λ x. x })
       (on_turn G st ls _ _ (on_answer G
       (again m (MT.within (activation_in o) (record st { turns = suc st.turns })))
       (record st { turns = suc st.turns }) ls live k r))
-  on_choices p st ls live (r_restore r) = goes G 0 (record { by = refl }) (stay G (at_fail live.0 live.1 r))
-  on_choices p st ls live (r_reenter r) = goes G 0 (record { by = refl }) (stay G (at_fail live.0 live.1 r))
+  on_choices p st ls live (r_restore r) = goes G 0 (record { by = refl; whole = λ x. x }) (stay G (at_fail live.0 live.1 r))
+  on_choices p st ls live (r_reenter r) = goes G 0 (record { by = refl; whole = λ x. x }) (stay G (at_fail live.0 live.1 r))
   on_choices {first = first} p st ls live
       (r_back {b = b'} {v = v'} {r = r'} {p = q} {x = x} {xs = xs} {s = s} {z = z} {o = o} h b h2 v r) =
       let m = chain (x ∷ xs) s z o in
-      goes G 0 (record { by = refl })
+      goes G 0 (record { by = refl; whole = λ x. x })
       (on_turn G st ls _ _ (returns (record st { turns = suc st.turns }) live))
     where
       returns : (st : M.Store) → Live G first st.active st.coexpressions ls

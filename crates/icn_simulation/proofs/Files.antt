@@ -8,13 +8,13 @@ use Rattle.icn_meaning.specs.Program.{program_of, joined, procedures_of}
 use Rattle.icn_meaning.specs.Meaning.{Means}
 use Rattle.icn_run.specs.LinkedStep as Linked
 use Rattle.icn_run.specs.LinkedStep.{repeats_of}
-use Rattle.icn_run_laws.proofs.RowsKeep.{rows_keep}
-use Rattle.icn_run_laws.proofs.SecondLaw.{to_flat, told_once}
+use Rattle.icn_run_laws.specs.SecondLaw.{MissingCell}
+use Rattle.icn_run_laws.proofs.SecondLaw.{covered}
 use Rattle.icn_simulation.specs.Joined.{code_with}
 use Rattle.icn_simulation.specs.Law.{IsLinked, FilesMean, RunsLinked, RunsFlat, BrokenOff, Takes}
 use Rattle.icn_simulation.proofs.Checked.{IsSoundProcedure, Each, sound_files}
 use Rattle.icn_simulation.proofs.Joining.{is_translated, begins}
-use Rattle.icn_simulation.proofs.Routines.{first_law}
+use Rattle.icn_simulation.proofs.Routines.{first_law, none_missing as none_missing_of}
 
 -- what the evaluation and the run of the code come to is the same
 pub record AreSame (P Q : Launch → Observed → Type 0) : Type 0 where
@@ -38,6 +38,28 @@ same_ends files tables h =
     } in
     subst (λ tables. AreSame (FilesMean files) (RunsLinked tables)) (sym h.code.others) law
 
+-- the run of the joined code never comes to a mark that has no cell for a label which is to be set
+pub none_missing : (files : List (List Declaration)) (tables : Tables) (launch : Launch) → IsLinked files tables
+    → MissingCell (repeats_of tables) tables launch → ⊥
+none_missing files tables launch h =
+    let D = joined files in
+    let sound : Each IsSoundProcedure (procedures_of D) = sound_files files h.faultless in
+    let translated = is_translated D tables.csets h.code.csets sound in
+    let starts = begins D tables.csets h.code.csets sound in
+    subst (λ tables. MissingCell (repeats_of tables) tables launch → ⊥) (sym h.code.others)
+    (none_missing_of (program_of D) (code_with D tables.csets) launch translated starts)
+
+-- so that its run on flat stacks comes to the same as that on linked marks, and with it to what is meant
+pub same_flat : (files : List (List Declaration)) (tables : Tables) → IsLinked files tables
+    → AreSame (FilesMean files) (RunsFlat tables)
+same_flat files tables h =
+    let s = same_ends files tables h in
+    let agree = λ (launch : Launch). covered (repeats_of tables) tables launch (none_missing files tables launch h) in
+    record {
+      to = λ launch seen m. (agree launch).to_flat seen (s.to launch seen m);
+      from = λ launch seen f. s.from launch seen ((agree launch).to_linked seen f);
+    }
+
 -- what is said of all ends of the one is said of all ends of the other
 
 takes : {P Q : Launch → Observed → Type 0} (limited : ℕ → Launch → Launch) (want : Ending) (launch : Launch) (amount : ℕ)
@@ -56,31 +78,16 @@ broken launch before after f e = record { seen = e.seen; sees = f launch e.seen 
 
 pub same_amounts : (files : List (List Declaration)) (tables : Tables) (limited : ℕ → Launch → Launch) (want : Ending)
     (launch : Launch) (amount : ℕ) (seen : Observed) → IsLinked files tables
-    → (Takes limited want (FilesMean files) launch amount seen → Takes limited want (RunsLinked tables) launch amount seen)
-    × (Takes limited want (RunsLinked tables) launch amount seen → Takes limited want (FilesMean files) launch amount seen)
+    → (Takes limited want (FilesMean files) launch amount seen → Takes limited want (RunsFlat tables) launch amount seen)
+    × (Takes limited want (RunsFlat tables) launch amount seen → Takes limited want (FilesMean files) launch amount seen)
 same_amounts files tables limited want launch amount seen h =
-    let s = same_ends files tables h in
+    let s = same_flat files tables h in
     (takes limited want launch amount seen s.to, takes limited want launch amount seen s.from)
 
 pub same_broken : (files : List (List Declaration)) (tables : Tables) (launch : Launch)
     (before after : Streams) → IsLinked files tables
-    → (BrokenOff (FilesMean files) launch before after → BrokenOff (RunsLinked tables) launch before after)
-    × (BrokenOff (RunsLinked tables) launch before after
+    → (BrokenOff (FilesMean files) launch before after → BrokenOff (RunsFlat tables) launch before after)
+    × (BrokenOff (RunsFlat tables) launch before after
     → BrokenOff (FilesMean files) launch before after)
-same_broken files tables launch before after h = let s = same_ends files tables h in
+same_broken files tables launch before after h = let s = same_flat files tables h in
     (broken launch before after s.to, broken launch before after s.from)
-
--- what is meant, the run on flat stacks comes to
-pub means_flat : (files : List (List Declaration)) (tables : Tables) (launch : Launch) (seen : Observed)
-    → IsLinked files tables → FilesMean files launch seen → RunsFlat tables launch seen
-means_flat files tables launch seen h m =
-    to_flat rows_keep (repeats_of tables) tables launch seen ((same_ends files tables h).to launch seen m)
-
--- and where anything is meant, it comes to nothing else
-pub flat_means : (files : List (List Declaration)) (tables : Tables) (launch : Launch)
-    (meant seen : Observed) → IsLinked files tables → FilesMean files launch meant
-    → RunsFlat tables launch seen → FilesMean files launch seen
-flat_means files tables launch meant seen h m f =
-    subst (λ o. FilesMean files launch o)
-    (told_once (repeats_of tables) tables launch meant seen ((same_ends files tables h).to launch meant m)
-    f) m

@@ -137,7 +137,7 @@ module _ (G : Ground) where
   sim_eval {o = o} {v = v'} {k = k'} {r = r'} {xs = xs} {s = s} {z = z} p j st ls good live
       (s_keyword {word = word} e h) v k r =
       subst (λ w. Goes G 0 (ME.keyword w v' k' r' st) (run (chain xs s z o) p st ls)) (sym e)
-      (goes G _ (at_step G p _ st ls h)
+      (goes G _ (at_step G p _ st ls h refl)
       (let there = S.standing (machine G) (linked_of (chain xs s z o) (suc p) st) (store_of st ls) in
       subst (λ level. Reach G (ME.item_or_failure
       (keyword_item (a_standing level st.active (MX.activator_of st.active st)) word) k' r' st)
@@ -222,7 +222,7 @@ module _ (G : Ground) where
       (at_eval live.0 live.1 b (v_mark i) (k_cut u r pass) (r_do pass r)))
   sim_eval {o = o} {v = v'} {k = k'} {r = r'} {xs = xs} {s = s} {z = z} p j st ls good live
       (s_create {e = e} {q = q} h stands) v k r = let st1 = record st { turns = suc st.turns } in
-      goes G _ (at_step G p _ st ls h)
+      goes G _ (at_step G p _ st ls h refl)
       (on_turn G st ls _ (S.coexp_made (machine G) (MT.locals_of (activation_in o) st) (proc_in o)
       (suc p) (linked_of (chain xs s z o) q st))
       (subst (λ j. Reach G (MX.fresh e j (MT.locals_of (M.activation_of v') st1) (M.activation_of v') k' r'
@@ -257,10 +257,10 @@ module _ (G : Ground) where
   sim good (at_fail {p = p} {st = st} {ls = ls} f a r) = on_choices G p st ls (f, a) r
   sim good (at_hop {c = c} {p = p} {m = m} {st = st} {ls = ls} e a) =
       subst (λ c. Goes G 0 (MX.hopped c st) (S.hopping (linked_of m p st) (store_of st ls))) (sym e)
-      (goes G 0 (record { by = refl })
+      (goes G 0 (record { by = refl; whole = λ x. x })
       (on_turn G st ls _ (λ st'. S.passed_failure (machine G) (S.activator_of st'.active st')
       (linked_of m p st) st') (on_hop m p (record st { turns = suc st.turns }) ls a)))
-  sim good at_done = goes G 0 (record { by = refl }) (stay G at_over)
-  sim good at_end = goes G 0 (record { by = refl }) (stay G at_over)
-  sim good at_over = goes G 0 (record { by = refl }) (stay G at_over)
-  sim good at_lost = goes G 0 (record { by = refl }) (stay G at_lost)
+  sim good at_done = goes G 0 (record { by = refl; whole = λ x. x }) (stay G at_over)
+  sim good at_end = goes G 0 (record { by = refl; whole = λ x. x }) (stay G at_over)
+  sim good at_over = goes G 0 (record { by = refl; whole = λ x. x }) (stay G at_over)
+  sim good at_lost = goes G 0 (record { by = refl; whole = λ x. x }) (stay G at_lost)

@@ -25,7 +25,8 @@ use Rattle.icn_simulation.specs.Ground.{Ground, OfCallee, o_routine, o_kind, o_f
 use Rattle.icn_simulation.specs.Begins.{Begins}
 use Rattle.icn_simulation.proofs.Segments.{Sits, Part, part_nil, part_cons, part_append, part_map}
 use Rattle.icn_simulation.proofs.Stand.{good, maybe_by, same_empty}
-use Rattle.icn_simulation.proofs.Agree.{means_runs, runs_means}
+use Rattle.icn_run_laws.specs.SecondLaw.{MissingCell}
+use Rattle.icn_simulation.proofs.Agree.{means_runs, runs_means, none_missing as none_missing_of}
 
 abbrev rest_size : Trees → ℕ
 rest_size NoTrees = 1
@@ -137,3 +138,8 @@ pub first_law : (program : M.Program) (tables : Tables) (launch : Launch) (seen 
     × (Linked.Runs (repeats_of tables) tables launch seen → Means program launch seen)
 first_law program tables launch seen t b = let G = ground_of program tables t in
     (means_runs G launch seen b, runs_means G launch seen b)
+
+-- and the run of a translated program misses no cell
+pub none_missing : (program : M.Program) (tables : Tables) (launch : Launch) → Translated program tables
+    → Begins (linkage program tables) → MissingCell (repeats_of tables) tables launch → ⊥
+none_missing program tables launch t b x = none_missing_of (ground_of program tables t) launch b x

@@ -1,12 +1,13 @@
 -- The first law over whole runs, in both directions.
-use Rattle.std.proofs.Common.{◌≡◌, ℕ, zero, suc, ◌≤◌, ⊎_elim, refl, sym, ap, ◌∙◌, subst, arith}
+use Rattle.std.proofs.Common.{◌≡◌, ℕ, zero, suc, ◌+◌, ◌-◌, ◌<◌, ◌≤◌, ◌⊎◌, inl, inr, ⊎_elim, refl, sym, ap, ◌∙◌, subst, arith}
+use Rattle.std.proofs.lemmas.Bool.{cases_lt}
 use Rattle.icn_value.specs.Store.{Outside}
 use Rattle.icn_meaning.specs.Contexts as M
 use Rattle.icn_meaning.specs.Meaning as MM
 use Rattle.icn_run.specs.Step as S
 use Rattle.icn_simulation.specs.Relation.{Rel, at_done, at_end, at_over}
 use Rattle.icn_simulation.specs.Ground.{Ground}
-use Rattle.icn_simulation.proofs.Basics.{LState, l_step, l_steps, weight}
+use Rattle.icn_simulation.proofs.Basics.{LState, l_step, l_steps, weight, Misses, Reach, Goes}
 use Rattle.icn_run_laws.proofs.Shadowed.{shadowed_step}
 use Rattle.icn_simulation.proofs.Acts.{Good}
 use Rattle.icn_simulation.proofs.Moves.{sim}
@@ -63,6 +64,63 @@ module _ (G : Ground) where
       let a = forward n (MM.step G.L.program s) g.reach.to ending st
       (good_steps g.reach.turns l g.reach.comes good) g.reach.rel e in
       after g.reach.turns a.0 g.reach.comes a.1
+
+  split_steps : (a b : ℕ) (l : LState) → l_steps G (a + b) l ≡ l_steps G b (l_steps G a l)
+  split_steps zero b l = let e : 0 + b ≡ b = omega arith in ap (λ n. l_steps G n l) e
+  split_steps (suc a) b l = let e : suc a + b ≡ suc (a + b) = omega arith in ap (λ n. l_steps G n l) e ∙ split_steps a b (l_step G l)
+
+  -- after so many steps it is at a state to which that many fewer lead from a later one
+  later : (n turns : ℕ) (l : LState) {l' : LState} → turns ≤ n → l_steps G turns l ≡ l' → l_steps G n l ≡ l_steps G (n - turns) l'
+  later n turns l le e = let split : n ≡ turns + (n - turns) = omega arith in
+      ap (λ n. l_steps G n l) split ∙ split_steps turns (n - turns) l ∙ ap (l_steps G (n - turns)) e
+
+  abbrev WholeBelow : ℕ → Type 0
+  WholeBelow m = (n : ℕ) → n < m → (s : M.State) (l : LState) → Good G l → Rel G.L s l → Misses G (l_steps G n l) → ⊥
+
+  -- the same of evaluations that are lighter, after at most so many steps
+  abbrev WholeLighter : ℕ → ℕ → Type 0
+  WholeLighter m w = (n : ℕ) → n ≤ m → (s : M.State) (l : LState) → weight s < w → Good G l → Rel G.L s l
+      → Misses G (l_steps G n l) → ⊥
+
+  whole_step : (m : ℕ) → WholeBelow m → (n : ℕ) → n ≤ m → (s : M.State) (l : LState) → WholeLighter m (weight s)
+      → Good G l → Rel G.L s l → Misses G (l_steps G n l) → ⊥
+  whole_step m ih n low s l lighter good h x = by (cases_lt n g.reach.turns)
+    where
+      g : Goes G (weight s) (MM.step G.L.program s) l
+      g = sim G good h
+
+      next : Good G g.reach.to
+      next = good_steps g.reach.turns l g.reach.comes good
+
+      by : (n < g.reach.turns) ⊎ (g.reach.turns ≤ n) → ⊥
+      by (inl less) = g.reach.whole n less x
+      by (inr le) =
+          let moved : Misses G (l_steps G (n - g.reach.turns) g.reach.to) = subst (Misses G) (later n g.reach.turns l le g.reach.comes) x in
+          ⊎_elim (λ some. ih (n - g.reach.turns) (omega (arith, low, some, le)) (MM.step G.L.program s) g.reach.to next g.reach.rel moved)
+          (λ less. lighter (n - g.reach.turns) (omega (arith, low)) (MM.step G.L.program s) g.reach.to less next g.reach.rel moved) g.less
+
+  whole_at : (m : ℕ) → WholeBelow m → (w : ℕ) → WholeLighter m w
+  whole_at m ih zero n low s l light good h x = omega (arith, light)
+  whole_at m ih (suc w) n low s l light good h x = whole_step m ih n low s l
+      (λ n' low' s' l' less good' h' x'. whole_at m ih w n' low' s' l' (omega (arith, light, less)) good' h' x') good h x
+
+  whole_below : (m : ℕ) → WholeBelow m
+  whole_below zero n less s l good h x = omega (arith, less)
+  whole_below (suc m) n less s l good h x =
+      whole_at m (whole_below m) (suc (weight s)) n (omega (arith, less)) s l (omega arith) good h x
+
+  -- from a state that corresponds to one of the meaning no state is come to that misses a cell
+  pub never_misses : (n : ℕ) (s : M.State) (l : LState) → Good G l → Rel G.L s l → Misses G (l_steps G n l) → ⊥
+  never_misses n s l good h x = whole_below (suc n) n (omega arith) s l good h x
+
+  -- nor from one that leads to such a state
+  pub reach_misses : (n : ℕ) {s : M.State} {l : LState} → Reach G s l → Good G l → Misses G (l_steps G n l) → ⊥
+  reach_misses n {s} {l} g good x = by (cases_lt n g.turns)
+    where
+      by : (n < g.turns) ⊎ (g.turns ≤ n) → ⊥
+      by (inl less) = g.whole n less x
+      by (inr le) = never_misses (n - g.turns) s g.to (good_steps g.turns l g.comes good) g.rel
+          (subst (Misses G) (later n g.turns l le g.comes) x)
 
   -- where the code comes to a state z at which it stays, the meaning comes to one that corresponds to z
   module _ (z : LState) (fixed : l_step G z ≡ z) where

@@ -24,7 +24,7 @@ use Rattle.icn_simulation.specs.Linkage.{Here, f_operation}
 use Rattle.icn_simulation.specs.Standing.{Nest, in_mark, in_scan, Stands, StandsAll, s_nil, s_cons, StandsMaybe, s_absent, s_present, Updating, d_activate, d_operate, is_update, count}
 use Rattle.icn_simulation.specs.Relation.{At, proc_in, activation_in, OfWorks, k_goto, k_esusp, k_raise, k_args, k_then, k_cut, k_limit, k_count, k_scan, k_leave, k_update_both, k_update_scan, k_update, k_each, k_select, k_return, k_suspend, k_result, OfSurroundings, v_scan, v_mark, v_limit, m_plain, m_each, a_fail, OfChoices, r_alt, r_limit, r_efail, r_restore, r_reenter, r_back, t_after, linked_of, store_of, at_eval, at_succeed, at_fail}
 use Rattle.icn_simulation.specs.Ground.{Ground, code_of, machine}
-use Rattle.icn_simulation.proofs.Basics.{LState, To, stepped, Reach, Goes, Live, run, ran, weigh, weight, stay, silent, goes, then_reach, at_step, opens, on_turn, on_value, on_made, errored}
+use Rattle.icn_simulation.proofs.Basics.{LState, To, stepped, Reach, Goes, Live, run, ran, weigh, weight, stay, silent, goes, then_reach, at_step, opens, on_turn, on_value, on_made, errored, sets_none}
 use Rattle.icn_simulation.proofs.Leaving.{oldest, front_of, all_by, same_activation, same_scans, called}
 use Rattle.icn_simulation.proofs.Acts.{unmark, pops, gotos, efails, on_action, on_try}
 use Rattle.icn_simulation.proofs.Coexps.{look, status_all, on_entered}
@@ -132,6 +132,7 @@ module _ (G : Ground) where
       record {
         by = stepped G p m' st ls h
             ∙ ap (λ b. ran (relabelled_if b a f (linked_of m' (suc p) st)) (store_of st ls)) (equal_self a);
+        whole = λ x. x.2;
       }
 
   on_each : {first : Bool} {n : Nest} {b : MaybeTree} {v : Surroundings} {k : Works} {r0 r : Choices}
@@ -160,6 +161,7 @@ module _ (G : Ground) where
             (λ st'. S.with_value (machine G) x (linked_of m' (suc p) st) st'
             (λ value. S.result_given (machine G) value (linked_of m' (suc p) st) st')) else S.stuck)
             (sym live.0 ∙ e);
+        whole = sets_none G p m st ls h refl;
       })
       (on_turn G st ls _ _ (on_value G (suc p) xs x (record st { turns = suc st.turns }) ls _ _ refl live r1
       (λ v. given v (record st { turns = suc st.turns }) live)))
@@ -182,7 +184,7 @@ module _ (G : Ground) where
       (MW.on_succeed G.L.program x k r st) (run (chain (x ∷ xs) s z o) p st ls)
   on_works x p st ls live (k_goto h k) r = goes G _ (gotos G p st ls h) (on_works x _ st ls live k r).reach
   on_works x p st ls live (k_esusp h k) r =
-      goes G _ (at_step G p _ st ls h) (on_works x _ st ls live k (r_alt r)).reach
+      goes G _ (at_step G p _ st ls h refl) (on_works x _ st ls live k (r_alt r)).reach
   on_works x p st ls live (k_raise h k) r =
       goes G _ (raises p st ls h) (stay G (at_succeed live.0 live.1 k r))
   on_works x p st ls live (k_args {xs = xs} s_nil h ap' c e v k) r =
@@ -195,29 +197,29 @@ module _ (G : Ground) where
   on_works x p st ls live (k_cut h r0 a) r =
       goes G _ (unmark G _ _ _ p st ls h) (on_action G _ st ls live a r0)
   on_works {xs = xs} x p st ls live (k_limit h e h2 v k) r =
-      goes G _ (at_step G p _ st ls h)
+      goes G _ (at_step G p _ st ls h refl)
       (on_value G _ xs x st ls _ _ (same_activation G v) live r
       (λ value. on_limit (integer_of value) value (suc p) st ls live e h2 v k r))
   on_works x p st ls live (k_count {c = c} h r0 k) r =
-      goes G _ (at_step G p _ st ls h)
+      goes G _ (at_step G p _ st ls h refl)
       (on_count (MW.remaining c st) x (suc p)
       (record st { limits = slice_set st.limits c (MW.remaining c st) }) ls live r0 k r)
   on_works {xs = xs} x p st ls live (k_scan h e h2 v k) r =
-      goes G _ (at_step G p _ st ls h)
+      goes G _ (at_step G p _ st ls h refl)
       (on_value G _ xs x st ls _ _ (same_activation G v) live r
       (λ value. on_made G _ xs (text_row value) st ls _ _ (same_activation G v) live r
       (λ text seen. on_scan_in text (suc p) _ ls live e h2 v k r)))
   on_works x p st ls live (k_leave {i = i} h k) r =
-      goes G _ (at_step G p _ st ls h) (stay G (at_succeed live.0 live.1 k (r_reenter r)))
+      goes G _ (at_step G p _ st ls h refl) (stay G (at_succeed live.0 live.1 k (r_reenter r)))
   on_works x p st ls live (k_update_both e h v k) r =
       silent G _ (at_eval live.0 live.1 e v (k_args {xs = x ∷ []} s_nil h f_operation refl refl v k) r)
       (omega arith)
   on_works x p st ls live (k_update_scan h h1 e h2 h3 v k) r =
-      goes G _ (at_step G p _ st ls h)
+      goes G _ (at_step G p _ st ls h refl)
       (stay G (at_succeed live.0 live.1
       (k_scan h1 e h2 v (k_args {xs = x ∷ []} s_nil h3 f_operation refl refl v k)) r))
   on_works x p st ls live (k_update d_activate h e h1 ap' h2 v k) r =
-      goes G _ (at_step G p _ st ls h)
+      goes G _ (at_step G p _ st ls h refl)
       (stay G (at_eval live.0 live.1 e v
       (k_args {xs = x ∷ []} s_nil h1 ap' refl refl v
       (k_args {xs = x ∷ []} s_nil h2 f_operation refl refl v k)) r))
@@ -225,7 +227,7 @@ module _ (G : Ground) where
       (k_update {y = y} {v = v'} {k = k'} (d_operate {o = op} eo) h e h1 ap' h2 v k) r =
       subst (λ s1. Goes G (suc (weigh y)) s1 (run (chain (x ∷ xs) s z o) p st ls))
       (sym (update_of op x y v' k' r' st eo))
-      (goes G _ (at_step G p _ st ls h)
+      (goes G _ (at_step G p _ st ls h refl)
       (stay G (at_eval live.0 live.1 e v
       (k_args {xs = x ∷ []} s_nil h1 ap' refl refl v
       (k_args {xs = x ∷ []} s_nil h2 f_operation refl refl v k)) r)))
@@ -233,19 +235,19 @@ module _ (G : Ground) where
       goes G _ (pops G x p st ls h) (on_each _ st ls live b h2 v k r0 r)
   on_works {s = s'} x p st ls live
       (k_select {lab = lab} {ys = ys} {xs = xs} {s = s} {z = z} {o = o} h c v k r0) r =
-      goes G _ (at_step G p _ st ls h)
+      goes G _ (at_step G p _ st ls h refl)
       (on_value G (suc p) ys x st ls _ _ (same_activation G v) live r (λ value.
       unmarked_push (Val value) (chain xs s z o) (chain ys s' z (mark lab (chain xs s z o))) z (suc p) st ls
       (on_try G (suc p) st ls live c v k r0)))
   on_works {xs = xs} {s = s} {z = z} {o = o} x p st ls live (k_return {v = v'} w h v) r = let m =
-      chain xs s z o in goes G _ (at_step G p _ st ls h)
+      chain xs s z o in goes G _ (at_step G p _ st ls h refl)
       (on_outgoing (suc p) xs x st ls _ _ (same_activation G v) live r (λ x.
       subst (λ y. Reach G (MC.returned x v' st)
       (S.returned (leave_frame (linked_of m (suc p) st) (frame_of o)) (S.pushed (machine G) x) y))
       (sym (all_by (oldest z) m (suc p) st ls)) ((called G w v).came x m (suc p) st ls live)))
   on_works {r = r'} {xs = xs} {s = s} {z = z} {o = o} x p st ls live
       (k_suspend {b = b'} {v = v'} w h h2 b h3 v) r = let m = chain (x ∷ xs) s z o in
-      goes G _ (at_step G p _ st ls h)
+      goes G _ (at_step G p _ st ls h refl)
       (on_outgoing (suc p) (x ∷ xs) x st ls _ _ (same_activation G v) live r (λ y.
       subst (λ st'. Reach G (MC.suspended y b' v' v' r' st')
       (S.maybe_exchanged (swap_at (S.pair_now (store_of st ls)) (linked_of m (suc p) st) (oldest z))

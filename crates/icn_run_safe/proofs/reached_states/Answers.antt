@@ -1,12 +1,12 @@
 use Rattle.icn_verify.proofs.Deciding.{shapes_given}
 use Rattle.icn_run_safe.proofs.Facts.{are_shaped}
-use Rattle.icn_run_safe.proofs.NoStuck.{shapes_of}
+use Rattle.icn_run_safe.specs.Facts.{shapes_of}
 use Rattle.icn_run_safe.proofs.TablesKept.{tables_ok}
 use Rattle.icn_run_safe.proofs.RowsWithin.{rows_stay_within}
 use Rattle.icn_run_safe.proofs.reached_states.Goals as goal
 
 pub returns-clause-shaped : goal.returns-clause-shaped
-returns-clause-shaped c = λ tables rules have. (shapes_of tables have, are_shaped tables have (tables_ok tables rules) rows_stay_within)
+returns-clause-shaped c = λ tables rules have. are_shaped tables have (tables_ok tables rules) rows_stay_within
 
 pub returns-clause-verified : goal.returns-clause-verified
 returns-clause-verified c = λ tables rules verified. (shapes_of tables (shapes_given tables rules verified), are_shaped tables (shapes_given tables rules verified) (tables_ok tables rules) rows_stay_within)
