@@ -82,6 +82,9 @@ impl<K: Stack<Cell> + Drop> Stacks<K> {
         // `&main` has begun, and is never exhausted.
         ensures begun { status_of 0 self.now.table ≢ Fresh }
         ensures never { status_of 0 self.now.table ≢ Exhausted }
+
+        // What entered the active one last is there.
+        ensures source { source self.now.table < length self.now.table.coexps }
     {
         self.active
     }

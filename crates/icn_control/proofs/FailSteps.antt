@@ -1,5 +1,5 @@
 -- A step of failing on a machine.
-use Rattle.std.proofs.Common.{◌≡◌, ℕ, Bool, List, Option, Some, refl, sym, ap, ◌∙◌, subst}
+use Rattle.std.proofs.Common.{◌≡◌, ℕ, Bool, List, Option, Some, refl, sym, subst}
 use Rattle.icn_value.specs.Store.{Outside, Names}
 use Rattle.icn_heap.specs.declared.heap.Heap.{Heap as HeldHeap}
 use Rattle.icn_heap.specs.Heaps.{extent_of}
@@ -9,7 +9,7 @@ use Rattle.icn_frames.specs.Stacks.{FlatStack}
 use Rattle.icn_coexp.specs.Transfers.{Table}
 use Rattle.icn_code.specs.Codes.{Tables}
 use Rattle.icn_run.specs.Stacks.{Frames, flat}
-use Rattle.icn_run.specs.Step.{State, Store, fails}
+use Rattle.icn_run.specs.Step.{Store, fails}
 use Rattle.icn_control.specs.declared.failing.Due.{Due}
 use Rattle.icn_control.specs.Falls.{IsDue, FallsTo}
 use Rattle.icn_control.specs.Machines.{store_in, running_of}

@@ -17,3 +17,5 @@ pub mod LiveTables
 pub mod ExhaustSteps
 pub mod TurnSteps
 pub mod FailSteps
+pub mod LiteralSteps
+pub mod KeywordSets

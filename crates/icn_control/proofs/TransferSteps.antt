@@ -121,7 +121,7 @@ value_passed beside t u n value m e =
 
 -- The transfers
 
-source_is : (beside : Beside) (t : Table) → activator_of t.active (store_with beside t) ≡ source t
+pub source_is : (beside : Beside) (t : Table) → activator_of t.active (store_with beside t) ≡ source t
 source_is beside t = activator_at beside.all t.coexps t.active
 
 waits_on : (beside : Beside) (t : Table) (n : FlatStack) → t.running ≡ Some n → with_status t.active (Waiting (stack_in beside.all n)) (store_with beside t) ≡ store_with beside (table.waiting t)

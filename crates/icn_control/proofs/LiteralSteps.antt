@@ -1,0 +1,92 @@
+-- Csets of the code, and keywords.
+use Rattle.std.proofs.Common.{◌≡◌, ℕ, ◌<◌, List, length, slice_get, Option, Some, None, IfSome, refl, sym, ap, ◌∙◌, subst}
+use Rattle.std.proofs.lemmas.Option.{same_Some, slice_get_within}
+use Rattle.std.specs.Option.{option_map}
+use Rattle.icn_text.specs.declared.keyword.Keyword.{Keyword}
+use Rattle.icn_value.specs.declared.cset.Cset.{Cset}
+use Rattle.icn_value.specs.declared.item.Item.{Item as HeldItem}
+use Rattle.icn_value.specs.declared.item.Item.TheVariants.{Val as HeldVal}
+use Rattle.icn_value.specs.declared.val.Val.TheVariants.{Chars as CharsVal}
+use Rattle.icn_value.specs.Members.{members_of}
+use Rattle.icn_defs.specs.Keywords.{Standing, keyword_item}
+use Rattle.icn_heap.specs.declared.heap.Heap.{Heap as HeldHeap}
+use Rattle.icn_heap.specs.Heaps.{extent_of, heap_of}
+use Rattle.icn_vars.specs.Worlds.{Reach, item_in}
+use Rattle.icn_frames.specs.Stacks as held
+use Rattle.icn_frames.specs.Stacks.{FlatStack}
+use Rattle.icn_frames_laws.proofs.CallsRead.{level_read}
+use Rattle.icn_coexp.specs.Transfers as table
+use Rattle.icn_coexp.specs.Transfers.{Coexp, Table, OneIsActive}
+use Rattle.icn_code.specs.declared.instr.Instr.TheVariants as Instrs
+use Rattle.icn_code.specs.Codes.{Tables}
+use Rattle.icn_run.specs.Rows as rows
+use Rattle.icn_run.specs.Stacks.{Frames, flat}
+use Rattle.icn_run.specs.Step as code
+use Rattle.icn_run.specs.Step.{State, Store, Status, Active, running, failing, instruction, with_found, pushed, pushed_or_fails}
+use Rattle.icn_control.specs.Living.{IsLiveStack}
+use Rattle.icn_control.specs.Standing.{stack_in, reading_of, GoesOnIn}
+use Rattle.icn_control.specs.Machines.{running_of, AreLiveStacks, IsLiveRunning}
+use Rattle.icn_control.specs.Landing.{Beside, store_with}
+use Rattle.icn_control.proofs.TransferSteps.{source_is}
+
+-- the members of a set, said twice
+members_same : (set : Cset) → members_of set ≡ code.members_of set
+unfolding members_of
+members_same set = refl
+
+pub cset_runs : (m n : FlatStack) (tables : Tables) (k : ℕ) (set : Cset) → slice_get tables.csets k ≡ Some set → n ≡ held.push (HeldVal (CharsVal set)) m → GoesOnIn tables (Instrs.Cset k) m n
+cset_runs m n tables k set s p all st =
+    ap (λ (o : Option Cset). with_found o (λ x. pushed flat (rows.Val (rows.Chars (code.members_of x))) (stack_in all m) st)) s
+    ∙ ap (λ (w : List ℕ). pushed flat (rows.Val (rows.Chars w)) (stack_in all m) st) (sym (members_same set))
+    ∙ ap (λ (y : FlatStack). running (stack_in all y) st) (sym p)
+
+-- what a keyword gives is pushed, or it fails
+keyword_goes : (beside : Beside) (t : Table) (m : FlatStack) (tables : Tables) (word : Keyword) (level current source : ℕ) (item : Option HeldItem) → t.running ≡ Some m → level ≡ held.level m → current ≡ t.active
+    → source ≡ table.source t → option_map (item_in beside.all) item ≡ keyword_item (record { level = level; current = current; source = source }) word
+    → instruction flat tables (Instrs.Keywd word) (stack_in beside.all (running_of t.running)) (store_with beside t) ≡ pushed_or_fails flat (option_map (item_in beside.all) item) (stack_in beside.all m) (store_with beside t)
+keyword_goes beside t m tables word level current source item r l a s i =
+    let st : Store Frames = store_with beside t in
+    let F : Standing → State Frames Frames = λ x. pushed_or_fails flat (keyword_item x word) (stack_in beside.all m) st in
+    ap (λ (o : Option FlatStack). instruction flat tables (Instrs.Keywd word) (stack_in beside.all (running_of o)) st) r
+    ∙ ap (λ (k : ℕ). F (record { level = k; current = t.active; source = code.activator_of t.active st })) (level_read (reading_of beside.all) m ∙ sym l)
+    ∙ ap (λ (k : ℕ). F (record { level = level; current = k; source = code.activator_of t.active st })) (sym a)
+    ∙ ap (λ (k : ℕ). F (record { level = level; current = current; source = k })) (source_is beside t ∙ sym s)
+    ∙ ap (λ (o : Option rows.Item). pushed_or_fails flat o (stack_in beside.all m) st) (sym i)
+
+pub keyword_fails : (beside : Beside) (t : Table) (m : FlatStack) (tables : Tables) (word : Keyword) (level current source : ℕ) (item : Option HeldItem) → t.running ≡ Some m → level ≡ held.level m → current ≡ t.active
+    → source ≡ table.source t → option_map (item_in beside.all) item ≡ keyword_item (record { level = level; current = current; source = source }) word → item ≡ None
+    → instruction flat tables (Instrs.Keywd word) (stack_in beside.all (running_of t.running)) (store_with beside t) ≡ failing (stack_in beside.all m) (store_with beside (record t { running = Some m }))
+keyword_fails beside t m tables word level current source item r l a s i e =
+    keyword_goes beside t m tables word level current source item r l a s i
+    ∙ ap (λ (o : Option HeldItem). pushed_or_fails flat (option_map (item_in beside.all) o) (stack_in beside.all m) (store_with beside t)) e
+
+pub keyword_runs : (beside : Beside) (t : Table) (m n : FlatStack) (tables : Tables) (word : Keyword) (level current source : ℕ) (item : Option HeldItem) (x : HeldItem) → t.running ≡ Some m → level ≡ held.level m → current ≡ t.active
+    → source ≡ table.source t → option_map (item_in beside.all) item ≡ keyword_item (record { level = level; current = current; source = source }) word → item ≡ Some x → n ≡ held.push x m
+    → instruction flat tables (Instrs.Keywd word) (stack_in beside.all (running_of t.running)) (store_with beside t) ≡ running (stack_in beside.all n) (store_with beside (record t { running = Some n }))
+keyword_runs beside t m n tables word level current source item x r l a s i e p =
+    keyword_goes beside t m tables word level current source item r l a s i
+    ∙ ap (λ (o : Option HeldItem). pushed_or_fails flat (option_map (item_in beside.all) o) (stack_in beside.all m) (store_with beside t)) e
+    ∙ ap (λ (y : FlatStack). running (stack_in beside.all y) (store_with beside t)) (sym p)
+
+-- What may be named
+
+-- a heap counts its co-expressions
+pub coexps_counted : (heap : HeldHeap) → (extent_of heap).coexps ≡ length (heap_of heap).coexps
+unfolding extent_of heap_of
+coexps_counted heap = refl
+
+-- the active one is there, where a stack runs
+pub active_there : (t : Table) (m : FlatStack) → t.running ≡ Some m → OneIsActive t → t.active < length t.coexps
+active_there t m r one = by_entry (slice_get t.coexps t.active) refl (one.here ∙ ap table.active_status r)
+  where
+    by_entry : (o : Option Coexp) → slice_get t.coexps t.active ≡ o → table.status_in o ≡ Active → t.active < length t.coexps
+    by_entry (Some c) g e = slice_get_within t.coexps t.active c g
+    by_entry None g e = cc
+
+-- the stack that runs is of the world
+pub running_live : (tables : Tables) (reach : Reach) (t : Table) (m : FlatStack) → t.running ≡ Some m → AreLiveStacks tables reach t → IsLiveStack tables reach m
+running_live tables reach t m r k = subst (λ (w : Option FlatStack). IsLiveRunning tables reach w) r k.runs
+
+pub if_there : {A : Type 0} (o : Option A) (x : A) (P : A → Type 0) → o ≡ Some x → IfSome o P → P x
+if_there (Some y) x P e p = subst P (same_Some _ _ e) p
+if_there None x P e p = cc
