@@ -1,6 +1,7 @@
 pub mod ReadValues
 pub mod Growing
 pub mod KeptItems
+pub mod KeptSettings
 pub mod KeptOutcomes
 pub mod Changing
 pub mod RootChanges

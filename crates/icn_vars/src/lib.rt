@@ -20,7 +20,7 @@ pub use assigning::assign;
 pub use assignment::{Assignment, Exchange};
 pub use exchanging::exchange;
 pub use keywords::place_of;
-pub use laws::{coexpressions_are_made, fields_are_assigned, results_are_counted};
+pub use laws::{coexpressions_are_made, fields_are_assigned, results_are_counted, settings_stay};
 pub use locals::Locals;
 pub use movers::mover_of;
 pub use outcome::{Halt, Outcome};
