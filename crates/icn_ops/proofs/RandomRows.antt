@@ -4,11 +4,12 @@ use Rattle.std.specs.Prelude.{unwrap_or}
 use Rattle.std.specs.List.{slice_get}
 use Rattle.std.proofs.lemmas.Bool.{le-ltb, lt-ltb}
 use Rattle.icn_text.specs.RandomNumbers.{picked, random_step}
-use Rattle.icn_value.specs.Values.{Value, AList, ARecord, ASet, ATable, Null, Item, Val}
+use Rattle.icn_value.specs.Values.{Value, AList, ARecord, ASet, ATable, Null, Variable, Item, Val}
 use Rattle.icn_value.specs.Store.{Setting, having_random, list_at, record_at, set_at, table_at, value_at}
 use Rattle.icn_defs.specs.Conversions.{Group, Collected, Listed, Recorded, Tabled}
-use Rattle.icn_defs.specs.Elements.{element_item, field_item, key_item, picks, random_of}
+use Rattle.icn_defs.specs.Elements.{element_item, field_item, key_item, part_item, picks, random_of, text_variable}
 use Rattle.icn_defs.specs.Rows.{Row, Fails, Gives, found, gives, gives_value, passing}
+use Rattle.icn_ops.proofs.PlaceRows.{part_given}
 
 -- the setting behind one more random number
 abbrev pub after_pick : Setting → Setting
@@ -63,3 +64,21 @@ field_picked x id place s some same =
 pub record_empty : (x : Item) (id : ℕ) (s : Setting) → length (record_at s.world.heap id).fields ≤ 0 → random_of x (ARecord id) (Recorded id) s ≡ Fails s
 record_empty x id s none =
     ap (λ t. passing t (picks (length (record_at s.world.heap id).fields) (λ place. gives (field_item id place))) s) (le-ltb 0 (length (record_at s.world.heap id).fields) none)
+
+-- Texts
+
+module _ (x x' : Item) (v v' : Value) (text text' : List ℕ) (size : ℕ) (s : Setting) where
+  pub byte_picked : (holder : Option Variable) (item : Item) (place state : ℕ) → size ≡ length text → 0 < size → state ≡ random_step s.world.random → place ≡ picked state size
+      → item ≡ part_item holder text' (place + 1) 1 → holder ≡ text_variable x' v' → x' ≡ x → v' ≡ v → text' ≡ text
+      → passing (nat_lt 0 (length text)) (picks (length text) (λ place. gives (part_item (text_variable x v) text (place + 1) 1))) s ≡ Gives item (having_random state s)
+  byte_picked holder item place state long some stepped same is hold one two three =
+      let on : ℕ → Row = λ p. gives (part_item (text_variable x v) text (p + 1) 1) in
+      ap (λ k. passing (nat_lt 0 k) (picks k on) s) (sym long)
+      ∙ (ap (λ t. passing t (picks size on) s) (lt-ltb 0 size some)
+      ∙ (ap (λ r. on (picked r size) (having_random r s)) (sym stepped)
+      ∙ (ap (λ p. on p (having_random state s)) (sym same) ∙ part_given x x' v v' text text' holder item (place + 1) 1 (having_random state s) is hold one two three)))
+
+  pub byte_lacking : size ≡ length text → size ≤ 0 → passing (nat_lt 0 (length text)) (picks (length text) (λ place. gives (part_item (text_variable x v) text (place + 1) 1))) s ≡ Fails s
+  byte_lacking long none =
+      let on : ℕ → Row = λ p. gives (part_item (text_variable x v) text (p + 1) 1) in
+      ap (λ k. passing (nat_lt 0 k) (picks k on) s) (sym long) ∙ ap (λ t. passing t (picks size on) s) (le-ltb 0 size none)

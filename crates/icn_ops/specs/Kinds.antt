@@ -1,9 +1,11 @@
--- Operations that want values: they neither assign nor give variables, nor take what they are given apart.
+-- Operations that want values, and what operations leave.
 use Rattle.std.specs.Prelude.{Bool, true, false}
 use Rattle.icn_text.specs.declared.op.Op.{Op}
 use Rattle.icn_text.specs.declared.op.Op.TheVariants.{IsNull, IsNotNull, Dereference, Number, Negate, Size, Complement, Elements, Random, TabMatch, Refresh, Add, Subtract, Multiply, Divide, Remainder, Power, Less, LessOrEqual, Equal, GreaterOrEqual, Greater, NotEqual, LexicallyLess, LexicallyLessOrEqual, LexicallyEqual, LexicallyGreaterOrEqual, LexicallyGreater, LexicallyNotEqual, Equivalent, NotEquivalent, Concatenate, ConcatenateLists, Union, Difference, Intersection, Assign, Swap, ReversibleAssign, ReversibleSwap, Subscript, Section, SectionPlus, SectionMinus, ToBy}
+use Rattle.icn_value.specs.declared.residual.Residual.{Residual}
+use Rattle.icn_value.specs.declared.residual.Residual.TheVariants.{TextBytes, VariableBytes, ListItems, SetMembers, TableValues, TableKeys, RecordFields, InputLines, UndoAssign, UndoExchange, UndoPosition, Counting, Sequence, Balanced, Found, Among}
 
--- whether an operation is one of these
+-- whether an operation wants values: it neither assigns nor gives variables, nor takes what it is given apart
 abbrev pub wants_values : Op → Bool
 wants_values IsNull = true
 wants_values IsNotNull = true
@@ -50,3 +52,22 @@ wants_values Section = false
 wants_values SectionPlus = false
 wants_values SectionMinus = false
 wants_values ToBy = true
+
+-- whether it is an operation, and no function, that left this
+abbrev pub is_of_operations : Residual → Bool
+is_of_operations (TextBytes text place) = true
+is_of_operations (VariableBytes variable place) = true
+is_of_operations (ListItems list place) = true
+is_of_operations (SetMembers set place) = true
+is_of_operations (TableValues table place) = true
+is_of_operations (TableKeys table place) = false
+is_of_operations (RecordFields rec place) = true
+is_of_operations InputLines = true
+is_of_operations (UndoAssign variable old) = true
+is_of_operations (UndoExchange mover left right old_left old_right) = true
+is_of_operations (UndoPosition old) = true
+is_of_operations (Counting given last step) = true
+is_of_operations (Sequence given step) = false
+is_of_operations (Balanced wanted opening closing text place last) = false
+is_of_operations (Found wanted text place last) = false
+is_of_operations (Among wanted text place last) = false

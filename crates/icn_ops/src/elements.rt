@@ -10,7 +10,7 @@ ghost use Rattle.icn_vars.specs.Outcomes.{IsLiveAnswer};
 ghost use Rattle.icn_vars.specs.Worlds.{IsLiveVariable, reach_of, variable_in};
 ghost use Rattle.icn_args.specs.Words.{Answers};
 
-use crate::parts::{element_item, list_count, part_of};
+use crate::parts::{element_item, field_count, list_count, part_of};
 use icn_heap::{Heap, short_text};
 use icn_value::{Item, Residual, Root, Span, Val, VarRef};
 use icn_vars::{Halt, Locals, Outcome, World, deref};
@@ -177,7 +177,7 @@ pub fn record_fields_from<L: Locals>(
     ensures row { Answers w.now (L.items l.now) w.now (L.items l.now) (record_fields_from rec place) result }
     ensures live { IsLiveAnswer (reach_of w.now (L.items l.now)) result }
 {
-    let size = w.heap.fields(rec).len() as u64;
+    let size = field_count(&w.heap, rec);
     if place < size {
         Ok(Outcome::Suspends(
             Item::Var(VarRef::Whole(Root::Field {

@@ -1,6 +1,7 @@
 //! What each operation does: a function for each row of the definitions.
 #![tactic(auto)]
 
+mod applying;
 mod arithmetic;
 mod comparisons;
 mod counting;
@@ -9,13 +10,19 @@ mod lists;
 mod null;
 mod operands;
 mod parts;
+mod positions;
 mod random;
+mod resumed;
 mod scanning;
+mod sections;
 mod sets;
+mod subscripts;
 mod texts;
 mod values;
 mod variables;
+mod walks;
 
+pub use applying::{again, first};
 pub use arithmetic::{
     add_row, divide_row, multiply_row, negate_row, number_row, power_row, remainder_row,
     subtract_row,
@@ -33,12 +40,16 @@ pub use elements::{
 };
 pub use lists::concatenate_lists_row;
 pub use null::{dereference_row, is_not_null_row, is_null_row, size_row};
-pub use random::{random_field, random_item, random_member, random_value};
+pub use random::random_row;
+pub use resumed::is_of_operations;
 pub use scanning::tab_match_row;
+pub use sections::{section_minus_row, section_plus_row, section_row};
 pub use sets::{difference_row, intersection_row, union_row};
+pub use subscripts::subscript_row;
 pub use texts::{complement_row, concatenate_row};
 pub use values::{apply_to_values, wants_values};
 pub use variables::{
     assign_row, reversible_assign_row, reversible_swap_row, swap_row, undo_assign_again,
     undo_exchange_again,
 };
+pub use walks::elements_row;

@@ -1,5 +1,5 @@
 // Two operands, as the rows of two operands want them.
-ghost use Rattle.std.specs.Prelude.{ℕ, ℤ, IfErr, IfOk};
+ghost use Rattle.std.specs.Prelude.{ℕ, ℤ, IfErr, IfOk, OnOk};
 ghost use Rattle.std.specs.List.{All};
 ghost use Rattle.std.specs.declared.cmp.Ordering.{Ordering};
 ghost use Rattle.icn_value.specs.Store.{Outside};
@@ -7,7 +7,7 @@ ghost use Rattle.icn_value.specs.declared.val.Val.TheVariants.{List};
 ghost use Rattle.icn_heap.specs.Extents.{IsLive, IsText, text_in, values_in};
 ghost use Rattle.icn_heap.specs.Heaps.{extent_of};
 ghost use Rattle.icn_vars.specs.Stops.{IsLiveStop};
-ghost use Rattle.icn_vars.specs.Worlds.{IsLiveItem, KeepsItems, item_in, reach_of, setting_of};
+ghost use Rattle.icn_vars.specs.Worlds.{IsLiveItem, IsShortItem, KeepsItems, item_in, reach_of, setting_of};
 ghost use Rattle.icn_args.specs.Words.{Found};
 ghost use Rattle.icn_ops.specs.Operands as operands;
 ghost use Rattle.icn_ops.specs.Operands.{ordered_text_in, texts_in, three_in};
@@ -24,6 +24,7 @@ pub fn two_values<L: Locals>(w: &World, l: &L, x: Item, y: Item) -> Result<(Val,
     requires second { IsLiveItem (reach_of w.now (L.items l.now)) y }
     ensures first_live { IfOk result (λ two. IsLive (extent_of w.now.heap) two.0) }
     ensures second_live { IfOk result (λ two. IsLive (extent_of w.now.heap) two.1) }
+    ensures short { OnOk result (IsShortItem x) }
     ensures stops { IfErr result (IsLiveStop (extent_of w.now.heap)) }
     ensures found { (outside : Outside) → Found (extent_of w.now.heap) (operands.two_values (item_in (extent_of w.now.heap) x) (item_in (extent_of w.now.heap) y)) (setting_of outside w.now (L.items l.now)) (setting_of outside w.now (L.items l.now)) (values_in (extent_of w.now.heap)) result }
 {
@@ -155,7 +156,7 @@ pub fn three_integers<L: Locals>(
 }
 
 // The values of three operands.
-fn three_values<L: Locals>(
+pub fn three_values<L: Locals>(
     w: &World,
     l: &L,
     x: Item,
@@ -169,6 +170,7 @@ fn three_values<L: Locals>(
     ensures first_live { IfOk result (λ three. IsLive (extent_of w.now.heap) three.0) }
     ensures second_live { IfOk result (λ three. IsLive (extent_of w.now.heap) three.1) }
     ensures third_live { IfOk result (λ three. IsLive (extent_of w.now.heap) three.2) }
+    ensures short { OnOk result (IsShortItem x) }
     ensures stops { IfErr result (IsLiveStop (extent_of w.now.heap)) }
     ensures found { (outside : Outside) → Found (extent_of w.now.heap) (operands.three_values (item_in (extent_of w.now.heap) x) (item_in (extent_of w.now.heap) y) (item_in (extent_of w.now.heap) z)) (setting_of outside w.now (L.items l.now)) (setting_of outside w.now (L.items l.now)) (three_in (extent_of w.now.heap)) result }
 {

@@ -1,9 +1,9 @@
 // Parts of texts, and elements of structures, as items.
 ghost use Rattle.std.specs.Prelude.{◌≡◌, ◌+◌, ◌-◌, ◌<◌, ◌≤◌, ◌^◌, length, IfSome};
 ghost use Rattle.std.specs.Option.{option_map};
-ghost use Rattle.icn_value.specs.Store.{list_at};
-ghost use Rattle.icn_value.specs.declared.val.Val.TheVariants.{List as ListVal};
-ghost use Rattle.icn_defs.specs.Elements.{element_item, part_item, part_of, text_variable};
+ghost use Rattle.icn_value.specs.Store.{list_at, record_at};
+ghost use Rattle.icn_value.specs.declared.val.Val.TheVariants.{List as ListVal, Rec};
+ghost use Rattle.icn_defs.specs.Elements.{element_item, field_item, part_item, part_of, text_variable};
 ghost use Rattle.icn_heap.specs.Extents.{Extent, IsLive, IsText, text_in, value_in};
 ghost use Rattle.icn_heap.specs.Heaps.{extent_of, heap_of};
 ghost use Rattle.icn_vars.specs.Worlds.{IsLiveItem, IsLiveVariable, IsShort, IsShortItem, Reach, item_in, reach_of, variable_in};
@@ -73,6 +73,16 @@ pub fn part_item<L: Locals>(
     }
 }
 
+// How many bytes a text has.
+pub fn text_length(heap: &Heap, text: Span) -> u64
+    requires { IsText (extent_of heap.now) text }
+    ensures count { result ≡ length (text_in (extent_of heap.now) text) }
+    ensures small { result < 2 ^ 63 - 1 }
+{
+    short_text(heap, text);
+    heap.bytes(text).len() as u64
+}
+
 // How many elements a list has.
 pub fn list_count(heap: &Heap, list: u32) -> u64
     requires { IsLive (extent_of heap.now) (ListVal list) }
@@ -92,4 +102,27 @@ pub fn element_item<L: Locals>(w: &World, l: &L, list: u32, place: u64) -> Item
 {
     let number = w.heap.list(list).first() + place as i64;
     Item::Var(VarRef::Whole(Root::Element { list, number }))
+}
+
+// How many fields a record has.
+pub fn field_count(heap: &Heap, rec: u32) -> u64
+    requires { IsLive (extent_of heap.now) (Rec rec) }
+    ensures count { result ≡ length (record_at (heap_of heap.now) rec).fields }
+    ensures small { result ≤ 2 ^ 16 }
+{
+    heap.fields(rec).len() as u64
+}
+
+// The field at a place of a record, from 0 on.
+pub fn field_item<L: Locals>(w: &World, l: &L, rec: u32, place: u64) -> Item
+    requires rec { IsLive (extent_of w.now.heap) (Rec rec) }
+    requires there { place < length (record_at (heap_of w.now.heap) rec).fields }
+    requires small { place < 2 ^ 16 }
+    ensures item { item_in (extent_of w.now.heap) result ≡ field_item rec place }
+    ensures live { IsLiveItem (reach_of w.now (L.items l.now)) result }
+{
+    Item::Var(VarRef::Whole(Root::Field {
+        rec,
+        place: place as u16,
+    }))
 }

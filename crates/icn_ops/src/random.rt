@@ -1,23 +1,106 @@
 // Elements at random.
 ghost use Rattle.std.specs.List.{All};
 ghost use Rattle.icn_value.specs.declared.val.Val.TheVariants.{List as ListVal, Rec, Set, Table};
-ghost use Rattle.icn_defs.specs.Conversions.{Collected, Listed, Recorded, Tabled};
-ghost use Rattle.icn_defs.specs.Elements.{random_of};
+ghost use Rattle.icn_defs.specs.Conversions.{Collected, Listed, Recorded, Tabled, Textual, held_integer};
+ghost use Rattle.icn_defs.specs.Elements.{random_by, random_number, random_of, random_row};
 ghost use Rattle.icn_heap.specs.Extents.{IsLive, value_in};
 ghost use Rattle.icn_heap.specs.Heaps.{extent_of};
 ghost use Rattle.icn_vars.specs.Outcomes.{IsLiveAnswer};
-ghost use Rattle.icn_vars.specs.Worlds.{KeepsItems, item_in, reach_of};
-ghost use Rattle.icn_args.specs.Words.{Answers};
+ghost use Rattle.icn_vars.specs.Worlds.{IsLiveItem, IsShortItem, KeepsItems, item_in, reach_of};
+ghost use Rattle.icn_args.specs.Words.{Answers, HasText, the_text};
 
 use crate::elements::{set_count, table_count};
-use crate::parts::{element_item, list_count};
+use crate::parts::{element_item, field_count, list_count, part_item, text_holder, text_length};
+use icn_args::text_of;
 use icn_text::{pick, random_step};
 use icn_value::{Item, Root, Val, VarRef};
-use icn_vars::{Halt, Locals, Outcome, World};
+use icn_vars::{Halt, Locals, Outcome, World, deref};
 
-/// An element of a list at random; it fails where there is none.
+/// `?x`: of an integer a number from 1 to it, and of a text or a structure one of its elements; it fails where there is none. The errors
+/// are 205 about an integer below 1, 113 about a value that has no elements to pick from, and 306 where a text that is made passes
+/// its limit.
+pub fn random_row<L: Locals>(w: &mut World, l: &L, x: Item) -> Result<Outcome, Halt>
+    requires locals { All (IsLive (extent_of w.old.heap)) (L.items l.now) }
+    requires first { IsLiveItem (reach_of w.old (L.items l.now)) x }
+    ensures row { Answers w.old (L.items l.now) w.new (L.items l.now) (random_row (item_in (extent_of w.old.heap) x)) result }
+    ensures live { IsLiveAnswer (reach_of w.new (L.items l.now)) result }
+    ensures locals { All (IsLive (extent_of w.new.heap)) (L.items l.now) }
+    ensures kept { KeepsItems (reach_of w.old (L.items l.now)) (reach_of w.new (L.items l.now)) }
+{
+    let val = deref(w, l, x)?;
+    random_by(w, l, x, val)
+}
+
+// A random number up to a value, or one of its elements. The item has the value.
+#[tactic(auto, using(icn_vars::proofs::KeptItems::items_all))]
+fn random_by<L: Locals>(w: &mut World, l: &L, x: Item, val: Val) -> Result<Outcome, Halt>
+    requires locals { All (IsLive (extent_of w.old.heap)) (L.items l.now) }
+    requires item { IsLiveItem (reach_of w.old (L.items l.now)) x }
+    requires short { IsShortItem x }
+    requires val { IsLive (extent_of w.old.heap) val }
+    ensures row { Answers w.old (L.items l.now) w.new (L.items l.now) (random_by (item_in (extent_of w.old.heap) x) (value_in (extent_of w.old.heap) val) (held_integer (value_in (extent_of w.old.heap) val))) result }
+    ensures live { IsLiveAnswer (reach_of w.new (L.items l.now)) result }
+    ensures locals { All (IsLive (extent_of w.new.heap)) (L.items l.now) }
+    ensures kept { KeepsItems (reach_of w.old (L.items l.now)) (reach_of w.new (L.items l.now)) }
+{
+    match val {
+        Val::Integer(n) => random_number(w, l, val, n),
+        Val::Text(_) => random_byte(w, l, x, val),
+        Val::Chars(_) => random_byte(w, l, x, val),
+        Val::List(list) => random_item(w, l, x, list),
+        Val::Set(set) => random_member(w, l, x, set),
+        Val::Table(table) => random_value(w, l, x, table),
+        Val::Rec(rec) => random_field(w, l, x, rec),
+        _ => Err(Halt::Error(113, Some(val))),
+    }
+}
+
+// A number from 1 to n at random. The error is 205 about the value that n comes from, where n is below 1.
+#[tactic(auto, using(icn_vars::proofs::KeptItems::items_all))]
+fn random_number<L: Locals>(w: &mut World, l: &L, val: Val, n: i64) -> Result<Outcome, Halt>
+    requires locals { All (IsLive (extent_of w.old.heap)) (L.items l.now) }
+    requires val { IsLive (extent_of w.old.heap) val }
+    ensures row { Answers w.old (L.items l.now) w.new (L.items l.now) (random_number (value_in (extent_of w.old.heap) val) n) result }
+    ensures live { IsLiveAnswer (reach_of w.new (L.items l.now)) result }
+    ensures locals { All (IsLive (extent_of w.new.heap)) (L.items l.now) }
+    ensures kept { KeepsItems (reach_of w.old (L.items l.now)) (reach_of w.new (L.items l.now)) }
+{
+    if n > 0 {
+        w.random = random_step(w.random);
+        let place = pick(w.random, n as u64);
+        Ok(Outcome::Gives(Item::Val(Val::Integer(1 + place as i64))))
+    } else {
+        Err(Halt::Error(205, Some(val)))
+    }
+}
+
+// A byte of a text at random, as a part of the variable that holds the text, if one does; it fails where there is none.
+fn random_byte<L: Locals>(w: &mut World, l: &L, x: Item, val: Val) -> Result<Outcome, Halt>
+    requires locals { All (IsLive (extent_of w.old.heap)) (L.items l.now) }
+    requires item { IsLiveItem (reach_of w.old (L.items l.now)) x }
+    requires short { IsShortItem x }
+    requires val { IsLive (extent_of w.old.heap) val }
+    requires has { HasText (value_in (extent_of w.old.heap) val) }
+    ensures row { Answers w.old (L.items l.now) w.new (L.items l.now) (random_of (item_in (extent_of w.old.heap) x) (value_in (extent_of w.old.heap) val) (Textual (the_text (value_in (extent_of w.old.heap) val)))) result }
+    ensures live { IsLiveAnswer (reach_of w.new (L.items l.now)) result }
+    ensures locals { All (IsLive (extent_of w.new.heap)) (L.items l.now) }
+    ensures kept { KeepsItems (reach_of w.old (L.items l.now)) (reach_of w.new (L.items l.now)) }
+{
+    let text = text_of(w, l, val)?;
+    let size = text_length(&w.heap, text);
+    if size > 0 {
+        w.random = random_step(w.random);
+        let place = pick(w.random, size);
+        let holder = text_holder(x, val);
+        Ok(Outcome::Gives(part_item(w, l, holder, text, place + 1, 1)))
+    } else {
+        Ok(Outcome::Fails)
+    }
+}
+
+// An element of a list at random; it fails where there is none.
 #[tactic(auto, using(icn_vars::proofs::KeptItems::items_all, crate::proofs::RandomRows::list_picked, crate::proofs::RandomRows::list_empty))]
-pub fn random_item<L: Locals>(w: &mut World, l: &L, x: Item, list: u32) -> Result<Outcome, Halt>
+fn random_item<L: Locals>(w: &mut World, l: &L, x: Item, list: u32) -> Result<Outcome, Halt>
     requires locals { All (IsLive (extent_of w.old.heap)) (L.items l.now) }
     requires list { IsLive (extent_of w.old.heap) (ListVal list) }
     ensures row { Answers w.old (L.items l.now) w.new (L.items l.now) (random_of (item_in (extent_of w.old.heap) x) (value_in (extent_of w.old.heap) (ListVal list)) (Listed list)) result }
@@ -35,9 +118,9 @@ pub fn random_item<L: Locals>(w: &mut World, l: &L, x: Item, list: u32) -> Resul
     }
 }
 
-/// A member of a set at random; it fails where there is none.
+// A member of a set at random; it fails where there is none.
 #[tactic(auto, using(icn_vars::proofs::KeptItems::items_all, crate::proofs::RandomRows::member_picked, crate::proofs::RandomRows::set_empty))]
-pub fn random_member<L: Locals>(w: &mut World, l: &L, x: Item, set: u32) -> Result<Outcome, Halt>
+fn random_member<L: Locals>(w: &mut World, l: &L, x: Item, set: u32) -> Result<Outcome, Halt>
     requires locals { All (IsLive (extent_of w.old.heap)) (L.items l.now) }
     requires set { IsLive (extent_of w.old.heap) (Set set) }
     ensures row { Answers w.old (L.items l.now) w.new (L.items l.now) (random_of (item_in (extent_of w.old.heap) x) (value_in (extent_of w.old.heap) (Set set)) (Collected set)) result }
@@ -57,9 +140,9 @@ pub fn random_member<L: Locals>(w: &mut World, l: &L, x: Item, set: u32) -> Resu
     }
 }
 
-/// The value at a key of a table at random; it fails where there is none.
+// The value at a key of a table at random; it fails where there is none.
 #[tactic(auto, using(icn_vars::proofs::KeptItems::items_all, crate::proofs::RandomRows::pair_picked, crate::proofs::RandomRows::table_empty))]
-pub fn random_value<L: Locals>(w: &mut World, l: &L, x: Item, table: u32) -> Result<Outcome, Halt>
+fn random_value<L: Locals>(w: &mut World, l: &L, x: Item, table: u32) -> Result<Outcome, Halt>
     requires locals { All (IsLive (extent_of w.old.heap)) (L.items l.now) }
     requires table { IsLive (extent_of w.old.heap) (Table table) }
     ensures row { Answers w.old (L.items l.now) w.new (L.items l.now) (random_of (item_in (extent_of w.old.heap) x) (value_in (extent_of w.old.heap) (Table table)) (Tabled table)) result }
@@ -82,9 +165,9 @@ pub fn random_value<L: Locals>(w: &mut World, l: &L, x: Item, table: u32) -> Res
     }
 }
 
-/// A field of a record at random; it fails where there is none.
+// A field of a record at random; it fails where there is none.
 #[tactic(auto, using(icn_vars::proofs::KeptItems::items_all, crate::proofs::RandomRows::field_picked, crate::proofs::RandomRows::record_empty))]
-pub fn random_field<L: Locals>(w: &mut World, l: &L, x: Item, rec: u32) -> Result<Outcome, Halt>
+fn random_field<L: Locals>(w: &mut World, l: &L, x: Item, rec: u32) -> Result<Outcome, Halt>
     requires locals { All (IsLive (extent_of w.old.heap)) (L.items l.now) }
     requires rec { IsLive (extent_of w.old.heap) (Rec rec) }
     ensures row { Answers w.old (L.items l.now) w.new (L.items l.now) (random_of (item_in (extent_of w.old.heap) x) (value_in (extent_of w.old.heap) (Rec rec)) (Recorded rec)) result }
@@ -92,7 +175,7 @@ pub fn random_field<L: Locals>(w: &mut World, l: &L, x: Item, rec: u32) -> Resul
     ensures locals { All (IsLive (extent_of w.new.heap)) (L.items l.now) }
     ensures kept { KeepsItems (reach_of w.old (L.items l.now)) (reach_of w.new (L.items l.now)) }
 {
-    let size = w.heap.fields(rec).len() as u64;
+    let size = field_count(&w.heap, rec);
     if size > 0 {
         w.random = random_step(w.random);
         let place = pick(w.random, size);

@@ -1,0 +1,57 @@
+-- What positions mean, as the rest of a row finds it, and the part of a text that is given.
+use Rattle.std.proofs.Common.{◌≡◌, ◌∙◌, sym, ap, ℕ, ◌+◌, ◌<◌, ◌≤◌, ℤ, nat_le, List, length, Option, None, Some}
+use Rattle.std.proofs.lemmas.Bool.{le-leb, lt-leb}
+use Rattle.icn_value.specs.Values.{Value, Variable, Item}
+use Rattle.icn_value.specs.Store.{Setting}
+use Rattle.icn_defs.specs.Conversions.{place_of}
+use Rattle.icn_defs.specs.Elements.{part_item, text_variable}
+use Rattle.icn_defs.specs.Rows.{Row, Outcome, Fails, Gives, found, gives, passing}
+use Rattle.icn_defs.specs.Variables.{element_place, in_order, places}
+
+-- Elements
+
+pub element_found : (n : ℤ) (size place : ℕ) (next : ℕ → Row) (s : Setting) → Some place ≡ place_of n size → place ≤ size → element_place n size next s ≡ next place s
+element_found n size place next s is within =
+    ap (λ one. found one (λ p. passing (nat_le p size) (next p)) s) (sym is) ∙ ap (λ t. passing t (next place) s) (le-leb place size within)
+
+pub element_past : (n : ℤ) (size place : ℕ) (next : ℕ → Row) (s : Setting) → Some place ≡ place_of n size → size < place → element_place n size next s ≡ Fails s
+element_past n size place next s is past =
+    ap (λ one. found one (λ p. passing (nat_le p size) (next p)) s) (sym is) ∙ ap (λ t. passing t (next place) s) (lt-leb place size past)
+
+pub element_lacking : (n : ℤ) (size : ℕ) (next : ℕ → Row) (s : Setting) → None ≡ place_of n size → element_place n size next s ≡ Fails s
+element_lacking n size next s is = ap (λ one. found one (λ p. passing (nat_le p size) (next p)) s) (sym is)
+
+-- Two places
+
+pub places_found : (m n : ℤ) (size a b : ℕ) (ends : ℕ × ℕ) (next : ℕ × ℕ → Row) (s : Setting) → Some a ≡ place_of m size → Some b ≡ place_of n size → ends ≡ in_order a b
+    → places m n size next s ≡ next ends s
+places_found m n size a b ends next s first second is =
+    ap (λ one. found one (λ p. found (place_of n size) (λ q. next (in_order p q))) s) (sym first)
+    ∙ (ap (λ one. found one (λ q. next (in_order a q)) s) (sym second) ∙ ap (λ two. next two s) (sym is))
+
+pub first_lacking : (m n : ℤ) (size : ℕ) (next : ℕ × ℕ → Row) (s : Setting) → None ≡ place_of m size → places m n size next s ≡ Fails s
+first_lacking m n size next s is = ap (λ one. found one (λ p. found (place_of n size) (λ q. next (in_order p q))) s) (sym is)
+
+pub second_lacking : (m n : ℤ) (size a : ℕ) (next : ℕ × ℕ → Row) (s : Setting) → Some a ≡ place_of m size → None ≡ place_of n size → places m n size next s ≡ Fails s
+second_lacking m n size a next s first is =
+    ap (λ one. found one (λ p. found (place_of n size) (λ q. next (in_order p q))) s) (sym first) ∙ ap (λ one. found one (λ q. next (in_order a q)) s) (sym is)
+
+-- Integers and sizes as they are held
+
+pub element_held : (n n' : ℤ) (size size' : ℕ) (next : ℕ → Row) (s : Setting) (outcome : Outcome) → n' ≡ n → size' ≡ size → element_place n' size' next s ≡ outcome
+    → element_place n size next s ≡ outcome
+element_held n n' size size' next s outcome same same' is = sym (ap (λ k. element_place k size' next s) same ∙ ap (λ k. element_place n k next s) same') ∙ is
+
+pub places_held : (m m' n n' : ℤ) (size size' : ℕ) (next : ℕ × ℕ → Row) (s : Setting) (outcome : Outcome) → m' ≡ m → n' ≡ n → size' ≡ size → places m' n' size' next s ≡ outcome
+    → places m n size next s ≡ outcome
+places_held m m' n n' size size' next s outcome first second same is =
+    sym (ap (λ k. places k n' size' next s) first ∙ (ap (λ k. places m k size' next s) second ∙ ap (λ k. places m n k next s) same)) ∙ is
+
+-- Parts of texts
+
+-- the part that is given, by what is known of the text, of what holds it, and of the item that was made
+pub part_given : (x x' : Item) (v v' : Value) (text text' : List ℕ) (holder : Option Variable) (item : Item) (place size : ℕ) (s : Setting) → item ≡ part_item holder text' place size
+    → holder ≡ text_variable x' v' → x' ≡ x → v' ≡ v → text' ≡ text → gives (part_item (text_variable x v) text place size) s ≡ Gives item s
+part_given x x' v v' text text' holder item place size s is hold one two three =
+    sym (ap (λ i. Gives i s) (is
+    ∙ (ap (λ h. part_item h text' place size) (hold ∙ (ap (λ y. text_variable y v') one ∙ ap (text_variable x) two)) ∙ ap (λ t. part_item (text_variable x v) t place size) three)))
