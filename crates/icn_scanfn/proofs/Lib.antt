@@ -1,3 +1,8 @@
 mod Places
 mod Occurrences
 mod Moved
+mod BracketSets
+mod BalancedSets
+mod GivenRegions
+mod SearchSteps
+mod Ends

@@ -6,7 +6,8 @@ use Rattle.icn_value.specs.Csets.{has}
 use Rattle.icn_value.specs.Members.{contains, members_of}
 use Rattle.icn_value.proofs.CsetMembers.{members_pass}
 use Rattle.icn_defs.specs.Scanning.{balanced_place, between, closed, count_behind}
-use Rattle.std.specs.Prelude.{◌==◌, ◌&&◌, option_and_then}
+use Rattle.std.specs.Prelude.{◌==◌, ◌&&◌, nat_lt, option_and_then}
+use Rattle.std.proofs.lemmas.Bool.{lt-ltb}
 
 -- a byte stands among the members where the cset has it
 pub is_member : (cset : Cset) (byte : ℕ) → byte < 256 → contains (members_of cset) byte ≡ has cset byte
@@ -118,3 +119,7 @@ balanced_nowhere wanted opening closing text at last count less = ap (λ bytes. 
 -- where the count is 0, a byte is balanced where it is of the cset
 pub balanced_at_zero : (wanted : Cset) (byte count : ℕ) (result : Bool) → byte < 256 → count ≡ 0 → result ≡ has wanted byte → result ≡ ((count == 0) && contains (members_of wanted) byte)
 balanced_at_zero wanted byte count result few none is = is ∙ (sym (is_member wanted byte few) ∙ sym (ap (λ n. (n == 0) && contains (members_of wanted) byte) none))
+
+-- where a place is below another one, a byte stands there where it is of the cset
+pub member_below : (wanted : Cset) (byte from to : ℕ) (result : Bool) → byte < 256 → from < to → result ≡ has wanted byte → result ≡ (nat_lt from to && contains (members_of wanted) byte)
+member_below wanted byte from to result few less is = is ∙ (sym (is_member wanted byte few) ∙ sym (ap (λ t. t && contains (members_of wanted) byte) (lt-ltb from to less)))

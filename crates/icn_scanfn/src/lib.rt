@@ -1,8 +1,14 @@
-//! The functions over texts and positions: searches by place, over which their rows stand.
+//! The functions over texts and positions: `any`, `bal`, `find`, `many`, `match`, `move`, `pos`, `tab` and `upto`.
 #![tactic(auto)]
 
+mod applying;
+mod balancing;
+mod defaults;
+mod finding;
 mod moving;
+mod regions;
+mod searches;
 mod searching;
+mod testing;
 
-pub use moving::{move_row, pos_row, tab_row};
-pub use searching::{count_behind, next_balanced, next_member, next_occurrence, run_length};
+pub use applying::{again, first};
