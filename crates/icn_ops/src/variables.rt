@@ -1,5 +1,5 @@
 // The operations that assign to variables and exchange them.
-ghost use Rattle.std.specs.Prelude.{◌≡◌, IfErr, IfOk};
+ghost use Rattle.std.specs.Prelude.{◌≡◌, ◌≢◌, true, IfErr, IfOk};
 ghost use Rattle.std.specs.List.{All};
 ghost use Rattle.icn_value.specs.Store.{Setting};
 ghost use Rattle.icn_value.specs.declared.item.Item.TheVariants.{Var as VarItem};
@@ -7,6 +7,8 @@ ghost use Rattle.icn_defs.specs.Reading.{the_variable};
 ghost use Rattle.icn_defs.specs.Variables.{assign_row, reversible_assign_row, reversible_swap_row, swap_row, undo_assign_again, undo_exchange_again};
 ghost use Rattle.icn_heap.specs.Extents.{Extent, IsLive, value_in};
 ghost use Rattle.icn_heap.specs.Heaps.{extent_of};
+ghost use Rattle.icn_vars.specs.Assignments.{takes_no_memory};
+ghost use Rattle.icn_vars.specs.declared.outcome.Halt.TheVariants.{NoMemory};
 ghost use Rattle.icn_vars.specs.Outcomes.{IsLiveAnswer, IsOld, mover_of};
 ghost use Rattle.icn_vars.specs.Stops.{IsLiveStop};
 ghost use Rattle.icn_vars.specs.Worlds.{IsLiveItem, IsLiveVariable, KeepsItems, Reach, item_in, reach_of, variable_in};
@@ -99,7 +101,8 @@ pub fn reversible_assign_row<L: Locals>(
     }
 }
 
-/// `x <- y` resumed: the old value is assigned back, and it fails.
+/// `x <- y` resumed: the old value is assigned back, and it fails. It takes no memory where the variable is neither a part of a text nor
+/// a value at a key of a table.
 pub fn undo_assign_again<L: Locals>(
     w: &mut World,
     l: &mut L,
@@ -109,6 +112,7 @@ pub fn undo_assign_again<L: Locals>(
     requires locals { All (IsLive (extent_of w.old.heap)) (L.items l.old) }
     requires old { IsOld (reach_of w.old (L.items l.old)) variable old }
     ensures row { Answers w.old (L.items l.old) w.new (L.items l.new) (undo_assign_again (variable_in (extent_of w.old.heap) variable) (value_in (extent_of w.old.heap) old)) result }
+    ensures memory { takes_no_memory (variable_in (extent_of w.old.heap) variable) ≡ true → IfErr result (λ halt. halt ≢ NoMemory) }
     ensures live { IsLiveAnswer (reach_of w.new (L.items l.new)) result }
     ensures locals { All (IsLive (extent_of w.new.heap)) (L.items l.new) }
     ensures kept { KeepsItems (reach_of w.old (L.items l.old)) (reach_of w.new (L.items l.new)) }

@@ -4,6 +4,7 @@ use Rattle.icn_heap.specs.Extents.{value_in}
 use Rattle.icn_heap.specs.Heaps.{extent_of}
 use Rattle.icn_vars.specs.Worlds.{reach_of, setting_of, variable_in}
 use Rattle.icn_args.proofs.Answering.{row_stops_at, stop_lives}
+use Rattle.icn_ops.proofs.UndoMemory.{no_want}
 use Rattle.icn_ops.proofs.variables.undo_assign_again.Goals as goal
 
 pub returns-in_err-undo-clause-row : goal.returns-in_err-undo-clause-row
@@ -15,3 +16,7 @@ returns-in_err-undo-clause-live g c = stop_lives (reach_of c.undo.new.w (g.L.Loc
 
 pub returns-clause-row : goal.returns-clause-row
 returns-clause-row g c = λ outside. c.in_ok-undo.ensures.undone outside fails
+
+pub returns-in_err-undo-clause-memory : goal.returns-in_err-undo-clause-memory
+returns-in_err-undo-clause-memory g c = λ in_place.
+    no_want c.in_err-undo.field-0.0 c.from_residual.result (c.in_err-undo.ensures.memory in_place) c.from_residual.ensures.1
