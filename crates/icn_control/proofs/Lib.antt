@@ -19,3 +19,9 @@ pub mod TurnSteps
 pub mod FailSteps
 pub mod LiteralSteps
 pub mod KeywordSets
+pub mod TakeSteps
+pub mod OpenSteps
+pub mod GrowthSteps
+pub mod ListSteps
+pub mod LessSteps
+pub mod Lifting

@@ -1,5 +1,5 @@
 -- What a step of failing comes to.
-use Rattle.std.specs.Prelude.{◌≡◌, ⊤}
+use Rattle.std.specs.Prelude.{◌≡◌, ◌<◌, length, ⊤}
 use Rattle.icn_heap.specs.Extents.{Extent}
 use Rattle.icn_heap.specs.Heaps.{extent_of}
 use Rattle.icn_vars.specs.declared.world.World.{World}
@@ -36,3 +36,8 @@ DropsTo m n due = (all : Extent) (tables : Tables) (st : Store Frames) → IsDue
 abbrev pub IsLiveDue : Reach → FlatStack → Due → Type 0
 IsLiveDue reach m (Dues.Resuming rest) = IsLiveResidual (with_locals (locals_at m.registers m.cells) reach) rest
 IsLiveDue reach m due = ⊤
+
+-- where the code goes on failing, there are fewer cells
+abbrev pub FallsBelow : FlatStack → FlatStack → Due → Type 0
+FallsBelow m n Dues.Failing = length n.cells < length m.cells
+FallsBelow m n due = ⊤

@@ -7,3 +7,5 @@ pub mod Results
 pub mod Falls
 pub mod Landing
 pub mod Failing
+pub mod Taking
+pub mod Leading

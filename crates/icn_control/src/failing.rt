@@ -6,7 +6,7 @@ ghost use Rattle.icn_vars.specs.Worlds.{Reach, reach_of, world_of};
 ghost use Rattle.icn_frames.specs.Stacks as flat;
 ghost use Rattle.icn_run.specs.Stacks.{Frames as FramesRead, flat as calls};
 ghost use Rattle.icn_run.specs.Step.{Store, fails, stuck};
-ghost use Rattle.icn_control.specs.Falls.{DropsTo, FallsTo, IsLiveDue};
+ghost use Rattle.icn_control.specs.Falls.{DropsTo, FallsBelow, FallsTo, IsLiveDue};
 ghost use Rattle.icn_control.specs.Living.{IsLiveStack, StaysLive};
 ghost use Rattle.icn_control.specs.Standing.{stack_in};
 
@@ -42,6 +42,7 @@ pub fn fall<K: Stack<Cell> + Drop>(frames: &mut Frames<K>, world: &mut World) ->
     ensures step { (tables : Tables) (st : Store FramesRead) → st.world ≡ world_of world.old → FallsTo tables (fails calls tables (stack_in (extent_of world.old.heap) frames.old.flat) st) st world.new frames.new.flat result }
     ensures live { (tables : Tables) → IsLiveStack tables (reach_of world.old []) frames.old.flat → IsLiveStack tables (reach_of world.new []) frames.new.flat }
     ensures due { IsLiveDue (reach_of world.new []) frames.new.flat result }
+    ensures less { FallsBelow frames.old.flat frames.new.flat result }
     ensures heap { world.new.heap ≡ world.old.heap }
     ensures reach { reach_of world.new [] ≡ reach_of world.old [] }
 {
@@ -66,6 +67,7 @@ fn drop_failed<K: Stack<Cell> + Drop>(frames: &mut Frames<K>) -> Due
     ensures step { DropsTo frames.old.flat frames.new.flat result }
     ensures live { StaysLive frames.old.flat frames.new.flat }
     ensures due { (reach : Reach) → IsLiveDue reach frames.new.flat result }
+    ensures less { FallsBelow frames.old.flat frames.new.flat result }
 {
     if frames.at_base() {
         return Due::Leaving;

@@ -8,11 +8,15 @@ mod hops;
 mod initial;
 mod keywords;
 mod laws;
+mod leaving;
 mod limits;
+mod lists;
 mod literals;
 mod machine;
 mod marks;
 mod on_stack;
+mod opening;
+mod operands;
 mod returns;
 mod scans;
 mod texts;
@@ -22,12 +26,14 @@ mod world;
 
 pub use activation::Activation;
 pub use failing::{Due, fall};
-pub use failing_step::fail_once;
+pub use failing_step::{fail_on, fail_once};
 pub use hops::exhaust;
 pub use initial::init;
 pub use keywords::{keyword_item, push_keyword};
 pub use laws::transfers_are_read;
+pub use leaving::end_failing;
 pub use limits::{give_value, limit};
+pub use lists::{make_list, push_list};
 pub use literals::{push_cset, push_global, push_integer, push_local, push_static};
 pub use machine::{Machine, Stage};
 pub use marks::{lsusp, unmark};
@@ -35,9 +41,11 @@ pub use on_stack::{
     change_label, drop_mark, drop_operand, duplicate, give_limited, give_suspended, go_to,
     open_mark, push_below, push_null, put,
 };
+pub use opening::open_scan;
+pub use operands::take_operands;
 pub use returns::{fail_procedure, give_back, leave_failing, result_of, suspend_with};
 pub use scans::{leave_scan, swap_if_scanning, swap_pairs};
 pub use texts::push_string;
 pub use turns::{begin_again, go_back, reenter};
-pub use values::value_of;
+pub use values::{list_of, value_of, values_of};
 pub use world::{restore_pair, set_pair};

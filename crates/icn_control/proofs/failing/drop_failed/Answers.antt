@@ -3,6 +3,7 @@ use Rattle.icn_frames.specs.Stacks.{FlatStack}
 use Rattle.icn_control.specs.Living.{IsLiveStack}
 use Rattle.icn_control.proofs.LiveCalls.{live_unmark, live_go}
 use Rattle.icn_control.proofs.FallSteps.{drops_leaving, drops_failing, drops_running, drops_beginning}
+use Rattle.icn_control.proofs.LessSteps.{unmark_less}
 use Rattle.icn_control.proofs.failing.drop_failed.Goals as goal
 
 pub returns-then-at_base-clause-step : goal.returns-then-at_base-clause-step
@@ -34,3 +35,6 @@ pub returns-else-again-clause-live : goal.returns-else-again-clause-live
 returns-else-again-clause-live g c t reach k =
     subst (λ (x : FlatStack). IsLiveStack t reach x) (sym c.go.ensures.flat)
     (live_go t reach c.unmark.new.self.flat c.in-Some.place (live_unmark t reach c.args.frames.now.flat c.unmark.new.self.flat c.unmark.result c.unmark.ensures.flat k).rest)
+
+pub returns-in-None-clause-less : goal.returns-in-None-clause-less
+returns-in-None-clause-less g c = unmark_less c.args.frames.now.flat c.unmark.new.self.flat c.unmark.result c.unmark.ensures.flat

@@ -5,6 +5,9 @@ use Rattle.icn_control.specs.Living.{IsLiveStack}
 use Rattle.icn_control.proofs.LiveFrames.{live_resume}
 use Rattle.icn_frames.specs.declared.layout.Why.TheVariants.{Alt, Op, Scan, Escan, Proc}
 use Rattle.icn_control.proofs.FallSteps.{resumed_as, escan_open, fall_none, fall_alt, fall_op, fall_scan, fall_escan, fall_proc}
+use Rattle.icn_control.specs.Falls.{FallsBelow}
+use Rattle.icn_control.proofs.LessSteps.{resume_less, swapped_less}
+use Rattle.icn_frames.specs.Stacks.{FlatStack}
 use Rattle.icn_control.proofs.failing.fall.Goals as goal
 
 pub set_pair-requires : goal.set_pair-requires
@@ -64,3 +67,19 @@ returns-in-Some-Proc-clause-step g c = fall_proc c.args.world.now c.args.frames.
 
 pub returns-in-Some-Proc-clause-live : goal.returns-in-Some-Proc-clause-live
 returns-in-Some-Proc-clause-live g c t k = (live_resume t (reach_of c.args.world.now []) c.args.frames.now.flat c.resume.new.self.flat Proc (resumed_as c.args.frames.now.flat c.resume.new.self.flat c.in-Some-Proc.field-0 Proc c.in-Some-Proc.ensures.flat c.in-Some-Proc.field-0-is) k).rest
+
+pub returns-in-None-clause-less : goal.returns-in-None-clause-less
+returns-in-None-clause-less g c =
+    subst (λ (x : FlatStack). FallsBelow x c.drop_failed.new.frames.flat c.drop_failed.result) c.in-None.ensures.flat.1 c.drop_failed.ensures.less
+
+pub returns-in-Some-Alt-clause-less : goal.returns-in-Some-Alt-clause-less
+returns-in-Some-Alt-clause-less g c = resume_less c.args.frames.now.flat c.resume.new.self.flat Alt (resumed_as c.args.frames.now.flat c.resume.new.self.flat c.in-Some-Alt.field-0 Alt c.in-Some-Alt.ensures.flat c.in-Some-Alt.field-0-is)
+
+pub returns-in-Some-Scan-clause-less : goal.returns-in-Some-Scan-clause-less
+returns-in-Some-Scan-clause-less g c =
+    resume_less c.args.frames.now.flat c.resume.new.self.flat (Scan c.in-Some-Scan.pair) (resumed_as c.args.frames.now.flat c.resume.new.self.flat c.in-Some-Scan.field-0 (Scan c.in-Some-Scan.pair) c.in-Some-Scan.ensures.flat c.in-Some-Scan.field-0-is)
+
+pub returns-in-Some-Escan-clause-less : goal.returns-in-Some-Escan-clause-less
+returns-in-Some-Escan-clause-less g c =
+    swapped_less c.args.frames.now.flat c.resume.new.self.flat c.swap_pairs.new.frames.flat Escan c.args.world.now.pair c.swap_pairs.new.world.pair
+    (resumed_as c.args.frames.now.flat c.resume.new.self.flat c.in-Some-Escan.field-0 Escan c.in-Some-Escan.ensures.flat c.in-Some-Escan.field-0-is) c.swap_pairs.ensures.stack

@@ -11,6 +11,7 @@ use Rattle.icn_control.specs.Machines.{AreLiveStacks, running_of, store_in}
 use Rattle.icn_control.specs.Standing.{stack_in}
 use Rattle.icn_control.proofs.MachineSteps.{stacks_on}
 use Rattle.icn_control.proofs.FailSteps.{due_at}
+use Rattle.icn_control.specs.Falls.{FallsBelow}
 use Rattle.icn_control.proofs.failing_step.fail_once.Goals as goal
 
 pub fall-requires-clause-goes_on : goal.fall-requires-clause-goes_on
@@ -35,3 +36,7 @@ returns-clause-sound g c tables k =
       bounds = ap (λ (h : HeldHeap). (heap_of h).bounds) c.fall.ensures.heap ∙ k.bounds;
       counts = ap (λ (h : HeldHeap). length (heap_of h).coexps) c.fall.ensures.heap ∙ k.counts;
     }
+
+pub returns-clause-less : goal.returns-clause-less
+returns-clause-less g c =
+    subst (λ (o : Option FlatStack). FallsBelow (running_of o) c.fall.new.frames.flat c.fall.result) (sym c.frames.ensures.running) c.fall.ensures.less
