@@ -1,10 +1,9 @@
 -- A list of operands by its length.
-use Rattle.std.proofs.Common.{◌≡◌, refl, ℕ, suc, ◌≤◌, ◌<◌, List, [], ◌∷◌, length, map, get_or, arith}
+use Rattle.std.proofs.Common.{◌≡◌, refl, ◌≤◌, ◌<◌, List, [], ◌∷◌, length, map, get_or, arith}
 use Rattle.icn_text.specs.declared.op.Op.{Op}
 use Rattle.icn_value.specs.declared.item.Item.{Item as HeldItem}
 use Rattle.icn_value.specs.Values.{Null, Val}
 use Rattle.icn_defs.specs.Applying.{operation_on, operation_row}
-use Rattle.icn_defs.specs.Rows.{Row}
 use Rattle.icn_heap.specs.Extents.{Extent}
 use Rattle.icn_vars.specs.Worlds.{item_in}
 

@@ -1,40 +1,18 @@
 -- What positions mean, as the rest of a row finds it, and the part of a text that is given.
-use Rattle.std.proofs.Common.{◌≡◌, ◌∙◌, sym, ap, ℕ, ◌+◌, ◌<◌, ◌≤◌, ℤ, nat_le, List, length, Option, None, Some}
-use Rattle.std.proofs.lemmas.Bool.{le-leb, lt-leb}
+use Rattle.std.proofs.Common.{◌≡◌, ◌∙◌, sym, ap, ℕ, ◌≤◌, ℤ, nat_le, List, Option, Some}
+use Rattle.std.proofs.lemmas.Bool.{le-leb}
 use Rattle.icn_value.specs.Values.{Value, Variable, Item}
 use Rattle.icn_value.specs.Store.{Setting}
 use Rattle.icn_defs.specs.Conversions.{place_of}
 use Rattle.icn_defs.specs.Elements.{part_item, text_variable}
-use Rattle.icn_defs.specs.Rows.{Row, Outcome, Fails, Gives, found, gives, passing}
-use Rattle.icn_defs.specs.Variables.{element_place, in_order, places}
+use Rattle.icn_defs.specs.Rows.{Row, Outcome, Gives, found, gives, passing}
+use Rattle.icn_defs.specs.Variables.{element_place, places}
 
 -- Elements
 
 pub element_found : (n : ℤ) (size place : ℕ) (next : ℕ → Row) (s : Setting) → Some place ≡ place_of n size → place ≤ size → element_place n size next s ≡ next place s
 element_found n size place next s is within =
     ap (λ one. found one (λ p. passing (nat_le p size) (next p)) s) (sym is) ∙ ap (λ t. passing t (next place) s) (le-leb place size within)
-
-pub element_past : (n : ℤ) (size place : ℕ) (next : ℕ → Row) (s : Setting) → Some place ≡ place_of n size → size < place → element_place n size next s ≡ Fails s
-element_past n size place next s is past =
-    ap (λ one. found one (λ p. passing (nat_le p size) (next p)) s) (sym is) ∙ ap (λ t. passing t (next place) s) (lt-leb place size past)
-
-pub element_lacking : (n : ℤ) (size : ℕ) (next : ℕ → Row) (s : Setting) → None ≡ place_of n size → element_place n size next s ≡ Fails s
-element_lacking n size next s is = ap (λ one. found one (λ p. passing (nat_le p size) (next p)) s) (sym is)
-
--- Two places
-
-pub places_found : (m n : ℤ) (size a b : ℕ) (ends : ℕ × ℕ) (next : ℕ × ℕ → Row) (s : Setting) → Some a ≡ place_of m size → Some b ≡ place_of n size → ends ≡ in_order a b
-    → places m n size next s ≡ next ends s
-places_found m n size a b ends next s first second is =
-    ap (λ one. found one (λ p. found (place_of n size) (λ q. next (in_order p q))) s) (sym first)
-    ∙ (ap (λ one. found one (λ q. next (in_order a q)) s) (sym second) ∙ ap (λ two. next two s) (sym is))
-
-pub first_lacking : (m n : ℤ) (size : ℕ) (next : ℕ × ℕ → Row) (s : Setting) → None ≡ place_of m size → places m n size next s ≡ Fails s
-first_lacking m n size next s is = ap (λ one. found one (λ p. found (place_of n size) (λ q. next (in_order p q))) s) (sym is)
-
-pub second_lacking : (m n : ℤ) (size a : ℕ) (next : ℕ × ℕ → Row) (s : Setting) → Some a ≡ place_of m size → None ≡ place_of n size → places m n size next s ≡ Fails s
-second_lacking m n size a next s first is =
-    ap (λ one. found one (λ p. found (place_of n size) (λ q. next (in_order p q))) s) (sym first) ∙ ap (λ one. found one (λ q. next (in_order a q)) s) (sym is)
 
 -- Integers and sizes as they are held
 

@@ -1,12 +1,12 @@
 -- The rows of elements at random, by whether there are any.
-use Rattle.std.proofs.Common.{◌≡◌, ◌∙◌, refl, sym, ap, ℕ, ◌+◌, ◌<◌, ◌≤◌, nat_lt, List, length, Option, None, Some, arith}
+use Rattle.std.proofs.Common.{◌≡◌, ◌∙◌, sym, ap, ℕ, ◌+◌, ◌<◌, ◌≤◌, nat_lt, List, length, Option, Some}
 use Rattle.std.specs.Prelude.{unwrap_or}
 use Rattle.std.specs.List.{slice_get}
 use Rattle.std.proofs.lemmas.Bool.{le-ltb, lt-ltb}
 use Rattle.icn_text.specs.RandomNumbers.{picked, random_step}
 use Rattle.icn_value.specs.Values.{Value, AList, ARecord, ASet, ATable, Null, Variable, Item, Val}
 use Rattle.icn_value.specs.Store.{Setting, having_random, list_at, record_at, set_at, table_at, value_at}
-use Rattle.icn_defs.specs.Conversions.{Group, Collected, Listed, Recorded, Tabled}
+use Rattle.icn_defs.specs.Conversions.{Collected, Listed, Recorded, Tabled}
 use Rattle.icn_defs.specs.Elements.{element_item, field_item, key_item, part_item, picks, random_of, text_variable}
 use Rattle.icn_defs.specs.Rows.{Row, Fails, Gives, found, gives, gives_value, passing}
 use Rattle.icn_ops.proofs.PlaceRows.{part_given}

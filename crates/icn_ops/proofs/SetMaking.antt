@@ -1,5 +1,5 @@
 -- New sets, as the rest of a row finds them.
-use Rattle.std.proofs.Common.{◌≡◌, ◌∙◌, sym, ap, ℕ, ◌+◌, ◌&&◌, ◌||◌, not, List, [], ◌∷◌, ◌++◌, length, Err, Ok, Result, subst, ⊎_elim}
+use Rattle.std.proofs.Common.{◌≡◌, ◌∙◌, sym, ap, ◌+◌, ◌&&◌, ◌||◌, not, List, length, Err, Ok, subst, ⊎_elim}
 use Rattle.icn_value.specs.Csets.{HasMembers, has}
 use Rattle.icn_value.specs.Members.{contains, members, members_of}
 use Rattle.icn_value.specs.declared.cset.Cset.{Cset}

@@ -1,6 +1,6 @@
 -- An undo that is no want of memory is answered as none.
 use Rattle.std.proofs.Common.{◌≡◌, ◌≢◌, ◌∙◌, sym, Result, Ok, Err}
-use Rattle.std.specs.Prelude.{IfErr, IsErrAnd, List, Option}
+use Rattle.std.specs.Prelude.{IfErr, IsErrAnd}
 use Rattle.icn_vars.specs.Assignments.{IsError}
 use Rattle.icn_vars.specs.Stops.{halt_of}
 use Rattle.icn_vars.specs.declared.outcome.Outcome.{Outcome}

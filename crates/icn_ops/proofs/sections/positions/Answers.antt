@@ -8,7 +8,6 @@ use Rattle.icn_vars.specs.Stops.{StopsFinding}
 use Rattle.icn_args.proofs.Answering.{first_stops, stop_lives_on, stops_behind, stops_within, then_stops}
 use Rattle.icn_ops.specs.Sections.{second_of}
 use Rattle.icn_ops.proofs.Steps.{held_two}
-use Rattle.icn_streams.specs.Answers.{given}
 use Rattle.icn_ops.proofs.sections.positions.Goals as goal
 
 pub returns-in_err-m-clause-found : goal.returns-in_err-m-clause-found
