@@ -5,3 +5,6 @@ pub mod Keeping
 pub mod Rows
 pub mod Copying
 pub mod Inserting
+pub mod Placing
+pub mod NamedValues
+pub mod SortRows

@@ -2,6 +2,7 @@
 use Rattle.std.proofs.Common.{◌≡◌, ◌∙◌, refl, List, [], ◌∷◌, length, Result, Ok, Err, IfErr, arith}
 use Rattle.std.specs.Prelude.{IsErrAnd}
 use Rattle.icn_value.specs.Store.{Setting}
+use Rattle.icn_defs.specs.Calls.{GoesOn}
 use Rattle.icn_defs.specs.Rows.{Row, Finds}
 use Rattle.icn_heap.specs.Extents.{Extent}
 use Rattle.icn_vars.specs.declared.outcome.Outcome.{Outcome}
@@ -40,3 +41,10 @@ err_is full wanted (Err other) same is = same ∙ is
 pub nothing_left : {X : Type 0} (items : List X) → length items ≡ 0 → items ≡ []
 nothing_left [] none = refl
 nothing_left (item ∷ items) none = absurd (omega arith)
+
+-- a thing is found, and then what is looked for with it
+pub found_behind : {A B C : Type 0} (all : Extent) (find : Finds A) (thing : A) (rest : A → Finds B) (before between after : Setting) (shown : C → B) (result : Result C Stop)
+    → GoesOn find before thing between → Found all (rest thing) between after shown result → Found all (λ next. find (λ thing. rest thing next)) before after shown result
+found_behind all find thing rest before between after shown (Ok held) first is = λ next. first (λ thing. rest thing next) ∙ is next
+found_behind all find thing rest before between after shown (Err (Error number offending)) first is = λ next. first (λ thing. rest thing next) ∙ is next
+found_behind all find thing rest before between after shown (Err NoMemory) first is = tt

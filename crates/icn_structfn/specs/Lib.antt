@@ -2,3 +2,4 @@ pub mod Adding
 pub mod Copies
 pub mod Keepers
 pub mod Functions
+pub mod Sorting

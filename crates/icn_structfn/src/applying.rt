@@ -1,10 +1,10 @@
 // A function over structures is applied.
 ghost use Rattle.std.specs.Prelude.{◌≡◌, true, map};
 ghost use Rattle.std.specs.List.{All};
-ghost use Rattle.icn_value.specs.Store.{Names};
 ghost use Rattle.icn_defs.specs.Applying.{function_of};
 ghost use Rattle.icn_heap.specs.Extents.{IsLive, value_in};
-ghost use Rattle.icn_heap.specs.Heaps.{extent_of};
+ghost use Rattle.icn_heap.specs.Heaps.{extent_of, heap_of};
+ghost use Rattle.icn_named.specs.Named.{HeapNamed};
 ghost use Rattle.icn_vars.specs.Outcomes.{IsLiveAnswer};
 ghost use Rattle.icn_vars.specs.Worlds.{KeepsItems, reach_of};
 ghost use Rattle.icn_args.specs.Words.{Answers};
@@ -14,17 +14,26 @@ use crate::adding::{push, put};
 use crate::ends::{get, pull};
 use crate::keys::{delete, insert, key, member};
 use crate::making_rows::{copy, list, set, table};
+use crate::sorting::sort;
+use icn_convert::Names;
 use icn_text::Func;
 use icn_value::Val;
 use icn_vars::{Halt, Locals, Outcome, World};
 
-/// A function over structures is applied to values. What `key` leaves goes on by `key_again`.
+/// A function over structures is applied to values. What `key` leaves goes on by `key_again`. `sort` wants that all in the heap that is named has a name.
 #[tactic(auto, using(icn_vars::proofs::KeptItems::items_all))]
-pub fn first<L: Locals>(w: &mut World, l: &L, func: Func, args: &[Val]) -> Result<Outcome, Halt>
+pub fn first<L: Locals, N: Names>(
+    w: &mut World,
+    l: &L,
+    names: &N,
+    func: Func,
+    args: &[Val],
+) -> Result<Outcome, Halt>
     requires locals { All (IsLive (extent_of w.old.heap)) (L.items l.now) }
     requires func { is_of_structures func ≡ true }
+    requires named { HeapNamed (N.known names.now) (heap_of w.old.heap) }
     requires args { All (IsLive (extent_of w.old.heap)) args.now }
-    ensures row { (names : Names) → Answers w.old (L.items l.now) w.new (L.items l.now) (function_of names func (map (value_in (extent_of w.old.heap)) args.now)) result }
+    ensures row { Answers w.old (L.items l.now) w.new (L.items l.now) (function_of (N.known names.now) func (map (value_in (extent_of w.old.heap)) args.now)) result }
     ensures live { IsLiveAnswer (reach_of w.new (L.items l.now)) result }
     ensures locals { All (IsLive (extent_of w.new.heap)) (L.items l.now) }
     ensures kept { KeepsItems (reach_of w.old (L.items l.now)) (reach_of w.new (L.items l.now)) }
@@ -42,6 +51,7 @@ pub fn first<L: Locals>(w: &mut World, l: &L, func: Func, args: &[Val]) -> Resul
         Func::Push => push(w, l, args),
         Func::Put => put(w, l, args),
         Func::Set => set(w, l, args),
+        Func::Sort => sort(w, l, names, args),
         Func::Table => table(w, l, args),
         _ => unreachable!(),
     }
