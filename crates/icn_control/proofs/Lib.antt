@@ -25,3 +25,12 @@ pub mod GrowthSteps
 pub mod ListSteps
 pub mod LessSteps
 pub mod Lifting
+pub mod CreationSteps
+pub mod KeptTables
+pub mod ChargeSteps
+pub mod CreateSteps
+pub mod OperandSteps
+pub mod LiveTransfers
+pub mod CountedSteps
+pub mod ActivationSteps
+pub mod Halts

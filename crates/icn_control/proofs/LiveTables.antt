@@ -29,7 +29,7 @@ pub live_put : (t : Tables) (r : Reach) (cs : List Coexp) (n : ℕ) (s : Status 
 live_put t r cs n s k l = live_in t r cs n s (slice_get cs n) refl k l
 
 -- a stack that waits is live
-live_waiting : (t : Tables) (r : Reach) (cs : List Coexp) (n : ℕ) (o : Option Coexp) → slice_get cs n ≡ o → AllLive t r cs → IsLiveStatus t r (table.status_in o)
+pub live_waiting : (t : Tables) (r : Reach) (cs : List Coexp) (n : ℕ) (o : Option Coexp) → slice_get cs n ≡ o → AllLive t r cs → IsLiveStatus t r (table.status_in o)
 live_waiting t r cs n None g k = tt
 live_waiting t r cs n (Some c) g k = (k n c g).status
 

@@ -21,7 +21,7 @@ use Rattle.icn_control.specs.Landing.{Beside, store_with, landed, TransfersAreRe
 abbrev absent : code.Coexp Frames
 absent = record { status = Exhausted; activator = zero; values = []; proc = zero; place = zero }
 
-status_at : (all : Extent) (cs : List Coexp) (n : ℕ) → (slice_index_or (map (coexp_in all) cs) n absent).status ≡ status_in all (table.status_in (slice_get cs n))
+pub status_at : (all : Extent) (cs : List Coexp) (n : ℕ) → (slice_index_or (map (coexp_in all) cs) n absent).status ≡ status_in all (table.status_in (slice_get cs n))
 status_at all [] n = refl
 status_at all (c ∷ cs) zero = refl
 status_at all (c ∷ cs) (suc n) = status_at all cs n
@@ -62,7 +62,7 @@ activator_set all (c ∷ cs) (suc n) a =
 abbrev with_list : Store Frames → List (code.Coexp Frames) → Store Frames
 with_list st coexps = record st { coexps = coexps }
 
-status_put : (beside : Beside) (t : Table) (n : ℕ) (s : Status FlatStack) → with_status n (status_in beside.all s) (store_with beside t) ≡ store_with beside (record t { coexps = table.with_status n s t.coexps })
+pub status_put : (beside : Beside) (t : Table) (n : ℕ) (s : Status FlatStack) → with_status n (status_in beside.all s) (store_with beside t) ≡ store_with beside (record t { coexps = table.with_status n s t.coexps })
 status_put beside t n s = ap (with_list (store_with beside t)) (status_set beside.all t.coexps n s)
 
 activator_put : (beside : Beside) (t : Table) (n a : ℕ) → with_activator n a (store_with beside t) ≡ store_with beside (record t { coexps = table.with_activator n a t.coexps })

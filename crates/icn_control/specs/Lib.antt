@@ -9,3 +9,6 @@ pub mod Landing
 pub mod Failing
 pub mod Taking
 pub mod Leading
+pub mod Creations
+pub mod Counting
+pub mod Operands

@@ -1,11 +1,12 @@
-// The end of a create body.
-ghost use Rattle.std.specs.Prelude.{◌≡◌, ◌<◌, IsSome};
+// The end of a create body, and what it may lead to.
+ghost use Rattle.std.specs.Prelude.{◌≡◌, ◌<◌, None, IsSome};
 ghost use Rattle.icn_value.specs.Limited.{limits_of};
 ghost use Rattle.icn_value.specs.Store.{Outside};
 ghost use Rattle.icn_heap.specs.Heaps.{heap_of};
 ghost use Rattle.icn_code.specs.Codes.{Tables};
-ghost use Rattle.icn_run.specs.Stacks.{flat as calls};
-ghost use Rattle.icn_run.specs.Step.{exhausted};
+ghost use Rattle.icn_run.specs.Stacks.{Frames as FramesRead, flat as calls};
+ghost use Rattle.icn_run.specs.Step.{exhausted, hop};
+ghost use Rattle.icn_control.specs.Counting.{AreCounted};
 ghost use Rattle.icn_control.specs.Landing.{is_moved};
 ghost use Rattle.icn_control.specs.Machines.{IsSound, StandsAt, stack_seen, store_seen};
 
@@ -22,6 +23,31 @@ pub fn exhaust<K: Stack<Cell> + Drop>(m: &mut Machine<K>) -> Stage
     requires bounds { (heap_of m.old.world.heap).bounds ≡ limits_of m.old.limits }
     ensures step { (tables : Tables) (outside : Outside) → StandsAt tables outside (exhausted calls tables (stack_seen m.old) (store_seen tables outside m.old)) m.new result }
     ensures sound { (tables : Tables) → IsSound tables m.old → IsSound tables m.new }
+    ensures counted { AreCounted m.old → AreCounted m.new }
+{
+    pass_failure(m)
+}
+
+/// The exhausted co-expression that was reached passes failure on to what entered it last, as a turn. A hop must be due. It
+/// takes no memory.
+pub fn hop<K: Stack<Cell> + Drop>(m: &mut Machine<K>) -> Stage
+    requires due { m.old.stacks.table.running ≡ None }
+    requires bounds { (heap_of m.old.world.heap).bounds ≡ limits_of m.old.limits }
+    ensures step { (tables : Tables) (outside : Outside) (old : FramesRead) → StandsAt tables outside (hop calls tables old (store_seen tables outside m.old)) m.new result }
+    ensures sound { (tables : Tables) → IsSound tables m.old → IsSound tables m.new }
+    ensures counted { AreCounted m.old → AreCounted m.new }
+{
+    m.stacks.active();
+    pass_failure(m)
+}
+
+// The active co-expression is exhausted, if it was not before, and what entered it last is entered with failure, as a turn.
+fn pass_failure<K: Stack<Cell> + Drop>(m: &mut Machine<K>) -> Stage
+    requires other { 0 < m.old.stacks.table.active }
+    requires bounds { (heap_of m.old.world.heap).bounds ≡ limits_of m.old.limits }
+    ensures step { (tables : Tables) (outside : Outside) (old : FramesRead) → StandsAt tables outside (exhausted calls tables old (store_seen tables outside m.old)) m.new result }
+    ensures sound { (tables : Tables) → IsSound tables m.old → IsSound tables m.new }
+    ensures counted { AreCounted m.old → AreCounted m.new }
 {
     if m.turns >= m.limits.turns {
         return Stage::AtBound;
@@ -36,7 +62,7 @@ pub fn exhaust<K: Stack<Cell> + Drop>(m: &mut Machine<K>) -> Stage
 }
 
 // Whether another co-expression is active after a transfer.
-fn is_moved(went: Went) -> bool
+pub fn is_moved(went: Went) -> bool
     ensures { result ≡ is_moved went }
 {
     match went {

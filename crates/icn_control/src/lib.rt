@@ -2,6 +2,7 @@
 #![tactic(auto)]
 
 mod activation;
+mod coexpressions;
 mod failing;
 mod failing_step;
 mod hops;
@@ -20,17 +21,19 @@ mod operands;
 mod returns;
 mod scans;
 mod texts;
+mod transfers;
 mod turns;
 mod values;
 mod world;
 
 pub use activation::Activation;
+pub use coexpressions::{create, refresh};
 pub use failing::{Due, fall};
 pub use failing_step::{fail_on, fail_once};
-pub use hops::exhaust;
+pub use hops::{exhaust, hop};
 pub use initial::init;
 pub use keywords::{keyword_item, push_keyword};
-pub use laws::transfers_are_read;
+pub use laws::{creations_are_read, transfers_are_read};
 pub use leaving::end_failing;
 pub use limits::{give_value, limit};
 pub use lists::{make_list, push_list};
@@ -46,6 +49,7 @@ pub use operands::take_operands;
 pub use returns::{fail_procedure, give_back, leave_failing, result_of, suspend_with};
 pub use scans::{leave_scan, swap_if_scanning, swap_pairs};
 pub use texts::push_string;
+pub use transfers::{coact, coret};
 pub use turns::{begin_again, go_back, reenter};
 pub use values::{list_of, value_of, values_of};
 pub use world::{restore_pair, set_pair};

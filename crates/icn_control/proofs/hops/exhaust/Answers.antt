@@ -1,55 +1,5 @@
-use Rattle.std.proofs.Common.{◌≡◌, ℕ, true, nat_lt, [], sym, ap, ◌∙◌, add-one}
-use Rattle.icn_value.specs.Limited.{Bounds}
-use Rattle.icn_heap.specs.Heaps.{extent_of, heap_of}
-use Rattle.icn_vars.specs.Worlds.{reach_of, world_of}
-use Rattle.icn_coexp.specs.Transfers.{Table}
-use Rattle.icn_run.specs.Stacks.{Frames}
-use Rattle.icn_run.specs.Step.{State, failing, hopping, all_names}
-use Rattle.icn_control.specs.Machines.{running_of, stack_seen, store_in}
-use Rattle.icn_control.specs.Standing.{stack_in}
-use Rattle.icn_control.specs.Landing.{Beside}
-use Rattle.icn_control.proofs.ExhaustSteps.{exhausts, lands_failing, lands_hopping, turned, under}
-use Rattle.icn_control.proofs.LiveTables.{exhaust_live, exhaust_length}
+use Rattle.icn_control.specs.Machines.{stack_seen}
 use Rattle.icn_control.proofs.hops.exhaust.Goals as goal
 
-pub returns-then-is_moved-clause-step : goal.returns-then-is_moved-clause-step
-returns-then-is_moved-clause-step g c tables outside =
-    let m = c.args.m.now in
-    let u : Table = c.exhaust-went.new.self.table in
-    let beside : Beside = record { names = all_names tables; outside = outside; world = world_of m.world; turns = m.turns; begun = m.begun.items; all = extent_of m.world.heap } in
-    let more : nat_lt m.turns (heap_of m.world.heap).bounds.turns ≡ true
-    = ap (λ (x : Bounds). nat_lt m.turns x.turns) c.requires.bounds ∙ under m.turns m.limits.turns c.if-m.false in
-    let F : ℕ → State Frames Frames = λ n. failing (stack_in (extent_of m.world.heap) (running_of u.running)) (store_in (all_names tables) outside (world_of m.world) n m.begun.items (extent_of m.world.heap) u) in
-    exhausts beside tables m.stacks.table u (stack_seen m) more c.exhaust-went.ensures.table
-    ∙ lands_failing (turned beside) (stack_seen m) u c.exhaust-went.result c.exhaust-went.ensures.went (sym c.is_moved.ensures ∙ c.if-is_moved.true)
-    ∙ ap F (sym (add-one m.turns))
-
-pub returns-then-is_moved-clause-sound : goal.returns-then-is_moved-clause-sound
-returns-then-is_moved-clause-sound g c tables k =
-    record {
-      stacks = exhaust_live tables (reach_of c.args.m.now.world []) c.args.m.now.stacks.table c.exhaust-went.new.self.table c.exhaust-went.ensures.table k.stacks;
-      bounds = k.bounds;
-      counts = k.counts ∙ sym (exhaust_length c.args.m.now.stacks.table c.exhaust-went.new.self.table c.exhaust-went.ensures.table);
-    }
-
-pub returns-else-is_moved-clause-step : goal.returns-else-is_moved-clause-step
-returns-else-is_moved-clause-step g c tables outside =
-    let m = c.args.m.now in
-    let u : Table = c.exhaust-went.new.self.table in
-    let beside : Beside = record { names = all_names tables; outside = outside; world = world_of m.world; turns = m.turns; begun = m.begun.items; all = extent_of m.world.heap } in
-    let more : nat_lt m.turns (heap_of m.world.heap).bounds.turns ≡ true
-    = ap (λ (x : Bounds). nat_lt m.turns x.turns) c.requires.bounds ∙ under m.turns m.limits.turns c.if-m.false in
-    let F : ℕ → State Frames Frames = λ n. hopping (stack_seen m) (store_in (all_names tables) outside (world_of m.world) n m.begun.items (extent_of m.world.heap) u) in (
-      stack_seen m,
-      exhausts beside tables m.stacks.table u (stack_seen m) more c.exhaust-went.ensures.table
-          ∙ lands_hopping (turned beside) (stack_seen m) u c.exhaust-went.result c.exhaust-went.ensures.went (sym c.is_moved.ensures ∙ c.if-is_moved.false)
-          ∙ ap F (sym (add-one m.turns)),
-    )
-
-pub returns-else-is_moved-clause-sound : goal.returns-else-is_moved-clause-sound
-returns-else-is_moved-clause-sound g c tables k =
-    record {
-      stacks = exhaust_live tables (reach_of c.args.m.now.world []) c.args.m.now.stacks.table c.exhaust-went.new.self.table c.exhaust-went.ensures.table k.stacks;
-      bounds = k.bounds;
-      counts = k.counts ∙ sym (exhaust_length c.args.m.now.stacks.table c.exhaust-went.new.self.table c.exhaust-went.ensures.table);
-    }
+pub returns-clause-step : goal.returns-clause-step
+returns-clause-step g c tables outside = c.pass_failure.ensures.step tables outside (stack_seen c.args.m.now)

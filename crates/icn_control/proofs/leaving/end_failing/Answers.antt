@@ -65,3 +65,9 @@ returns-clause-sound g c tables k =
       bounds = ap (λ (h : HeldHeap). (heap_of h).bounds) c.leave_failing-2.ensures.heap ∙ k.bounds;
       counts = ap (λ (h : HeldHeap). length (heap_of h).coexps) c.leave_failing-2.ensures.heap ∙ k.counts;
     }
+
+pub returns-then-active-gt0-clause-sound : goal.returns-then-active-gt0-clause-sound
+returns-then-active-gt0-clause-sound g c tables k =
+    let m = c.args.m.now in
+    let f : FlatStack = c.frames.result.now.flat in
+    c.exhaust.ensures.sound tables (record { stacks = stacks_on tables (reach_of m.world []) m.stacks.table f f c.frames.ensures.running (λ l. l) k.stacks; bounds = k.bounds; counts = k.counts })

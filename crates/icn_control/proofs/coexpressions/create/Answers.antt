@@ -1,0 +1,84 @@
+use Rattle.std.proofs.Common.{◌≡◌, ◌<◌, ◌^◌, ℕ, suc, ◌+◌, true, nat_lt, [], Some, length, refl, sym, ap, ◌∙◌, subst, add-one, arith}
+use Rattle.icn_value.specs.Limited.{Bounds}
+use Rattle.icn_value.specs.declared.val.Val.TheVariants.{Coexp as HeldCoexp}
+use Rattle.icn_heap.specs.Extents.{IsLive}
+use Rattle.icn_heap.specs.Heaps.{extent_of, heap_of}
+use Rattle.icn_vars.specs.Worlds.{reach_of}
+use Rattle.icn_frames.specs.Stacks as held
+use Rattle.icn_frames.specs.Stacks.{FlatStack}
+use Rattle.icn_coexp.specs.Transfers.{Table, with_new}
+use Rattle.icn_run.specs.Step.{all_names}
+use Rattle.icn_control.specs.Living.{IsLiveStack}
+use Rattle.icn_control.specs.Counting.{EnterOthers}
+use Rattle.icn_control.specs.Creations.{created}
+use Rattle.icn_control.proofs.CountedSteps.{new_others, same_counts, turn_more}
+use Rattle.icn_control.proofs.CreateSteps.{create_errs, create_runs}
+use Rattle.icn_control.proofs.Deref.{live_locals}
+use Rattle.icn_control.proofs.ExhaustSteps.{under}
+use Rattle.icn_control.proofs.Halts.{at_stopped, running_live}
+use Rattle.icn_control.proofs.LiveTransfers.{created_length, created_live}
+use Rattle.icn_control.proofs.MachineSteps.{stacks_on}
+use Rattle.icn_control.proofs.coexpressions.create.Goals as goal
+
+pub returns-in_err-charge_coexp-clause-step : goal.returns-in_err-charge_coexp-clause-step
+returns-in_err-charge_coexp-clause-step g c tables outside =
+    let m = c.args.m.now in
+    let w = m.world in
+    let v = c.charge_coexp.new.world in
+    let f : FlatStack = c.frames.result.now.flat in
+    let t = c.requires.sound.0 in
+    let sound = c.requires.sound.1 in
+    let live : IsLiveStack t (reach_of w []) f = running_live t (reach_of w []) m.stacks.table f c.frames.ensures.running sound.stacks in
+    let more : nat_lt m.turns (heap_of w.heap).bounds.turns ≡ true
+    = ap (λ (x : Bounds). nat_lt m.turns x.turns) sound.bounds ∙ under m.turns m.limits.turns c.if-m.false in
+    at_stopped c.from_residual.result c.in_err-charge_coexp.field-0.0 _ _ c.from_residual.ensures.1 tt
+    (λ number offending e.
+    create_errs t tables w v f c.args.label c.local_count-count.result number offending c.in_err-charge_coexp.field-0.0 (all_names tables) outside m.turns (m.turns + 1) m.begun.items m.stacks.table
+    (record m.stacks.table { running = Some f }) c.frames.ensures.running more c.charge_coexp.ensures.kept live sound.stacks.coexps c.local_count-count.ensures.all
+    (c.in_err-charge_coexp.ensures.row outside (held.locals f) (live_locals t (reach_of w []) f live)) e)
+
+pub add_here-requires-clause-few : goal.add_here-requires-clause-few
+add_here-requires-clause-few g c = subst (λ (n : ℕ). n < 2 ^ 32) c.requires.sound.1.counts c.in_ok-charge_coexp.ensures.few
+
+pub returns-in-Ok-clause-step : goal.returns-in-Ok-clause-step
+returns-in-Ok-clause-step g c tables outside =
+    let m = c.args.m.now in
+    let w = m.world in
+    let v = c.charge_coexp.new.world in
+    let f : FlatStack = c.frames.result.now.flat in
+    let t = c.requires.sound.0 in
+    let sound = c.requires.sound.1 in
+    let live : IsLiveStack t (reach_of w []) f = running_live t (reach_of w []) m.stacks.table f c.frames.ensures.running sound.stacks in
+    let more : nat_lt m.turns (heap_of w.heap).bounds.turns ≡ true
+    = ap (λ (x : Bounds). nat_lt m.turns x.turns) sound.bounds ∙ under m.turns m.limits.turns c.if-m.false in
+    create_runs t tables w v f c.args.label c.local_count-count.result (length (heap_of w.heap).coexps) (all_names tables) outside m.turns (m.turns + 1) m.begun.items m.stacks.table c.add_here.new.stacks.table
+    c.frames.ensures.running more c.charge_coexp.ensures.kept live sound.stacks.coexps c.local_count-count.ensures.same c.local_count-count.ensures.all
+    (c.in_ok-charge_coexp.ensures.row outside (held.locals f) (live_locals t (reach_of w []) f live)) sound.counts c.in-Ok.ensures (add-one m.turns)
+
+pub returns-in-Ok-clause-sound : goal.returns-in-Ok-clause-sound
+returns-in-Ok-clause-sound g c tables k =
+    let m = c.args.m.now in
+    let w = m.world in
+    let v = c.charge_coexp.new.world in
+    let f : FlatStack = c.frames.result.now.flat in
+    let table : Table = record m.stacks.table { running = Some f } in
+    record {
+      stacks = created_live tables (reach_of w []) (reach_of v []) table c.add_here.new.stacks.table f c.args.label refl c.in-Ok.ensures c.charge_coexp.ensures.kept
+          (sym c.local_count-count.ensures.count ∙ c.local_count-count.ensures.all)
+          (subst (λ (n : ℕ). IsLive (extent_of v.heap) (HeldCoexp n)) k.counts c.in_ok-charge_coexp.ensures.live)
+          (stacks_on tables (reach_of w []) m.stacks.table f f c.frames.ensures.running (λ l. l) k.stacks);
+      bounds = c.in_ok-charge_coexp.ensures.bounds ∙ k.bounds;
+      counts = c.in_ok-charge_coexp.ensures.more ∙ ap (λ (n : ℕ). suc n) k.counts ∙ sym (created_length table c.add_here.new.stacks.table f c.args.label refl c.in-Ok.ensures);
+    }
+
+pub returns-in-Ok-clause-counted : goal.returns-in-Ok-clause-counted
+returns-in-Ok-clause-counted g c k =
+    let m = c.args.m.now in
+    let f : FlatStack = c.frames.result.now.flat in
+    let u : Table = c.add_here.new.stacks.table in
+    let cs = (heap_of m.world.heap).coexps in
+    let ds = (heap_of c.charge_coexp.new.world.heap).coexps in
+    record {
+      results = same_counts (m.turns + 1) m.stacks.table.active u.active cs ds c.in_ok-charge_coexp.ensures.counts (ap (λ (x : Table). x.active) c.in-Ok.ensures) (turn_more m.turns m.stacks.table.active cs k.results);
+      activators = subst (λ (x : Table). EnterOthers x.coexps) (sym c.in-Ok.ensures) (new_others m.stacks.table (held.locals f) (held.proc f) f.place k.activators);
+    }
