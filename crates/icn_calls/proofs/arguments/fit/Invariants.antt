@@ -1,0 +1,12 @@
+use Rattle.std.proofs.Common.{◌≡◌, ◌-◌, ◌≤◌, length}
+use Rattle.icn_calls.specs.Calling.{fitted}
+use Rattle.icn_calls.proofs.arguments.fit.Given as goal
+
+abbrev pub invariant-loop-vals : goal.invariant-loop-vals
+invariant-loop-vals l = record {
+  is : fitted l.count l.vals.items ≡ fitted l.count l.initial.vals.items;
+  few : length l.vals.items ≤ l.count;
+}
+
+abbrev pub decreases-loop-vals : goal.decreases-loop-vals
+decreases-loop-vals l = l.count - length l.vals.items

@@ -1,0 +1,41 @@
+-- What is called, and with which arguments.
+use Rattle.std.specs.Prelude.{◌≡◌, ℕ, Bool, List, ◌++◌, map, take, replicate, slice_get, Some, Result, MatchResult}
+use Rattle.icn_value.specs.declared.val.Val.{Val}
+use Rattle.icn_value.specs.declared.val.Val.TheVariants.{Null}
+use Rattle.icn_value.specs.Values.{Value}
+use Rattle.icn_heap.specs.Extents.{value_in}
+use Rattle.icn_heap.specs.Heaps.{extent_of}
+use Rattle.icn_vars.specs.declared.stop.Stop.{Stop}
+use Rattle.icn_vars.specs.declared.world.World.{World}
+use Rattle.icn_vars.specs.Stops.{halt_of}
+use Rattle.icn_vars.specs.Worlds.{world_of}
+use Rattle.icn_frames.specs.Stacks.{FlatStack}
+use Rattle.icn_code.specs.Codes.{Tables, Proc, RecordType}
+use Rattle.icn_run.specs.Stacks.{Frames, flat}
+use Rattle.icn_run.specs.Step as code
+use Rattle.icn_run.specs.Step.{State, Store, callee_of, collected, with_world}
+use Rattle.icn_control.specs.Parts.{HaltsWith}
+use Rattle.icn_control.specs.Standing.{stack_in}
+use Rattle.icn_calls.specs.declared.callees.Callee.{Callee}
+use Rattle.icn_calls.specs.declared.callees.Callee.TheVariants as Callees
+
+-- values for so many places, with nulls behind them
+abbrev pub fitted : ℕ → List Val → List Val
+fitted n vals = take n (vals ++ replicate n Null)
+
+-- what a number names: a procedure, the constructor of a kind of records, a function, or nothing
+abbrev pub IsCallee : Tables → ℕ → Callee → Type 0
+IsCallee tables n Callees.Proc = (entry : Proc) × ((slice_get tables.procs n ≡ Some entry) × (callee_of tables n ≡ code.IsProc entry))
+IsCallee tables n (Callees.Rec kind) = (entry : RecordType) × ((slice_get tables.records kind ≡ Some entry) × (callee_of tables n ≡ code.IsRecord kind entry))
+IsCallee tables n (Callees.Func func) = callee_of tables n ≡ code.IsFunc func
+IsCallee tables n Callees.Nothing = callee_of tables n ≡ code.IsNothing
+
+-- what comes of arguments that become parameters, of which the last one may collect
+abbrev pub collected_in : Bool → ℕ → World → FlatStack → List Val → Store Frames → (List Value → Frames → Store Frames → State Frames Frames) → State Frames Frames
+collected_in collects count w m vals st next = collected flat collects count (map (value_in (extent_of w.heap)) vals) (stack_in (extent_of w.heap) m) st next
+
+-- Arguments become parameters, in the world after it, where the stack is the same, or why they do not.
+abbrev pub FindsParameters : {A : Type 0} → Bool → ℕ → World → FlatStack → List Val → World → List Val → Result A Stop → Type 0
+FindsParameters collects count w m vals v parameters result = (st : Store Frames) (next : List Value → Frames → Store Frames → State Frames Frames) → st.world ≡ world_of w
+    → MatchResult result (λ _. collected_in collects count w m vals st next ≡ next (map (value_in (extent_of v.heap)) parameters) (stack_in (extent_of v.heap) m) (with_world (world_of v) st))
+    (λ stop. HaltsWith (collected_in collects count w m vals st next) st v (halt_of stop))
