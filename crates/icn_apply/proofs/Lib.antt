@@ -1,1 +1,3 @@
 pub mod NameLists
+mod NamesStay
+mod InPlace

@@ -1,1 +1,5 @@
 pub mod CodeNaming
+pub mod Applicable
+pub mod Kinds
+pub mod NamesAfter
+pub mod Undoing

@@ -1,7 +1,13 @@
-//! The names of a code, for the rows that ask for names. All rows in one call are to come.
+//! All operations and functions in one call, and what they left in another; and the names of a code, for the rows that ask for names.
 #![tactic(auto)]
 
+mod applied;
+mod applying;
 mod code_names;
+mod functions;
+mod kinds;
 mod names;
 
+pub use applied::Applied;
+pub use applying::{again, apply};
 pub use code_names::CodeNames;
