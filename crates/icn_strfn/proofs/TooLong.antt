@@ -1,7 +1,10 @@
--- A text that is longer than the limit is refused, whatever was charged before.
-use Rattle.std.proofs.Common.{◌≡◌, refl, ap, ℕ, ◌+◌, ◌-◌, ◌*◌, ◌/◌, ◌^◌, ◌<◌, ◌≤◌, min, nat_le, false, List, [], ◌∷◌, ◌++◌, length, take, drop, None, arith, length-append, length-take, length-drop}
-use Rattle.std.proofs.lemmas.Bool.{lt-leb}
-use Rattle.icn_value.specs.Store.{Setting}
+-- A text for which no room is left is refused.
+use Rattle.std.proofs.Common.{◌≡◌, refl, ap, ℕ, ◌+◌, ◌-◌, ◌*◌, ◌/◌, ◌^◌, ◌<◌, ◌≤◌, min, nat_le, Bool, true, false, Result, Ok, Err, if◌then◌else◌, List, [], ◌∷◌, ◌++◌, length, take, drop, None, arith, length-append, length-take, length-drop}
+use Rattle.std.proofs.lemmas.Bool.{leb-false, lt-leb}
+use Rattle.icn_value.specs.declared.full.Full.{Full}
+use Rattle.icn_value.specs.declared.full.Full.TheVariants.{Strings}
+use Rattle.icn_value.specs.Changes.{charged_strings}
+use Rattle.icn_value.specs.Store.{Heap, Setting}
 use Rattle.icn_defs.specs.Rows.{Error, builds}
 use Rattle.icn_defs.specs.Strings.{filled_left, filled_right, filling}
 use Rattle.icn_strfn.specs.declared.layouts.Layout.{Layout}
@@ -9,7 +12,7 @@ use Rattle.icn_strfn.specs.declared.layouts.Layout.TheVariants.{Left, Right, Cen
 use Rattle.icn_strfn.specs.Layouts.{laid_out}
 use Rattle.icn_strfn.proofs.Fillings.{copies, length-copies, no_less}
 
-pub too_long : (text : List ℕ) (setting : Setting) → setting.world.heap.bounds.strings < length text → builds text setting ≡ Error 306 None setting
+pub too_long : (text : List ℕ) (setting : Setting) → setting.world.heap.bounds.strings < setting.world.heap.strings + length text → builds text setting ≡ Error 306 None setting
 too_long text setting long =
     let test : nat_le (setting.world.heap.strings + length text) setting.world.heap.bounds.strings ≡ false =
     lt-leb (setting.world.heap.strings + length text) setting.world.heap.bounds.strings (omega arith) in
@@ -57,10 +60,23 @@ length-laid_out Center text fill width =
     let end = length-filled_right fill (missing - missing / 2) in
     omega (arith, whole, inner, front, middle, left, end)
 
--- so many copies are longer than a limit that their length passes, also where it is no number of 64 bits
-pub repeated_long : (count : ℕ) (text : List ℕ) (len product limit : ℕ) {bound : ℕ} → len ≡ length text → product ≡ min (count * len) (2 ^ 64 - 1) → limit ≡ bound → limit < product
-    → bound < length (copies count text)
-repeated_long count text len product limit same is bounds above =
+-- so many copies are no shorter than their length as it is told, also where that is no number of 64 bits
+pub repeated_long : (count : ℕ) (text : List ℕ) (len product : ℕ) → len ≡ length text → product ≡ min (count * len) (2 ^ 64 - 1) → product ≤ length (copies count text)
+repeated_long count text len product same is =
     let whole : length (copies count text) ≡ count * length text = length-copies count text in
     let turned : count * len ≡ count * length text = ap (λ k. count * k) same in
     omega arith
+
+no_both : (heap : Heap) (full : Full) → (let refused : Result Heap Full = Err full in Ok heap ≡ refused) → ⊥
+no_both heap full is = cc
+
+-- a charge that is refused would pass the limit
+no_sum : (heap : Heap) (sum : ℕ) (full : Full) (fits : Bool) → nat_le (heap.strings + sum) heap.bounds.strings ≡ fits
+    → (let refused : Result Heap Full = Err full in (if fits then Ok (record heap { strings = heap.strings + sum }) else Err (Strings heap.strings heap.bounds.strings)) ≡ refused)
+    → heap.bounds.strings < heap.strings + sum
+no_sum heap sum full true test is = absurd (no_both (record heap { strings = heap.strings + sum }) full is)
+no_sum heap sum full false test is = leb-false (heap.strings + sum) heap.bounds.strings test
+
+pub no_room : (heap : Heap) (bytes : ℕ) (full : Full) → charged_strings heap bytes ≡ Err full → heap.bounds.strings < heap.strings + bytes
+unfolding charged_strings
+no_room heap bytes full is = no_sum heap bytes full (nat_le (heap.strings + bytes) heap.bounds.strings) refl is

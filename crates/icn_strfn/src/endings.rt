@@ -1,16 +1,17 @@
 // How rows that give a text end.
-ghost use Rattle.std.specs.Prelude.{◌≡◌, pos};
+ghost use Rattle.std.specs.Prelude.{◌≡◌, ◌+◌, ◌<◌, pos, MatchBool, ⊤};
 ghost use Rattle.std.specs.List.{All};
 ghost use Rattle.icn_value.specs.Values.{Text};
 ghost use Rattle.icn_value.specs.declared.item.Item.TheVariants.{Val as ValItem};
 ghost use Rattle.icn_value.specs.declared.val.Val.TheVariants.{Integer as IntegerVal, Text as TextVal};
 ghost use Rattle.icn_defs.specs.Rows.{builds, gives_value};
 ghost use Rattle.icn_heap.specs.Extents.{IsLive};
-ghost use Rattle.icn_heap.specs.Heaps.{extent_of};
+ghost use Rattle.icn_heap.specs.Heaps.{extent_of, heap_of};
 ghost use Rattle.icn_vars.specs.Worlds.{KeepsItems, reach_of};
 ghost use Rattle.icn_strfn.specs.Stopping.{Gives, IsLiveGiven};
 
 use icn_args::build;
+use icn_heap::Heap;
 use icn_value::{Item, Span, Val};
 use icn_vars::{Locals, Outcome, Stop, World};
 
@@ -24,6 +25,16 @@ pub fn built<L: Locals>(w: &mut World, l: &L, bytes: &[u8]) -> Result<Outcome, S
 {
     let span = build(w, l, bytes)?;
     Ok(text(span))
+}
+
+// Whether so many bytes more may not be charged. A text that is longer needs not be made to be refused.
+pub fn lacks_room(heap: &Heap, bytes: u64) -> bool
+    ensures { MatchBool result ((heap_of heap.now).bounds.strings < (heap_of heap.now).strings + bytes) ⊤ }
+{
+    match heap.room_for_bytes(bytes) {
+        Ok(()) => false,
+        Err(_) => true,
+    }
 }
 
 // A text of these bytes, which costs nothing. The error is want of memory.

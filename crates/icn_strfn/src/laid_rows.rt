@@ -13,7 +13,7 @@ ghost use Rattle.icn_strfn.specs.Stopping.{Gives, IsLiveGiven};
 ghost use Rattle.icn_strfn.specs.declared.layouts.Layout.{Layout as LayoutData};
 
 use crate::defaults::or_one;
-use crate::endings::built;
+use crate::endings::{built, lacks_room};
 use crate::integers::natural;
 use crate::layouts::{Layout, laid_out};
 use crate::mapping::mapped;
@@ -46,8 +46,7 @@ pub fn field_row<L: Locals>(
     let val = arg(args, 0);
     let other = arg(args, 2);
     let (span, fill) = two_texts(w, l, val, other, DefaultText::Blank)?;
-    let limit = w.heap.strings_limit();
-    if width > limit {
+    if lacks_room(&w.heap, width) {
         return Err(Stop::Error(306, None));
     }
     let made = laid_out(
@@ -103,6 +102,10 @@ pub fn map_row<L: Locals>(w: &mut World, l: &L, args: &[Val]) -> Result<Outcome,
     let to = arg(args, 2);
     let (span, first) = two_texts(w, l, val, from, DefaultText::Upper)?;
     let second = text_argument(w, l, to, DefaultText::Lower)?;
+    let len = w.heap.bytes(span).len() as u64;
+    if lacks_room(&w.heap, len) {
+        return Err(Stop::Error(306, None));
+    }
     let made = mapped(
         *w.globals.allocator(),
         w.heap.bytes(span),

@@ -8,7 +8,7 @@ ghost use Rattle.icn_vars.specs.Worlds.{KeepsItems, reach_of};
 ghost use Rattle.icn_strfn.specs.Stopping.{Gives, IsLiveGiven};
 
 use crate::defaults::or_blank;
-use crate::endings::{built, byte_given, text};
+use crate::endings::{built, byte_given, lacks_room, text};
 use crate::fields::{repeated, reversed};
 use crate::integers::natural;
 use crate::text_arguments::{lacks_text, text_len};
@@ -74,6 +74,10 @@ pub fn reverse_row<L: Locals>(w: &mut World, l: &L, args: &[Val]) -> Result<Outc
         return Err(Stop::Error(103, Some(val)));
     }
     let span = text_of(w, l, val)?;
+    let len = w.heap.bytes(span).len() as u64;
+    if lacks_room(&w.heap, len) {
+        return Err(Stop::Error(306, None));
+    }
     let made = reversed(*w.globals.allocator(), w.heap.bytes(span))?;
     built(w, l, &made)
 }
@@ -101,8 +105,7 @@ pub fn repl_row<L: Locals>(w: &mut World, l: &L, args: &[Val]) -> Result<Outcome
     };
     let span = text_of(w, l, val)?;
     let len = w.heap.bytes(span).len() as u64;
-    let limit = w.heap.strings_limit();
-    if count.saturating_mul(len) > limit {
+    if lacks_room(&w.heap, count.saturating_mul(len)) {
         return Err(Stop::Error(306, None));
     }
     let made = repeated(*w.globals.allocator(), w.heap.bytes(span), count as usize)?;

@@ -42,8 +42,8 @@ returns-clause-row g c = λ outside.
 pub returns-clause-kept : goal.returns-clause-kept
 returns-clause-kept g c = items_then _ _ _ c.two_texts.ensures.kept c.built.ensures.kept
 
-pub returns-then-width-limit-clause-row : goal.returns-then-width-limit-clause-row
-returns-then-width-limit-clause-row g c = λ outside.
+pub returns-then-lacks_room-clause-row : goal.returns-then-lacks_room-clause-row
+returns-then-lacks_room-clause-row g c = λ outside.
     let made : List ℕ = laid_out c.args.layout (the_text (value_in (extent_of c.args.w.now.heap) c.arg-val.result)) c.in_ok-width.width (the_text (or_default Blank (value_in (extent_of c.args.w.now.heap) c.arg-other.result))) in
     steps.field_left (map (value_in (extent_of c.args.w.now.heap)) c.args.args.now) (value_in (extent_of c.args.w.now.heap) c.arg-val.result) (value_in (extent_of c.args.w.now.heap) c.arg-other.result) (laid_out c.args.layout) c.in_ok-width.width (setting_of outside c.args.w.now (g.L.Locals.items c.args.l.now)) (c.arg-val.ensures.value (extent_of c.args.w.now.heap)) (c.arg-other.ensures.value (extent_of c.args.w.now.heap)) c.in_ok-width.ensures.field ∙ (c.in_ok-span.ensures.step outside (builds made)
-    ∙ too_long made (setting_of outside c.two_texts.new.w (g.L.Locals.items c.args.l.now)) (omega (arith, c.strings_limit-limit.ensures, c.if-width-limit.true, length-laid_out c.args.layout (the_text (value_in (extent_of c.args.w.now.heap) c.arg-val.result)) (the_text (or_default Blank (value_in (extent_of c.args.w.now.heap) c.arg-other.result))) c.in_ok-width.width)))
+    ∙ too_long made (setting_of outside c.two_texts.new.w (g.L.Locals.items c.args.l.now)) (omega (arith, c.if-lacks_room.ensures, length-laid_out c.args.layout (the_text (value_in (extent_of c.args.w.now.heap) c.arg-val.result)) (the_text (or_default Blank (value_in (extent_of c.args.w.now.heap) c.arg-other.result))) c.in_ok-width.width)))

@@ -1,4 +1,5 @@
-use Rattle.std.proofs.Common.{◌∙◌, sym, ap, subst, List, ℕ, [], ◌∷◌, map}
+use Rattle.std.proofs.lemmas.List.{length-map}
+use Rattle.std.proofs.Common.{◌≡◌, arith, length, ◌∙◌, sym, ap, subst, List, ℕ, [], ◌∷◌, map}
 use Rattle.icn_value.specs.Values.{Value}
 use Rattle.icn_defs.specs.Rows.{builds, costs_text, costs_texts}
 use Rattle.icn_defs.specs.Strings.{map_row, mapped}
@@ -11,6 +12,7 @@ use Rattle.icn_strfn.specs.TextArguments.{or_default}
 use Rattle.icn_strfn.specs.declared.text_arguments.DefaultText.TheVariants.{Upper, Lower}
 use Rattle.icn_strfn.proofs.Coming.{goes_on, stops_at, stops_so}
 use Rattle.icn_strfn.proofs.KeptArguments.{argument_stays, same_argument}
+use Rattle.icn_strfn.proofs.TooLong.{too_long}
 use Rattle.icn_strfn.proofs.Steps as steps
 use Rattle.icn_strfn.proofs.laid_rows.map_row.Goals as goal
 
@@ -44,16 +46,26 @@ pub bytes-requires : goal.bytes-requires
 bytes-requires g c = c.text_argument.ensures.kept.extent.text c.in_ok-span.span c.in_ok-span.ensures.first_live
 
 pub bytes-requires-2 : goal.bytes-requires-2
-bytes-requires-2 g c = argument_stays _ _ c.text_argument.ensures.kept.extent c.in_ok-span.first c.in_ok-span.ensures.second_live
+bytes-requires-2 g c = c.text_argument.ensures.kept.extent.text c.in_ok-span.span c.in_ok-span.ensures.first_live
+
+pub bytes-requires-3 : goal.bytes-requires-3
+bytes-requires-3 g c = argument_stays _ _ c.text_argument.ensures.kept.extent c.in_ok-span.first c.in_ok-span.ensures.second_live
+
+pub returns-then-lacks_room-clause-row : goal.returns-then-lacks_room-clause-row
+returns-then-lacks_room-clause-row g c = λ outside.
+    let text : List ℕ = the_text (value_in (extent_of c.args.w.now.heap) c.arg-val.result) in
+    let same : length c.bytes.result.now ≡ length text = ap length (c.bytes.ensures ∙ (c.text_argument.ensures.kept.extent.bytes c.in_ok-span.span c.in_ok-span.ensures.first_live ∙ c.in_ok-span.ensures.first_text)) in
+    (((steps.map_left (map (value_in (extent_of c.args.w.now.heap)) c.args.args.now) (value_in (extent_of c.args.w.now.heap) c.arg-val.result) (value_in (extent_of c.args.w.now.heap) c.arg-from.result) (value_in (extent_of c.args.w.now.heap) c.arg-to.result) (setting_of outside c.args.w.now (g.L.Locals.items c.args.l.now)) (c.arg-val.ensures.value (extent_of c.args.w.now.heap)) (c.arg-from.ensures.value (extent_of c.args.w.now.heap)) (c.arg-to.ensures.value (extent_of c.args.w.now.heap)) c.in_ok-checked_mapping.ensures.mapping) ∙ c.in_ok-span.ensures.step outside (costs_text (value_in (extent_of c.args.w.now.heap) c.arg-to.result) (builds (map (mapped (the_text (or_default Upper (value_in (extent_of c.args.w.now.heap) c.arg-from.result))) (the_text (or_default Lower (value_in (extent_of c.args.w.now.heap) c.arg-to.result)))) (the_text (value_in (extent_of c.args.w.now.heap) c.arg-val.result)))))) ∙ ap (λ (v : Value). costs_text v (builds (map (mapped (the_text (or_default Upper (value_in (extent_of c.args.w.now.heap) c.arg-from.result))) (the_text (or_default Lower (value_in (extent_of c.args.w.now.heap) c.arg-to.result)))) (the_text (value_in (extent_of c.args.w.now.heap) c.arg-val.result)))) (setting_of outside c.two_texts.new.w (g.L.Locals.items c.args.l.now))) (sym (c.two_texts.ensures.kept.extent.value c.arg-to.result (c.arg-to.ensures.live (extent_of c.args.w.now.heap) c.requires.args)))) ∙ (c.in_ok-second.ensures.step outside (builds (map (mapped (the_text (or_default Upper (value_in (extent_of c.args.w.now.heap) c.arg-from.result))) (the_text (or_default Lower (value_in (extent_of c.args.w.now.heap) c.arg-to.result)))) (the_text (value_in (extent_of c.args.w.now.heap) c.arg-val.result))))
+    ∙ too_long (map (mapped (the_text (or_default Upper (value_in (extent_of c.args.w.now.heap) c.arg-from.result))) (the_text (or_default Lower (value_in (extent_of c.args.w.now.heap) c.arg-to.result)))) (the_text (value_in (extent_of c.args.w.now.heap) c.arg-val.result))) (setting_of outside c.text_argument.new.w (g.L.Locals.items c.args.l.now)) (omega (arith, c.if-lacks_room.ensures, same, length-map text (mapped (the_text (or_default Upper (value_in (extent_of c.args.w.now.heap) c.arg-from.result))) (the_text (or_default Lower (value_in (extent_of c.args.w.now.heap) c.arg-to.result)))))))
 
 pub returns-clause-row : goal.returns-clause-row
 returns-clause-row g c = λ outside.
     goes_on (extent_of c.built.new.w.heap) (map_row (map (value_in (extent_of c.args.w.now.heap)) c.args.args.now)) (builds c.deref.result.now) (setting_of outside c.args.w.now (g.L.Locals.items c.args.l.now)) (setting_of outside c.text_argument.new.w (g.L.Locals.items c.args.l.now)) (setting_of outside c.built.new.w (g.L.Locals.items c.args.l.now)) c.built.result
     ((((steps.map_left (map (value_in (extent_of c.args.w.now.heap)) c.args.args.now) (value_in (extent_of c.args.w.now.heap) c.arg-val.result) (value_in (extent_of c.args.w.now.heap) c.arg-from.result) (value_in (extent_of c.args.w.now.heap) c.arg-to.result) (setting_of outside c.args.w.now (g.L.Locals.items c.args.l.now)) (c.arg-val.ensures.value (extent_of c.args.w.now.heap)) (c.arg-from.ensures.value (extent_of c.args.w.now.heap)) (c.arg-to.ensures.value (extent_of c.args.w.now.heap)) c.in_ok-checked_mapping.ensures.mapping) ∙ c.in_ok-span.ensures.step outside (costs_text (value_in (extent_of c.args.w.now.heap) c.arg-to.result) (builds (map (mapped (the_text (or_default Upper (value_in (extent_of c.args.w.now.heap) c.arg-from.result))) (the_text (or_default Lower (value_in (extent_of c.args.w.now.heap) c.arg-to.result)))) (the_text (value_in (extent_of c.args.w.now.heap) c.arg-val.result)))))) ∙ ap (λ (v : Value). costs_text v (builds (map (mapped (the_text (or_default Upper (value_in (extent_of c.args.w.now.heap) c.arg-from.result))) (the_text (or_default Lower (value_in (extent_of c.args.w.now.heap) c.arg-to.result)))) (the_text (value_in (extent_of c.args.w.now.heap) c.arg-val.result)))) (setting_of outside c.two_texts.new.w (g.L.Locals.items c.args.l.now))) (sym (c.two_texts.ensures.kept.extent.value c.arg-to.result (c.arg-to.ensures.live (extent_of c.args.w.now.heap) c.requires.args)))) ∙ (c.in_ok-second.ensures.step outside (builds (map (mapped (the_text (or_default Upper (value_in (extent_of c.args.w.now.heap) c.arg-from.result))) (the_text (or_default Lower (value_in (extent_of c.args.w.now.heap) c.arg-to.result)))) (the_text (value_in (extent_of c.args.w.now.heap) c.arg-val.result))))
     ∙ ap (λ bytes. builds bytes (setting_of outside c.text_argument.new.w (g.L.Locals.items c.args.l.now)))
-    (ap (λ (bytes : List ℕ). map (mapped (the_text (or_default Upper (value_in (extent_of c.args.w.now.heap) c.arg-from.result))) (the_text (or_default Lower (value_in (extent_of c.args.w.now.heap) c.arg-to.result)))) bytes) (sym (c.bytes.ensures ∙ ((c.text_argument.ensures.kept.extent.bytes c.in_ok-span.span c.in_ok-span.ensures.first_live) ∙ c.in_ok-span.ensures.first_text)))
-    ∙ (ap (λ (bytes : List ℕ). map (mapped bytes (the_text (or_default Lower (value_in (extent_of c.args.w.now.heap) c.arg-to.result)))) c.bytes.result.now) (sym (c.bytes-2.ensures ∙ (same_argument _ _ c.text_argument.ensures.kept.extent c.in_ok-span.first c.in_ok-span.ensures.second_live ∙ c.in_ok-span.ensures.second_text)))
-    ∙ (ap (λ (bytes : List ℕ). map (mapped c.bytes-2.result.now bytes) c.bytes.result.now) (sym (c.bytes-3.ensures ∙ (c.in_ok-second.ensures.text ∙ ap (λ (v : Value). the_text (or_default Lower v)) (c.two_texts.ensures.kept.extent.value c.arg-to.result (c.arg-to.ensures.live (extent_of c.args.w.now.heap) c.requires.args)))))
+    (ap (λ (bytes : List ℕ). map (mapped (the_text (or_default Upper (value_in (extent_of c.args.w.now.heap) c.arg-from.result))) (the_text (or_default Lower (value_in (extent_of c.args.w.now.heap) c.arg-to.result)))) bytes) (sym (c.bytes-2.ensures ∙ ((c.text_argument.ensures.kept.extent.bytes c.in_ok-span.span c.in_ok-span.ensures.first_live) ∙ c.in_ok-span.ensures.first_text)))
+    ∙ (ap (λ (bytes : List ℕ). map (mapped bytes (the_text (or_default Lower (value_in (extent_of c.args.w.now.heap) c.arg-to.result)))) c.bytes-2.result.now) (sym (c.bytes-3.ensures ∙ (same_argument _ _ c.text_argument.ensures.kept.extent c.in_ok-span.first c.in_ok-span.ensures.second_live ∙ c.in_ok-span.ensures.second_text)))
+    ∙ (ap (λ (bytes : List ℕ). map (mapped c.bytes-3.result.now bytes) c.bytes-2.result.now) (sym (c.bytes-4.ensures ∙ (c.in_ok-second.ensures.text ∙ ap (λ (v : Value). the_text (or_default Lower v)) (c.two_texts.ensures.kept.extent.value c.arg-to.result (c.arg-to.ensures.live (extent_of c.args.w.now.heap) c.requires.args)))))
     ∙ (sym c.in_ok-made.ensures ∙ sym c.deref.ensures.value))))))
     (c.built.ensures.row outside)
 

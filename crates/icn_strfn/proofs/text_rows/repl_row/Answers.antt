@@ -1,5 +1,5 @@
 use Rattle.icn_strfn.proofs.TooLong.{repeated_long, too_long}
-use Rattle.std.proofs.Common.{◌≡◌, List, ℕ, length}
+use Rattle.std.proofs.Common.{◌≡◌, List, ℕ, length, arith}
 use Rattle.std.proofs.Common.{FitsSigned, w64, rules}
 use Rattle.std.proofs.lemmas.Int.{to_z-of_z}
 use Rattle.std.proofs.Common.{◌∙◌, sym, ap, map, replicate}
@@ -36,9 +36,9 @@ returns-clause-row g c = λ outside.
 pub returns-clause-kept : goal.returns-clause-kept
 returns-clause-kept g c = items_then _ _ _ c.text_of.ensures.kept c.built.ensures.kept
 
-pub returns-then-saturating_mul-limit-clause-row : goal.returns-then-saturating_mul-limit-clause-row
-returns-then-saturating_mul-limit-clause-row g c = λ outside.
+pub returns-then-lacks_room-clause-row : goal.returns-then-lacks_room-clause-row
+returns-then-lacks_room-clause-row g c = λ outside.
     let made : List ℕ = concat (replicate c.in-Some-natural.count (the_text (value_in (extent_of c.args.w.now.heap) c.arg-val.result))) in
     let same : length c.bytes.result.now ≡ length (the_text (value_in (extent_of c.args.w.now.heap) c.arg-val.result)) = ap length (c.bytes.ensures ∙ c.in_ok-span.ensures.text) in
     steps.repl_left (map (value_in (extent_of c.args.w.now.heap)) c.args.args.now) (value_in (extent_of c.args.w.now.heap) c.arg-val.result) (value_in (extent_of c.args.w.now.heap) c.arg-times.result) c.in-Some.n c.in-Some-natural.count (setting_of outside c.args.w.now (g.L.Locals.items c.args.l.now)) (c.arg-val.ensures.value (extent_of c.args.w.now.heap)) (c.arg-times.ensures.value (extent_of c.args.w.now.heap)) (c.if-lacks_text.ensures (extent_of c.args.w.now.heap)) (sym c.to_integer.ensures ∙ c.in-Some.is) (steps.natural_some c.in-Some.n c.in-Some-natural.count (let fits : FitsSigned w64 c.in-Some.n = search rules in rw (to_z-of_z w64 c.in-Some.n fits) at (sym c.natural.ensures ∙ c.in-Some-natural.is))) ∙ (c.in_ok-span.ensures.step outside (builds made)
-    ∙ too_long made (setting_of outside c.text_of.new.w (g.L.Locals.items c.args.l.now)) (repeated_long c.in-Some-natural.count (the_text (value_in (extent_of c.args.w.now.heap) c.arg-val.result)) (length c.bytes.result.now) _ _ same c.saturating_mul.ensures c.strings_limit-limit.ensures c.if-saturating_mul-limit.true))
+    ∙ too_long made (setting_of outside c.text_of.new.w (g.L.Locals.items c.args.l.now)) (omega (arith, c.if-lacks_room.ensures, repeated_long c.in-Some-natural.count (the_text (value_in (extent_of c.args.w.now.heap) c.arg-val.result)) (length c.bytes.result.now) _ same c.saturating_mul.ensures)))
