@@ -2,14 +2,14 @@
 use Rattle.std.proofs.Common.{◌≡◌, ◌≤◌, ◌<◌, ◌+◌, ◌-◌, ℕ, List, [], ◌++◌, length, take, drop, Option, None, Some, refl, sym, ◌∙◌, ap, append_assoc, append-nil, arith, length-append}
 use Rattle.std.specs.List.{slice_range, position_or_len}
 use Rattle.std.proofs.lemmas.Bool.Decides.{nat_tests}
-use Rattle.std.proofs.lemmas.List.Folds.{prefix_len-append}
+use Rattle.std.proofs.lemmas.List.Folds.{length-prefix_len, prefix_len-append}
 use Rattle.std.proofs.lemmas.List.Sums.{prefix_len-le-length}
 use Rattle.std.specs.Io.KnownBytes.{Consumes, Keeps}
-use Rattle.std.proofs.lemmas.List.{length-take-le, take-append-le, take_all}
+use Rattle.std.proofs.lemmas.List.{length-take-le, take-append-drop, take-append-le, take_all}
 use Rattle.std.proofs.Math.Seq.{drop-append_seam, drop-append-add, take-append_seam, take-append-add}
 use Rattle.icn_host.proofs.ReaderSteps.{taken, keeps_after, slice_split, given_on, appended_on, counted_on}
 use Rattle.icn_host.specs.Readers.{HasLinePart, left_of}
-use Rattle.icn_host.specs.Sources.{is_newline, line_kind, TakesLine, TakesLinePart}
+use Rattle.icn_host.specs.Sources.{ExtendsByLine, is_newline, line_kind, TakesLine, TakesLinePart}
 use Rattle.icn_host.specs.declared.fault.Line.TheVariants.{Whole}
 
 position-append : (xs ys : List ℕ) → position_or_len is_newline xs ≡ length xs
@@ -19,8 +19,22 @@ position-append xs ys h = grind (arith, nat_tests, prefix_len-append)
 position-within : (xs ys : List ℕ) → position_or_len is_newline xs < length xs → position_or_len is_newline (xs ++ ys) ≡ position_or_len is_newline xs
 position-within xs ys h = grind (arith, nat_tests, prefix_len-append)
 
+plain_part : (xs ys : List ℕ) → position_or_len is_newline (xs ++ ys) ≡ length xs → position_or_len is_newline xs ≡ length xs
+plain_part xs ys h = let within : position_or_len is_newline xs ≤ length xs = prefix_len-le-length _ xs in grind (arith, nat_tests, prefix_len-append)
+
+-- what stands before the first newline has none
+plain_first : (bytes : List ℕ) → position_or_len is_newline (take (position_or_len is_newline bytes) bytes) ≡ length (take (position_or_len is_newline bytes) bytes)
+plain_first bytes =
+    let n : ℕ = position_or_len is_newline bytes in
+    plain_part (take n bytes) (drop n bytes) (ap (λ s. position_or_len is_newline s) (take-append-drop n bytes) ∙ sym (length-prefix_len _ bytes))
+
 kind_whole : (xs : List ℕ) → position_or_len is_newline xs < length xs → Whole ≡ line_kind xs
 kind_whole xs h = grind (arith, nat_tests)
+
+pub line_appended : (bytes had now : List ℕ) (count : ℕ) → count ≡ position_or_len is_newline bytes → now ≡ had ++ take count bytes → ExtendsByLine had now
+line_appended bytes had now count e is =
+    let before : List ℕ = take (position_or_len is_newline bytes) bytes in
+    record { line = before; is = is ∙ ap (λ n. had ++ take n bytes) e; plain = plain_first bytes }
 
 consumes_nothing : (a : Option (List ℕ)) → Consumes a a []
 consumes_nothing None = tt
@@ -115,3 +129,15 @@ pub line_whole : {a b : Option (List ℕ)} {had has : List ℕ} {most room : ℕ
 line_whole {a} {b} {had} {has} {most} {room} bytes at end count behind now h k low high e some is =
     whole_of a behind h.taken.given had now bytes at end count (keeps_after a b _ h.taken.given h.taken.consumes k) h.clean low high e some
     (appended_on had has now h.taken.given (take count (slice_range bytes at end)) is h.taken.appended)
+
+-- the line that ends in what was read ahead has no newline
+pub line_plain : {a b : Option (List ℕ)} {had has : List ℕ} {most room : ℕ} (bytes : List ℕ) (count : ℕ) (now : List ℕ)
+    → HasLinePart a b had has most room → count ≡ position_or_len is_newline bytes → now ≡ has ++ take count bytes → ExtendsByLine had now
+line_plain {a} {b} {had} {has} {most} {room} bytes count now h e is =
+    let given : List ℕ = h.taken.given in
+    let last : List ℕ = take (position_or_len is_newline bytes) bytes in
+    record {
+      line = given ++ last;
+      is = appended_on had has now given last (is ∙ ap (λ n. has ++ take n bytes) e) h.taken.appended;
+      plain = position-append given last h.clean ∙ (ap (λ n. length given + n) (plain_first bytes) ∙ sym (length-append given last));
+    }

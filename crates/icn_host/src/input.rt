@@ -2,7 +2,7 @@
 ghost use Rattle.std.specs.Prelude.{◌≡◌, ◌+◌, ◌≤◌, None, OnOk, OnErr, IfOk, IsErrOf, length, vec_len};
 ghost use Rattle.std.specs.Io.KnownBytes.{IsAtEnd, Keeps};
 ghost use Rattle.icn_host.specs.Counts.{CountsOnce};
-ghost use Rattle.icn_host.specs.Sources.{TakesLine, TakesLinePart, TakesFirst, TakesFirstPart};
+ghost use Rattle.icn_host.specs.Sources.{ExtendsByLine, TakesLine, TakesLinePart, TakesFirst, TakesFirstPart};
 ghost use Rattle.icn_host.specs.Buffers.{Extends};
 
 use crate::bytes::{line_len, take_first};
@@ -46,6 +46,7 @@ impl<R: Read> Ahead<R> {
         ensures err { OnErr result (TakesLinePart (ahead_left R.remaining self.old) (ahead_left R.remaining self.new) into.old.items into.new.items
             (IsErrOf result Fault.Failed)) }
         ensures kept { Extends into.old.items into.new.items }
+        ensures plain { IfOk result (λ _. ExtendsByLine into.old.items into.new.items) }
         ensures none { IfOk result (λ line. line ≡ Line.End → into.new.items ≡ into.old.items) }
     {
         let mut room = LONGEST_LINE;
@@ -138,6 +139,7 @@ impl<R: Read> Source for StdSource<R> {
         ensures err { OnErr result (TakesLinePart (source_left R.remaining self.old) (source_left R.remaining self.new) into.old.items into.new.items
             (IsErrOf result Fault.Failed)) }
         ensures kept { Extends into.old.items into.new.items }
+        ensures plain { IfOk result (λ _. ExtendsByLine into.old.items into.new.items) }
         ensures none { IfOk result (λ line. line ≡ Line.End → into.new.items ≡ into.old.items) }
         ensures cause { CountsOnce (⟦<StdSource<R> as Source>⟧.faults self.old) (⟦<StdSource<R> as Source>⟧.faults self.new) (IsErrOf result Fault.Failed) }
     {

@@ -4,7 +4,7 @@ ghost use Rattle.icn_host.specs.Buffers.{Extends};
 ghost use Rattle.icn_host.specs.Counts.{CountsOnce};
 ghost use Rattle.icn_host.specs.FileMaps.{file_map, Reads, ReadsPart, NotHeld, Sets, SetsPart};
 ghost use Rattle.icn_host.specs.Sinks.{Gains, GainsPart, sink_state};
-ghost use Rattle.icn_host.specs.Sources.{TakesLine, TakesLinePart, TakesFirst, TakesFirstPart};
+ghost use Rattle.icn_host.specs.Sources.{ExtendsByLine, TakesLine, TakesLinePart, TakesFirst, TakesFirstPart};
 
 use crate::bytes::{next_line, take_first};
 use crate::failing::FailingCalls;
@@ -124,6 +124,7 @@ impl Source for MemSource {
     fn line(&mut self, into: &mut Vec<u8>) -> Result<Line, Fault>
         ensures ok { IfOk result (TakesLine (⟦<MemSource as Source>⟧.left self.old) (⟦<MemSource as Source>⟧.left self.new) into.old.items into.new.items) }
         ensures kept { Extends into.old.items into.new.items }
+        ensures plain { IfOk result (λ _. ExtendsByLine into.old.items into.new.items) }
         ensures none { IfOk result (λ line. line ≡ Line.End → into.new.items ≡ into.old.items) }
         ensures same_left { OnErr result (⟦<MemSource as Source>⟧.left self.new ≡ ⟦<MemSource as Source>⟧.left self.old) }
         ensures same_into { OnErr result (into.new.items ≡ into.old.items) }

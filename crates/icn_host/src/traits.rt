@@ -4,7 +4,7 @@ ghost use Rattle.icn_host.specs.Buffers.{Extends};
 ghost use Rattle.icn_host.specs.Counts.{CountsOnce};
 ghost use Rattle.icn_host.specs.Sinks.{Gains, GainsPart, SinkState};
 ghost use Rattle.icn_host.specs.FileMaps.{Reads, ReadsPart, NotHeld, Sets, SetsPart, FileMap};
-ghost use Rattle.icn_host.specs.Sources.{TakesLine, TakesLinePart, TakesFirst, TakesFirstPart};
+ghost use Rattle.icn_host.specs.Sources.{ExtendsByLine, TakesLine, TakesLinePart, TakesFirst, TakesFirstPart};
 
 use crate::fault::{Fault, Line, Look};
 
@@ -22,8 +22,10 @@ pub trait Source {
         ensures err { OnErr result (TakesLinePart (left self.old) (left self.new) into.old.items into.new.items
             (IsErrOf result Fault.Failed)) }
 
-        // Whatever comes of the call, the buffer begins with what it had, and where there was no line it has no more.
+        // Whatever comes of the call, the buffer begins with what it had. A line has no newline in it, whether or not the
+        // source tells what it has left, and where there was no line nothing was appended.
         ensures kept { Extends into.old.items into.new.items }
+        ensures plain { IfOk result (λ _. ExtendsByLine into.old.items into.new.items) }
         ensures none { IfOk result (λ line. line ≡ Line.End → into.new.items ≡ into.old.items) }
         ensures cause { CountsOnce (faults self.old) (faults self.new) (IsErrOf result Fault.Failed) };
 

@@ -1,6 +1,7 @@
 use Rattle.std.proofs.Common.{refl}
+use Rattle.std.specs.List.{slice_range}
 use Rattle.icn_host.proofs.SinkSteps.{at_err}
-use Rattle.icn_host.proofs.LineSteps.{line_start, line_part, line_on, line_whole}
+use Rattle.icn_host.proofs.LineSteps.{line_start, line_part, line_on, line_plain, line_whole}
 use Rattle.icn_host.proofs.input.Ahead.line.Goals as goal
 
 pub loop-rest-init : goal.loop-rest-init
@@ -28,3 +29,8 @@ loop-rest-preserved g c =
     line_on c.fill.new.self.bytes c.fill.new.self.at c.fill.new.self.end c.line_len-count.result _ c.extend_from_slice.new.self.items
     c.loop-rest.invariant c.fill.ensures.same c.fill.new.self.from_start c.fill.new.self.within c.line_len-count.ensures c.if-count-rest.false
     c.if-count-room.false c.in_ok-extend_from_slice.ensures.items
+
+pub returns-then-count-rest-clause-plain : goal.returns-then-count-rest-clause-plain
+returns-then-count-rest-clause-plain g c =
+    line_plain (slice_range c.fill.new.self.bytes c.fill.new.self.at c.fill.new.self.end) c.line_len-count.result c.extend_from_slice.new.self.items c.loop-rest.invariant c.line_len-count.ensures
+    c.in_ok-extend_from_slice.ensures.items
