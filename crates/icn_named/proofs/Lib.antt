@@ -1,3 +1,4 @@
 mod Entries
 mod RowValues
 pub mod RowsNamed
+pub mod RowSizes
