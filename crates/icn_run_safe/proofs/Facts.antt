@@ -11,7 +11,7 @@ use Rattle.icn_verify.specs.Given.{HaveShapes}
 use Rattle.icn_run.specs.Stacks.{Frames, flat}
 use Rattle.icn_run.specs.Rows.{Item}
 use Rattle.icn_run.specs.Chains.{Chain, chain, Outer, base, call, mark, limit, Parked, Linked, linked, outer_of, scans_of, taken, take_from}
-use Rattle.icn_run.specs.Step.{Launch, State, Store, running, stuck, instrs_of, instruction_at, instruction, with_found, is_main, step, steps}
+use Rattle.icn_run.specs.Step.{Launch, State, Store, running, stuck, instruction_at, instruction, with_found, is_main, step, steps}
 use Rattle.icn_run.specs.FlatStep as Flat
 use Rattle.icn_run.specs.LinkedStep as Marks
 use Rattle.icn_run.specs.LinkedStep.{repeats_anywhere}
@@ -45,7 +45,7 @@ module _ (tables : Tables) (have : HaveShapes tables) (ok : TablesOk tables) (ke
   abbrev sh : ℕ → ℕ → Option PlainShape
   sh = shapes_of tables have
 
-  given : Shaped tables (shapes_of tables have)
+  pub given : Shaped tables (shapes_of tables have)
   given = shaped tables have ok
 
   operand_count : (w : Known) (s p : ℕ) (S : PlainShape) (c : Chain) → ChainOk tables sh w s p S c → length (operands_of c) ≡ S.inner.operands
@@ -80,22 +80,22 @@ module _ (tables : Tables) (have : HaveShapes tables) (ok : TablesOk tables) (ke
 
   -- Flat stacks follow linked ones
 
-  abbrev Sames : State Parked Linked → State Frames Frames → Type 0
+  abbrev pub Sames : State Parked Linked → State Frames Frames → Type 0
   Sames l f = Sm (linked repeats_anywhere) flat tables (Lacks repeats_anywhere (Opens tables)) (Unit {0}) (linked_agrees repeats_anywhere (Opens tables)) rows_keep l f
 
-  record Near (f : State Frames Frames) : Type 0 where
-    state : State Parked Linked
-    safe : Safe tables sh state
-    same : Sames state f
+  pub record Near (f : State Frames Frames) : Type 0 where
+    pub state : State Parked Linked
+    pub safe : Safe tables sh state
+    pub same : Sames state f
 
-  abbrev IsDue : State Frames Frames → Type 0
+  abbrev pub IsDue : State Frames Frames → Type 0
   IsDue f = IsAtMark (linked repeats_anywhere) flat tables (Lacks repeats_anywhere (Opens tables)) (Unit {0}) (linked_agrees repeats_anywhere (Opens tables)) rows_keep f
 
   -- it follows one, or its next step, which opens a mark, leads to one that does
-  abbrev Follows : State Frames Frames → Type 0
+  abbrev pub Follows : State Frames Frames → Type 0
   Follows f = Near f ⊎ (IsDue f × Near (step flat tables f))
 
-  follows_next : (f : State Frames Frames) → Follows f → Follows (step flat tables f)
+  pub follows_next : (f : State Frames Frames) → Follows f → Follows (step flat tables f)
   follows_next f (inr x) = inl x.1
   follows_next f (inl x) = by (one_step (linked repeats_anywhere) flat tables (Lacks repeats_anywhere (Opens tables)) (Unit {0}) (linked_agrees repeats_anywhere (Opens tables)) rows_keep (λ lacks. tt) x.same)
     where

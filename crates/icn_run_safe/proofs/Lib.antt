@@ -12,3 +12,4 @@ pub mod RowValues
 pub mod RowsWithin
 pub mod Ended
 pub mod Facts
+pub mod AnyOutside

@@ -3,3 +3,4 @@ pub mod Shaped
 pub mod NoStuck
 pub mod Ended
 pub mod Facts
+pub mod AnyOutside

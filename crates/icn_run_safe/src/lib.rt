@@ -6,6 +6,9 @@ ghost use Rattle.icn_code.specs.Codes.{Tables};
 ghost use Rattle.icn_code.specs.Rules.{keeps_rules};
 ghost use Rattle.icn_verify.specs.Faults.{IsVerified};
 ghost use Rattle.icn_verify.specs.Given.{HaveShapes};
+ghost use Rattle.icn_run.specs.Step.{Launch};
+ghost use Rattle.icn_run.specs.FlatStep as flat;
+ghost use Rattle.icn_run_safe.specs.AnyOutside.{IsNeverStuckOver};
 ghost use Rattle.icn_run_safe.specs.Within.{RowsStayWithin};
 ghost use Rattle.icn_run_safe.specs.Ended.{AreOver};
 ghost use Rattle.icn_run_safe.specs.Facts.{AreShaped, HasFacts, shapes_of};
@@ -15,6 +18,13 @@ ghost use Rattle.icn_run_safe.specs.NoStuck.{IsNeverStuck};
 pub fn never_stuck()
     ensures verified { (tables : Tables) → keeps_rules tables ≡ true → IsVerified tables → IsNeverStuck tables }
     ensures shaped { (tables : Tables) → keeps_rules tables ≡ true → HaveShapes tables → IsNeverStuck tables }
+{}
+
+/// Nor does one on flat stacks, whatever the outside is before each of its steps: so it is where the input tells nothing of what
+/// it has left.
+pub fn never_stuck_over_any_outside()
+    ensures verified { (tables : Tables) → keeps_rules tables ≡ true → IsVerified tables → (launch : Launch) → IsNeverStuckOver tables (flat.start tables launch) }
+    ensures shaped { (tables : Tables) → keeps_rules tables ≡ true → HaveShapes tables → (launch : Launch) → IsNeverStuckOver tables (flat.start tables launch) }
 {}
 
 /// At each state in which a run of verified code has an instruction due, the instruction finds what it wants, the stack has the shape of the place, whatever
