@@ -1,10 +1,9 @@
 -- Values of a heap in which all that is named has a name.
-use Rattle.std.proofs.Common.{◌≡◌, sym, subst, ℕ, ◌<◌, List, [], map, length, arith}
+use Rattle.std.proofs.Common.{◌≡◌, sym, subst, ℕ, List, [], map, arith}
 use Rattle.std.specs.List.{All}
-use Rattle.icn_structs.specs.Numbered.{Numbered}
 use Rattle.icn_value.specs.declared.val.Val.{Val}
 use Rattle.icn_value.specs.declared.val.Val.TheVariants.{Null as NullVal, Integer as IntegerVal, Text as TextVal, Chars as CharsVal, Std as StdVal, Proc as ProcVal, Rec as RecVal, List as ListVal, Set as SetVal, Table as TableVal, Coexp as CoexpVal}
-use Rattle.icn_value.specs.Values.{Value, Null}
+use Rattle.icn_value.specs.Values.{Null}
 use Rattle.icn_value.specs.Store.{Heap, Names, Record, Table, new_list, list_at, set_at, table_at, record_at}
 use Rattle.icn_defs.specs.Arguments.{arg}
 use Rattle.icn_heap.specs.Extents.{Extent, value_in, values_in}

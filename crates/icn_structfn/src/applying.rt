@@ -1,6 +1,7 @@
 // A function over structures is applied.
 ghost use Rattle.std.specs.Prelude.{◌≡◌, true, map};
 ghost use Rattle.std.specs.List.{All};
+ghost use Rattle.icn_text.specs.declared.func.Func.TheVariants.{Sort};
 ghost use Rattle.icn_defs.specs.Applying.{function_of};
 ghost use Rattle.icn_heap.specs.Extents.{IsLive, value_in};
 ghost use Rattle.icn_heap.specs.Heaps.{extent_of, heap_of};
@@ -31,7 +32,7 @@ pub fn first<L: Locals, N: Names>(
 ) -> Result<Outcome, Halt>
     requires locals { All (IsLive (extent_of w.old.heap)) (L.items l.now) }
     requires func { is_of_structures func ≡ true }
-    requires named { HeapNamed (N.known names.now) (heap_of w.old.heap) }
+    requires named { func ≡ Sort → HeapNamed (N.known names.now) (heap_of w.old.heap) }
     requires args { All (IsLive (extent_of w.old.heap)) args.now }
     ensures row { Answers w.old (L.items l.now) w.new (L.items l.now) (function_of (N.known names.now) func (map (value_in (extent_of w.old.heap)) args.now)) result }
     ensures live { IsLiveAnswer (reach_of w.new (L.items l.now)) result }

@@ -14,5 +14,6 @@ pub use adding::{push, put};
 pub use applying::first;
 pub use ends::{get, pull};
 pub use keys::{delete, insert, key, key_again, member};
+pub use making::new_record;
 pub use making_rows::{copy, list, set, table};
 pub use sorting::sort;

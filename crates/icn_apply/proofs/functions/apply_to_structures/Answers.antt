@@ -27,7 +27,7 @@ pub first-requires-clause-args : goal.first-requires-clause-args
 first-requires-clause-args g c = subst (λ (vals : List Val). All (IsLive (extent_of c.args.w.now.heap)) vals) (sym c.deref.ensures.value) c.in_ok-vals.ensures.live
 
 pub first-requires-clause-named : goal.first-requires-clause-named
-first-requires-clause-named g c = c.requires.named.world.heap
+first-requires-clause-named g c = λ sorts. c.requires.named.world.heap
 
 pub returns-clause-applies : goal.returns-clause-applies
 returns-clause-applies g c = λ handed.

@@ -61,3 +61,6 @@ returns-in-Sort-clause-row g c =
 pub returns-in-Table-clause-row : goal.returns-in-Table-clause-row
 returns-in-Table-clause-row g c =
     subst (λ (func : Func). Answers c.args.w.now (g.L.Locals.items c.args.l.now) c.table.new.w (g.L.Locals.items c.args.l.now) (function_of (g.N.Names.known c.args.names.now) func (map (value_in (extent_of c.args.w.now.heap)) c.args.args.now)) c.table.result) (sym c.in-Table.is) c.table.ensures.row
+
+pub sort-requires-clause-named : goal.sort-requires-clause-named
+sort-requires-clause-named g c = c.requires.named c.in-Sort.is

@@ -1,4 +1,4 @@
-use Rattle.std.proofs.Common.{sym, map, arith}
+use Rattle.std.proofs.Common.{sym, map}
 use Rattle.std.proofs.lemmas.List.Elements.{All-head, All-push, All-rest, All-same}
 use Rattle.icn_heap.specs.Extents.{AreLive, IsLive, values_in}
 use Rattle.icn_structfn.specs.Sorting.{in_turn}
