@@ -29,7 +29,6 @@ use Rattle.icn_coexp.specs.Transfers.{Coexp, Table, enter_other, exhaust, exhaus
 use Rattle.icn_coexp.proofs.Others.{entered_runs}
 use Rattle.icn_code.specs.declared.instr.Instr.TheVariants as Instrs
 use Rattle.icn_code.specs.Codes.{Tables}
-use Rattle.icn_run.specs.Rows as rows
 use Rattle.icn_run.specs.Rows.{Val as ItemVal, ACoexp, coexpression_row}
 use Rattle.icn_run.specs.Stacks.{Frames, flat}
 use Rattle.icn_run.specs.Step as code

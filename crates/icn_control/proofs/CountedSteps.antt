@@ -1,9 +1,11 @@
 -- What turns, results and transfers leave of the counts.
-use Rattle.std.proofs.Common.{◌≡◌, ◌≢◌, ◌<◌, ◌≤◌, ℕ, zero, suc, ◌+◌, List, [], ◌∷◌, ◌++◌, ◌⊎◌, length, slice_get, slice_set, Option, Some, None, inl, inr, refl, sym, ap, ◌∙◌, subst, arith}
+use Rattle.std.proofs.Common.{◌≡◌, ◌≢◌, ◌<◌, ◌≤◌, ℕ, zero, suc, ◌+◌, List, [], ◌∷◌, ◌++◌, ◌⊎◌, slice_get, slice_set, Option, Some, None, inl, inr, refl, sym, ap, ◌∙◌, subst, arith}
 use Rattle.std.specs.Prelude.{slice_index}
 use Rattle.std.proofs.lemmas.Bool.{cases_lt}
 use Rattle.icn_value.specs.declared.val.Val.{Val}
 use Rattle.std.proofs.lemmas.Option.{same_Some}
+use Rattle.icn_heap.specs.declared.heap.Heap.{Heap as HeldHeap}
+use Rattle.icn_heap.specs.Heaps.{heap_of}
 use Rattle.icn_frames.specs.Stacks.{FlatStack}
 use Rattle.icn_coexp.specs.Transfers as table
 use Rattle.icn_coexp.specs.Transfers.{Coexp, Table, activator_in, enter_other, exhaust, give, source, with_new, with_copy}
@@ -176,6 +178,13 @@ pub same_counts : (turns a b : ℕ) (cs ds : List ℕ) → ((n : ℕ) → slice_
 same_counts turns a b cs ds same e k =
     let here : FitTurns turns a ds = record { all = λ n p. omega (arith, same n, k.all n p); entered = λ p. omega (arith, same a, k.entered p) } in
     subst (λ (x : ℕ). FitTurns turns x ds) (sym e) here
+
+pub list_counts : (turns active : ℕ) (old new : List ℕ) → new ≡ old → FitTurns turns active old → FitTurns turns active new
+list_counts turns active old new e k = subst (λ (cs : List ℕ). FitTurns turns active cs) (sym e) k
+
+-- the heap is the same
+pub heap_counts : (turns active : ℕ) (old new : HeldHeap) → new ≡ old → FitTurns turns active (heap_of old).coexps → FitTurns turns active (heap_of new).coexps
+heap_counts turns active old new e k = subst (λ (h : HeldHeap). FitTurns turns active (heap_of h).coexps) (sym e) k
 
 -- a turn that was counted is used
 pub turn_used : (turns a : ℕ) (cs : List ℕ) → ((n : ℕ) → 0 < n → slice_index cs n + slice_index cs n + 1 ≤ turns) → FitTurns turns a cs

@@ -1,5 +1,5 @@
 -- Co-expressions that a table adds, once it is read.
-use Rattle.std.proofs.Common.{◌≡◌, ◌<◌, ℕ, suc, List, [], ◌∷◌, ◌++◌, length, map, slice_get, Option, Some, refl, sym, ap, ◌∙◌}
+use Rattle.std.proofs.Common.{◌≡◌, ℕ, suc, List, [], ◌∷◌, ◌++◌, length, map, slice_get, Option, Some, refl, sym, ap, ◌∙◌}
 use Rattle.std.specs.Option.{option_map}
 use Rattle.std.proofs.lemmas.List.{length-map, map-append}
 use Rattle.std.proofs.lemmas.Option.{slice_get-map}
@@ -10,9 +10,9 @@ use Rattle.icn_heap.specs.Extents.{value_in}
 use Rattle.icn_frames.specs.Stacks as held
 use Rattle.icn_frames.specs.Stacks.{FlatStack}
 use Rattle.icn_frames_laws.proofs.CallsRead.{locals_read, proc_read}
-use Rattle.icn_coexp.specs.Transfers.{Coexp, Table, values_in, values_of, with_copy, with_new}
+use Rattle.icn_coexp.specs.Transfers.{Coexp, Table, values_in, with_copy, with_new}
 use Rattle.icn_coexp.proofs.Puts.{live_entry}
-use Rattle.icn_run.specs.Rows.{Val as ItemVal, Var as ItemVar, ACoexp, coexpression_row}
+use Rattle.icn_run.specs.Rows.{Val as ItemVal, Var as ItemVar, coexpression_row}
 use Rattle.icn_run.specs.Stacks.{Frames, flat}
 use Rattle.icn_run.specs.Step as code
 use Rattle.icn_run.specs.Step.{State, Store, Fresh, coexp_made, here, made, pushed, refreshed_from}

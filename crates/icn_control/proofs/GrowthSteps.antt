@@ -74,11 +74,11 @@ stacks_grow t w v table n k l a = record {
   coexps = λ i c e. let was = a.coexps i c e in record { status = status_stays t (reach_of w []) (reach_of v []) c.status k was.status; values = locals_grow (extent_of w.heap) (extent_of v.heap) c.values k.extent was.values; count = was.count };
 }
 
--- Rows that make a value keep the limits and the number of co-expressions
+-- Rows that make a value keep the limits and the counts of results
 
 record SameCounts (before after : Setting) : Type 0 where
   bounds : after.world.heap.bounds ≡ before.world.heap.bounds
-  coexps : length after.world.heap.coexps ≡ length before.world.heap.coexps
+  coexps : after.world.heap.coexps ≡ before.world.heap.coexps
 
 -- where the row goes on
 abbrev GivesSame : Setting → Outcome → Type 0

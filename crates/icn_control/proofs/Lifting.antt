@@ -49,8 +49,8 @@ stands_at m tables outside w table n state Stages.AtBound t heap h o = absurd h
 pub halts_at : {K : Type 0} (m : Machine K) (tables : Tables) (outside : Outside) (w : World) (table : Table) (state : State Frames Frames) (halt : Halt) → HaltsWith state (store_before tables outside w table m) m.world halt → HaltsAt tables outside state m halt
 halts_at m tables outside w table state (Halts.Error number offending) h = h
 halts_at m tables outside w table state (Halts.Ends status) h = absurd h
-halts_at m tables outside w table state Halts.ReadFault h = tt
-halts_at m tables outside w table state Halts.WriteFault h = tt
+halts_at m tables outside w table state Halts.ReadFault h = absurd h
+halts_at m tables outside w table state Halts.WriteFault h = absurd h
 halts_at m tables outside w table state Halts.NoMemory h = tt
 
 -- Ends

@@ -54,8 +54,8 @@ pub turn_halts : {K : Type 0} (m : Machine K) (tables : Tables) (outside : Outsi
 turn_halts m tables outside w turns begun table event (Halts.Error number offending) b h =
     ap (λ (x : Bool). turn_if x (store_in (all_names tables) outside (world_of w) turns begun (extent_of w.heap) table) event) b ∙ h (store_in (all_names tables) outside (world_of w) (suc turns) begun (extent_of w.heap) table) refl
 turn_halts m tables outside w turns begun table event (Halts.Ends status) b h = absurd (h (store_in (all_names tables) outside (world_of w) (suc turns) begun (extent_of w.heap) table) refl)
-turn_halts m tables outside w turns begun table event Halts.ReadFault b h = tt
-turn_halts m tables outside w turns begun table event Halts.WriteFault b h = tt
+turn_halts m tables outside w turns begun table event Halts.ReadFault b h = absurd (h (store_in (all_names tables) outside (world_of w) (suc turns) begun (extent_of w.heap) table) refl)
+turn_halts m tables outside w turns begun table event Halts.WriteFault b h = absurd (h (store_in (all_names tables) outside (world_of w) (suc turns) begun (extent_of w.heap) table) refl)
 turn_halts m tables outside w turns begun table event Halts.NoMemory b h = tt
 
 pub turn_bound : (tables : Tables) (st other : Store Frames) (event : Store Frames → State Frames Frames) → nat_lt st.turns st.world.heap.bounds.turns ≡ false → other.outside ≡ st.outside → turn tables st event ≡ at_bound {K = Frames} {M = Frames} other

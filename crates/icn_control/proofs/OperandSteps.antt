@@ -22,7 +22,7 @@ use Rattle.icn_run.specs.Stacks as code
 use Rattle.icn_run.specs.Stacks.{Frames, flat}
 use Rattle.icn_run.specs.Step.{State, Store, activation, errs, here, parted, refreshed, with_found, with_popped, with_taken, with_value}
 use Rattle.icn_control.specs.Living.{with_locals, IsLiveStack}
-use Rattle.icn_control.specs.Operands.{TakesTop, TakesTwo, coexp_number, with_top, with_two}
+use Rattle.icn_control.specs.Operands.{TakesTop, TakesTwo, coexp_number, with_two}
 use Rattle.icn_control.specs.Parts.{FindsValue, HaltsWith}
 use Rattle.icn_control.specs.Standing.{stack_in}
 use Rattle.icn_control.proofs.LiveCells.{owner_on}

@@ -1,26 +1,49 @@
 -- Where some steps of the run of a code lead.
-use Rattle.std.specs.Prelude.{◌≡◌, ◌≢◌, ℕ, Bool, true, false}
+use Rattle.std.specs.Prelude.{◌≡◌, ◌≢◌, ◌<◌, ℕ, Bool, true, false, List, [], ◌∷◌}
 use Rattle.icn_value.specs.Store.{Outside}
 use Rattle.icn_code.specs.Codes.{Tables}
 use Rattle.icn_run.specs.Stacks.{Frames, flat}
-use Rattle.icn_run.specs.Step.{State, failing, steps, stuck}
+use Rattle.icn_run.specs.Step.{State, running, failing, hopping, over, stuck, step, steps}
 use Rattle.icn_control.specs.Failing.{DueAt}
 use Rattle.icn_control.specs.Machines.{stack_seen, store_seen}
 use Rattle.icn_control.specs.declared.failing.Due.{Due}
 use Rattle.icn_control.specs.declared.failing.Due.TheVariants as Dues
 use Rattle.icn_control.specs.declared.machine.Machine.{Machine}
 
--- so many steps lead from one state to another
-abbrev pub Leads : Tables → State Frames Frames → State Frames Frames → Type 0
-Leads tables before after = (n : ℕ) × (steps flat tables n before ≡ after)
+-- the same state with another outside, where it goes on
+abbrev pub over_outside : Outside → State Frames Frames → State Frames Frames
+over_outside outside (running m st) = running m (record st { outside = outside })
+over_outside outside (failing m st) = failing m (record st { outside = outside })
+over_outside outside (hopping m st) = hopping m (record st { outside = outside })
+over_outside outside (over ending old) = over ending old
+over_outside outside stuck = stuck
 
--- no step from here on lacks anything
-abbrev pub NeverStuck : Tables → State Frames Frames → Type 0
-NeverStuck tables state = (n : ℕ) → steps flat tables n state ≢ stuck
+-- a step over each of these outsides, one after the other
+abbrev pub run_over : Tables → List Outside → State Frames Frames → State Frames Frames
+run_over tables [] state = state
+run_over tables (outside ∷ outsides) state = run_over tables outsides (step flat tables (over_outside outside state))
 
--- some steps lead to where this is due on a machine
+-- No step from here on lacks anything, whatever the outside is before each.
+abbrev pub IsNeverStuckOver : Tables → State Frames Frames → Type 0
+IsNeverStuckOver tables state = (outsides : List Outside) → run_over tables outsides state ≢ stuck
+
+-- whether a state is one in which the code fails
+abbrev pub fails_now : State Frames Frames → Bool
+fails_now (failing m st) = true
+fails_now (running m st) = false
+fails_now (hopping m st) = false
+fails_now (over ending outside) = false
+fails_now stuck = false
+
+-- So many steps lead from one state to another, and in each state before that the code fails.
+pub record FailsUntil (tables : Tables) (before after : State Frames Frames) : Type 0 where
+  pub count : ℕ
+  pub leads : steps flat tables count before ≡ after
+  pub each : (n : ℕ) → n < count → fails_now (steps flat tables n before) ≡ true
+
+-- failing leads to where this is due on a machine
 abbrev pub LeadsToDue : {K : Type 0} → Tables → Outside → State Frames Frames → Machine K → Due → Type 0
-LeadsToDue tables outside before m due = (state : State Frames Frames) × (Leads tables before state × DueAt tables outside state m due)
+LeadsToDue tables outside before m due = (state : State Frames Frames) × (FailsUntil tables before state × DueAt tables outside state m due)
 
 -- the state of a machine that fails
 abbrev pub failing_seen : {K : Type 0} → Tables → Outside → Machine K → State Frames Frames

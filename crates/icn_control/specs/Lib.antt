@@ -1,5 +1,6 @@
 pub mod Standing
 pub mod Living
+pub mod Counting
 pub mod Machines
 pub mod Pairs
 pub mod Parts
@@ -10,5 +11,4 @@ pub mod Failing
 pub mod Taking
 pub mod Leading
 pub mod Creations
-pub mod Counting
 pub mod Operands

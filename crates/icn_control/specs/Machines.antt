@@ -18,6 +18,7 @@ use Rattle.icn_run.specs.Rows.{Exit, Done}
 use Rattle.icn_run.specs.Stacks.{Frames, flat}
 use Rattle.icn_run.specs.Step as code
 use Rattle.icn_run.specs.Step.{State, Store, Status, Fresh, Active, Waiting, Exhausted, running, failing, hopping, over, instruction, errs, at_bound, all_names}
+use Rattle.icn_control.specs.Counting.{AreCounted}
 use Rattle.icn_control.specs.Living.{IsLiveStack, variable_count}
 use Rattle.icn_control.specs.Standing.{stack_in}
 use Rattle.icn_control.specs.declared.machine.Machine.{Machine}
@@ -83,12 +84,12 @@ StandsAt tables outside state m Stages.HopDue = (old : Frames) × (state ≡ hop
 StandsAt tables outside state m Stages.Over = state ≡ over Done outside
 StandsAt tables outside state m Stages.AtBound = state ≡ at_bound (store_seen tables outside m)
 
--- The run is over by an error or with a status. Of faults and of want of memory this says nothing.
+-- The run is over by an error or with a status; what neither reads nor writes comes to no fault. Of want of memory this says nothing.
 abbrev pub HaltsAt : {K : Type 0} → Tables → Outside → State Frames Frames → Machine K → Halt → Type 0
 HaltsAt tables outside state m (Halts.Error number offending) = state ≡ errs number (option_map (value_in (extent m)) offending) (store_seen tables outside m)
 HaltsAt tables outside state m (Halts.Ends status) = state ≡ over (Exit status) outside
-HaltsAt tables outside state m Halts.ReadFault = ⊤
-HaltsAt tables outside state m Halts.WriteFault = ⊤
+HaltsAt tables outside state m Halts.ReadFault = ⊥
+HaltsAt tables outside state m Halts.WriteFault = ⊥
 HaltsAt tables outside state m Halts.NoMemory = ⊤
 
 abbrev pub ComesTo : {K : Type 0} → Tables → Outside → State Frames Frames → Machine K → Result Stage Halt → Type 0
@@ -122,8 +123,10 @@ pub record AreLiveStacks (tables : Tables) (reach : Reach) (table : Table) : Typ
 abbrev pub world_reach : {K : Type 0} → Machine K → Reach
 world_reach m = reach_of m.world []
 
--- All that the stacks of a machine hold is of its world, which has the limits of the machine and a count of results for each co-expression.
+-- All that the stacks of a machine hold is of its world, which has the limits of the machine and a count of results for each co-expression, as the turns
+-- allow.
 pub record IsSound {K : Type 0} (tables : Tables) (m : Machine K) : Type 0 where
   pub stacks : AreLiveStacks tables (world_reach m) m.stacks.table
   pub bounds : (heap_of m.world.heap).bounds ≡ limits_of m.limits
   pub counts : length (heap_of m.world.heap).coexps ≡ length m.stacks.table.coexps
+  pub counted : AreCounted m

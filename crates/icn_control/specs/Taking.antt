@@ -1,5 +1,5 @@
 -- Operands that are taken together, and values that are found or made of them.
-use Rattle.std.specs.Prelude.{◌≡◌, ℕ, zero, suc, List, [], ◌∷◌, map, length, Option, Some, Result, MatchResult}
+use Rattle.std.specs.Prelude.{◌≡◌, ℕ, zero, suc, List, [], ◌∷◌, map, Option, Some, Result, MatchResult}
 use Rattle.std.specs.Option.{option_and_then}
 use Rattle.icn_value.specs.declared.val.Val.{Val}
 use Rattle.icn_value.specs.declared.item.Item.{Item}
@@ -45,10 +45,10 @@ abbrev pub MakesValue : Row → World → FlatStack → World → Result Val Sto
 MakesValue row w m v result = (st : Store Frames) (next : Value → Frames → Store Frames → State Frames Frames) → st.world ≡ world_of w
     → MatchResult result (λ val. made_in row w m st next ≡ next (value_in (extent_of v.heap) val) (stack_in (extent_of v.heap) m) (with_world (world_of v) st)) (λ stop. HaltsWith (made_in row w m st next) st v (halt_of stop))
 
--- the limits stay, and so does the number of co-expressions
+-- the limits stay, and so do the counts of results
 pub record KeepsCounts (w v : World) : Type 0 where
   pub bounds : (heap_of v.heap).bounds ≡ (heap_of w.heap).bounds
-  pub coexps : length (heap_of v.heap).coexps ≡ length (heap_of w.heap).coexps
+  pub coexps : (heap_of v.heap).coexps ≡ (heap_of w.heap).coexps
 
 -- what comes of a list that is made of the values of items, and pushed
 abbrev pub listed : World → FlatStack → List Item → Store Frames → State Frames Frames

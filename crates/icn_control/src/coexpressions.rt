@@ -14,7 +14,6 @@ ghost use Rattle.icn_code.specs.declared.instr.Instr.TheVariants as Instrs;
 ghost use Rattle.icn_run.specs.Rows.{ACoexp};
 ghost use Rattle.icn_run.specs.Stacks.{flat as calls};
 ghost use Rattle.icn_run.specs.Step.{refreshed};
-ghost use Rattle.icn_control.specs.Counting.{AreCounted};
 ghost use Rattle.icn_control.specs.Creations.{MakesCoexp, copied, created};
 ghost use Rattle.icn_control.specs.Machines.{ComesTo, IsSound, does, stack_of, stack_seen, store_seen, world_reach};
 
@@ -39,7 +38,6 @@ pub fn create<K: Stack<Cell> + Drop>(m: &mut Machine<K>, label: u32) -> Result<S
     ensures step { (tables : Tables) (outside : Outside) → ComesTo tables outside (does tables outside (Instrs.Create label) m.old) m.new result }
     ensures sound { (tables : Tables) → IsSound tables m.old → OnOk result (IsSound tables m.new) }
     ensures halt { IfErr result (IsLiveHalt (world_reach m.new)) }
-    ensures counted { AreCounted m.old → OnOk result (AreCounted m.new) }
 {
     if m.turns >= m.limits.turns {
         return Ok(Stage::AtBound);
@@ -63,7 +61,6 @@ pub fn refresh<K: Stack<Cell> + Drop>(m: &mut Machine<K>) -> Result<Stage, Halt>
     ensures step { (tables : Tables) (outside : Outside) → ComesTo tables outside (does tables outside (Instrs.Op Ops.Refresh) m.old) m.new result }
     ensures sound { (tables : Tables) → IsSound tables m.old → OnOk result (IsSound tables m.new) }
     ensures halt { IfErr result (IsLiveHalt (world_reach m.new)) }
-    ensures counted { AreCounted m.old → OnOk result (AreCounted m.new) }
 {
     if m.turns >= m.limits.turns {
         return Ok(Stage::AtBound);
@@ -90,7 +87,6 @@ fn make_again<K: Stack<Cell> + Drop>(m: &mut Machine<K>, id: u32) -> Result<Stag
     ensures step { (tables : Tables) (outside : Outside) → ComesTo tables outside (refreshed calls (ACoexp id) (stack_seen m.old) (store_seen tables outside m.old)) m.new result }
     ensures sound { (tables : Tables) → IsSound tables m.old → OnOk result (IsSound tables m.new) }
     ensures halt { IfErr result (IsLiveHalt (world_reach m.new)) }
-    ensures counted { AreCounted m.old → OnOk result (AreCounted m.new) }
 {
     m.stacks.frames().local_count();
     let count = m.stacks.held(id);

@@ -8,7 +8,7 @@ ghost use Rattle.icn_run.specs.Stacks.{flat as calls};
 ghost use Rattle.icn_run.specs.Step.{fails, stuck};
 ghost use Rattle.icn_control.specs.Failing.{DueAt};
 ghost use Rattle.icn_control.specs.Falls.{FallsBelow, IsLiveDue};
-ghost use Rattle.icn_control.specs.Leading.{LeadsToDue, NeverStuck, failing_seen, is_failing};
+ghost use Rattle.icn_control.specs.Leading.{LeadsToDue, IsNeverStuckOver, failing_seen, is_failing};
 ghost use Rattle.icn_control.specs.Machines.{IsSound, stack_of, stack_seen, store_seen, world_reach};
 
 use crate::failing::{Due, fall};
@@ -45,11 +45,12 @@ fn is_failing(due: Due) -> bool
     }
 }
 
-/// Fails until something else is due, in as many steps as suspensions come back and marks are dropped. It takes no memory.
+/// Fails until something else is due, in as many steps as suspensions come back and marks are dropped, and no further. It
+/// takes no memory.
 pub fn fail_on<K: Stack<Cell> + Drop>(m: &mut Machine<K>) -> Due
     requires runs { IsSome m.old.stacks.table.running }
     requires sound { (tables : Tables) × IsSound tables m.old }
-    requires goes_on { (tables : Tables) × ((outside : Outside) × NeverStuck tables (failing_seen tables outside m.old)) }
+    requires goes_on { (tables : Tables) × ((outside : Outside) × IsNeverStuckOver tables (failing_seen tables outside m.old)) }
     ensures step { (tables : Tables) (outside : Outside) → LeadsToDue tables outside (failing_seen tables outside m.old) m.new result }
     ensures over { is_failing result ≡ false }
     ensures sound { (tables : Tables) → IsSound tables m.old → IsSound tables m.new }

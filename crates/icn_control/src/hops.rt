@@ -6,7 +6,6 @@ ghost use Rattle.icn_heap.specs.Heaps.{heap_of};
 ghost use Rattle.icn_code.specs.Codes.{Tables};
 ghost use Rattle.icn_run.specs.Stacks.{Frames as FramesRead, flat as calls};
 ghost use Rattle.icn_run.specs.Step.{exhausted, hop};
-ghost use Rattle.icn_control.specs.Counting.{AreCounted};
 ghost use Rattle.icn_control.specs.Landing.{is_moved};
 ghost use Rattle.icn_control.specs.Machines.{IsSound, StandsAt, stack_seen, store_seen};
 
@@ -23,7 +22,6 @@ pub fn exhaust<K: Stack<Cell> + Drop>(m: &mut Machine<K>) -> Stage
     requires bounds { (heap_of m.old.world.heap).bounds ≡ limits_of m.old.limits }
     ensures step { (tables : Tables) (outside : Outside) → StandsAt tables outside (exhausted calls tables (stack_seen m.old) (store_seen tables outside m.old)) m.new result }
     ensures sound { (tables : Tables) → IsSound tables m.old → IsSound tables m.new }
-    ensures counted { AreCounted m.old → AreCounted m.new }
 {
     pass_failure(m)
 }
@@ -35,7 +33,6 @@ pub fn hop<K: Stack<Cell> + Drop>(m: &mut Machine<K>) -> Stage
     requires bounds { (heap_of m.old.world.heap).bounds ≡ limits_of m.old.limits }
     ensures step { (tables : Tables) (outside : Outside) (old : FramesRead) → StandsAt tables outside (hop calls tables old (store_seen tables outside m.old)) m.new result }
     ensures sound { (tables : Tables) → IsSound tables m.old → IsSound tables m.new }
-    ensures counted { AreCounted m.old → AreCounted m.new }
 {
     m.stacks.active();
     pass_failure(m)
@@ -47,7 +44,6 @@ fn pass_failure<K: Stack<Cell> + Drop>(m: &mut Machine<K>) -> Stage
     requires bounds { (heap_of m.old.world.heap).bounds ≡ limits_of m.old.limits }
     ensures step { (tables : Tables) (outside : Outside) (old : FramesRead) → StandsAt tables outside (exhausted calls tables old (store_seen tables outside m.old)) m.new result }
     ensures sound { (tables : Tables) → IsSound tables m.old → IsSound tables m.new }
-    ensures counted { AreCounted m.old → AreCounted m.new }
 {
     if m.turns >= m.limits.turns {
         return Stage::AtBound;

@@ -14,7 +14,7 @@ ghost use Rattle.icn_code.specs.declared.instr.Instr.TheVariants as Instrs;
 ghost use Rattle.icn_run.specs.Rows.{ACoexp};
 ghost use Rattle.icn_run.specs.Stacks.{flat as calls};
 ghost use Rattle.icn_run.specs.Step.{activation};
-ghost use Rattle.icn_control.specs.Counting.{AreCounted, HasTurn};
+ghost use Rattle.icn_control.specs.Counting.{HasTurn};
 ghost use Rattle.icn_control.specs.Living.{IsLiveStack};
 ghost use Rattle.icn_control.specs.Machines.{ComesTo, IsSound, StandsAt, does, extent, stack_of, stack_seen, store_seen, world_reach};
 ghost use Rattle.icn_control.specs.Operands.{TakesTop, TakesTwo, coexp_number, having_result};
@@ -42,7 +42,6 @@ pub fn coact<K: Stack<Cell> + Drop>(m: &mut Machine<K>) -> Result<Stage, Halt>
     ensures step { (tables : Tables) (outside : Outside) → ComesTo tables outside (does tables outside Instrs.Coact m.old) m.new result }
     ensures sound { (tables : Tables) → IsSound tables m.old → OnOk result (IsSound tables m.new) }
     ensures halt { IfErr result (IsLiveHalt (world_reach m.new)) }
-    ensures counted { AreCounted m.old → OnOk result (AreCounted m.new) }
 {
     if m.turns >= m.limits.turns {
         return Ok(Stage::AtBound);
@@ -66,11 +65,9 @@ pub fn coret<K: Stack<Cell> + Drop>(m: &mut Machine<K>) -> Result<Stage, Halt>
     requires base { flat.is_base (stack_of m.old) ≡ true }
     requires other { 0 < m.old.stacks.table.active }
     requires sound { (tables : Tables) × IsSound tables m.old }
-    requires counted { AreCounted m.old }
     ensures step { (tables : Tables) (outside : Outside) → ComesTo tables outside (does tables outside Instrs.Coret m.old) m.new result }
     ensures sound { (tables : Tables) → IsSound tables m.old → OnOk result (IsSound tables m.new) }
     ensures halt { IfErr result (IsLiveHalt (world_reach m.new)) }
-    ensures counted { OnOk result (AreCounted m.new) }
 {
     if m.turns >= m.limits.turns {
         return Ok(Stage::AtBound);
@@ -94,8 +91,7 @@ fn activate<K: Stack<Cell> + Drop>(m: &mut Machine<K>, id: u32, v: Val) -> Stage
     requires room { 0 < m.old.stacks.spare }
     requires value { IsLive (extent m.old) v }
     ensures step { (tables : Tables) (outside : Outside) → StandsAt tables outside (activation calls (value_in (extent m.old) v) (ACoexp id) (stack_seen m.old) (store_seen tables outside m.old)) m.new result }
-    ensures sound { (tables : Tables) → IsSound tables m.old → IsSound tables m.new }
-    ensures counted { HasTurn m.old → AreCounted m.new }
+    ensures sound { (tables : Tables) → HasTurn m.old → IsSound tables m.old → IsSound tables m.new }
     ensures world { m.new.world ≡ m.old.world }
 {
     m.stacks.active();

@@ -1,4 +1,4 @@
-use Rattle.std.proofs.Common.{◌≡◌, ◌<◌, ◌^◌, ℕ, suc, ◌+◌, true, nat_lt, [], Some, length, refl, sym, ap, ◌∙◌, subst, add-one, arith}
+use Rattle.std.proofs.Common.{◌≡◌, ◌<◌, ◌^◌, ℕ, suc, ◌+◌, true, nat_lt, [], Some, length, refl, sym, ap, ◌∙◌, subst, add-one}
 use Rattle.icn_value.specs.Limited.{Bounds}
 use Rattle.icn_value.specs.declared.val.Val.TheVariants.{Coexp as HeldCoexp}
 use Rattle.icn_heap.specs.Extents.{IsLive}
@@ -6,11 +6,10 @@ use Rattle.icn_heap.specs.Heaps.{extent_of, heap_of}
 use Rattle.icn_vars.specs.Worlds.{reach_of}
 use Rattle.icn_frames.specs.Stacks as held
 use Rattle.icn_frames.specs.Stacks.{FlatStack}
-use Rattle.icn_coexp.specs.Transfers.{Table, with_new}
+use Rattle.icn_coexp.specs.Transfers.{Table}
 use Rattle.icn_run.specs.Step.{all_names}
 use Rattle.icn_control.specs.Living.{IsLiveStack}
 use Rattle.icn_control.specs.Counting.{EnterOthers}
-use Rattle.icn_control.specs.Creations.{created}
 use Rattle.icn_control.proofs.CountedSteps.{new_others, same_counts, turn_more}
 use Rattle.icn_control.proofs.CreateSteps.{create_errs, create_runs}
 use Rattle.icn_control.proofs.Deref.{live_locals}
@@ -62,6 +61,9 @@ returns-in-Ok-clause-sound g c tables k =
     let v = c.charge_coexp.new.world in
     let f : FlatStack = c.frames.result.now.flat in
     let table : Table = record m.stacks.table { running = Some f } in
+    let u : Table = c.add_here.new.stacks.table in
+    let cs = (heap_of m.world.heap).coexps in
+    let ds = (heap_of c.charge_coexp.new.world.heap).coexps in
     record {
       stacks = created_live tables (reach_of w []) (reach_of v []) table c.add_here.new.stacks.table f c.args.label refl c.in-Ok.ensures c.charge_coexp.ensures.kept
           (sym c.local_count-count.ensures.count ∙ c.local_count-count.ensures.all)
@@ -69,16 +71,8 @@ returns-in-Ok-clause-sound g c tables k =
           (stacks_on tables (reach_of w []) m.stacks.table f f c.frames.ensures.running (λ l. l) k.stacks);
       bounds = c.in_ok-charge_coexp.ensures.bounds ∙ k.bounds;
       counts = c.in_ok-charge_coexp.ensures.more ∙ ap (λ (n : ℕ). suc n) k.counts ∙ sym (created_length table c.add_here.new.stacks.table f c.args.label refl c.in-Ok.ensures);
-    }
-
-pub returns-in-Ok-clause-counted : goal.returns-in-Ok-clause-counted
-returns-in-Ok-clause-counted g c k =
-    let m = c.args.m.now in
-    let f : FlatStack = c.frames.result.now.flat in
-    let u : Table = c.add_here.new.stacks.table in
-    let cs = (heap_of m.world.heap).coexps in
-    let ds = (heap_of c.charge_coexp.new.world.heap).coexps in
-    record {
-      results = same_counts (m.turns + 1) m.stacks.table.active u.active cs ds c.in_ok-charge_coexp.ensures.counts (ap (λ (x : Table). x.active) c.in-Ok.ensures) (turn_more m.turns m.stacks.table.active cs k.results);
-      activators = subst (λ (x : Table). EnterOthers x.coexps) (sym c.in-Ok.ensures) (new_others m.stacks.table (held.locals f) (held.proc f) f.place k.activators);
+      counted = record {
+        results = same_counts (m.turns + 1) m.stacks.table.active u.active cs ds c.in_ok-charge_coexp.ensures.counts (ap (λ (x : Table). x.active) c.in-Ok.ensures) (turn_more m.turns m.stacks.table.active cs k.counted.results);
+        activators = subst (λ (x : Table). EnterOthers x.coexps) (sym c.in-Ok.ensures) (new_others m.stacks.table (held.locals f) (held.proc f) f.place k.counted.activators);
+      };
     }

@@ -1,4 +1,4 @@
-use Rattle.std.proofs.Common.{◌≡◌, ◌<◌, ◌^◌, ℕ, suc, [], Some, length, slice_get, refl, sym, ap, ◌∙◌, subst}
+use Rattle.std.proofs.Common.{◌<◌, ◌^◌, ℕ, suc, [], Some, length, refl, sym, ap, ◌∙◌, subst}
 use Rattle.icn_value.specs.declared.val.Val.TheVariants.{Coexp as HeldCoexp}
 use Rattle.icn_heap.specs.Extents.{IsLive}
 use Rattle.icn_heap.specs.Heaps.{extent_of, heap_of}
@@ -8,7 +8,6 @@ use Rattle.icn_frames.specs.Stacks.{FlatStack}
 use Rattle.icn_coexp.specs.Transfers.{Table}
 use Rattle.icn_run.specs.Step.{all_names}
 use Rattle.icn_control.specs.Living.{IsLiveStack}
-use Rattle.icn_control.specs.Counting.{EnterOthers}
 use Rattle.icn_control.proofs.ActivationSteps.{copy_errs, copy_runs}
 use Rattle.icn_control.proofs.CountedSteps.{copied_active, copied_others, same_counts}
 use Rattle.icn_control.proofs.Deref.{live_locals}
@@ -55,23 +54,17 @@ returns-in-Ok-clause-sound g c tables k =
     let v = c.charge_coexp.new.world in
     let f : FlatStack = c.frames.result.now.flat in
     let table : Table = record m.stacks.table { running = Some f } in
+    let u : Table = c.add_copy.new.stacks.table in
+    let cs = (heap_of m.world.heap).coexps in
+    let ds = (heap_of c.charge_coexp.new.world.heap).coexps in
     record {
       stacks = copied_live tables (reach_of w []) (reach_of v []) table c.add_copy.new.stacks.table f c.args.id refl c.in-Ok.ensures c.requires.other c.charge_coexp.ensures.kept
           (subst (λ (n : ℕ). IsLive (extent_of v.heap) (HeldCoexp n)) k.counts c.in_ok-charge_coexp.ensures.live)
           (stacks_on tables (reach_of w []) m.stacks.table f f c.frames.ensures.running (λ l. l) k.stacks);
       bounds = c.in_ok-charge_coexp.ensures.bounds ∙ k.bounds;
       counts = c.in_ok-charge_coexp.ensures.more ∙ ap (λ (n : ℕ). suc n) k.counts ∙ sym (copied_length table c.add_copy.new.stacks.table f c.args.id refl c.in-Ok.ensures c.requires.there);
-    }
-
-pub returns-in-Ok-clause-counted : goal.returns-in-Ok-clause-counted
-returns-in-Ok-clause-counted g c k =
-    let m = c.args.m.now in
-    let f : FlatStack = c.frames.result.now.flat in
-    let table : Table = record m.stacks.table { running = Some f } in
-    let u : Table = c.add_copy.new.stacks.table in
-    let cs = (heap_of m.world.heap).coexps in
-    let ds = (heap_of c.charge_coexp.new.world.heap).coexps in
-    record {
-      results = same_counts m.turns m.stacks.table.active u.active cs ds c.in_ok-charge_coexp.ensures.counts (copied_active table u f c.args.id refl c.in-Ok.ensures) k.results;
-      activators = copied_others table u f c.args.id refl c.in-Ok.ensures k.activators;
+      counted = record {
+        results = same_counts m.turns m.stacks.table.active u.active cs ds c.in_ok-charge_coexp.ensures.counts (copied_active table u f c.args.id refl c.in-Ok.ensures) k.counted.results;
+        activators = copied_others table u f c.args.id refl c.in-Ok.ensures k.counted.activators;
+      };
     }

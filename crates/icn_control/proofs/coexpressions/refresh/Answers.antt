@@ -1,4 +1,4 @@
-use Rattle.std.proofs.Common.{◌≡◌, ◌<◌, ◌+◌, ℕ, suc, true, false, nat_lt, [], Option, Some, IsSome, Result, length, refl, sym, ap, ◌∙◌, subst, add-one, arith}
+use Rattle.std.proofs.Common.{◌≡◌, ◌<◌, ℕ, suc, true, false, nat_lt, [], Option, IsSome, refl, sym, ap, ◌∙◌, subst, add-one, arith}
 use Rattle.icn_value.specs.Limited.{Bounds}
 use Rattle.icn_value.specs.declared.val.Val.{Val}
 use Rattle.icn_value.specs.declared.val.Val.TheVariants as Vals
@@ -98,6 +98,7 @@ make_again-requires-clause-sound g c =
         stacks = stacks_on t (reach_of m.world []) m.stacks.table c.frames.result.now.flat c.take_value.new.frames.flat c.frames.ensures.running (λ l. c.take_value.ensures.live t l) k.stacks;
         bounds = k.bounds;
         counts = k.counts;
+        counted = record { results = turn_more m.turns m.stacks.table.active (heap_of m.world.heap).coexps k.counted.results; activators = k.counted.activators };
       },
     )
 
@@ -128,9 +129,5 @@ returns-clause-sound g c tables k =
       stacks = stacks_on tables (reach_of m.world []) m.stacks.table c.frames.result.now.flat c.take_value.new.frames.flat c.frames.ensures.running (λ l. c.take_value.ensures.live tables l) k.stacks;
       bounds = k.bounds;
       counts = k.counts;
+      counted = record { results = turn_more m.turns m.stacks.table.active (heap_of m.world.heap).coexps k.counted.results; activators = k.counted.activators };
     })
-
-pub returns-clause-counted : goal.returns-clause-counted
-returns-clause-counted g c k =
-    let m = c.args.m.now in
-    c.make_again.ensures.counted (record { results = turn_more m.turns m.stacks.table.active (heap_of m.world.heap).coexps k.results; activators = k.activators })

@@ -1,22 +1,30 @@
-use Rattle.std.proofs.Common.{◌≡◌, ◌<◌, true, refl, sym, ◌∙◌, subst}
+use Rattle.std.proofs.Common.{◌≡◌, ◌<◌, true, refl, sym, ◌∙◌, subst, arith}
 use Rattle.icn_run.specs.Stacks.{flat}
 use Rattle.icn_run.specs.Step.{fails}
 use Rattle.icn_control.specs.declared.failing.Due.{Due}
 use Rattle.icn_control.specs.Leading.{failing_seen, is_failing}
 use Rattle.icn_control.specs.Machines.{stack_of, stack_seen, store_seen}
-use Rattle.icn_control.proofs.LessSteps.{weight, weight_falls, failing_is, at_failing, leads_then, never_on}
+use Rattle.icn_control.proofs.LessSteps.{weight, weight_falls, failing_is, at_failing, fails_then, never_next, never_on}
 use Rattle.icn_control.proofs.failing_step.fail_on.Goals as goal
 
 pub loop-due-init : goal.loop-due-init
-loop-due-init g c = record { leads = λ tables outside. (failing_seen tables outside c.args.m.now, ((0, refl), refl)); sound = λ tables k. k; runs = c.requires.runs; limits = refl; live = tt }
+loop-due-init g c = record {
+  leads = λ tables outside. (failing_seen tables outside c.args.m.now, (record { count = 0; leads = refl; each = λ n q. absurd (omega (arith, q)) }, refl));
+  sound = λ tables k. k;
+  runs = c.requires.runs;
+  limits = refl;
+  live = tt;
+}
 
 pub fail_once-due-requires-clause-goes_on : goal.fail_once-due-requires-clause-goes_on
 fail_once-due-requires-clause-goes_on g c =
     let tables = c.requires.goes_on.0 in
     let outside = c.requires.goes_on.1.0 in
+    let start = failing_seen tables outside c.args.m.now in
+    let now = failing_seen tables outside c.loop-due.m in
     let failing : is_failing c.loop-due.due ≡ true = sym c.is_failing.ensures ∙ c.loop-due-test.true in
-    let here = at_failing c.loop-due.m tables outside (failing_seen tables outside c.args.m.now) c.loop-due.due failing (c.loop-due.invariant.leads tables outside) in
-    (tables, (outside, never_on tables (failing_seen tables outside c.args.m.now) (failing_seen tables outside c.loop-due.m) c.requires.goes_on.1.1 here 1))
+    let here = at_failing c.loop-due.m tables outside start c.loop-due.due failing (c.loop-due.invariant.leads tables outside) in
+    (tables, (outside, never_next tables now (never_on tables here.count start now c.requires.goes_on.1.1 here.leads)))
 
 pub fail_once-due-requires-clause-sound : goal.fail_once-due-requires-clause-sound
 fail_once-due-requires-clause-sound g c = (c.requires.sound.0, c.loop-due.invariant.sound c.requires.sound.0 c.requires.sound.1)
@@ -30,7 +38,7 @@ loop-due-preserved g c =
           let now = failing_seen tables outside c.loop-due.m in
           let next = fails flat tables (stack_seen c.loop-due.m) (store_seen tables outside c.loop-due.m) in
           let here = at_failing c.loop-due.m tables outside start c.loop-due.due failing (c.loop-due.invariant.leads tables outside) in
-          (next, (leads_then tables start now next here (1, refl), c.fail_once-due.ensures.step tables outside));
+          (next, (fails_then tables start now here refl, c.fail_once-due.ensures.step tables outside));
       sound = λ tables k. c.fail_once-due.ensures.sound tables (c.loop-due.invariant.sound tables k);
       runs = c.fail_once-due.ensures.runs;
       limits = c.fail_once-due.ensures.limits ∙ c.loop-due.invariant.limits;

@@ -9,6 +9,7 @@ use Rattle.icn_run.specs.Step.{Store, all_names, fails, stuck}
 use Rattle.icn_control.specs.Living.{IsLiveStack}
 use Rattle.icn_control.specs.Machines.{AreLiveStacks, running_of, store_in}
 use Rattle.icn_control.specs.Standing.{stack_in}
+use Rattle.icn_control.proofs.CountedSteps.{heap_counts}
 use Rattle.icn_control.proofs.MachineSteps.{stacks_on}
 use Rattle.icn_control.proofs.FailSteps.{due_at}
 use Rattle.icn_control.specs.Falls.{FallsBelow}
@@ -35,6 +36,7 @@ returns-clause-sound g c tables k =
       stacks = subst (λ (r : Reach). AreLiveStacks tables r (record m.stacks.table { running = Some c.fall.new.frames.flat })) (sym c.fall.ensures.reach) on;
       bounds = ap (λ (h : HeldHeap). (heap_of h).bounds) c.fall.ensures.heap ∙ k.bounds;
       counts = ap (λ (h : HeldHeap). length (heap_of h).coexps) c.fall.ensures.heap ∙ k.counts;
+      counted = record { results = heap_counts m.turns m.stacks.table.active m.world.heap c.fall.new.world.heap c.fall.ensures.heap k.counted.results; activators = k.counted.activators };
     }
 
 pub returns-clause-less : goal.returns-clause-less

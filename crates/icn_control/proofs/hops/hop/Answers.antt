@@ -1,9 +1,9 @@
-use Rattle.std.proofs.Common.{◌≡◌, sym, ap, ◌∙◌, subst}
+use Rattle.std.proofs.Common.{sym, ap, ◌∙◌, subst}
 use Rattle.icn_heap.specs.Heaps.{extent_of}
 use Rattle.icn_vars.specs.Worlds.{world_of}
-use Rattle.icn_coexp.specs.Transfers.{Table, status_of, active_status}
+use Rattle.icn_coexp.specs.Transfers.{Table, active_status}
 use Rattle.icn_run.specs.Stacks.{Frames}
-use Rattle.icn_run.specs.Step.{Exhausted, State, all_names}
+use Rattle.icn_run.specs.Step.{State, all_names}
 use Rattle.icn_control.specs.Landing.{Beside}
 use Rattle.icn_control.specs.Machines.{StandsAt}
 use Rattle.icn_control.proofs.ActivationSteps.{hop_exhausts, reached_other}

@@ -27,10 +27,16 @@ returns-then-is_moved-clause-step g c tables outside old =
 
 pub returns-then-is_moved-clause-sound : goal.returns-then-is_moved-clause-sound
 returns-then-is_moved-clause-sound g c tables k =
+    let m = c.args.m.now in
+    let u : Table = c.exhaust-went.new.self.table in
     record {
       stacks = exhaust_live tables (reach_of c.args.m.now.world []) c.args.m.now.stacks.table c.exhaust-went.new.self.table c.exhaust-went.ensures.table k.stacks;
       bounds = k.bounds;
       counts = k.counts ∙ sym (exhaust_length c.args.m.now.stacks.table c.exhaust-went.new.self.table c.exhaust-went.ensures.table);
+      counted = record {
+        results = turn_fits m.turns m.stacks.table.active u.active (heap_of m.world.heap).coexps k.counted.results;
+        activators = exhaust_others m.stacks.table u c.exhaust-went.ensures.table k.counted.activators;
+      };
     }
 
 pub returns-else-is_moved-clause-step : goal.returns-else-is_moved-clause-step
@@ -49,26 +55,14 @@ returns-else-is_moved-clause-step g c tables outside old =
 
 pub returns-else-is_moved-clause-sound : goal.returns-else-is_moved-clause-sound
 returns-else-is_moved-clause-sound g c tables k =
+    let m = c.args.m.now in
+    let u : Table = c.exhaust-went.new.self.table in
     record {
       stacks = exhaust_live tables (reach_of c.args.m.now.world []) c.args.m.now.stacks.table c.exhaust-went.new.self.table c.exhaust-went.ensures.table k.stacks;
       bounds = k.bounds;
       counts = k.counts ∙ sym (exhaust_length c.args.m.now.stacks.table c.exhaust-went.new.self.table c.exhaust-went.ensures.table);
-    }
-
-pub returns-then-is_moved-clause-counted : goal.returns-then-is_moved-clause-counted
-returns-then-is_moved-clause-counted g c k =
-    let m = c.args.m.now in
-    let u : Table = c.exhaust-went.new.self.table in
-    record {
-      results = turn_fits m.turns m.stacks.table.active u.active (heap_of m.world.heap).coexps k.results;
-      activators = exhaust_others m.stacks.table u c.exhaust-went.ensures.table k.activators;
-    }
-
-pub returns-else-is_moved-clause-counted : goal.returns-else-is_moved-clause-counted
-returns-else-is_moved-clause-counted g c k =
-    let m = c.args.m.now in
-    let u : Table = c.exhaust-went.new.self.table in
-    record {
-      results = turn_fits m.turns m.stacks.table.active u.active (heap_of m.world.heap).coexps k.results;
-      activators = exhaust_others m.stacks.table u c.exhaust-went.ensures.table k.activators;
+      counted = record {
+        results = turn_fits m.turns m.stacks.table.active u.active (heap_of m.world.heap).coexps k.counted.results;
+        activators = exhaust_others m.stacks.table u c.exhaust-went.ensures.table k.counted.activators;
+      };
     }

@@ -48,4 +48,5 @@ returns-in_ok-push-in-Some-clause-sound g c tables k =
           (λ l. subst (λ (x : FlatStack). IsLiveStack tables reach x) (sym c.in_ok-push-in-Some.ensures.ok) (live_push tables reach c.frames-frames.result.now.flat c.in-Some.x l item)) k.stacks;
       bounds = k.bounds;
       counts = k.counts;
+      counted = record { results = k.counted.results; activators = k.counted.activators };
     }

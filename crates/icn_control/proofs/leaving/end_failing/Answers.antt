@@ -12,6 +12,7 @@ use Rattle.icn_control.specs.Living.{IsLiveStack}
 use Rattle.icn_control.specs.Machines.{AreLiveStacks, StandsAt, store_seen}
 use Rattle.icn_control.specs.declared.machine.Machine.{Machine}
 use Rattle.icn_control.specs.Standing.{stack_in}
+use Rattle.icn_control.proofs.CountedSteps.{heap_counts}
 use Rattle.icn_control.proofs.Lifting.{ends_at, ends_body, ends_call, ends_main}
 use Rattle.icn_control.proofs.ListSteps.{on_running}
 use Rattle.icn_control.proofs.MachineSteps.{stacks_on}
@@ -36,6 +37,7 @@ returns-then-not-is_base-clause-sound g c tables k =
       stacks = subst (λ (r : Reach). AreLiveStacks tables r (record m.stacks.table { running = Some c.leave_failing.new.frames.flat })) (sym c.leave_failing.ensures.reach) on;
       bounds = ap (λ (h : HeldHeap). (heap_of h).bounds) c.leave_failing.ensures.heap ∙ k.bounds;
       counts = ap (λ (h : HeldHeap). length (heap_of h).coexps) c.leave_failing.ensures.heap ∙ k.counts;
+      counted = record { results = heap_counts m.turns m.stacks.table.active m.world.heap c.leave_failing.new.world.heap c.leave_failing.ensures.heap k.counted.results; activators = k.counted.activators };
     }
 
 pub returns-then-active-gt0-clause-step : goal.returns-then-active-gt0-clause-step
@@ -64,10 +66,11 @@ returns-clause-sound g c tables k =
       stacks = subst (λ (r : Reach). AreLiveStacks tables r (record m.stacks.table { running = Some c.leave_failing-2.new.frames.flat })) (sym c.leave_failing-2.ensures.reach) on;
       bounds = ap (λ (h : HeldHeap). (heap_of h).bounds) c.leave_failing-2.ensures.heap ∙ k.bounds;
       counts = ap (λ (h : HeldHeap). length (heap_of h).coexps) c.leave_failing-2.ensures.heap ∙ k.counts;
+      counted = record { results = heap_counts m.turns m.stacks.table.active m.world.heap c.leave_failing-2.new.world.heap c.leave_failing-2.ensures.heap k.counted.results; activators = k.counted.activators };
     }
 
 pub returns-then-active-gt0-clause-sound : goal.returns-then-active-gt0-clause-sound
 returns-then-active-gt0-clause-sound g c tables k =
     let m = c.args.m.now in
     let f : FlatStack = c.frames.result.now.flat in
-    c.exhaust.ensures.sound tables (record { stacks = stacks_on tables (reach_of m.world []) m.stacks.table f f c.frames.ensures.running (λ l. l) k.stacks; bounds = k.bounds; counts = k.counts })
+    c.exhaust.ensures.sound tables (record { stacks = stacks_on tables (reach_of m.world []) m.stacks.table f f c.frames.ensures.running (λ l. l) k.stacks; bounds = k.bounds; counts = k.counts; counted = record { results = k.counted.results; activators = k.counted.activators } })

@@ -1,4 +1,4 @@
-use Rattle.std.proofs.Common.{◌≡◌, ℕ, true, false, nat_lt, Some, [], refl, sym, ap, ◌∙◌, subst, add-one}
+use Rattle.std.proofs.Common.{◌≡◌, ◌+◌, ℕ, true, false, nat_lt, length, Some, [], refl, sym, ap, ◌∙◌, subst, add-one}
 use Rattle.std.proofs.lemmas.Option.{same_Some}
 use Rattle.std.specs.List.{All}
 use Rattle.std.proofs.lemmas.List.Elements.{All-same}
@@ -14,6 +14,7 @@ use Rattle.icn_control.specs.Machines.{store_in, store_seen}
 use Rattle.icn_control.specs.declared.machine.Machine.{Machine}
 use Rattle.icn_control.specs.Standing.{stack_in}
 use Rattle.icn_control.specs.Taking.{listed}
+use Rattle.icn_control.proofs.CountedSteps.{list_counts, turn_more}
 use Rattle.icn_control.proofs.ExhaustSteps.{under}
 use Rattle.icn_control.proofs.GrowthSteps.{stacks_grow}
 use Rattle.icn_control.proofs.ListSteps.{halts_is, listed_halts, listed_runs, llist_is, no_more, turn_bound, turn_halts, turn_runs}
@@ -40,6 +41,7 @@ returns-then-m-clause-sound g c tables k =
           (λ l. (live_taken tables (reach_of m.world []) c.args.count c.frames.result.now.flat c.take_operands.new.frames.flat c.take_operands.new.items.items c.in-Ok.ensures.taken l).rest) k.stacks;
       bounds = k.bounds;
       counts = k.counts;
+      counted = record { results = k.counted.results; activators = k.counted.activators };
     }
 
 pub push_list-requires-clause-stack : goal.push_list-requires-clause-stack
@@ -94,5 +96,10 @@ returns-clause-sound g c tables k =
     record {
       stacks = stacks_grow tables m.world c.push_list.new.world m.stacks.table c.push_list.new.frames.flat c.push_list.ensures.kept (c.in_ok-push_list.ensures.live tables here) k.stacks;
       bounds = c.in_ok-push_list.ensures.counts.bounds ∙ k.bounds;
-      counts = c.in_ok-push_list.ensures.counts.coexps ∙ k.counts;
+      counts = ap length c.in_ok-push_list.ensures.counts.coexps ∙ k.counts;
+      counted = record {
+        results = list_counts (m.turns + 1) m.stacks.table.active (heap_of m.world.heap).coexps (heap_of c.push_list.new.world.heap).coexps c.in_ok-push_list.ensures.counts.coexps
+            (turn_more m.turns m.stacks.table.active (heap_of m.world.heap).coexps k.counted.results);
+        activators = k.counted.activators;
+      };
     }

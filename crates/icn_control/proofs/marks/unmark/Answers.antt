@@ -4,6 +4,7 @@ use Rattle.icn_heap.specs.Heaps.{heap_of}
 use Rattle.icn_vars.specs.Worlds.{Reach, reach_of}
 use Rattle.icn_code.specs.declared.instr.Instr.TheVariants as Instrs
 use Rattle.icn_control.specs.Machines.{AreLiveStacks}
+use Rattle.icn_control.proofs.CountedSteps.{heap_counts}
 use Rattle.icn_control.proofs.MachineSteps.{stacks_on, leaves_on}
 use Rattle.icn_control.proofs.marks.unmark.Goals as goal
 
@@ -21,4 +22,5 @@ returns-clause-sound g c tables k =
       stacks = subst (λ (r : Reach). AreLiveStacks tables r (record m.stacks.table { running = Some c.drop_mark-pair.new.frames.flat })) (sym c.restore_pair.ensures.reach) on;
       bounds = ap (λ (h : HeldHeap). (heap_of h).bounds) c.restore_pair.ensures.heap ∙ k.bounds;
       counts = ap (λ (h : HeldHeap). length (heap_of h).coexps) c.restore_pair.ensures.heap ∙ k.counts;
+      counted = record { results = heap_counts m.turns m.stacks.table.active m.world.heap c.restore_pair.new.world.heap c.restore_pair.ensures.heap k.counted.results; activators = k.counted.activators };
     }

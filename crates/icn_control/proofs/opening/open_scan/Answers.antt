@@ -1,4 +1,4 @@
-use Rattle.std.proofs.Common.{[], length, Ok, Err, sym, ap, ◌∙◌, subst}
+use Rattle.std.proofs.Common.{[], Ok, Err, sym, ap, ◌∙◌, subst}
 use Rattle.icn_value.specs.declared.val.Val.TheVariants.{Text as TextVal}
 use Rattle.icn_defs.specs.StepRows.{text_row}
 use Rattle.icn_heap.specs.declared.heap.Heap.{Heap as HeldHeap}
@@ -53,7 +53,7 @@ returns-in-Ok-clause-kept g c = subst (λ (r : Reach). KeepsItems (reach_of c.ar
 pub returns-in-Ok-clause-counts : goal.returns-in-Ok-clause-counts
 returns-in-Ok-clause-counts g c = record {
   bounds = ap (λ (h : HeldHeap). (heap_of h).bounds) c.open_over.ensures.heap ∙ c.in_ok-text.ensures.counts.bounds;
-  coexps = ap (λ (h : HeldHeap). length (heap_of h).coexps) c.open_over.ensures.heap ∙ c.in_ok-text.ensures.counts.coexps;
+  coexps = ap (λ (h : HeldHeap). (heap_of h).coexps) c.open_over.ensures.heap ∙ c.in_ok-text.ensures.counts.coexps;
 }
 
 pub returns-in-Err-clause-kept : goal.returns-in-Err-clause-kept

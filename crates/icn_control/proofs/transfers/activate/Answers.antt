@@ -1,4 +1,4 @@
-use Rattle.std.proofs.Common.{◌≡◌, ℕ, [], Option, Some, length, sym, ap, ◌∙◌, subst}
+use Rattle.std.proofs.Common.{◌≡◌, [], Some, length, sym, ap, ◌∙◌, subst}
 use Rattle.icn_value.specs.declared.item.Item.TheVariants.{Val as HeldVal}
 use Rattle.icn_value.specs.declared.val.Val.{Val}
 use Rattle.icn_heap.specs.Extents.{IsLive}
@@ -29,7 +29,7 @@ returns-in-Same-clause-step g c tables outside =
     c.in-Same.ensures.went.0 c.in-Same.ensures.went.1 c.in-Same.ensures.went.2 c.put.ensures.flat
 
 pub returns-in-Same-clause-sound : goal.returns-in-Same-clause-sound
-returns-in-Same-clause-sound g c tables k =
+returns-in-Same-clause-sound g c tables h k =
     let m = c.args.m.now in
     let reach : Reach = reach_of m.world [] in
     let u : Table = c.activate.new.self.table in
@@ -42,15 +42,10 @@ returns-in-Same-clause-sound g c tables k =
           (subst (λ (x : Table). AreLiveStacks tables reach x) (sym same) k.stacks);
       bounds = k.bounds;
       counts = k.counts ∙ ap (λ (x : Table). length x.coexps) (sym same);
-    }
-
-pub returns-in-Same-clause-counted : goal.returns-in-Same-clause-counted
-returns-in-Same-clause-counted g c k =
-    let m = c.args.m.now in
-    let u : Table = c.activate.new.self.table in
-    record {
-      results = turn_used m.turns u.active (heap_of m.world.heap).coexps k.results;
-      activators = subst (λ (x : Table). EnterOthers x.coexps) (sym c.in-Same.ensures.went.2) k.activators;
+      counted = record {
+        results = turn_used m.turns u.active (heap_of m.world.heap).coexps h.results;
+        activators = subst (λ (x : Table). EnterOthers x.coexps) (sym c.in-Same.ensures.went.2) h.activators;
+      };
     }
 
 pub returns-in-Moved-clause-step : goal.returns-in-Moved-clause-step
@@ -62,7 +57,7 @@ returns-in-Moved-clause-step g c tables outside =
     activates_other beside t c.activate.new.self.table runs.0 c.args.id c.args.v runs.1 c.in-Moved.ensures.went.0 c.in-Moved.ensures.went.1 c.in-Moved.ensures.went.2
 
 pub returns-in-Moved-clause-sound : goal.returns-in-Moved-clause-sound
-returns-in-Moved-clause-sound g c tables k =
+returns-in-Moved-clause-sound g c tables h k =
     let m = c.args.m.now in
     let t : Table = m.stacks.table in
     let u : Table = c.activate.new.self.table in
@@ -70,15 +65,10 @@ returns-in-Moved-clause-sound g c tables k =
       stacks = enter_live tables (reach_of m.world []) c.args.id c.args.v t u c.in-Moved.ensures.went.2 c.active.ensures.begun c.requires.value k.stacks;
       bounds = k.bounds;
       counts = k.counts ∙ sym (enter_length c.args.id c.args.v t u c.in-Moved.ensures.went.2);
-    }
-
-pub returns-in-Moved-clause-counted : goal.returns-in-Moved-clause-counted
-returns-in-Moved-clause-counted g c k =
-    let m = c.args.m.now in
-    let u : Table = c.activate.new.self.table in
-    record {
-      results = turn_used m.turns u.active (heap_of m.world.heap).coexps k.results;
-      activators = entered_others c.args.id c.args.v m.stacks.table u c.in-Moved.ensures.went.2 c.in-Moved.ensures.went.0 k.activators;
+      counted = record {
+        results = turn_used m.turns u.active (heap_of m.world.heap).coexps h.results;
+        activators = entered_others c.args.id c.args.v m.stacks.table u c.in-Moved.ensures.went.2 c.in-Moved.ensures.went.0 h.activators;
+      };
     }
 
 pub returns-in-Exhausted-clause-step : goal.returns-in-Exhausted-clause-step
@@ -88,20 +78,16 @@ returns-in-Exhausted-clause-step g c tables outside =
     activates_exhausted beside m.stacks.table c.activate.new.self.table c.args.id c.args.v c.in-Exhausted.ensures.went.0 c.in-Exhausted.ensures.went.1
 
 pub returns-in-Exhausted-clause-sound : goal.returns-in-Exhausted-clause-sound
-returns-in-Exhausted-clause-sound g c tables k =
+returns-in-Exhausted-clause-sound g c tables h k =
     let m = c.args.m.now in
     let same : c.activate.new.self.table ≡ m.stacks.table = c.in-Exhausted.ensures.went.1 in
+    let u : Table = c.activate.new.self.table in
     record {
       stacks = subst (λ (x : Table). AreLiveStacks tables (reach_of m.world []) x) (sym same) k.stacks;
       bounds = k.bounds;
       counts = k.counts ∙ ap (λ (x : Table). length x.coexps) (sym same);
-    }
-
-pub returns-in-Exhausted-clause-counted : goal.returns-in-Exhausted-clause-counted
-returns-in-Exhausted-clause-counted g c k =
-    let m = c.args.m.now in
-    let u : Table = c.activate.new.self.table in
-    record {
-      results = turn_used m.turns u.active (heap_of m.world.heap).coexps k.results;
-      activators = subst (λ (x : Table). EnterOthers x.coexps) (sym c.in-Exhausted.ensures.went.1) k.activators;
+      counted = record {
+        results = turn_used m.turns u.active (heap_of m.world.heap).coexps h.results;
+        activators = subst (λ (x : Table). EnterOthers x.coexps) (sym c.in-Exhausted.ensures.went.1) h.activators;
+      };
     }

@@ -1,4 +1,4 @@
-use Rattle.std.proofs.Common.{◌≡◌, ◌<◌, ◌+◌, ℕ, suc, true, false, nat_lt, [], Option, Some, IsSome, length, refl, sym, ap, ◌∙◌, subst, add-one}
+use Rattle.std.proofs.Common.{◌≡◌, ◌<◌, ℕ, suc, true, false, nat_lt, [], Option, IsSome, refl, sym, ap, ◌∙◌, subst, add-one}
 use Rattle.std.specs.Prelude.{IfSome}
 use Rattle.icn_value.specs.Limited.{Bounds}
 use Rattle.icn_value.specs.declared.val.Val.{Val}
@@ -15,7 +15,7 @@ use Rattle.icn_control.specs.Machines.{IsLiveRunning, StandsAt, running_of, stor
 use Rattle.icn_control.specs.Operands.{with_two}
 use Rattle.icn_control.specs.Standing.{stack_in}
 use Rattle.icn_control.proofs.ActivationSteps.{coact_bound, coact_goes, not_under}
-use Rattle.icn_control.proofs.CountedSteps.{turn_had}
+use Rattle.icn_control.proofs.CountedSteps.{turn_had, turn_more}
 use Rattle.icn_control.proofs.ExhaustSteps.{under}
 use Rattle.icn_control.proofs.Halts.{at_stopped, some_there, value_error}
 use Rattle.icn_control.proofs.MachineSteps.{stacks_on}
@@ -100,13 +100,10 @@ returns-clause-step g c tables outside =
 pub returns-clause-sound : goal.returns-clause-sound
 returns-clause-sound g c tables k =
     let m = c.args.m.now in
-    c.activate.ensures.sound tables (record {
+    let cs = (heap_of m.world.heap).coexps in
+    c.activate.ensures.sound tables (record { results = turn_had m.turns m.stacks.table.active cs k.counted.results; activators = k.counted.activators }) (record {
       stacks = stacks_on tables (reach_of m.world []) m.stacks.table c.frames.result.now.flat c.take_two_values.new.frames.flat c.frames.ensures.running (λ l. c.take_two_values.ensures.live tables l) k.stacks;
       bounds = k.bounds;
       counts = k.counts;
+      counted = record { results = turn_more m.turns m.stacks.table.active cs k.counted.results; activators = k.counted.activators };
     })
-
-pub returns-clause-counted : goal.returns-clause-counted
-returns-clause-counted g c k =
-    let m = c.args.m.now in
-    c.activate.ensures.counted (record { results = turn_had m.turns m.stacks.table.active (heap_of m.world.heap).coexps k.results; activators = k.activators })

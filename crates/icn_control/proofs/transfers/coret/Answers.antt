@@ -3,10 +3,9 @@ use Rattle.std.proofs.lemmas.List.{length-set}
 use Rattle.icn_value.specs.Limited.{Bounds}
 use Rattle.icn_value.specs.declared.val.Val.TheVariants as Vals
 use Rattle.icn_value.specs.Store.{Heap}
-use Rattle.icn_value.specs.Values.{Value}
-use Rattle.icn_heap.specs.Extents.{IsLive, value_in}
+use Rattle.icn_heap.specs.Extents.{IsLive}
 use Rattle.icn_heap.specs.Heaps.{extent_of, heap_of}
-use Rattle.icn_vars.specs.Worlds.{Reach, reach_of, world_of}
+use Rattle.icn_vars.specs.Worlds.{reach_of, world_of}
 use Rattle.icn_frames.specs.Stacks as held
 use Rattle.icn_frames.specs.Stacks.{FlatStack}
 use Rattle.icn_coexp.specs.Transfers.{Table, source}
@@ -72,7 +71,7 @@ count_result-requires-clause-few g c =
     let fits : Fits w64 c.args.m.now.limits.turns = search rules in
     let most : m.limits.turns ≤ 18446744073709551615 = omega (arith, fits) in
     subst (λ (n : ℕ). slice_index cs n < 9223372036854775807) (sym c.active-from.ensures.number)
-    (count_fits m.turns m.stacks.table.active m.limits.turns cs c.requires.other c.if-m.false most c.requires.counted.results)
+    (count_fits m.turns m.stacks.table.active m.limits.turns cs c.requires.other c.if-m.false most c.requires.sound.1.counted.results)
 
 pub returns-then-is_moved-clause-step : goal.returns-then-is_moved-clause-step
 returns-then-is_moved-clause-step g c tables outside =
@@ -108,26 +107,20 @@ returns-then-is_moved-clause-sound g c tables k =
     let u : Table = c.give-went.new.self.table in
     let heap = c.count_result.ensures.heap in
     let on : AreLiveStacks tables (reach_of w []) table = stacks_on tables (reach_of w []) m.stacks.table f n c.frames.ensures.running (λ l. c.take_value.ensures.live tables l) k.stacks in
+    let a : ℕ = m.stacks.table.active in
+    let cs : List ℕ = (heap_of m.world.heap).coexps in
+    let F : ℕ → List ℕ = λ n. slice_set cs n (slice_index cs n + 1) in
+    let fits : FitTurns (m.turns + 1) (source table) (F a) = result_fits m.turns a (source table) cs c.requires.other (k.counted.activators a c.requires.other) k.counted.results in
     record {
       stacks = give_live tables (reach_of v []) c.in_ok-v.v table u c.give-went.ensures.table c.active-from.ensures.begun (c.count_result.ensures.kept.extent.live c.in_ok-v.v c.in_ok-v.ensures.value)
           (stacks_stay tables (reach_of w []) (reach_of v []) table c.count_result.ensures.kept on);
       bounds = ap (λ (h : Heap). h.bounds) heap ∙ k.bounds;
       counts = ap (λ (h : Heap). length h.coexps) heap ∙ length-set (heap_of w.heap).coexps c.active-from.result (slice_index (heap_of w.heap).coexps c.active-from.result + 1) ∙ k.counts ∙ sym (give_length c.in_ok-v.v table u c.give-went.ensures.table);
-    }
-
-pub returns-then-is_moved-clause-counted : goal.returns-then-is_moved-clause-counted
-returns-then-is_moved-clause-counted g c =
-    let m = c.args.m.now in
-    let a : ℕ = m.stacks.table.active in
-    let table : Table = record m.stacks.table { running = Some c.take_value.new.frames.flat } in
-    let u : Table = c.give-went.new.self.table in
-    let cs : List ℕ = (heap_of m.world.heap).coexps in
-    let F : ℕ → List ℕ = λ n. slice_set cs n (slice_index cs n + 1) in
-    let fits : FitTurns (m.turns + 1) (source table) (F a) = result_fits m.turns a (source table) cs c.requires.other (c.requires.counted.activators a c.requires.other) c.requires.counted.results in
-    record {
-      results = subst (λ (n : ℕ). FitTurns (m.turns + 1) n (heap_of c.count_result.new.world.heap).coexps) (sym (give_active c.in_ok-v.v table u c.give-went.ensures.table))
-          (subst (λ (ds : List ℕ). FitTurns (m.turns + 1) (source table) ds) (sym (ap (λ (h : Heap). h.coexps) c.count_result.ensures.heap ∙ ap F c.active-from.ensures.number)) fits);
-      activators = give_others c.in_ok-v.v table u c.give-went.ensures.table c.requires.counted.activators;
+      counted = record {
+        results = subst (λ (n : ℕ). FitTurns (m.turns + 1) n (heap_of c.count_result.new.world.heap).coexps) (sym (give_active c.in_ok-v.v table u c.give-went.ensures.table))
+            (subst (λ (ds : List ℕ). FitTurns (m.turns + 1) (source table) ds) (sym (ap (λ (h : Heap). h.coexps) c.count_result.ensures.heap ∙ ap F c.active-from.ensures.number)) fits);
+        activators = give_others c.in_ok-v.v table u c.give-went.ensures.table k.counted.activators;
+      };
     }
 
 pub returns-else-is_moved-clause-step : goal.returns-else-is_moved-clause-step
@@ -167,24 +160,18 @@ returns-else-is_moved-clause-sound g c tables k =
     let u : Table = c.give-went.new.self.table in
     let heap = c.count_result.ensures.heap in
     let on : AreLiveStacks tables (reach_of w []) table = stacks_on tables (reach_of w []) m.stacks.table f n c.frames.ensures.running (λ l. c.take_value.ensures.live tables l) k.stacks in
+    let a : ℕ = m.stacks.table.active in
+    let cs : List ℕ = (heap_of m.world.heap).coexps in
+    let F : ℕ → List ℕ = λ n. slice_set cs n (slice_index cs n + 1) in
+    let fits : FitTurns (m.turns + 1) (source table) (F a) = result_fits m.turns a (source table) cs c.requires.other (k.counted.activators a c.requires.other) k.counted.results in
     record {
       stacks = give_live tables (reach_of v []) c.in_ok-v.v table u c.give-went.ensures.table c.active-from.ensures.begun (c.count_result.ensures.kept.extent.live c.in_ok-v.v c.in_ok-v.ensures.value)
           (stacks_stay tables (reach_of w []) (reach_of v []) table c.count_result.ensures.kept on);
       bounds = ap (λ (h : Heap). h.bounds) heap ∙ k.bounds;
       counts = ap (λ (h : Heap). length h.coexps) heap ∙ length-set (heap_of w.heap).coexps c.active-from.result (slice_index (heap_of w.heap).coexps c.active-from.result + 1) ∙ k.counts ∙ sym (give_length c.in_ok-v.v table u c.give-went.ensures.table);
-    }
-
-pub returns-else-is_moved-clause-counted : goal.returns-else-is_moved-clause-counted
-returns-else-is_moved-clause-counted g c =
-    let m = c.args.m.now in
-    let a : ℕ = m.stacks.table.active in
-    let table : Table = record m.stacks.table { running = Some c.take_value.new.frames.flat } in
-    let u : Table = c.give-went.new.self.table in
-    let cs : List ℕ = (heap_of m.world.heap).coexps in
-    let F : ℕ → List ℕ = λ n. slice_set cs n (slice_index cs n + 1) in
-    let fits : FitTurns (m.turns + 1) (source table) (F a) = result_fits m.turns a (source table) cs c.requires.other (c.requires.counted.activators a c.requires.other) c.requires.counted.results in
-    record {
-      results = subst (λ (n : ℕ). FitTurns (m.turns + 1) n (heap_of c.count_result.new.world.heap).coexps) (sym (give_active c.in_ok-v.v table u c.give-went.ensures.table))
-          (subst (λ (ds : List ℕ). FitTurns (m.turns + 1) (source table) ds) (sym (ap (λ (h : Heap). h.coexps) c.count_result.ensures.heap ∙ ap F c.active-from.ensures.number)) fits);
-      activators = give_others c.in_ok-v.v table u c.give-went.ensures.table c.requires.counted.activators;
+      counted = record {
+        results = subst (λ (n : ℕ). FitTurns (m.turns + 1) n (heap_of c.count_result.new.world.heap).coexps) (sym (give_active c.in_ok-v.v table u c.give-went.ensures.table))
+            (subst (λ (ds : List ℕ). FitTurns (m.turns + 1) (source table) ds) (sym (ap (λ (h : Heap). h.coexps) c.count_result.ensures.heap ∙ ap F c.active-from.ensures.number)) fits);
+        activators = give_others c.in_ok-v.v table u c.give-went.ensures.table k.counted.activators;
+      };
     }

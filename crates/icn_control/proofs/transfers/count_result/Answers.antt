@@ -1,4 +1,4 @@
-use Rattle.std.proofs.Common.{◌≡◌, [], sym, ap}
+use Rattle.std.proofs.Common.{[], sym, ap}
 use Rattle.std.proofs.lemmas.List.Elements.{All-nil}
 use Rattle.icn_value.specs.Store.{Setting, outside_of}
 use Rattle.icn_heap.specs.Extents.{IsLive}

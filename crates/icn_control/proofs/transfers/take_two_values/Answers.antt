@@ -1,4 +1,4 @@
-use Rattle.std.proofs.Common.{◌≡◌, ℕ, [], IsSome, Some, Ok, Err, Option, sym, ap, ◌∙◌, subst}
+use Rattle.std.proofs.Common.{[], IsSome, Ok, Err, Option, sym, ◌∙◌, subst}
 use Rattle.std.specs.Prelude.{IfSome}
 use Rattle.icn_vars.specs.Worlds.{IsLiveItem, reach_of}
 use Rattle.icn_value.specs.declared.item.Item.{Item}
@@ -7,8 +7,7 @@ use Rattle.icn_frames.specs.Stacks.{FlatStack}
 use Rattle.icn_control.specs.Living.{IsLiveStack, with_locals}
 use Rattle.icn_control.specs.Operands.{TakesTwo}
 use Rattle.icn_control.proofs.ChargeSteps.{at_stop_with}
-use Rattle.icn_control.proofs.LiveCalls.{live_pop, own}
-use Rattle.icn_control.proofs.OperandSteps.{Finds, finds_on, first_stops, second_stops, two_found, two_live}
+use Rattle.icn_control.proofs.OperandSteps.{finds_on, first_stops, second_stops, two_found, two_live}
 use Rattle.icn_control.proofs.transfers.take_two_values.Goals as goal
 
 pub pop-lower-requires : goal.pop-lower-requires

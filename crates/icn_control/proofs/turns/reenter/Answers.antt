@@ -1,4 +1,4 @@
-use Rattle.std.proofs.Common.{◌≡◌, ℕ, Some, true, nat_lt, length, [], sym, ap, ◌∙◌, subst, add-one}
+use Rattle.std.proofs.Common.{◌≡◌, ◌+◌, ℕ, Some, true, nat_lt, length, [], sym, ap, ◌∙◌, subst, add-one}
 use Rattle.icn_value.specs.Limited.{Bounds}
 use Rattle.icn_heap.specs.declared.heap.Heap.{Heap as HeldHeap}
 use Rattle.icn_heap.specs.Heaps.{extent_of, heap_of}
@@ -8,6 +8,7 @@ use Rattle.icn_run.specs.Step.{State, running, all_names}
 use Rattle.icn_control.specs.Living.{IsLiveStack}
 use Rattle.icn_control.specs.Machines.{AreLiveStacks, store_in}
 use Rattle.icn_control.specs.Standing.{stack_in}
+use Rattle.icn_control.proofs.CountedSteps.{heap_counts, turn_more}
 use Rattle.icn_control.proofs.ExhaustSteps.{under}
 use Rattle.icn_control.proofs.MachineSteps.{stacks_on}
 use Rattle.icn_control.proofs.TurnSteps.{reenters}
@@ -33,4 +34,5 @@ returns-clause-sound g c tables k =
       stacks = subst (λ (r : Reach). AreLiveStacks tables r (record m.stacks.table { running = Some c.swap_if_scanning.new.frames.flat })) (sym c.swap_if_scanning.ensures.reach) on;
       bounds = ap (λ (h : HeldHeap). (heap_of h).bounds) c.swap_if_scanning.ensures.heap ∙ k.bounds;
       counts = ap (λ (h : HeldHeap). length (heap_of h).coexps) c.swap_if_scanning.ensures.heap ∙ k.counts;
+      counted = record { results = heap_counts (m.turns + 1) m.stacks.table.active m.world.heap c.swap_if_scanning.new.world.heap c.swap_if_scanning.ensures.heap (turn_more m.turns m.stacks.table.active (heap_of m.world.heap).coexps k.counted.results); activators = k.counted.activators };
     }
