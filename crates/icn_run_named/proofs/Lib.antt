@@ -1,0 +1,3 @@
+mod CallsNamed
+mod StepsNamed
+mod RowCounts

@@ -1,0 +1,3 @@
+pub mod KeepingCounts
+pub mod StateNames
+pub mod KeepingNames

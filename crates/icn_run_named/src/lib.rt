@@ -1,0 +1,19 @@
+//! What the run of a code names has a name; and rows leave the counts of results.
+#![tactic(auto)]
+
+ghost use Rattle.icn_run_named.specs.KeepingCounts.{RowsKeepCounts};
+ghost use Rattle.icn_run_named.specs.KeepingNames.{StepsKeepNames};
+
+use icn_named::names_stay;
+
+/// Where what the state before a step names has a name, so it is after the step.
+pub fn steps_keep_names()
+    ensures kept { StepsKeepNames }
+{
+    names_stay();
+}
+
+/// An operation or a function leaves the limits of the heap and the counts of results, and so does what resumes it.
+pub fn counts_stay()
+    ensures kept { RowsKeepCounts }
+{}
