@@ -1,0 +1,101 @@
+// A case: a limit, the subject, the position, the name of a function and its arguments.
+ghost use Rattle.std.specs.List.{All};
+ghost use Rattle.icn_heap.specs.Extents.{IsLive};
+ghost use Rattle.icn_heap.specs.Heaps.{extent_of};
+
+use crate::arguments::{add_word, set_keyword, world};
+use crate::kinds::is_scanning_function;
+use crate::results::push_results;
+use crate::slots::{Slots, no_locals};
+use icn_scanfn::first;
+use icn_text::{Func, func_named, read_integer};
+use icn_value::KeywordVariable;
+use icn_vars::World;
+use std::alloc::{AllocError, Global};
+
+// What the case of a line comes to, behind an arrow. An empty line and a remark have none.
+pub fn outcome(alloc: Global, line: &[u8]) -> Result<String, AllocError> {
+    let mut out = String::new(alloc);
+    if line.is_empty() || line[0] == b'#' {
+        return Ok(out);
+    }
+    out.push_str(" -> ")?;
+    let (limit, behind) = split_word(line);
+    let (subject, behind) = split_word(behind);
+    let (position, behind) = split_word(behind);
+    let (name, args) = split_word(behind);
+    let mut w = world(alloc, number(limit))?;
+    for word in args.split(|byte| *byte == b' ') {
+        add_word(alloc, &mut w, word)?;
+    }
+    let mut slots = no_locals(alloc);
+    set_keyword(alloc, &mut w, &mut slots, KeywordVariable::Subject, subject)?;
+    push_case(&mut out, &mut w, position, name)?;
+    Ok(out)
+}
+
+// What stands in front of the first blank, and what stands behind it.
+fn split_word(text: &[u8]) -> (&[u8], &[u8]) {
+    match text.iter().position(|byte| *byte == b' ') {
+        Some(place) => (&text[..place], &text[place + 1..]),
+        None => (text, b""),
+    }
+}
+
+fn number(word: &[u8]) -> u64 {
+    match read_integer(word) {
+        Ok(n) => n.unsigned_abs(),
+        Err(_) => 0,
+    }
+}
+
+// Appends what a function comes to at a position. A name behind `-` says that the subject is emptied before each resumption.
+fn push_case(
+    out: &mut String,
+    w: &mut World,
+    position: &[u8],
+    name: &[u8],
+) -> Result<(), AllocError> {
+    let alloc = *w.globals.allocator();
+    let mut slots = no_locals(alloc);
+    if !set_keyword(alloc, w, &mut slots, KeywordVariable::Position, position)? {
+        return out.push_str("no position");
+    }
+    match name.split_first() {
+        Some((b'-', rest)) => push_named(out, w, &mut slots, rest, true),
+        _ => push_named(out, w, &mut slots, name, false),
+    }
+}
+
+fn push_named(
+    out: &mut String,
+    w: &mut World,
+    slots: &mut Slots,
+    name: &[u8],
+    emptied: bool,
+) -> Result<(), AllocError>
+    requires { All (IsLive (extent_of w.old.heap)) slots.old.vals.items }
+{
+    match func_named(name) {
+        Some(func) => push_applied(out, w, slots, func, emptied),
+        None => out.push_str("no function"),
+    }
+}
+
+fn push_applied(
+    out: &mut String,
+    w: &mut World,
+    slots: &mut Slots,
+    func: Func,
+    emptied: bool,
+) -> Result<(), AllocError>
+    requires { All (IsLive (extent_of w.old.heap)) slots.old.vals.items }
+{
+    let args = w.globals.as_slice().to_vec(*w.globals.allocator())?;
+    if is_scanning_function(func) {
+        let answer = first(func, &args, w, slots);
+        push_results(out, w, slots, answer, 12, emptied)
+    } else {
+        out.push_str("a function of another crate")
+    }
+}
