@@ -1,5 +1,5 @@
 -- What is answered names only what has a name, by the law over rows.
-use Rattle.std.proofs.Common.{◌≡◌, ◌∙◌, refl, sym, ap, subst, ℕ, ◌<◌, arith, true, List, [], ◌∷◌, length, map, Option, Some, Result, Ok, Err}
+use Rattle.std.proofs.Common.{◌≡◌, ◌∙◌, refl, sym, ap, subst, ◌<◌, arith, true, List, [], ◌∷◌, length, map, Result, Ok, Err}
 use Rattle.std.specs.Prelude.{IsErrAnd}
 use Rattle.std.specs.List.{All}
 use Rattle.std.specs.Option.{option_map}
@@ -11,17 +11,17 @@ use Rattle.icn_value.specs.declared.val.Val.{Val}
 use Rattle.icn_value.specs.declared.val.Val.TheVariants.{Null as NullVal, Integer as IntegerVal, Text as TextVal, Chars as CharsVal, Std as StdVal, Proc as ProcVal, Rec as RecVal, List as ListVal, Set as SetVal, Table as TableVal, Coexp as CoexpVal}
 use Rattle.icn_value.specs.Values.{Value, Item}
 use Rattle.icn_value.specs.Store.{Names, Record, Outside, Setting, outside_of}
-use Rattle.icn_defs.specs.Applying.{function_of, function_row, again}
+use Rattle.icn_defs.specs.Applying.{function_of, function_row}
 use Rattle.icn_defs.specs.Arguments.{arg}
 use Rattle.icn_defs.specs.Reading.{the_values}
-use Rattle.icn_defs.specs.Rows.{Row, Outcome, Fails, Gives, Suspends, Error, Ends, Residual, fails}
+use Rattle.icn_defs.specs.Rows.{Row, Fails, Error, Ends, fails}
 use Rattle.icn_heap.specs.Extents.{Extent, IsLive, value_in}
 use Rattle.icn_heap.specs.Heaps.{extent_of, heap_of}
 use Rattle.icn_heap.specs.Parts.{record_in}
 use Rattle.icn_heap.specs.declared.heap.Heap.{Heap as HeldHeap}
 use Rattle.icn_convert.specs.Naming.{AreRecordsNamed, IsNamed}
 use Rattle.icn_named.specs.Keeping.{IsThere, OutcomeNamed}
-use Rattle.icn_named.specs.Named.{ItemNamed, OptionNamed, RecordNamed, ResidualNamed, SettingNamed, ValueNamed}
+use Rattle.icn_named.specs.Named.{ItemNamed, RecordNamed, SettingNamed, ValueNamed}
 use Rattle.icn_named.proofs.RowsNamed.{rows_keep_names}
 use Rattle.icn_vars.specs.Outcomes.{ComesToAnswer, outcome_in}
 use Rattle.icn_vars.specs.Stops.{StopsFinding, halt_of}
@@ -64,21 +64,21 @@ module _ (names : Names) (row : Row) (at : Setting) (named : OutcomeNamed names 
   comes_named (Err WriteFault) is = tt
   comes_named (Err NoMemory) is = tt
 
--- where the input tells what it has left
+-- whatever the input tells
 pub applies_named : (names : Names) (row : Row) (before after : Given) (result : Result HeldOutcome Halt) → ((was : Outside) → OutcomeNamed names (row (setting_with was before)))
-    → Applies row before after result → (left : List ℕ) → before.handed.left ≡ Some left → AnswerNamed names after.world after.locals result
-applies_named names row before after (Ok outcome) named is left told =
-    let comes = is.answers (outside_of left) told in
-    comes_named names row (setting_with (outside_of left) before) (named (outside_of left)) after.world after.locals comes.now (Ok outcome) comes.comes
-applies_named names row before after (Err (ErrorHalt number offending)) named is left told =
-    let comes = is.answers (outside_of left) told in
-    comes_named names row (setting_with (outside_of left) before) (named (outside_of left)) after.world after.locals comes.now (Err (ErrorHalt number offending)) comes.comes
-applies_named names row before after (Err (EndsHalt status)) named is left told =
-    let comes = is.answers (outside_of left) told in
-    comes_named names row (setting_with (outside_of left) before) (named (outside_of left)) after.world after.locals comes.now (Err (EndsHalt status)) comes.comes
-applies_named names row before after (Err ReadFault) named is left told = tt
-applies_named names row before after (Err WriteFault) named is left told = tt
-applies_named names row before after (Err NoMemory) named is left told = tt
+    → Applies row before after result → AnswerNamed names after.world after.locals result
+applies_named names row before after (Ok outcome) named is =
+    let comes = is.meant.answers (outside_of is.meant.had) refl in
+    comes_named names row (setting_with (outside_of is.meant.had) before) (named (outside_of is.meant.had)) after.world after.locals comes.now (Ok outcome) comes.comes
+applies_named names row before after (Err (ErrorHalt number offending)) named is =
+    let comes = is.meant.answers (outside_of is.meant.had) refl in
+    comes_named names row (setting_with (outside_of is.meant.had) before) (named (outside_of is.meant.had)) after.world after.locals comes.now (Err (ErrorHalt number offending)) comes.comes
+applies_named names row before after (Err (EndsHalt status)) named is =
+    let comes = is.meant.answers (outside_of is.meant.had) refl in
+    comes_named names row (setting_with (outside_of is.meant.had) before) (named (outside_of is.meant.had)) after.world after.locals comes.now (Err (EndsHalt status)) comes.comes
+applies_named names row before after (Err ReadFault) named is = tt
+applies_named names row before after (Err WriteFault) named is = tt
+applies_named names row before after (Err NoMemory) named is = tt
 
 -- whatever the outside
 pub answers_named : (names : Names) (row : Row) (old new : World) (locals : List Val) (result : Result HeldOutcome Halt) → OutcomeNamed names (row (setting_of (outside_of []) old locals))

@@ -1,5 +1,5 @@
 // All rows in one call.
-ghost use Rattle.std.specs.Prelude.{◌≡◌, ◌≢◌, ℕ, [], Err, IfErr, List, Some, length, map, true};
+ghost use Rattle.std.specs.Prelude.{◌≡◌, ◌≢◌, [], Err, IfErr, length, map, true};
 ghost use Rattle.std.specs.List.{All};
 ghost use Rattle.icn_value.specs.Store.{outside_of};
 ghost use Rattle.icn_defs.specs.Applying as rows;
@@ -52,7 +52,7 @@ pub fn apply<L: Locals, N: Names, I: Source, O: Sink, E: Sink>(
     ensures applies { Applies (step_rows.apply (N.known names.now) (applied_of what) (map (item_in (extent_of w.old.heap)) args.now))
         (given w.old (L.items l.old) (handed (I.left input.old) (I.faults input.old) (O.state out.old) (E.state err.old)))
         (given w.new (L.items l.new) (handed (I.left input.new) (I.faults input.new) (O.state out.new) (E.state err.new))) result }
-    ensures named { (left : List ℕ) → I.left input.old ≡ Some left → AnswerNamed (N.known names.now) w.new (L.items l.new) result }
+    ensures named { AnswerNamed (N.known names.now) w.new (L.items l.new) result }
 {
     match what {
         Applied::Op(op) => icn_ops::first(op, args, w, l, buffer, input),
@@ -79,7 +79,7 @@ pub fn again<L: Locals, N: Names, I: Source, O: Sink, E: Sink>(
     ensures applies { Applies (rows.again (residual_in (extent_of w.old.heap) rest))
         (given w.old (L.items l.old) (handed (I.left input.old) (I.faults input.old) (O.state out.old) (E.state err.old)))
         (given w.new (L.items l.new) (handed (I.left input.new) (I.faults input.new) (O.state out.new) (E.state err.new))) result }
-    ensures named { (left : List ℕ) → I.left input.old ≡ Some left → AnswerNamed (N.known names.now) w.new (L.items l.new) result }
+    ensures named { AnswerNamed (N.known names.now) w.new (L.items l.new) result }
     ensures memory { undoes_in_place (residual_in (extent_of w.old.heap) rest) ≡ true → IfErr result (λ halt. halt ≢ NoMemory) }
 {
     resume(rest, w, l, buffer, input, out, err)

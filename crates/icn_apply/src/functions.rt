@@ -1,5 +1,5 @@
 // Functions, by what they are over.
-ghost use Rattle.std.specs.Prelude.{◌≡◌, ℕ, [], List, Some, map, true};
+ghost use Rattle.std.specs.Prelude.{◌≡◌, [], map, true};
 ghost use Rattle.std.specs.List.{All};
 ghost use Rattle.icn_value.specs.Store.{outside_of};
 ghost use Rattle.icn_defs.specs.Applying.{function_row};
@@ -42,7 +42,7 @@ pub fn apply_function<L: Locals, N: Names, I: Source, O: Sink, E: Sink>(
     ensures applies { Applies (function_row (N.known names.now) func (map (item_in (extent_of w.old.heap)) args.now))
         (given w.old (L.items l.now) (handed (I.left input.old) (I.faults input.old) (O.state out.old) (E.state err.old)))
         (given w.new (L.items l.now) (handed (I.left input.new) (I.faults input.new) (O.state out.new) (E.state err.new))) result }
-    ensures named { (left : List ℕ) → I.left input.old ≡ Some left → AnswerNamed (N.known names.now) w.new (L.items l.now) result }
+    ensures named { AnswerNamed (N.known names.now) w.new (L.items l.now) result }
 {
     match kind_of(func) {
         Kind::Files => icn_iofn::first(func, args, w, l, buffer, input, out, err),

@@ -1,5 +1,5 @@
 -- Rows that put a line.
-use Rattle.std.proofs.Common.{◌≡◌, ◌∙◌, refl, sym, ap, subst, ℕ, List, Option, Some, Ok, Err, true}
+use Rattle.std.proofs.Common.{◌≡◌, ◌∙◌, refl, sym, ap, subst, ℕ, List, [], Option, Some, Ok, Err, true}
 use Rattle.std.specs.List.{All}
 use Rattle.icn_host.specs.Sinks.{SinkState}
 use Rattle.icn_host.specs.declared.fault.Fault.{Fault}
@@ -46,12 +46,24 @@ module _ (end : List ℕ) (file : File) (args : List Value) (next : Row) (quiet 
   goes : (s : Setting) → lines_then end file args next s ≡ next (record s { outside = line_put end true (pieces_in args) file s.outside })
   goes s = found s (λ parts. puts_line end file parts next)
 
-  followed : (was : Outside) → left ≡ Some was.left → Gained (outputs o e) (outputs o' e') was (line_put end true (pieces_in args) file was)
-      → Follows (handed left faults o e) (handed left faults o' e') was (line_put end true (pieces_in args) file was)
-  followed was told gained = record {
+  -- it follows the outside, whatever the input tells
+  followed : (tells : Option (List ℕ)) (was : Outside) → tells ≡ Some was.left → Gained (outputs o e) (outputs o' e') was (line_put end true (pieces_in args) file was)
+      → Follows (handed tells faults o e) (handed tells faults o' e') was (line_put end true (pieces_in args) file was)
+  followed tells was told gained = record {
     left = told ∙ ap Some (sym (grows_line end true (pieces_in args) file was).left);
     output = gained.output;
     errors = gained.errors;
+  }
+
+  left_by : (s : Setting) → outside_after (lines_then end file args next s) ≡ line_put end true (pieces_in args) file s.outside
+  left_by s = ap outside_after (goes s) ∙ quiet (record s { outside = line_put end true (pieces_in args) file s.outside })
+
+  broken : (tells : Option (List ℕ)) (was : Outside) → GainedPart (outputs o e) (outputs o' e') was (line_put end true (pieces_in args) file was)
+      → StopsPutting (lines_then end file args next) (setting_of was w locals) (handed tells faults o e) (handed tells faults o' e')
+  broken tells was part = record {
+    left = refl;
+    output = subst (λ (now : Outside). PutsPart o o' was.output now.output) (sym (left_by (setting_of was w locals))) part.output;
+    errors = subst (λ (now : Outside). PutsPart e e' was.errors now.errors) (sym (left_by (setting_of was w locals))) part.errors;
   }
 
   -- the line was put, and the row gives an item
@@ -61,8 +73,17 @@ module _ (end : List ℕ) (file : File) (args : List Value) (next : Row) (quiet 
   wrote_gives outcome is gained counts live = record {
     answers = λ was told. record {
       now = line_put end true (pieces_in args) file was;
-      follows = followed was told (gained was);
+      follows = followed left was told (gained was);
       comes = goes (setting_of was w locals) ∙ is (setting_of (line_put end true (pieces_in args) file was) w locals);
+    };
+    meant = record {
+      had = [];
+      has = [];
+      answers = λ was first. record {
+        now = line_put end true (pieces_in args) file was;
+        follows = followed (Some []) was (ap Some (sym first)) (gained was);
+        comes = goes (setting_of was w locals) ∙ is (setting_of (line_put end true (pieces_in args) file was) w locals);
+      };
     };
     caused = record { faults = refl; output = counts.output; errors = counts.errors };
     live = live;
@@ -77,8 +98,17 @@ module _ (end : List ℕ) (file : File) (args : List Value) (next : Row) (quiet 
   wrote_ends status is gained counts = record {
     answers = λ was told. record {
       now = line_put end true (pieces_in args) file was;
-      follows = followed was told (gained was);
+      follows = followed left was told (gained was);
       comes = goes (setting_of was w locals) ∙ is (setting_of (line_put end true (pieces_in args) file was) w locals);
+    };
+    meant = record {
+      had = [];
+      has = [];
+      answers = λ was first. record {
+        now = line_put end true (pieces_in args) file was;
+        follows = followed (Some []) was (ap Some (sym first)) (gained was);
+        comes = goes (setting_of was w locals) ∙ is (setting_of (line_put end true (pieces_in args) file was) w locals);
+      };
     };
     caused = record { faults = refl; output = counts.output; errors = counts.errors };
     live = tt;
@@ -86,22 +116,12 @@ module _ (end : List ℕ) (file : File) (args : List Value) (next : Row) (quiet 
     kept = items_all (reach_of w locals);
   }
 
-  left_by : (s : Setting) → outside_after (lines_then end file args next s) ≡ line_put end true (pieces_in args) file s.outside
-  left_by s = ap outside_after (goes s) ∙ quiet (record s { outside = line_put end true (pieces_in args) file s.outside })
-
-  broken : (was : Outside) → GainedPart (outputs o e) (outputs o' e') was (line_put end true (pieces_in args) file was)
-      → StopsPutting (lines_then end file args next) (setting_of was w locals) (handed left faults o e) (handed left faults o' e')
-  broken was part = record {
-    left = refl;
-    output = subst (λ (now : Outside). PutsPart o o' was.output now.output) (sym (left_by (setting_of was w locals))) part.output;
-    errors = subst (λ (now : Outside). PutsPart e e' was.errors now.errors) (sym (left_by (setting_of was w locals))) part.errors;
-  }
-
   -- an output failed
   pub write_fails : ((was : Outside) → GainedPart (outputs o e) (outputs o' e') was (line_put end true (pieces_in args) file was)) → BrokenBy (outputs o e) (outputs o' e') Failed
       → Applies (lines_then end file args next) (given w locals (handed left faults o e)) (given w locals (handed left faults o' e')) (Err WriteFault)
   write_fails part cause = record {
-    answers = λ was told. broken was (part was);
+    answers = λ was told. broken left was (part was);
+    meant = record { had = []; has = []; answers = λ was first. broken (Some []) was (part was) };
     caused = failing_by o o' e e' left faults Failed refl cause;
     live = tt;
     locals = lives;
@@ -112,7 +132,8 @@ module _ (end : List ℕ) (file : File) (args : List Value) (next : Row) (quiet 
   pub write_wants : ((was : Outside) → GainedPart (outputs o e) (outputs o' e') was (line_put end true (pieces_in args) file was)) → BrokenBy (outputs o e) (outputs o' e') NoMemoryFault
       → Applies (lines_then end file args next) (given w locals (handed left faults o e)) (given w locals (handed left faults o' e')) (Err NoMemory)
   write_wants part cause = record {
-    answers = λ was told. putting (broken was (part was));
+    answers = λ was told. putting (broken left was (part was));
+    meant = record { had = []; has = []; answers = λ was first. putting (broken (Some []) was (part was)) };
     caused = wanting_by o o' e e' left faults NoMemoryFault refl cause;
     live = tt;
     locals = lives;

@@ -1,5 +1,5 @@
 -- A row that goes on as another one, and a row that stops where a thing is looked for.
-use Rattle.std.proofs.Common.{◌≡◌, ◌∙◌, refl, sym, ap, subst, Result, Ok, Err}
+use Rattle.std.proofs.Common.{◌≡◌, ◌∙◌, refl, sym, ap, subst, [], Some, Result, Ok, Err}
 use Rattle.std.specs.Prelude.{IsErrAnd}
 use Rattle.std.specs.List.{All}
 use Rattle.icn_value.specs.Store.{Outside, Setting}
@@ -13,7 +13,7 @@ use Rattle.icn_vars.specs.declared.outcome.Halt.TheVariants.{Error as ErrorHalt,
 use Rattle.icn_vars.specs.declared.stop.Stop.{Stop}
 use Rattle.icn_vars.specs.declared.stop.Stop.TheVariants.{Error as ErrorStop, NoMemory as NoMemoryStop}
 use Rattle.icn_streams.specs.Handed.{Handed, PutsPart, uncounted}
-use Rattle.icn_streams.specs.Answers.{Answers, Given, Stops, StopsPutting, StopsReading, idle, outside_after, putting, reading, setting_with}
+use Rattle.icn_streams.specs.Answers.{Answers, Given, Stops, StopsPutting, StopsReading, idle, outside_after, putting, reading, setting_with, telling}
 use Rattle.icn_streams.specs.Applies.{Applies, reach_given}
 use Rattle.icn_streams.proofs.Following.{follows_all}
 use Rattle.icn_streams.proofs.Idle.{all_counts, items_all}
@@ -56,6 +56,11 @@ pub applies_same : (row rest : Row) (before after : Given) (result : Result Held
     → Applies rest before after result → Applies row before after result
 applies_same row rest before after result same is = record {
   answers = λ was told. answers_same row rest was before after result (same was) (is.answers was told);
+  meant = record {
+    had = is.meant.had;
+    has = is.meant.has;
+    answers = λ was first. answers_same row rest was (telling is.meant.had before) (telling is.meant.has after) result (same was) (is.meant.answers was first);
+  };
   caused = is.caused;
   live = is.live;
   locals = is.locals;
@@ -69,6 +74,11 @@ stopped : {A : Type 0} (find : Finds A) (next : A → Row) (all : Given) (stop :
     → IsLiveStop (extent_of all.world.heap) stop → All (IsLive (extent_of all.world.heap)) all.locals → Applies (find next) all all (Err (halt_of stop))
 stopped find next all (ErrorStop number offending) stops live lives = record {
   answers = λ was told. record { now = was; follows = follows_all all.handed was told; comes = stops was next };
+  meant = record {
+    had = [];
+    has = [];
+    answers = λ was is. record { now = was; follows = follows_all (telling [] all).handed was (ap Some (sym is)); comes = stops was next };
+  };
   caused = all_counts all.handed;
   live = live;
   locals = lives;
@@ -76,6 +86,7 @@ stopped find next all (ErrorStop number offending) stops live lives = record {
 }
 stopped find next all NoMemoryStop stops live lives = record {
   answers = λ was told. idle refl;
+  meant = record { had = []; has = []; answers = λ was is. idle refl };
   caused = uncounted (all_counts all.handed);
   live = tt;
   locals = lives;

@@ -1,5 +1,5 @@
 -- A row that neither reads nor puts, as one over the input and the outputs.
-use Rattle.std.proofs.Common.{◌≡◌, refl, List, [], Result, Ok, Err, Some}
+use Rattle.std.proofs.Common.{◌≡◌, refl, sym, ap, List, [], Result, Ok, Err, Some}
 use Rattle.std.specs.List.{All}
 use Rattle.icn_value.specs.Store.{Outside, outside_of}
 use Rattle.icn_defs.specs.Rows.{Row}
@@ -20,13 +20,13 @@ use Rattle.icn_streams.proofs.Idle.{all_counts}
 
 module _ (row : Row) (old new : World) (locals locals' : List Val) (handed : Handed) where
   answers_by : (result : Result Outcome Halt) → ((outside : Outside) → ComesToAnswer (extent_of new.heap) row (setting_of outside old locals) (setting_of outside new locals') result)
-      → (was : Outside) → handed.left ≡ Some was.left → Answers row was (given old locals handed) (given new locals' handed) result
-  answers_by (Ok outcome) row was told = record { now = was; follows = follows_all handed was told; comes = row was }
-  answers_by (Err (ErrorHalt number offending)) row was told = record { now = was; follows = follows_all handed was told; comes = row was }
-  answers_by (Err (EndsHalt status)) row was told = record { now = was; follows = follows_all handed was told; comes = row was }
-  answers_by (Err ReadFault) row was told = absurd (row was)
-  answers_by (Err WriteFault) row was told = absurd (row was)
-  answers_by (Err NoMemory) row was told = idle refl
+      → (streams : Handed) (was : Outside) → streams.left ≡ Some was.left → Answers row was (given old locals streams) (given new locals' streams) result
+  answers_by (Ok outcome) row streams was told = record { now = was; follows = follows_all streams was told; comes = row was }
+  answers_by (Err (ErrorHalt number offending)) row streams was told = record { now = was; follows = follows_all streams was told; comes = row was }
+  answers_by (Err (EndsHalt status)) row streams was told = record { now = was; follows = follows_all streams was told; comes = row was }
+  answers_by (Err ReadFault) row streams was told = absurd (row was)
+  answers_by (Err WriteFault) row streams was told = absurd (row was)
+  answers_by (Err NoMemory) row streams was told = idle refl
 
   caused_by : (result : Result Outcome Halt)
       → ((outside : Outside) → ComesToAnswer (extent_of new.heap) row (setting_of outside old locals) (setting_of outside new locals') result) → CausedBy result handed handed
@@ -42,7 +42,8 @@ module _ (row : Row) (old new : World) (locals locals' : List Val) (handed : Han
       → IsLiveAnswer (reach_of new locals') result → All (IsLive (extent_of new.heap)) locals' → KeepsItems (reach_of old locals) (reach_of new locals')
       → Applies row (given old locals handed) (given new locals' handed) result
   faultless_applies result row live lives kept = record {
-    answers = answers_by result row;
+    answers = answers_by result row handed;
+    meant = record { had = []; has = []; answers = λ was first. answers_by result row (record handed { left = Some [] }) was (ap Some (sym first)) };
     caused = caused_by result row;
     live = live;
     locals = lives;

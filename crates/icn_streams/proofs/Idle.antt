@@ -1,5 +1,5 @@
 -- A call that did nothing but want memory.
-use Rattle.std.proofs.Common.{refl, Err, arith}
+use Rattle.std.proofs.Common.{refl, [], Err, arith}
 use Rattle.std.specs.List.{All}
 use Rattle.icn_defs.specs.Rows.{Row}
 use Rattle.icn_heap.specs.Extents.{IsLive}
@@ -25,6 +25,7 @@ all_counts a = record { faults = refl; output = counts_all a.output; errors = co
 pub not_begun : (row : Row) (all : Given) → All (IsLive (extent_of all.world.heap)) all.locals → Applies row all all (Err NoMemory)
 not_begun row all live = record {
   answers = λ was told. idle refl;
+  meant = record { had = []; has = []; answers = λ was is. idle refl };
   caused = uncounted (all_counts all.handed);
   live = tt;
   locals = live;

@@ -22,7 +22,7 @@ use Rattle.icn_vars.specs.declared.world.World.{World}
 use Rattle.icn_streams.specs.Handed.{Follows, handed, uncounted}
 use Rattle.icn_streams.specs.Answers.{Answers, CausedBy, given, outside_after, reading}
 use Rattle.icn_streams.specs.Applies.{Applies}
-use Rattle.icn_streams.specs.Readings.{InputCause, Reads, next_read}
+use Rattle.icn_streams.specs.Readings.{InputCause, Reads, ReadsOfSome, next_read}
 use Rattle.icn_host.proofs.SinkSteps.{gains_nothing}
 use Rattle.icn_streams.proofs.Idle.{counts_all}
 
@@ -57,21 +57,22 @@ reads_once (SomeBytes count) next quiet s =
     (λ s' same. ap (λ (o : Outside). o.readings) (quiet.outside bytes s') ∙ same) (length bytes))
 
 module _ (asked : Asked) (next : List ℕ → Row) (quiet : IsQuiet next) (old new : World) (locals : List Val) (left left' : Option (List ℕ)) (faults faults' : ℕ) (output errors : SinkState) where
-  was_read : (was now : Outside) → left' ≡ Some now.left → now.output ≡ was.output → now.errors ≡ was.errors
-      → Follows (handed left faults output errors) (handed left' faults' output errors) was now
-  was_read was now told same_output same_errors = record {
+  -- it follows the outside, whatever the input tells
+  was_read : (tells tells' : Option (List ℕ)) (was now : Outside) → tells' ≡ Some now.left → now.output ≡ was.output → now.errors ≡ was.errors
+      → Follows (handed tells faults output errors) (handed tells' faults' output errors) was now
+  was_read tells tells' was now told same_output same_errors = record {
     left = told;
     output = record { text = []; is = same_output ∙ sym (append-nil was.output); gains = gains_nothing output.held };
     errors = record { text = []; is = same_errors ∙ sym (append-nil was.errors); gains = gains_nothing errors.held };
   }
 
-  halted : (was : Outside) (halt : Halt) → Reads asked was (given old locals (handed left faults output errors)) (given new locals (handed left' faults' output errors)) (Err halt)
-      → Answers (next_read asked next) was (given old locals (handed left faults output errors)) (given new locals (handed left' faults' output errors)) (Err halt)
-  halted was (ErrorHalt number offending) reads = record { now = after_reading asked was; follows = was_read was (after_reading asked was) reads.1 refl refl; comes = reads.0 next }
-  halted was (EndsHalt status) reads = absurd reads
-  halted was ReadFault reads = record { asked = asked; made = reads_once asked next quiet _; left = reads; output = refl; errors = refl }
-  halted was WriteFault reads = absurd reads
-  halted was NoMemory reads = reading (record { asked = asked; made = reads_once asked next quiet _; left = reads; output = refl; errors = refl })
+  halted : (tells tells' : Option (List ℕ)) (was : Outside) (halt : Halt) → Reads asked was (given old locals (handed tells faults output errors)) (given new locals (handed tells' faults' output errors)) (Err halt)
+      → Answers (next_read asked next) was (given old locals (handed tells faults output errors)) (given new locals (handed tells' faults' output errors)) (Err halt)
+  halted tells tells' was (ErrorHalt number offending) reads = record { now = after_reading asked was; follows = was_read tells tells' was (after_reading asked was) reads.1 refl refl; comes = reads.0 next }
+  halted tells tells' was (EndsHalt status) reads = absurd reads
+  halted tells tells' was ReadFault reads = record { asked = asked; made = reads_once asked next quiet _; left = reads; output = refl; errors = refl }
+  halted tells tells' was WriteFault reads = absurd reads
+  halted tells tells' was NoMemory reads = reading (record { asked = asked; made = reads_once asked next quiet _; left = reads; output = refl; errors = refl })
 
   halt_caused : (halt : Halt) → InputCause faults faults' (Err halt) → CausedBy (Err halt) (handed left faults output errors) (handed left' faults' output errors)
   halt_caused (ErrorHalt number offending) cause = record { faults = cause; output = counts_all output; errors = counts_all errors }
@@ -83,43 +84,53 @@ module _ (asked : Asked) (next : List ℕ → Row) (quiet : IsQuiet next) (old n
   -- the reading was not made, or an error of the row
   pub read_halts : (halt : Halt) (result : Result Outcome Halt) → IsErrAnd result (λ other. other ≡ halt)
       → ((was : Outside) → left ≡ Some was.left → Reads asked was (given old locals (handed left faults output errors)) (given new locals (handed left' faults' output errors)) (Err halt))
+      → ReadsOfSome asked (given old locals (handed left faults output errors)) (given new locals (handed left' faults' output errors)) (Err halt)
       → InputCause faults faults' (Err halt) → IsLiveHalt (reach_of new locals) halt → All (IsLive (extent_of new.heap)) locals → KeepsItems (reach_of old locals) (reach_of new locals)
       → Applies (next_read asked next) (given old locals (handed left faults output errors)) (given new locals (handed left' faults' output errors)) result
-  read_halts halt (Ok outcome) same reads cause live lives kept = absurd same
-  read_halts halt (Err other) same reads cause live lives kept =
+  read_halts halt (Ok outcome) same reads some cause live lives kept = absurd same
+  read_halts halt (Err other) same reads some cause live lives kept =
       subst (λ h. Applies (next_read asked next) (given old locals (handed left faults output errors)) (given new locals (handed left' faults' output errors)) (Err h)) (sym same) (record {
-        answers = λ was told. halted was halt (reads was told);
+        answers = λ was told. halted left left' was halt (reads was told);
+        meant = record { had = some.had; has = some.has; answers = λ was first. halted (Some some.had) (Some some.has) was halt (some.reads was first) };
         caused = halt_caused halt cause;
         live = live;
         locals = lives;
         kept = kept;
       })
 
-  given_by : (span : Span) (outcome : Outcome) → ((s : Setting) → next (text_in (extent_of new.heap) span) s ≡ outcome_in (extent_of new.heap) outcome s) → (was : Outside)
-      → Reads asked was (given old locals (handed left faults output errors)) (given new locals (handed left' faults' output errors)) (Ok (Some span))
-      → Answers (next_read asked next) was (given old locals (handed left faults output errors)) (given new locals (handed left' faults' output errors)) (Ok outcome)
-  given_by span outcome goes was reads = record {
+  given_by : (tells tells' : Option (List ℕ)) (span : Span) (outcome : Outcome) → ((s : Setting) → next (text_in (extent_of new.heap) span) s ≡ outcome_in (extent_of new.heap) outcome s) → (was : Outside)
+      → Reads asked was (given old locals (handed tells faults output errors)) (given new locals (handed tells' faults' output errors)) (Ok (Some span))
+      → Answers (next_read asked next) was (given old locals (handed tells faults output errors)) (given new locals (handed tells' faults' output errors)) (Ok outcome)
+  given_by tells tells' span outcome goes was reads = record {
     now = after_reading asked was;
-    follows = was_read was (after_reading asked was) reads.1 refl refl;
+    follows = was_read tells tells' was (after_reading asked was) reads.1 refl refl;
     comes = reads.0 next ∙ goes _;
   }
 
-  failed_by : (was : Outside)
-      → Reads asked was (given old locals (handed left faults output errors)) (given new locals (handed left' faults' output errors)) (Ok None)
-      → Answers (next_read asked next) was (given old locals (handed left faults output errors)) (given new locals (handed left' faults' output errors)) (Ok HeldFails)
-  failed_by was reads = record {
+  failed_by : (tells tells' : Option (List ℕ)) (was : Outside)
+      → Reads asked was (given old locals (handed tells faults output errors)) (given new locals (handed tells' faults' output errors)) (Ok None)
+      → Answers (next_read asked next) was (given old locals (handed tells faults output errors)) (given new locals (handed tells' faults' output errors)) (Ok HeldFails)
+  failed_by tells tells' was reads = record {
     now = with_reading asked was;
-    follows = was_read was (with_reading asked was) reads.1 refl refl;
+    follows = was_read tells tells' was (with_reading asked was) reads.1 refl refl;
     comes = reads.0 next;
   }
 
   -- a text was read, and the row goes on with it
   pub read_gives : (found : Option Span) (span : Span) (outcome : Outcome) → found ≡ Some span → ((s : Setting) → next (text_in (extent_of new.heap) span) s ≡ outcome_in (extent_of new.heap) outcome s)
       → ((was : Outside) → left ≡ Some was.left → Reads asked was (given old locals (handed left faults output errors)) (given new locals (handed left' faults' output errors)) (Ok found))
+      → ReadsOfSome asked (given old locals (handed left faults output errors)) (given new locals (handed left' faults' output errors)) (Ok found)
       → faults' ≡ faults → IsLiveOutcome (reach_of new locals) outcome → All (IsLive (extent_of new.heap)) locals → KeepsItems (reach_of old locals) (reach_of new locals)
       → Applies (next_read asked next) (given old locals (handed left faults output errors)) (given new locals (handed left' faults' output errors)) (Ok outcome)
-  read_gives found span outcome same goes reads cause live lives kept = record {
-    answers = λ was told. given_by span outcome goes was (subst (λ f. Reads asked was (given old locals (handed left faults output errors)) (given new locals (handed left' faults' output errors)) (Ok f)) same (reads was told));
+  read_gives found span outcome same goes reads some cause live lives kept = record {
+    answers = λ was told. given_by left left' span outcome goes was (subst (λ f. Reads asked was (given old locals (handed left faults output errors)) (given new locals (handed left' faults' output errors)) (Ok f)) same (reads was told));
+    meant = record {
+      had = some.had;
+      has = some.has;
+      answers = λ was first.
+          given_by (Some some.had) (Some some.has) span outcome goes was
+          (subst (λ f. Reads asked was (given old locals (handed (Some some.had) faults output errors)) (given new locals (handed (Some some.has) faults' output errors)) (Ok f)) same (some.reads was first));
+    };
     caused = record { faults = cause; output = counts_all output; errors = counts_all errors };
     live = live;
     locals = lives;
@@ -128,10 +139,18 @@ module _ (asked : Asked) (next : List ℕ → Row) (quiet : IsQuiet next) (old n
 
   -- nothing was there, and the row fails
   pub read_fails : (found : Option Span) → found ≡ None → ((was : Outside) → left ≡ Some was.left → Reads asked was (given old locals (handed left faults output errors)) (given new locals (handed left' faults' output errors)) (Ok found))
+      → ReadsOfSome asked (given old locals (handed left faults output errors)) (given new locals (handed left' faults' output errors)) (Ok found)
       → faults' ≡ faults → All (IsLive (extent_of new.heap)) locals → KeepsItems (reach_of old locals) (reach_of new locals)
       → Applies (next_read asked next) (given old locals (handed left faults output errors)) (given new locals (handed left' faults' output errors)) (Ok HeldFails)
-  read_fails found same reads cause lives kept = record {
-    answers = λ was told. failed_by was (subst (λ f. Reads asked was (given old locals (handed left faults output errors)) (given new locals (handed left' faults' output errors)) (Ok f)) same (reads was told));
+  read_fails found same reads some cause lives kept = record {
+    answers = λ was told. failed_by left left' was (subst (λ f. Reads asked was (given old locals (handed left faults output errors)) (given new locals (handed left' faults' output errors)) (Ok f)) same (reads was told));
+    meant = record {
+      had = some.had;
+      has = some.has;
+      answers = λ was first.
+          failed_by (Some some.had) (Some some.has) was
+          (subst (λ f. Reads asked was (given old locals (handed (Some some.had) faults output errors)) (given new locals (handed (Some some.has) faults' output errors)) (Ok f)) same (some.reads was first));
+    };
     caused = record { faults = cause; output = counts_all output; errors = counts_all errors };
     live = record { live = tt };
     locals = lives;

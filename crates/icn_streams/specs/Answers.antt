@@ -1,5 +1,5 @@
 -- What a row that reads or puts leaves, where it is answered and where it is broken off.
-use Rattle.std.specs.Prelude.{◌≡◌, List, Result, Ok, Err}
+use Rattle.std.specs.Prelude.{◌≡◌, ℕ, List, Some, Result, Ok, Err}
 use Rattle.icn_value.specs.declared.val.Val.{Val}
 use Rattle.icn_value.specs.Store.{Asked, Outside, Setting, with_reading}
 use Rattle.icn_defs.specs.Interruptions.{LosesPart, asked_of}
@@ -25,6 +25,10 @@ given world locals handed = record { world = world; locals = locals; handed = ha
 -- the setting of what is given, with this outside
 abbrev pub setting_with : Outside → Given → Setting
 setting_with outside all = setting_of outside all.world all.locals
+
+-- the same, had the input told that it has these bytes left
+abbrev pub telling : List ℕ → Given → Given
+telling left all = record all { handed = record all.handed { left = Some left } }
 
 -- the outside that a row leaves, whatever it comes to
 abbrev pub outside_after : Outcome → Outside
@@ -71,6 +75,13 @@ Answers row was before after (Err (EndsHalt status)) = Comes row was before afte
 Answers row was before after (Err ReadFault) = StopsReading row (setting_with was before) before.handed after.handed
 Answers row was before after (Err WriteFault) = StopsPutting row (setting_with was before) before.handed after.handed
 Answers row was before after (Err NoMemory) = Stops row (setting_with was before) before.handed after.handed
+
+-- What was answered is what the row comes to, or what broke it off, over some input that has these bytes and leaves
+-- those: so it is whatever the input tells.
+pub record OverSomeInput (row : Row) (before after : Given) (result : Result HeldOutcome Halt) : Type 0 where
+  pub had : List ℕ
+  pub has : List ℕ
+  pub answers : (was : Outside) → was.left ≡ had → Answers row was (telling had before) (telling has after) result
 
 -- Why it was answered, whatever the input and the outputs tell: a fault comes where that object has failed in
 -- this call, and no object fails in a call that is answered otherwise.

@@ -12,7 +12,7 @@ use Rattle.icn_heap.specs.Extents.{text_in, value_in}
 use Rattle.icn_heap.specs.Heaps.{extent_of}
 use Rattle.icn_vars.specs.declared.outcome.Halt.{Halt}
 use Rattle.icn_vars.specs.declared.outcome.Halt.TheVariants.{Error as ErrorHalt, Ends as EndsHalt, ReadFault, WriteFault, NoMemory}
-use Rattle.icn_streams.specs.Answers.{Given, setting_with}
+use Rattle.icn_streams.specs.Answers.{Given, setting_with, telling}
 use Rattle.icn_streams.specs.declared.ask.Ask.{Ask}
 use Rattle.icn_streams.specs.declared.ask.Ask.TheVariants.{Line, Bytes}
 
@@ -41,6 +41,11 @@ pub record Fills (asked : Asked) (left : List ℕ) (there : Bool) (bytes : List 
   pub read : bytes ≡ read_of asked left
   pub rest : after ≡ Some (drop (asked_of asked left) left)
 
+-- What was taken is what is asked for of some bytes, whether or not the input tells which it had.
+pub record FillsOfSome (asked : Asked) (there : Bool) (bytes : List ℕ) : Type 0 where
+  pub left : List ℕ
+  pub fills : Fills asked left there bytes (Some (drop (asked_of asked left) left))
+
 -- What the reading of a row was answered, where the outside before is one that the input tells: a text, with which
 -- the row goes on; nothing, and the row fails; an error of the row; or a fault or want of memory, where some first
 -- part of what is asked for was taken.
@@ -58,6 +63,12 @@ Reads asked was before after (Err (EndsHalt status)) = ⊥
 Reads asked was before after (Err ReadFault) = LosesPart was.left (asked_of asked was.left) after.handed.left
 Reads asked was before after (Err WriteFault) = ⊥
 Reads asked was before after (Err NoMemory) = LosesPart was.left (asked_of asked was.left) after.handed.left
+
+-- What the reading was answered is so over some input that has these bytes and leaves those.
+pub record ReadsOfSome (asked : Asked) (before after : Given) (result : Result (Option Span) Halt) : Type 0 where
+  pub had : List ℕ
+  pub has : List ℕ
+  pub reads : (was : Outside) → was.left ≡ had → Reads asked was (telling had before) (telling has after) result
 
 -- The input's count of faults rose, once, where a fault of it is answered, and stayed where none is. A reading neither
 -- ends the program nor writes.

@@ -3,7 +3,7 @@ ghost use Rattle.std.specs.Prelude.{◌≡◌, IfOk, IfSome, OnErr, IsErrOf};
 ghost use Rattle.icn_defs.specs.Interruptions.{LosesPart, asked_of};
 ghost use Rattle.icn_host.specs.Counts.{CountsOnce};
 ghost use Rattle.icn_value.specs.Store.{ALine, SomeBytes};
-ghost use Rattle.icn_streams.specs.Readings.{Fills, asked_in};
+ghost use Rattle.icn_streams.specs.Readings.{Fills, FillsOfSome, asked_in};
 
 use crate::ask::Ask;
 use icn_host::{Fault, Line, Source};
@@ -11,6 +11,7 @@ use icn_host::{Fault, Line, Source};
 // Fills the buffer with what is asked for, and answers whether there was something.
 pub fn fill<I: Source>(ask: Ask, input: &mut I, buffer: &mut Vec<u8>) -> Result<bool, Fault>
     ensures ok { IfOk result (λ there. IfSome (I.left input.old) (λ left. Fills (asked_in ask) left there buffer.new.items (I.left input.new))) }
+    ensures some { IfOk result (λ there. FillsOfSome (asked_in ask) there buffer.new.items) }
     ensures err { OnErr result (IfSome (I.left input.old) (λ left. LosesPart left (asked_of (asked_in ask) left) (I.left input.new))) }
     ensures cause { CountsOnce (I.faults input.old) (I.faults input.new) (IsErrOf result Fault.Failed) }
 {
@@ -22,6 +23,7 @@ pub fn fill<I: Source>(ask: Ask, input: &mut I, buffer: &mut Vec<u8>) -> Result<
 
 fn fill_line<I: Source>(input: &mut I, buffer: &mut Vec<u8>) -> Result<bool, Fault>
     ensures ok { IfOk result (λ there. IfSome (I.left input.old) (λ left. Fills ALine left there buffer.new.items (I.left input.new))) }
+    ensures some { IfOk result (λ there. FillsOfSome ALine there buffer.new.items) }
     ensures err { OnErr result (IfSome (I.left input.old) (λ left. LosesPart left (asked_of ALine left) (I.left input.new))) }
     ensures cause { CountsOnce (I.faults input.old) (I.faults input.new) (IsErrOf result Fault.Failed) }
 {
@@ -32,6 +34,7 @@ fn fill_line<I: Source>(input: &mut I, buffer: &mut Vec<u8>) -> Result<bool, Fau
 
 fn fill_bytes<I: Source>(count: u64, input: &mut I, buffer: &mut Vec<u8>) -> Result<bool, Fault>
     ensures ok { IfOk result (λ there. IfSome (I.left input.old) (λ left. Fills (SomeBytes count) left there buffer.new.items (I.left input.new))) }
+    ensures some { IfOk result (λ there. FillsOfSome (SomeBytes count) there buffer.new.items) }
     ensures err { OnErr result (IfSome (I.left input.old) (λ left. LosesPart left (asked_of (SomeBytes count) left) (I.left input.new))) }
     ensures cause { CountsOnce (I.faults input.old) (I.faults input.new) (IsErrOf result Fault.Failed) }
 {

@@ -12,7 +12,7 @@ ghost use Rattle.icn_vars.specs.Outcomes.{IsLiveHalt};
 ghost use Rattle.icn_vars.specs.Worlds.{KeepsItems, reach_of, setting_of};
 ghost use Rattle.icn_streams.specs.Answers.{given};
 ghost use Rattle.icn_streams.specs.Handed.{handed};
-ghost use Rattle.icn_streams.specs.Readings.{InputCause, Reads, asked_in};
+ghost use Rattle.icn_streams.specs.Readings.{InputCause, Reads, ReadsOfSome, asked_in};
 
 use crate::ask::Ask;
 use crate::filling::fill;
@@ -35,6 +35,7 @@ pub fn read_text<L: Locals, I: Source>(
 ) -> Result<Option<Span>, Halt>
     requires locals { All (IsLive (extent_of w.old.heap)) (L.items l.now) }
     ensures reads { (was : Outside) (output errors : SinkState) → I.left input.old ≡ Some was.left → Reads (asked_in ask) was (given w.old (L.items l.now) (handed (I.left input.old) (I.faults input.old) output errors)) (given w.new (L.items l.now) (handed (I.left input.new) (I.faults input.new) output errors)) result }
+    ensures some { (output errors : SinkState) → ReadsOfSome (asked_in ask) (given w.old (L.items l.now) (handed (I.left input.old) (I.faults input.old) output errors)) (given w.new (L.items l.now) (handed (I.left input.new) (I.faults input.new) output errors)) result }
     ensures cause { InputCause (I.faults input.old) (I.faults input.new) result }
     ensures live { IfOk result (λ found. IfSome found (IsText (extent_of w.new.heap))) }
     ensures halts { IfErr result (IsLiveHalt (reach_of w.new (L.items l.now))) }

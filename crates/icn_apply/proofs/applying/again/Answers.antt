@@ -14,14 +14,14 @@ pub returns-clause-applies : goal.returns-clause-applies
 returns-clause-applies g c = c.resume.ensures.applies
 
 pub returns-clause-named : goal.returns-clause-named
-returns-clause-named g c = λ left told.
+returns-clause-named g c =
     applies_named (g.N.Names.known c.args.names.now) (again (residual_in (extent_of c.args.w.now.heap) c.args.rest))
     (given c.args.w.now (g.L.Locals.items c.args.l.now) (handed (g.I.Source.left c.args.input.now) (g.I.Source.faults c.args.input.now) (g.O.Sink.state c.args.out.now) (g.E.Sink.state c.args.err.now)))
     (given c.resume.new.w (g.L.Locals.items c.resume.new.l) (handed (g.I.Source.left c.resume.new.input) (g.I.Source.faults c.resume.new.input) (g.O.Sink.state c.resume.new.out) (g.E.Sink.state c.resume.new.err)))
     c.resume.result
     (λ was. rows_keep_names.resumed (g.N.Names.known c.args.names.now) (residual_in (extent_of c.args.w.now.heap) c.args.rest) (setting_of was c.args.w.now (g.L.Locals.items c.args.l.now))
     (elsewhere (g.N.Names.known c.args.names.now) c.args.w.now (g.L.Locals.items c.args.l.now) (outside_of []) was c.requires.named) c.requires.rest_named)
-    c.resume.ensures.applies left told
+    c.resume.ensures.applies
 
 pub returns-clause-memory : goal.returns-clause-memory
 returns-clause-memory g c = c.resume.ensures.memory

@@ -18,14 +18,14 @@ pub returns-in-Op-clause-applies : goal.returns-in-Op-clause-applies
 returns-in-Op-clause-applies g c = rw c.in-Op.is (c.first.ensures (g.O.Sink.state c.args.out.now) (g.E.Sink.state c.args.err.now))
 
 pub returns-in-Op-clause-named : goal.returns-in-Op-clause-named
-returns-in-Op-clause-named g c = λ left told.
+returns-in-Op-clause-named g c =
     applies_named (g.N.Names.known c.args.names.now) (operation_row c.in-Op.op (map (item_in (extent_of c.args.w.now.heap)) c.args.args.now))
     (given c.args.w.now (g.L.Locals.items c.args.l.now) (handed (g.I.Source.left c.args.input.now) (g.I.Source.faults c.args.input.now) (g.O.Sink.state c.args.out.now) (g.E.Sink.state c.args.err.now)))
     (given c.first.new.w (g.L.Locals.items c.first.new.l) (handed (g.I.Source.left c.first.new.input) (g.I.Source.faults c.first.new.input) (g.O.Sink.state c.args.out.now) (g.E.Sink.state c.args.err.now)))
     c.first.result
     (λ was. rows_keep_names.operations (g.N.Names.known c.args.names.now) c.in-Op.op (map (item_in (extent_of c.args.w.now.heap)) c.args.args.now) (setting_of was c.args.w.now (g.L.Locals.items c.args.l.now))
     (elsewhere (g.N.Names.known c.args.names.now) c.args.w.now (g.L.Locals.items c.args.l.now) (outside_of []) was c.requires.named) c.requires.args_named)
-    (c.first.ensures (g.O.Sink.state c.args.out.now) (g.E.Sink.state c.args.err.now)) left told
+    (c.first.ensures (g.O.Sink.state c.args.out.now) (g.E.Sink.state c.args.err.now))
 
 pub returns-in-Func-clause-applies : goal.returns-in-Func-clause-applies
 returns-in-Func-clause-applies g c = rw c.in-Func.is c.apply_function.ensures.applies

@@ -17,7 +17,7 @@ pub returns-in-Files-clause-applies : goal.returns-in-Files-clause-applies
 returns-in-Files-clause-applies g c = c.first.ensures (g.N.Names.known c.args.names.now)
 
 pub returns-in-Files-clause-named : goal.returns-in-Files-clause-named
-returns-in-Files-clause-named g c = λ left told.
+returns-in-Files-clause-named g c =
     applies_named (g.N.Names.known c.args.names.now) (function_row (g.N.Names.known c.args.names.now) c.args.func (map (item_in (extent_of c.args.w.now.heap)) c.args.args.now))
     (given c.args.w.now (g.L.Locals.items c.args.l.now) (handed (g.I.Source.left c.args.input.now) (g.I.Source.faults c.args.input.now) (g.O.Sink.state c.args.out.now) (g.E.Sink.state c.args.err.now)))
     (given c.first.new.w (g.L.Locals.items c.args.l.now) (handed (g.I.Source.left c.first.new.input) (g.I.Source.faults c.first.new.input) (g.O.Sink.state c.first.new.out) (g.E.Sink.state c.first.new.err)))
@@ -25,7 +25,7 @@ returns-in-Files-clause-named g c = λ left told.
     (λ was. file_function_named (g.N.Names.known c.args.names.now) c.args.func (map (item_in (extent_of c.args.w.now.heap)) c.args.args.now) (setting_of was c.args.w.now (g.L.Locals.items c.args.l.now))
     (subst (λ (kind : Kind). IsOfKind kind c.args.func) c.in-Files.is c.kind_of.ensures)
     (elsewhere (g.N.Names.known c.args.names.now) c.args.w.now (g.L.Locals.items c.args.l.now) (outside_of []) was c.requires.named) c.requires.args_named)
-    (c.first.ensures (g.N.Names.known c.args.names.now)) left told
+    (c.first.ensures (g.N.Names.known c.args.names.now))
 
 pub apply_scanning-requires-clause-function : goal.apply_scanning-requires-clause-function
 apply_scanning-requires-clause-function g c = subst (λ (kind : Kind). IsOfKind kind c.args.func) c.in-Scanning.is c.kind_of.ensures
@@ -34,7 +34,7 @@ pub returns-in-Scanning-clause-applies : goal.returns-in-Scanning-clause-applies
 returns-in-Scanning-clause-applies g c = c.apply_scanning.ensures.applies (handed (g.I.Source.left c.args.input.now) (g.I.Source.faults c.args.input.now) (g.O.Sink.state c.args.out.now) (g.E.Sink.state c.args.err.now))
 
 pub returns-in-Scanning-clause-named : goal.returns-in-Scanning-clause-named
-returns-in-Scanning-clause-named g c = λ left told. c.apply_scanning.ensures.named
+returns-in-Scanning-clause-named g c = c.apply_scanning.ensures.named
 
 pub apply_to_strings-requires-clause-function : goal.apply_to_strings-requires-clause-function
 apply_to_strings-requires-clause-function g c = subst (λ (kind : Kind). IsOfKind kind c.args.func) c.in-Strings.is c.kind_of.ensures
@@ -43,7 +43,7 @@ pub returns-in-Strings-clause-applies : goal.returns-in-Strings-clause-applies
 returns-in-Strings-clause-applies g c = c.apply_to_strings.ensures.applies (handed (g.I.Source.left c.args.input.now) (g.I.Source.faults c.args.input.now) (g.O.Sink.state c.args.out.now) (g.E.Sink.state c.args.err.now))
 
 pub returns-in-Strings-clause-named : goal.returns-in-Strings-clause-named
-returns-in-Strings-clause-named g c = λ left told. c.apply_to_strings.ensures.named
+returns-in-Strings-clause-named g c = c.apply_to_strings.ensures.named
 
 pub apply_to_structures-requires-clause-function : goal.apply_to_structures-requires-clause-function
 apply_to_structures-requires-clause-function g c = subst (λ (kind : Kind). IsOfKind kind c.args.func) c.in-Structures.is c.kind_of.ensures
@@ -52,4 +52,4 @@ pub returns-in-Structures-clause-applies : goal.returns-in-Structures-clause-app
 returns-in-Structures-clause-applies g c = c.apply_to_structures.ensures.applies (handed (g.I.Source.left c.args.input.now) (g.I.Source.faults c.args.input.now) (g.O.Sink.state c.args.out.now) (g.E.Sink.state c.args.err.now))
 
 pub returns-in-Structures-clause-named : goal.returns-in-Structures-clause-named
-returns-in-Structures-clause-named g c = λ left told. c.apply_to_structures.ensures.named
+returns-in-Structures-clause-named g c = c.apply_to_structures.ensures.named

@@ -1,4 +1,4 @@
-use Rattle.std.proofs.Common.{◌≡◌, ◌∙◌, ap, map, subst, sym, [], List}
+use Rattle.std.proofs.Common.{◌∙◌, ap, map, subst, sym, [], List}
 use Rattle.std.specs.List.{All}
 use Rattle.icn_value.specs.Store.{outside_of}
 use Rattle.icn_value.specs.declared.val.Val.{Val}

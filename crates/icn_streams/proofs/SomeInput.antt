@@ -1,0 +1,109 @@
+-- Some input that gives what was read.
+use Rattle.std.proofs.Common.{◌≡◌, ◌∙◌, refl, sym, ap, subst, ℕ, zero, suc, ◌≤◌, nat_lt, Bool, true, false, List, [], ◌∷◌, ◌++◌, length, take, drop, Option, None, Some, Result, Ok, Err, arith, lt-ltb}
+use Rattle.std.specs.Prelude.{IsErrAnd}
+use Rattle.std.specs.List.{position_or_len}
+use Rattle.std.proofs.lemmas.Bool.Decides.{nat_tests}
+use Rattle.std.proofs.lemmas.List.Folds.{prefix_len-append}
+use Rattle.std.proofs.Math.Seq.{take-append_seam}
+use Rattle.icn_host.specs.Sources.{ExtendsByLine, is_newline}
+use Rattle.icn_value.specs.declared.val.Span.{Span}
+use Rattle.icn_value.specs.Store.{Asked, ALine, SomeBytes, Outside, with_reading}
+use Rattle.icn_defs.specs.Calls.{Passes}
+use Rattle.icn_defs.specs.Interruptions.{LosesPart, asked_of, after_reading}
+use Rattle.icn_defs.specs.Rows.{costs_bytes}
+use Rattle.icn_heap.specs.Extents.{text_in}
+use Rattle.icn_heap.specs.Heaps.{extent_of}
+use Rattle.icn_vars.specs.Stops.{StopsPassing, halt_of}
+use Rattle.icn_vars.specs.declared.stop.Stop.{Stop}
+use Rattle.icn_vars.specs.declared.outcome.Halt.{Halt}
+use Rattle.icn_vars.specs.declared.outcome.Halt.TheVariants.{ReadFault, NoMemory}
+use Rattle.icn_streams.specs.Answers.{Given, setting_with, telling}
+use Rattle.icn_streams.specs.Readings.{Fills, FillsOfSome, ReadsOfSome}
+use Rattle.icn_streams.proofs.NextRead.{reads_err, reads_none, reads_some}
+
+-- what has no newline is the line in front of one
+line_part : (line : List ℕ) → position_or_len is_newline line ≡ length line → position_or_len is_newline (line ++ 10 ∷ []) ≡ length line
+line_part line plain = grind (arith, nat_tests, prefix_len-append)
+
+some_there : (line : List ℕ) → true ≡ nat_lt 0 (length (line ++ 10 ∷ []))
+some_there [] = refl
+some_there (byte ∷ bytes) = sym (lt-ltb 0 (suc (length (bytes ++ 10 ∷ []))) (omega arith))
+
+line_of_some : (line : List ℕ) → position_or_len is_newline line ≡ length line → FillsOfSome ALine true line
+line_of_some line plain = record {
+  left = line ++ 10 ∷ [];
+  fills = record {
+    found = some_there line;
+    read = sym (ap (λ n. take n (line ++ 10 ∷ [])) (line_part line plain) ∙ take-append_seam line (10 ∷ []));
+    rest = refl;
+  };
+}
+
+taken_whole : (count : ℕ) (bytes : List ℕ) → length bytes ≤ count → take count bytes ≡ bytes
+taken_whole zero [] few = refl
+taken_whole zero (byte ∷ bytes) few = absurd (omega arith)
+taken_whole (suc count) [] few = refl
+taken_whole (suc count) (byte ∷ bytes) few = ap (λ rest. byte ∷ rest) (taken_whole count bytes (omega arith))
+
+-- nothing is read where nothing is left
+none_of_some : (asked : Asked) → FillsOfSome asked false []
+none_of_some ALine = record { left = []; fills = record { found = refl; read = refl; rest = refl } }
+none_of_some (SomeBytes count) = record {
+  left = [];
+  fills = record {
+    found = ap (λ bytes. nat_lt 0 (length bytes)) (sym (taken_whole count [] (omega arith)));
+    read = sym (taken_whole count [] (omega arith));
+    rest = refl;
+  };
+}
+
+-- a line that a source gave, or nothing
+pub line_read : (there : Bool) (had has : List ℕ) → had ≡ [] → ExtendsByLine had has → (there ≡ false → has ≡ had) → FillsOfSome ALine there has
+line_read true had has empty extends none =
+    let same : has ≡ extends.line = extends.is ∙ ap (λ front. front ++ extends.line) empty in
+    subst (FillsOfSome ALine true) (sym same) (line_of_some extends.line extends.plain)
+line_read false had has empty extends none = subst (FillsOfSome ALine false) (sym (none refl ∙ empty)) (none_of_some ALine)
+
+-- What a call was answered that read
+
+lost_of_none : (left : List ℕ) (most : ℕ) → left ≡ [] → LosesPart left most (Some [])
+lost_of_none left most is = record { count = 0; within = omega arith; is = ap Some (sym is) }
+
+module _ (asked : Asked) (before after : Given) where
+  module _ (there : Bool) (held bytes : List ℕ) (some : FillsOfSome asked there held) where
+    abbrev rest : List ℕ
+    rest = drop (asked_of asked some.left) some.left
+
+    filled : (was : Outside) → was.left ≡ some.left → Fills asked was.left there held (Some rest)
+    filled was is = subst (λ left. Fills asked left there held (Some rest)) (sym is) some.fills
+
+    pub some_text : (span : Span) → there ≡ true → bytes ≡ held → text_in (extent_of after.world.heap) span ≡ bytes
+        → ((outside : Outside) → Passes (costs_bytes (length bytes)) (setting_with outside before) (setting_with outside after)) → ReadsOfSome asked before after (Ok (Some span))
+    some_text span met same text step = record {
+      had = some.left;
+      has = rest;
+      reads = λ was is. reads_some asked was (telling some.left before) (telling rest after) there held bytes span (filled was is) met same text (step (after_reading asked was));
+    }
+
+    pub some_none : there ≡ false → ((outside : Outside) → setting_with outside before ≡ setting_with outside after) → ReadsOfSome asked before after (Ok None)
+    some_none missed same = record {
+      had = some.left;
+      has = rest;
+      reads = λ was is. reads_none asked was (telling some.left before) (telling rest after) there held (filled was is) missed (same (with_reading asked was));
+    }
+
+    pub some_err : (stop : Stop) (result : Result (Option Span) Halt) → there ≡ true → bytes ≡ held
+        → ((outside : Outside) → StopsPassing (extent_of after.world.heap) (costs_bytes (length bytes)) (setting_with outside before) (setting_with outside after) stop)
+        → IsErrAnd result (λ halt. halt ≡ halt_of stop) → ReadsOfSome asked before after result
+    some_err stop result met same step is = record {
+      had = some.left;
+      has = rest;
+      reads = λ was first.
+          reads_err asked was (telling some.left before) (telling rest after) there held bytes stop result (filled was first) met same (step (after_reading asked was)) is;
+    }
+
+  pub some_fault : ReadsOfSome asked before after (Err ReadFault)
+  some_fault = record { had = []; has = []; reads = λ was is. lost_of_none was.left (asked_of asked was.left) is }
+
+  pub some_want : ReadsOfSome asked before after (Err NoMemory)
+  some_want = record { had = []; has = []; reads = λ was is. lost_of_none was.left (asked_of asked was.left) is }
