@@ -1,3 +1,4 @@
 pub mod NameLists
 mod NamesStay
+mod SizesStay
 mod InPlace

@@ -140,7 +140,7 @@ live_there heap (SetVal id) is = tt
 live_there heap (TableVal id) is = tt
 live_there heap (CoexpVal id) is = tt
 
-first_there : (heap : HeldHeap) (vals : List Val) → All (IsLive (extent_of heap)) vals → IsThere (heap_of heap) (arg (map (value_in (extent_of heap)) vals) 0)
+pub first_there : (heap : HeldHeap) (vals : List Val) → All (IsLive (extent_of heap)) vals → IsThere (heap_of heap) (arg (map (value_in (extent_of heap)) vals) 0)
 first_there heap [] are = tt
 first_there heap (val ∷ vals) are = live_there heap val (All-head (IsLive (extent_of heap)) val vals are)
 
@@ -153,7 +153,7 @@ pub function_named : (names : Names) (func : Func) (world : World) (locals : Lis
 function_named names func world locals was vals named are live =
     rows_keep_names.functions names func (map (value_in (extent_of world.heap)) vals) (setting_of was world locals) named are (λ is_copy. first_there world.heap vals live)
 
-copies_nothing : (func : Func) → is_of_files func ≡ true → func ≡ Copy → ⊥
+pub copies_nothing : (func : Func) → is_of_files func ≡ true → func ≡ Copy → ⊥
 copies_nothing func is same = let both : is_of_files Copy ≡ true = sym (ap is_of_files same) ∙ is in cc
 
 -- a function over files, of items

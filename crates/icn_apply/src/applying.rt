@@ -15,6 +15,7 @@ ghost use Rattle.icn_streams.specs.Applies.{Applies};
 ghost use Rattle.icn_streams.specs.Handed.{handed};
 ghost use Rattle.icn_apply.specs.Applicable.{IsApplicable, applied_of};
 ghost use Rattle.icn_apply.specs.NamesAfter.{AnswerNamed};
+ghost use Rattle.icn_apply.specs.SizesAfter.{AnswerKeepsSizes};
 ghost use Rattle.icn_apply.specs.Undoing.{undoes_in_place};
 
 use crate::applied::Applied;
@@ -53,6 +54,7 @@ pub fn apply<L: Locals, N: Names, I: Source, O: Sink, E: Sink>(
         (given w.old (L.items l.old) (handed (I.left input.old) (I.faults input.old) (O.state out.old) (E.state err.old)))
         (given w.new (L.items l.new) (handed (I.left input.new) (I.faults input.new) (O.state out.new) (E.state err.new))) result }
     ensures named { AnswerNamed (N.known names.now) w.new (L.items l.new) result }
+    ensures sized { AnswerKeepsSizes w.old w.new result }
 {
     match what {
         Applied::Op(op) => icn_ops::first(op, args, w, l, buffer, input),
@@ -80,6 +82,7 @@ pub fn again<L: Locals, N: Names, I: Source, O: Sink, E: Sink>(
         (given w.old (L.items l.old) (handed (I.left input.old) (I.faults input.old) (O.state out.old) (E.state err.old)))
         (given w.new (L.items l.new) (handed (I.left input.new) (I.faults input.new) (O.state out.new) (E.state err.new))) result }
     ensures named { AnswerNamed (N.known names.now) w.new (L.items l.new) result }
+    ensures sized { AnswerKeepsSizes w.old w.new result }
     ensures memory { undoes_in_place (residual_in (extent_of w.old.heap) rest) ≡ true → IfErr result (λ halt. halt ≢ NoMemory) }
 {
     resume(rest, w, l, buffer, input, out, err)

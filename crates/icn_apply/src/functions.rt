@@ -14,6 +14,7 @@ ghost use Rattle.icn_strfn.specs.Functions.{is_string_function};
 ghost use Rattle.icn_scanfn.specs.Functions.{is_scanning_function};
 ghost use Rattle.icn_structfn.specs.Functions.{is_of_structures};
 ghost use Rattle.icn_apply.specs.NamesAfter.{AnswerNamed};
+ghost use Rattle.icn_apply.specs.SizesAfter.{AnswerKeepsSizes};
 
 use crate::kinds::{Kind, kind_of};
 use icn_args::values_of;
@@ -43,6 +44,7 @@ pub fn apply_function<L: Locals, N: Names, I: Source, O: Sink, E: Sink>(
         (given w.old (L.items l.now) (handed (I.left input.old) (I.faults input.old) (O.state out.old) (E.state err.old)))
         (given w.new (L.items l.now) (handed (I.left input.new) (I.faults input.new) (O.state out.new) (E.state err.new))) result }
     ensures named { AnswerNamed (N.known names.now) w.new (L.items l.now) result }
+    ensures sized { AnswerKeepsSizes w.old w.new result }
 {
     match kind_of(func) {
         Kind::Files => icn_iofn::first(func, args, w, l, buffer, input, out, err),
@@ -68,6 +70,7 @@ fn apply_scanning<L: Locals, N: Names>(
     ensures applies { (handed : Handed) → Applies (function_row (N.known _names.now) func (map (item_in (extent_of w.old.heap)) args.now))
         (given w.old (L.items l.now) handed) (given w.new (L.items l.now) handed) result }
     ensures named { AnswerNamed (N.known _names.now) w.new (L.items l.now) result }
+    ensures sized { AnswerKeepsSizes w.old w.new result }
 {
     let vals = values_of(w, l, args)?;
     icn_scanfn::first(func, &vals, w, l)
@@ -89,6 +92,7 @@ fn apply_to_strings<L: Locals, N: Names>(
     ensures applies { (handed : Handed) → Applies (function_row (N.known names.now) func (map (item_in (extent_of w.old.heap)) args.now))
         (given w.old (L.items l.now) handed) (given w.new (L.items l.now) handed) result }
     ensures named { AnswerNamed (N.known names.now) w.new (L.items l.now) result }
+    ensures sized { AnswerKeepsSizes w.old w.new result }
 {
     let vals = values_of(w, l, args)?;
     icn_strfn::first(names, func, &vals, w, l)
@@ -110,6 +114,7 @@ fn apply_to_structures<L: Locals, N: Names>(
     ensures applies { (handed : Handed) → Applies (function_row (N.known names.now) func (map (item_in (extent_of w.old.heap)) args.now))
         (given w.old (L.items l.now) handed) (given w.new (L.items l.now) handed) result }
     ensures named { AnswerNamed (N.known names.now) w.new (L.items l.now) result }
+    ensures sized { AnswerKeepsSizes w.old w.new result }
 {
     let vals = values_of(w, l, args)?;
     icn_structfn::first(w, l, names, func, &vals)

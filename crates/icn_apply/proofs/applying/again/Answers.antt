@@ -4,10 +4,12 @@ use Rattle.icn_heap.specs.Heaps.{extent_of}
 use Rattle.icn_defs.specs.Applying.{again}
 use Rattle.icn_vars.specs.Outcomes.{residual_in}
 use Rattle.icn_vars.specs.Worlds.{setting_of}
+use Rattle.icn_named.proofs.RowSizes.{rows_keep_sizes}
 use Rattle.icn_named.proofs.RowsNamed.{rows_keep_names}
 use Rattle.icn_streams.specs.Answers.{given}
 use Rattle.icn_streams.specs.Handed.{handed}
 use Rattle.icn_apply.proofs.NamesStay.{applies_named, elsewhere}
+use Rattle.icn_apply.proofs.SizesStay.{applies_sized}
 use Rattle.icn_apply.proofs.applying.again.Goals as goal
 
 pub returns-clause-applies : goal.returns-clause-applies
@@ -25,3 +27,12 @@ returns-clause-named g c =
 
 pub returns-clause-memory : goal.returns-clause-memory
 returns-clause-memory g c = c.resume.ensures.memory
+
+pub returns-clause-sized : goal.returns-clause-sized
+returns-clause-sized g c =
+    applies_sized (again (residual_in (extent_of c.args.w.now.heap) c.args.rest))
+    (given c.args.w.now (g.L.Locals.items c.args.l.now) (handed (g.I.Source.left c.args.input.now) (g.I.Source.faults c.args.input.now) (g.O.Sink.state c.args.out.now) (g.E.Sink.state c.args.err.now)))
+    (given c.resume.new.w (g.L.Locals.items c.resume.new.l) (handed (g.I.Source.left c.resume.new.input) (g.I.Source.faults c.resume.new.input) (g.O.Sink.state c.resume.new.out) (g.E.Sink.state c.resume.new.err)))
+    c.resume.result
+    (λ was sizes. rows_keep_sizes.resumed sizes (residual_in (extent_of c.args.w.now.heap) c.args.rest) (setting_of was c.args.w.now (g.L.Locals.items c.args.l.now)))
+    c.resume.ensures.applies

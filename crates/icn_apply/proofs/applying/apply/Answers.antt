@@ -3,12 +3,14 @@ use Rattle.icn_value.specs.Store.{outside_of}
 use Rattle.icn_heap.specs.Heaps.{extent_of}
 use Rattle.icn_defs.specs.Applying.{operation_row}
 use Rattle.icn_vars.specs.Worlds.{item_in, setting_of}
+use Rattle.icn_named.proofs.RowSizes.{rows_keep_sizes}
 use Rattle.icn_named.proofs.RowsNamed.{rows_keep_names}
 use Rattle.icn_streams.specs.Answers.{given}
 use Rattle.icn_streams.specs.Handed.{handed}
 use Rattle.icn_apply.specs.Applicable.{IsApplicable}
 use Rattle.icn_apply.specs.declared.applied.Applied.{Applied}
 use Rattle.icn_apply.proofs.NamesStay.{applies_named, elsewhere}
+use Rattle.icn_apply.proofs.SizesStay.{applies_sized}
 use Rattle.icn_apply.proofs.applying.apply.Goals as goal
 
 pub first-requires-clause-arity : goal.first-requires-clause-arity
@@ -32,3 +34,15 @@ returns-in-Func-clause-applies g c = rw c.in-Func.is c.apply_function.ensures.ap
 
 pub returns-in-Func-clause-named : goal.returns-in-Func-clause-named
 returns-in-Func-clause-named g c = c.apply_function.ensures.named
+
+pub returns-in-Op-clause-sized : goal.returns-in-Op-clause-sized
+returns-in-Op-clause-sized g c =
+    applies_sized (operation_row c.in-Op.op (map (item_in (extent_of c.args.w.now.heap)) c.args.args.now))
+    (given c.args.w.now (g.L.Locals.items c.args.l.now) (handed (g.I.Source.left c.args.input.now) (g.I.Source.faults c.args.input.now) (g.O.Sink.state c.args.out.now) (g.E.Sink.state c.args.err.now)))
+    (given c.first.new.w (g.L.Locals.items c.first.new.l) (handed (g.I.Source.left c.first.new.input) (g.I.Source.faults c.first.new.input) (g.O.Sink.state c.args.out.now) (g.E.Sink.state c.args.err.now)))
+    c.first.result
+    (λ was sizes. rows_keep_sizes.operations sizes c.in-Op.op (map (item_in (extent_of c.args.w.now.heap)) c.args.args.now) (setting_of was c.args.w.now (g.L.Locals.items c.args.l.now)))
+    (c.first.ensures (g.O.Sink.state c.args.out.now) (g.E.Sink.state c.args.err.now))
+
+pub returns-in-Func-clause-sized : goal.returns-in-Func-clause-sized
+returns-in-Func-clause-sized g c = c.apply_function.ensures.sized

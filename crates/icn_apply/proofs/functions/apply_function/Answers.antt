@@ -8,6 +8,7 @@ use Rattle.icn_streams.specs.Handed.{handed}
 use Rattle.icn_apply.specs.declared.kinds.Kind.{Kind}
 use Rattle.icn_apply.specs.Kinds.{IsOfKind}
 use Rattle.icn_apply.proofs.NamesStay.{applies_named, elsewhere, file_function_named}
+use Rattle.icn_apply.proofs.SizesStay.{applies_sized, file_function_sized}
 use Rattle.icn_apply.proofs.functions.apply_function.Goals as goal
 
 pub first-requires-clause-function : goal.first-requires-clause-function
@@ -53,3 +54,22 @@ returns-in-Structures-clause-applies g c = c.apply_to_structures.ensures.applies
 
 pub returns-in-Structures-clause-named : goal.returns-in-Structures-clause-named
 returns-in-Structures-clause-named g c = c.apply_to_structures.ensures.named
+
+pub returns-in-Files-clause-sized : goal.returns-in-Files-clause-sized
+returns-in-Files-clause-sized g c =
+    applies_sized (function_row (g.N.Names.known c.args.names.now) c.args.func (map (item_in (extent_of c.args.w.now.heap)) c.args.args.now))
+    (given c.args.w.now (g.L.Locals.items c.args.l.now) (handed (g.I.Source.left c.args.input.now) (g.I.Source.faults c.args.input.now) (g.O.Sink.state c.args.out.now) (g.E.Sink.state c.args.err.now)))
+    (given c.first.new.w (g.L.Locals.items c.args.l.now) (handed (g.I.Source.left c.first.new.input) (g.I.Source.faults c.first.new.input) (g.O.Sink.state c.first.new.out) (g.E.Sink.state c.first.new.err)))
+    c.first.result
+    (λ was. file_function_sized (g.N.Names.known c.args.names.now) c.args.func (map (item_in (extent_of c.args.w.now.heap)) c.args.args.now) (setting_of was c.args.w.now (g.L.Locals.items c.args.l.now))
+    (subst (λ (kind : Kind). IsOfKind kind c.args.func) c.in-Files.is c.kind_of.ensures))
+    (c.first.ensures (g.N.Names.known c.args.names.now))
+
+pub returns-in-Scanning-clause-sized : goal.returns-in-Scanning-clause-sized
+returns-in-Scanning-clause-sized g c = c.apply_scanning.ensures.sized
+
+pub returns-in-Strings-clause-sized : goal.returns-in-Strings-clause-sized
+returns-in-Strings-clause-sized g c = c.apply_to_strings.ensures.sized
+
+pub returns-in-Structures-clause-sized : goal.returns-in-Structures-clause-sized
+returns-in-Structures-clause-sized g c = c.apply_to_structures.ensures.sized

@@ -11,6 +11,7 @@ use Rattle.icn_streams.specs.Answers.{given}
 use Rattle.icn_streams.proofs.Behind.{applies_same, stops_there}
 use Rattle.icn_streams.proofs.Faultless.{faultless_applies}
 use Rattle.icn_apply.proofs.NamesStay.{answers_named, function_named, records_named, stop_named, vals_named, values_named}
+use Rattle.icn_apply.proofs.SizesStay.{function_sized, same_sized}
 use Rattle.icn_apply.proofs.functions.apply_to_strings.Goals as goal
 
 pub returns-in_err-vals-clause-applies : goal.returns-in_err-vals-clause-applies
@@ -53,4 +54,13 @@ returns-clause-named g c =
     (λ next. c.in_ok-vals.ensures.found (outside_of []) next
     ∙ ap (λ (vals : List Val). next (map (value_in (extent_of c.args.w.now.heap)) vals) (setting_of (outside_of []) c.args.w.now (g.L.Locals.items c.args.l.now))) (sym c.deref.ensures.value)))
     (subst (λ (vals : List Val). All (IsLive (extent_of c.args.w.now.heap)) vals) (sym c.deref.ensures.value) c.in_ok-vals.ensures.live))
+    (λ was. c.first.ensures.row was)
+
+pub returns-in_err-vals-clause-sized : goal.returns-in_err-vals-clause-sized
+returns-in_err-vals-clause-sized g c = same_sized c.args.w.now c.from_residual.result
+
+pub returns-clause-sized : goal.returns-clause-sized
+returns-clause-sized g c =
+    function_sized (g.N.Names.known c.args.names.now) c.args.func c.args.w.now c.first.new.w (g.L.Locals.items c.args.l.now) c.deref.result.now c.first.result
+    (subst (λ (vals : List Val). All (IsLive (extent_of c.args.w.now.heap)) vals) (sym c.deref.ensures.value) c.in_ok-vals.ensures.live)
     (λ was. c.first.ensures.row was)
