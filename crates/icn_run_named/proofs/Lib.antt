@@ -1,3 +1,4 @@
 mod CallsNamed
 mod StepsNamed
+mod StepsSized
 mod RowCounts

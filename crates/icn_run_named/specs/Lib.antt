@@ -1,3 +1,4 @@
 pub mod KeepingCounts
 pub mod StateNames
 pub mod KeepingNames
+pub mod KeepingSizes

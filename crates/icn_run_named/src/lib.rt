@@ -1,16 +1,24 @@
-//! What the run of a code names has a name; and rows leave the counts of results.
+//! What the run of a code names has a name, and each record is as long as its kind; and rows leave the counts of results.
 #![tactic(auto)]
 
 ghost use Rattle.icn_run_named.specs.KeepingCounts.{RowsKeepCounts};
 ghost use Rattle.icn_run_named.specs.KeepingNames.{StepsKeepNames};
+ghost use Rattle.icn_run_named.specs.KeepingSizes.{StepsKeepSizes};
 
-use icn_named::names_stay;
+use icn_named::{names_stay, sizes_stay};
 
 /// Where what the state before a step names has a name, so it is after the step.
 pub fn steps_keep_names()
     ensures kept { StepsKeepNames }
 {
     names_stay();
+}
+
+/// Where each record of the state before a step has as many fields as its kind, it is so after the step.
+pub fn steps_keep_sizes()
+    ensures kept { StepsKeepSizes }
+{
+    sizes_stay();
 }
 
 /// An operation or a function leaves the limits of the heap and the counts of results, and so does what resumes it.
