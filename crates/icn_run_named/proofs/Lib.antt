@@ -1,4 +1,5 @@
 mod CallsNamed
 mod StepsNamed
 mod StepsSized
+mod Starting
 mod RowCounts

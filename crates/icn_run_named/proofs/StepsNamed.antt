@@ -32,24 +32,24 @@ use Rattle.icn_run_named.proofs.CallsNamed as C
 use Rattle.icn_run_named.proofs.CallsNamed.{Each, Maybe, each_of, all_of, each_append, each_drop, each_index, each_get, each_replicate, each_set, each_take}
 
 module _ (rows : RowsKeepNames) (P : Tables) where
-  abbrev ns : Names
+  abbrev pub ns : Names
   ns = S.all_names P
 
-  abbrev V : Value → Type 0
+  abbrev pub V : Value → Type 0
   V v = ValueNamed ns v
 
   abbrev X : Item → Type 0
   X x = ItemNamed ns x
 
-  abbrev M : Frames → Type 0
+  abbrev pub M : Frames → Type 0
   M m = C.M ns m
 
   -- a store, with its co-expressions one by one
-  record K (st : Store Frames) : Type 0 where
-    world : WorldNamed ns st.world
-    coexps : Each (CoexpNamed ns) st.coexps
+  pub record K (st : Store Frames) : Type 0 where
+    pub world : WorldNamed ns st.world
+    pub coexps : Each (CoexpNamed ns) st.coexps
 
-  abbrev G : State Frames Frames → Type 0
+  abbrev pub G : State Frames Frames → Type 0
   G (running m st) = M m × K st
   G (failing m st) = M m × K st
   G (hopping m st) = K st
@@ -60,13 +60,13 @@ module _ (rows : RowsKeepNames) (P : Tables) where
   found Q (Some x) go h f = f x h
   found Q None go h f = tt
 
-  any : {A : Type 0} (o : Option A) (go : A → State Frames Frames) → ((x : A) → G (go x)) → G (S.with_found o go)
+  pub any : {A : Type 0} (o : Option A) (go : A → State Frames Frames) → ((x : A) → G (go x)) → G (S.with_found o go)
   any (Some x) go f = f x
   any None go f = tt
 
   -- Settings and rows
 
-  here : (m : Frames) (st : Store Frames) → M m → K st → SettingNamed ns (S.here flat m st)
+  pub here : (m : Frames) (st : Store Frames) → M m → K st → SettingNamed ns (S.here flat m st)
   here m st h k = record { world = k.world; locals = all_of V (flats.locals m) (C.locals ns m h) }
 
   placed : (m : Frames) (st : Store Frames) (seen : Setting) → SettingNamed ns seen → M m → K st → M (flats.set_locals seen.locals m) × K (S.with_at seen st)
@@ -87,7 +87,7 @@ module _ (rows : RowsKeepNames) (P : Tables) where
   valued (Suspends x r s) m st go n h k f = (h, k)
   valued (Ends e s) m st go n h k f = (h, k)
 
-  made : (o : Outcome) (m : Frames) (st : Store Frames) (go : Value → Frames → Store Frames → State Frames Frames) → OutcomeNamed ns o → M m → K st → ((v : Value) (m : Frames) (s : Store Frames) → V v → M m → K s → G (go v m s)) → G (S.made flat o m st go)
+  pub made : (o : Outcome) (m : Frames) (st : Store Frames) (go : Value → Frames → Store Frames → State Frames Frames) → OutcomeNamed ns o → M m → K st → ((v : Value) (m : Frames) (s : Store Frames) → V v → M m → K s → G (go v m s)) → G (S.made flat o m st go)
   made (Gives (Val v) s) m st go n h k f = let at = placed m st s n.1 h k in f v (flats.set_locals s.locals m) (S.with_at s st) n.0.named at.0 at.1
   made (Gives (Var x) s) m st go n h k f = (h, k)
   made (Error e v s) m st go n h k f = tt
@@ -277,13 +277,13 @@ module _ (rows : RowsKeepNames) (P : Tables) where
 
   -- Procedures
 
-  nulls : (n : ℕ) → Each V (replicate n Null)
+  pub nulls : (n : ℕ) → Each V (replicate n Null)
   nulls n = each_replicate V n Null tt
 
   filled : (n : ℕ) (vs : List Value) → Each V vs → Each V (S.filled n vs)
   filled n vs h = each_take V n (vs ++ replicate n Null) (each_append V vs (replicate n Null) h (nulls n))
 
-  collected : (t : Bool) (n : ℕ) (vs : List Value) (m : Frames) (st : Store Frames) (go : List Value → Frames → Store Frames → State Frames Frames) → Each V vs → M m → K st → ((vs : List Value) (m : Frames) (s : Store Frames) → Each V vs → M m → K s → G (go vs m s)) → G (S.collected flat t n vs m st go)
+  pub collected : (t : Bool) (n : ℕ) (vs : List Value) (m : Frames) (st : Store Frames) (go : List Value → Frames → Store Frames → State Frames Frames) → Each V vs → M m → K st → ((vs : List Value) (m : Frames) (s : Store Frames) → Each V vs → M m → K s → G (go vs m s)) → G (S.collected flat t n vs m st go)
   collected false n vs m st go a h k f = f (S.filled n vs) m st (filled n vs a) h k
   collected true n vs m st go a h k f = list_made (drop (n - 1) vs) m st (λ rest m st. go (S.filled (n - 1) vs ++ rest ∷ []) m st) (each_drop V (n - 1) vs a) h k
       (λ rest m st b h k. f (S.filled (n - 1) vs ++ rest ∷ []) m st (each_append V (S.filled (n - 1) vs) (rest ∷ []) (filled (n - 1) vs a) (b, tt)) h k)
@@ -622,7 +622,7 @@ module _ (rows : RowsKeepNames) (P : Tables) where
   state_in (over ending outside) h = tt
   state_in stuck h = tt
 
-  state_out : (s : State Frames Frames) → G s → StateNamed ns s
+  pub state_out : (s : State Frames Frames) → G s → StateNamed ns s
   state_out (running m st) h = (C.stack_out ns m h.0, store_out st h.1)
   state_out (failing m st) h = (C.stack_out ns m h.0, store_out st h.1)
   state_out (hopping m st) h = store_out st h

@@ -28,13 +28,13 @@ use Rattle.icn_run_named.specs.KeepingNames.{MayCall}
 use Rattle.icn_run_named.specs.KeepingSizes.{FunctionFits, OutcomeFits, StateFits, StepsKeepSizes, StoreFits, field_count}
 
 module _ (rows : RowsKeepSizes) (P : Tables) where
-  abbrev K : Store Frames → Type 0
+  abbrev pub K : Store Frames → Type 0
   K st = StoreFits P st
 
-  abbrev G : State Frames Frames → Type 0
+  abbrev pub G : State Frames Frames → Type 0
   G state = StateFits P state
 
-  found : {A : Type 0} (o : Option A) (go : A → State Frames Frames) → ((x : A) → G (go x)) → G (S.with_found o go)
+  pub found : {A : Type 0} (o : Option A) (go : A → State Frames Frames) → ((x : A) → G (go x)) → G (S.with_found o go)
   found (Some x) go f = f x
   found None go f = tt
 
@@ -59,7 +59,7 @@ module _ (rows : RowsKeepSizes) (P : Tables) where
   valued (Suspends x r s) m st go k f = k
   valued (Ends e s) m st go k f = k
 
-  made : (o : Outcome) (m : Frames) (st : Store Frames) (go : Value → Frames → Store Frames → State Frames Frames) → OutcomeFits P o → K st
+  pub made : (o : Outcome) (m : Frames) (st : Store Frames) (go : Value → Frames → Store Frames → State Frames Frames) → OutcomeFits P o → K st
       → ((v : Value) (m : Frames) (s : Store Frames) → K s → G (go v m s)) → G (S.made flat o m st go)
   made (Gives (Val v) s) m st go n k f = f v (flats.set_locals s.locals m) (S.with_at s st) n
   made (Gives (Var x) s) m st go n k f = k
@@ -188,7 +188,7 @@ module _ (rows : RowsKeepSizes) (P : Tables) where
 
   -- Procedures
 
-  collected : (t : Bool) (n : ℕ) (vs : List Value) (m : Frames) (st : Store Frames) (go : List Value → Frames → Store Frames → State Frames Frames) → K st
+  pub collected : (t : Bool) (n : ℕ) (vs : List Value) (m : Frames) (st : Store Frames) (go : List Value → Frames → Store Frames → State Frames Frames) → K st
       → ((vs : List Value) (m : Frames) (s : Store Frames) → K s → G (go vs m s)) → G (S.collected flat t n vs m st go)
   collected false n vs m st go k f = f (S.filled n vs) m st k
   collected true n vs m st go k f = list_made (drop (n - 1) vs) m st (λ rest m st. go (S.filled (n - 1) vs ++ rest ∷ []) m st) k (λ rest m st k. f (S.filled (n - 1) vs ++ rest ∷ []) m st k)

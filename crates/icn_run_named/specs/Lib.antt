@@ -2,3 +2,4 @@ pub mod KeepingCounts
 pub mod StateNames
 pub mod KeepingNames
 pub mod KeepingSizes
+pub mod Starts

@@ -4,6 +4,7 @@
 ghost use Rattle.icn_run_named.specs.KeepingCounts.{RowsKeepCounts};
 ghost use Rattle.icn_run_named.specs.KeepingNames.{StepsKeepNames};
 ghost use Rattle.icn_run_named.specs.KeepingSizes.{StepsKeepSizes};
+ghost use Rattle.icn_run_named.specs.Starts.{StartsFit, StartsNamed};
 
 use icn_named::{names_stay, sizes_stay};
 
@@ -17,6 +18,20 @@ pub fn steps_keep_names()
 /// Where each record of the state before a step has as many fields as its kind, it is so after the step.
 pub fn steps_keep_sizes()
     ensures kept { StepsKeepSizes }
+{
+    sizes_stay();
+}
+
+/// What the state names with which the run of a code starts has a name.
+pub fn start_is_named()
+    ensures { StartsNamed }
+{
+    names_stay();
+}
+
+/// Each record of that state has as many fields as its kind.
+pub fn start_is_sized()
+    ensures { StartsFit }
 {
     sizes_stay();
 }
