@@ -1,0 +1,58 @@
+-- Rules that are looked at one after the other.
+use Rattle.std.proofs.Common.{◌≡◌, ℕ, List, [], ◌∷◌, inl, inr, Option, Some, None, Result, Ok, Err, OnOk, IfOk, IfErr, IsErrAnd, ap, ◌∙◌, sym, subst}
+use Rattle.std.specs.Option.{option_or}
+use Rattle.icn_link.specs.declared.fault.LinkFault.{LinkFault}
+use Rattle.icn_link.specs.LinkFaults.{IsFault, over}
+
+-- a fault of the first rule is one of all
+pub first_fault_is : (a b : Option LinkFault) (fault : LinkFault) → IsFault a fault → IsFault (option_or a b) fault
+first_fault_is a b fault (inl e) = inl e
+first_fault_is a b fault (inr e) = inr (ap (λ x. option_or x b) e)
+
+-- and where the first is kept, a fault of the others is
+pub later_fault_is : (a b : Option LinkFault) (fault : LinkFault) → a ≡ None → IsFault b fault → IsFault (option_or a b) fault
+later_fault_is a b fault kept (inl e) = inl e
+later_fault_is a b fault kept (inr e) = inr (ap (λ x. option_or x b) kept ∙ e)
+
+pub both_kept : (a b : Option LinkFault) → a ≡ None → b ≡ None → option_or a b ≡ None
+both_kept a b e f = ap (λ x. option_or x b) e ∙ f
+
+-- A check of one number, where it is the number asked for
+
+pub one_kept : {A : Type 0} (result : Result A LinkFault) (most count sum : ℕ) → count ≡ sum
+    → OnOk result ((rest : List ℕ) → over most (count ∷ rest) ≡ over most rest) → OnOk result (over most (sum ∷ []) ≡ None)
+one_kept (Ok done) most count sum same h = ap (λ n. over most (n ∷ [])) (sym same) ∙ h []
+one_kept (Err fault) most count sum same h = tt
+
+pub one_fault : {A : Type 0} (result : Result A LinkFault) (most count sum : ℕ) → count ≡ sum
+    → IfErr result (λ fault. (rest : List ℕ) → over most (count ∷ rest) ≡ Some fault)
+    → IfErr result (IsFault (over most (sum ∷ [])))
+one_fault (Ok done) most count sum same h = tt
+one_fault (Err fault) most count sum same h = inr (ap (λ n. over most (n ∷ [])) (sym same) ∙ h [])
+
+-- What a check says of one list, where that is the list asked for
+
+pub list_kept : {A : Type 0} (result : Result A LinkFault) (a b : Option LinkFault) → a ≡ b → OnOk result (a ≡ None) → OnOk result (b ≡ None)
+list_kept result a b same h = subst (λ x. OnOk result (x ≡ None)) same h
+
+pub list_fault : {A : Type 0} (result : Result A LinkFault) (a b : Option LinkFault) → a ≡ b → IfErr result (IsFault a) → IfErr result (IsFault b)
+list_fault result a b same h = subst (λ x. IfErr result (IsFault x)) same h
+
+-- A check behind those that were kept
+
+pub later_kept : {A : Type 0} (result : Result A LinkFault) (a b : Option LinkFault) → a ≡ None → OnOk result (b ≡ None)
+    → OnOk result (option_or a b ≡ None)
+later_kept result a b kept h = subst (λ x. OnOk result (option_or x b ≡ None)) (sym kept) h
+
+pub later_fault : {A : Type 0} (result : Result A LinkFault) (a b : Option LinkFault) → a ≡ None → IfErr result (IsFault b)
+    → IfErr result (IsFault (option_or a b))
+later_fault result a b kept h = subst (λ x. IfErr result (IsFault (option_or x b))) (sym kept) h
+
+pub err_is : {T : Type 0} (r : Result T LinkFault) (P : LinkFault → Type 0) (fault : LinkFault) → IsErrAnd r (λ other. other ≡ fault) → P fault → IfErr r P
+err_is (Ok value) P fault same is = tt
+err_is (Err other) P fault same is = subst P (sym same) is
+
+-- A number that is another one
+
+pub sum_is : (result : Result ℕ LinkFault) (a b : ℕ) → a ≡ b → IfOk result (λ n. n ≡ a) → IfOk result (λ n. n ≡ b)
+sum_is result a b same h = subst (λ m. IfOk result (λ n. n ≡ m)) same h

@@ -1,0 +1,148 @@
+-- How long the image of a code is.
+use Rattle.std.proofs.Common.{◌≡◌, ℕ, suc, ◌+◌, ◌*◌, true, List, [], ◌∷◌, ◌++◌, length, map, refl, sym, ap, ◌∙◌, arith, length-append}
+use Rattle.std.specs.Prelude.{◌==◌}
+use Rattle.std.specs.Int.{w16, to_le_bytes}
+use Rattle.std.specs.List.{flat_map, list_all, sum_by}
+use Rattle.std.proofs.lemmas.Bool.{and_parts}
+use Rattle.std.proofs.lemmas.Bool.Decides.{nat_tests}
+use Rattle.std.proofs.lemmas.List.{length-map}
+use Rattle.std.proofs.lemmas.List.Sums.{sum_by-cons}
+use Rattle.icn_value.specs.declared.cset.Cset.{Cset}
+use Rattle.icn_code.specs.declared.code.Global.{Global}
+use Rattle.icn_code.specs.declared.code.Start.{Start}
+use Rattle.icn_code.specs.declared.code.Start.TheVariants as Starts
+use Rattle.icn_code.specs.declared.instr.Instr.{Instr}
+use Rattle.icn_code.specs.declared.instr.Instr.TheVariants as I
+use Rattle.icn_code.specs.Codes.{Proc, RecordType, Tables}
+use Rattle.icn_code.specs.Rules.{is_byte, is_cset, keeps_rules}
+use Rattle.icn_image.specs.Fronts.{head_of}
+use Rattle.icn_image.specs.Spelling.{image_of, image_head, front, front_of, procs, table, string, cset, integer, record_type, global, kind_and_number, head, body, instruction}
+use Rattle.icn_link.specs.ImageSizes.{instr_size, body_size, bodies_size, strings_size, records_size}
+
+each_sum : {A : Type 0} (f : A → List ℕ) (g : A → ℕ) → ((x : A) → length (f x) ≡ g x) → (xs : List A)
+    → length (flat_map f xs) ≡ sum_by g xs
+each_sum f g e [] = refl
+each_sum f g e (x ∷ xs) =
+    let sum = sum_by-cons g x xs in let one = e x in let rest = each_sum f g e xs in
+    length-append (f x) (flat_map f xs) ∙ omega (arith, sum, one, rest)
+
+each_same : {A : Type 0} (f : A → List ℕ) (n : ℕ) → ((k : ℕ) → suc k * n ≡ n + k * n) → 0 ≡ 0 * n → ((x : A) → length (f x) ≡ n)
+    → (xs : List A) → length (flat_map f xs) ≡ length xs * n
+each_same f n m z e [] = z
+each_same f n m z e (x ∷ xs) =
+    length-append (f x) (flat_map f xs) ∙ ap (λ k. k + length (flat_map f xs)) (e x)
+    ∙ ap (λ k. n + k) (each_same f n m z e xs) ∙ sym (m (length xs))
+
+cset_bits : (set : Cset) → is_cset set ≡ true → length set.bits ≡ 32
+cset_bits set h = let t = (and_parts (length set.bits == 32) (list_all is_byte set.bits) h).0 in grind (arith, nat_tests)
+
+csets_length : (sets : List Cset) → list_all is_cset sets ≡ true → length (flat_map cset sets) ≡ length sets * 32
+csets_length [] h = refl
+csets_length (set ∷ sets) h =
+    let t = and_parts _ _ h in let one = cset_bits set t.0 in let rest = csets_length sets t.1 in
+    length-append set.bits (flat_map cset sets) ∙ omega (arith, one, rest)
+
+instr_length : (instr : Instr) → length (instruction w16 instr) ≡ instr_size instr
+instr_length I.Pnull = refl
+instr_length (I.Int k) = refl
+instr_length (I.Str k) = refl
+instr_length (I.Cset k) = refl
+instr_length (I.Local k) = refl
+instr_length (I.Static k) = refl
+instr_length (I.Global k) = refl
+instr_length (I.Keywd keyword) = refl
+instr_length I.Pop = refl
+instr_length I.Dup = refl
+instr_length (I.Op op) = refl
+instr_length (I.Llist n) = refl
+instr_length (I.Field k) = refl
+instr_length (I.Invoke n) = refl
+instr_length I.Appl = refl
+instr_length (I.Mark l) = refl
+instr_length I.Mark0 = refl
+instr_length I.Unmark = refl
+instr_length I.Eret = refl
+instr_length I.Esusp = refl
+instr_length I.Limit = refl
+instr_length I.Lsusp = refl
+instr_length I.Efail = refl
+instr_length (I.Chfail l) = refl
+instr_length (I.Goto l) = refl
+instr_length (I.Loop l) = refl
+instr_length I.Bscan = refl
+instr_length I.Escan = refl
+instr_length I.Ccase = refl
+instr_length (I.Init l) = refl
+instr_length I.Psusp = refl
+instr_length I.Pret = refl
+instr_length I.Pfail = refl
+instr_length (I.Create l) = refl
+instr_length I.Coact = refl
+instr_length I.Coret = refl
+instr_length I.Cofail = refl
+
+start_length : (start : Start) → length (kind_and_number w16 start) ≡ 3
+start_length Starts.Null = refl
+start_length (Starts.Procedure place) = refl
+start_length (Starts.Record place) = refl
+start_length (Starts.Function func) = refl
+
+global_length : (entry : Global) → length (global w16 entry) ≡ 5
+global_length entry = length-append (to_le_bytes w16 entry.name) (kind_and_number w16 entry.start) ∙ ap (λ n. 2 + n) (start_length entry.start)
+
+string_length : (bytes : List ℕ) → length (string w16 bytes) ≡ length bytes + 2
+string_length bytes = length-append (to_le_bytes w16 (length bytes)) bytes ∙ omega arith
+
+record_length : (kind : RecordType) → length (record_type w16 kind) ≡ length kind.fields * 2 + 4
+record_length kind =
+    let fields = each_same (to_le_bytes w16) 2 (λ k. omega arith) refl (λ x. refl) kind.fields in
+    length-append (to_le_bytes w16 kind.name) (table w16 (to_le_bytes w16) kind.fields)
+    ∙ ap (λ n. 2 + n) (length-append (to_le_bytes w16 (length kind.fields)) (flat_map (to_le_bytes w16) kind.fields))
+    ∙ omega (arith, fields)
+
+table_length : {A : Type 0} (f : A → List ℕ) (xs : List A) → length (table w16 f xs) ≡ 2 + length (flat_map f xs)
+table_length f xs = length-append (to_le_bytes w16 (length xs)) (flat_map f xs)
+
+body_length : (proc : Proc) → length (body w16 proc) ≡ body_size proc.instrs
+body_length proc = each_sum (instruction w16) instr_size instr_length proc.instrs
+
+-- all that rules say of csets
+csets_ruled : (T : Tables) → keeps_rules T ≡ true → list_all is_cset T.csets ≡ true
+unfolding keeps_rules
+csets_ruled T h =
+    (and_parts _ _ (and_parts _ _ (and_parts _ _ (and_parts _ _ (and_parts _ _ (and_parts _ _ (and_parts _ _ h).0).0).0).0).0).0).1
+
+pub image_length : (T : Tables) → keeps_rules T ≡ true → length (image_of T)
+    ≡ 22 + strings_size T.strings + length T.csets * 32 + length T.integers * 8 + length T.fields * 2 + records_size T.records
+    + length T.globals * 5 + length T.procs * 13 + bodies_size T.procs
+unfolding image_of
+image_length T h =
+    let a = table_length (string w16) T.strings in
+    let a' = each_sum (string w16) (λ bytes. length bytes + 2) string_length T.strings in
+    let b = table_length cset T.csets in
+    let b' = csets_length T.csets (csets_ruled T h) in
+    let c = table_length integer T.integers in
+    let c' = each_same integer 8 (λ k. omega arith) refl (λ x. refl) T.integers in
+    let d = table_length (to_le_bytes w16) T.fields in
+    let d' = each_same (to_le_bytes w16) 2 (λ k. omega arith) refl (λ x. refl) T.fields in
+    let e = table_length (record_type w16) T.records in
+    let e' = each_sum (record_type w16) (λ kind. length kind.fields * 2 + 4) record_length T.records in
+    let f = table_length (global w16) T.globals in
+    let f' = each_same (global w16) 5 (λ k. omega arith) refl global_length T.globals in
+    let g = table_length (head w16) (map head_of T.procs) in
+    let g' = each_same (head w16) 13 (λ k. omega arith) refl (λ x. refl) (map head_of T.procs) in
+    let g'' = length-map T.procs head_of in
+    let k = each_sum (body w16) (λ (proc : Proc). body_size proc.instrs) body_length T.procs in
+    let s = table w16 (string w16) T.strings in
+    let s1 = length-append image_head (front w16 (front_of T) ++ procs w16 T.procs) in
+    let s2 = length-append (front w16 (front_of T)) (procs w16 T.procs) in
+    let s3 = length-append s (table w16 cset T.csets ++ (table w16 integer T.integers ++ (table w16 (to_le_bytes w16) T.fields
+    ++ (table w16 (record_type w16) T.records ++ table w16 (global w16) T.globals)))) in
+    let s4 = length-append (table w16 cset T.csets) (table w16 integer T.integers ++ (table w16 (to_le_bytes w16) T.fields
+    ++ (table w16 (record_type w16) T.records ++ table w16 (global w16) T.globals))) in
+    let s5 = length-append (table w16 integer T.integers) (table w16 (to_le_bytes w16) T.fields
+    ++ (table w16 (record_type w16) T.records ++ table w16 (global w16) T.globals)) in
+    let s6 = length-append (table w16 (to_le_bytes w16) T.fields) (table w16 (record_type w16) T.records ++ table w16 (global w16) T.globals) in
+    let s7 = length-append (table w16 (record_type w16) T.records) (table w16 (global w16) T.globals) in
+    let s8 = length-append (table w16 (head w16) (map head_of T.procs)) (flat_map (body w16) T.procs) in
+    omega (arith, a, a', b, b', c, c', d, d', e, e', f, f', g, g', ap (λ n. n * 13) g'', k, s1, s2, s3, s4, s5, s6, s7, s8)

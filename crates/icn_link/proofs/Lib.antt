@@ -1,0 +1,16 @@
+pub mod Each
+pub mod Exits
+pub mod FunctionNames
+pub mod ImageLengths
+pub mod Kept
+pub mod KeptCsets
+pub mod KeptMentions
+pub mod KeptProcs
+pub mod KeptUnits
+pub mod LinkTexts
+pub mod Made
+pub mod Maps
+pub mod Places
+pub mod Repeating
+pub mod Stages
+pub mod Steps

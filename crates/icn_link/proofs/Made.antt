@@ -1,0 +1,73 @@
+-- The tables that are made are the joined code.
+use Rattle.std.proofs.Common.{◌≡◌, ℕ, true, List, [], ◌∷◌, length, map, sym, ap, subst, ◌∙◌}
+use Rattle.std.specs.Prelude.{nat_le}
+use Rattle.std.specs.List.{flat_map, list_all}
+use Rattle.icn_code.specs.Codes.{Tables}
+use Rattle.icn_code.specs.Rules.{keeps_rules}
+use Rattle.icn_unit.specs.PlainUnits.{Proc, Decl, proc_names}
+use Rattle.icn_link.specs.Gathering.{text_place}
+use Rattle.icn_link.specs.Joined.{cset_of, global_entry, joined_of, locals_in, proc_entry, records_in, statics_in, tables_with}
+use Rattle.icn_link.specs.LinkFaults.{local_counts, record_sizes, static_counts}
+use Rattle.icn_link.specs.Mentions.{Mentioned, globals, mentioned, record_names}
+use Rattle.icn_link.specs.Views.{AreFew, Joinable}
+use Rattle.icn_link.proofs.Each.{all_unmapped}
+use Rattle.icn_link.proofs.Kept.{all_within, joined_kept, within}
+
+-- what is found of each part
+pub record Parts (M : Mentioned) (decls : List Decl) (procs : List Proc) (T : Tables) : Type 0 where
+  pub strings : T.strings ≡ M.strings
+  pub csets : T.csets ≡ map cset_of M.sets
+  pub integers : T.integers ≡ M.integers
+  pub fields : T.fields ≡ map (text_place M.strings) M.fields
+  pub records : T.records ≡ flat_map (records_in M) decls
+  pub globals : T.globals ≡ map (global_entry M (proc_names procs) (record_names decls)) M.globals
+  pub entries : T.procs ≡ map (proc_entry M) procs
+
+pub tables_made : (M : Mentioned) (decls : List Decl) (procs : List Proc) (T : Tables) → M ≡ mentioned decls procs
+    → Parts M decls procs T → T ≡ joined_of decls procs
+tables_made M decls procs T is p =
+    (λ i. record {
+      strings = p.strings i;
+      csets = p.csets i;
+      integers = p.integers i;
+      fields = p.fields i;
+      records = p.records i;
+      globals = p.globals i;
+      procs = p.entries i;
+    }) ∙ ap (λ N. tables_with N decls procs) is
+
+pub tables_kept : (M : Mentioned) (decls : List Decl) (procs : List Proc) (T : Tables) → M ≡ mentioned decls procs
+    → Joinable decls procs → Parts M decls procs T → keeps_rules T ≡ true
+tables_kept M decls procs T is J p = ap keeps_rules (tables_made M decls procs T is p) ∙ joined_kept decls procs J
+
+few : (decls : List Decl) (procs : List Proc) → Joinable decls procs → AreFew (mentioned decls procs)
+few decls procs J =
+    let M : Mentioned = mentioned decls procs in
+    let k7 : List ℕ = length procs ∷ [] in
+    let k6 : List ℕ = length M.globals ∷ k7 in
+    let k5 : List ℕ = length (record_sizes decls) ∷ k6 in
+    let k4 : List ℕ = length M.fields ∷ k5 in
+    let k3 : List ℕ = length M.integers ∷ k4 in
+    let k2 : List ℕ = length M.sets ∷ k3 in
+    let s1 = within 65535 (length M.strings) k2 J.tables in
+    let s2 = within 65535 (length M.sets) k3 s1.1 in
+    let s3 = within 65535 (length M.integers) k4 s2.1 in
+    let s4 = within 65535 (length M.fields) k5 s3.1 in
+    let s5 = within 65535 (length (record_sizes decls)) k6 s4.1 in
+    let s6 = within 65535 (length M.globals) k7 s5.1 in
+    record { strings = s1.0; sets = s2.0; integers = s3.0; fields = s4.0; globals = s6.0 }
+
+pub are_few : (M : Mentioned) (decls : List Decl) (procs : List Proc) → M ≡ mentioned decls procs → Joinable decls procs → AreFew M
+are_few M decls procs is J = subst AreFew (sym is) (few decls procs J)
+
+pub few_locals : (M : Mentioned) (decls : List Decl) (procs : List Proc) → M ≡ mentioned decls procs → Joinable decls procs
+    → list_all (λ (proc : Proc). nat_le (locals_in M.globals proc.names) 65535) procs ≡ true
+few_locals M decls procs is J =
+    ap (λ (N : Mentioned). list_all (λ (proc : Proc). nat_le (locals_in N.globals proc.names) 65535) procs) is
+    ∙ all_unmapped (λ n. nat_le n 65535) (λ (proc : Proc). locals_in (globals decls procs) proc.names) procs (all_within 65535 (local_counts (globals decls procs) procs) J.locals)
+
+pub few_statics : (M : Mentioned) (decls : List Decl) (procs : List Proc) → M ≡ mentioned decls procs → Joinable decls procs
+    → list_all (λ (proc : Proc). nat_le (statics_in M.globals proc.names) 65535) procs ≡ true
+few_statics M decls procs is J =
+    ap (λ (N : Mentioned). list_all (λ (proc : Proc). nat_le (statics_in N.globals proc.names) 65535) procs) is
+    ∙ all_unmapped (λ n. nat_le n 65535) (λ (proc : Proc). statics_in (globals decls procs) proc.names) procs (all_within 65535 (static_counts (globals decls procs) procs) J.statics)

@@ -1,0 +1,9 @@
+use Rattle.std.proofs.Common.{◌≡◌, drop}
+use Rattle.icn_unit.specs.PlainUnits.{proc_names}
+use Rattle.icn_link.specs.Gathering.{with_texts}
+use Rattle.icn_link.specs.Views.{procs_seen, texts_seen}
+use Rattle.icn_link.proofs.gathered.enter_proc_names.Given as goal
+
+abbrev pub invariant-loop-proc : goal.invariant-loop-proc
+invariant-loop-proc l = with_texts (texts_seen l.texts.keys) (proc_names (procs_seen (drop l.proc-index l.procs)))
+    ≡ with_texts (texts_seen l.initial.texts.keys) (proc_names (procs_seen l.procs))

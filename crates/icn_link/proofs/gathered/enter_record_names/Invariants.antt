@@ -1,0 +1,9 @@
+use Rattle.std.proofs.Common.{◌≡◌, drop}
+use Rattle.icn_link.specs.Gathering.{with_texts}
+use Rattle.icn_link.specs.Mentions.{record_names}
+use Rattle.icn_link.specs.Views.{decls_seen, texts_seen}
+use Rattle.icn_link.proofs.gathered.enter_record_names.Given as goal
+
+abbrev pub invariant-loop-decl : goal.invariant-loop-decl
+invariant-loop-decl l = with_texts (texts_seen l.texts.keys) (record_names (decls_seen (drop l.decl-index l.decls)))
+    ≡ with_texts (texts_seen l.initial.texts.keys) (record_names (decls_seen l.decls))

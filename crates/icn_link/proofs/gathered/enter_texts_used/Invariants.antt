@@ -1,0 +1,10 @@
+use Rattle.std.proofs.Common.{◌≡◌, drop}
+use Rattle.std.specs.List.{flat_map}
+use Rattle.icn_link.specs.Gathering.{with_texts}
+use Rattle.icn_link.specs.Mentions.{text_in, mention_of}
+use Rattle.icn_link.specs.Views.{texts_seen}
+use Rattle.icn_link.proofs.gathered.enter_texts_used.Given as goal
+
+abbrev pub invariant-loop-instr : goal.invariant-loop-instr
+invariant-loop-instr l = with_texts (texts_seen l.texts.keys) (flat_map (λ instr. text_in (mention_of instr)) (drop l.instr-index l.instrs))
+    ≡ with_texts (texts_seen l.initial.texts.keys) (flat_map (λ instr. text_in (mention_of instr)) l.instrs)

@@ -1,0 +1,15 @@
+use Rattle.std.proofs.Common.{◌∙◌, ap, Bor}
+use Rattle.icn_unit.specs.declared.unit.ProcCode.{ProcCode}
+use Rattle.icn_unit.specs.UnitViews.{proc_seen}
+use Rattle.std.specs.List.{flat_map}
+use Rattle.icn_link.specs.Gathering.{with_texts}
+use Rattle.icn_link.specs.Mentions.{function_in, functions_in}
+use Rattle.icn_link.specs.Views.{texts_seen}
+use Rattle.icn_link.proofs.Steps.{texts_step}
+use Rattle.icn_link.proofs.gathered.globals.Goals as goal
+
+pub loop-proc-preserved : goal.loop-proc-preserved
+loop-proc-preserved c =
+    texts_step (λ (item : Bor ProcCode). proc_seen item.now) functions_in c.args.procs.now c.loop-proc.proc-index c.proc-item.result (texts_seen c.loop-proc.names.keys) _
+    c.loop-proc-test.true c.proc-item.is (c.in_ok-enter_functions.ensures ∙ ap (λ items. with_texts (texts_seen c.loop-proc.names.keys) (flat_map function_in items)) c.deref.ensures.value)
+    ∙ c.loop-proc.invariant

@@ -1,0 +1,9 @@
+use Rattle.std.proofs.Common.{◌≡◌, drop}
+use Rattle.icn_link.specs.LinkFaults.{missing_from}
+use Rattle.icn_link.specs.Units.{units_seen}
+use Rattle.icn_link.specs.Views.{texts_seen}
+use Rattle.icn_link.proofs.missing.check_all.Given as goal
+
+abbrev pub invariant-loop-unit : goal.invariant-loop-unit
+invariant-loop-unit l = missing_from (texts_seen l.names.keys) l.place (units_seen (drop l.unit-index l.units))
+    ≡ missing_from (texts_seen l.names.keys) 0 (units_seen l.units)

@@ -1,0 +1,8 @@
+use Rattle.std.proofs.Common.{◌≡◌, ◌++◌, drop, map}
+use Rattle.icn_link.specs.LinkFaults.{owners_from}
+use Rattle.icn_link.specs.Units.{units_seen}
+use Rattle.icn_link.specs.Views.{owner_seen}
+use Rattle.icn_link.proofs.repeats.owners_of.Given as goal
+
+abbrev pub invariant-loop-unit : goal.invariant-loop-unit
+invariant-loop-unit l = map owner_seen l.owners.items ++ owners_from l.place (units_seen (drop l.unit-index l.units)) ≡ owners_from 0 (units_seen l.units)

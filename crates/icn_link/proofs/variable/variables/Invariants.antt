@@ -1,0 +1,8 @@
+use Rattle.std.proofs.Common.{◌≡◌, ◌++◌, drop}
+use Rattle.icn_link.specs.Joined.{variables}
+use Rattle.icn_link.specs.Views.{texts_seen}
+use Rattle.icn_link.proofs.variable.variables.Given as goal
+
+abbrev pub invariant-loop-entry : goal.invariant-loop-entry
+invariant-loop-entry l = l.instrs.items ++ variables (texts_seen l.globals.keys) l.locals l.statics (drop l.entry-index l.names)
+    ≡ variables (texts_seen l.globals.keys) 0 0 l.names

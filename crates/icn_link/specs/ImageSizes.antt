@@ -1,0 +1,40 @@
+-- How many bytes the parts of an image have.
+use Rattle.std.specs.Prelude.{ℕ, ◌+◌, ◌*◌, List, length}
+use Rattle.std.specs.List.{sum_by}
+use Rattle.icn_code.specs.declared.instr.Instr.{Instr}
+use Rattle.icn_code.specs.declared.instr.Instr.TheVariants.{Int, Str, Cset, Local, Static, Global, Keywd, Op, Llist, Field, Invoke, Mark, Chfail, Goto, Loop, Init, Create}
+use Rattle.icn_code.specs.Codes.{Proc, RecordType}
+
+-- an instruction: its number, and an operand of two bytes or a label of four
+abbrev pub instr_size : Instr → ℕ
+instr_size (Int place) = 3
+instr_size (Str place) = 3
+instr_size (Cset place) = 3
+instr_size (Local place) = 3
+instr_size (Static place) = 3
+instr_size (Global place) = 3
+instr_size (Keywd keyword) = 3
+instr_size (Op op) = 3
+instr_size (Llist count) = 3
+instr_size (Field place) = 3
+instr_size (Invoke count) = 3
+instr_size (Mark label) = 5
+instr_size (Chfail label) = 5
+instr_size (Goto label) = 5
+instr_size (Loop label) = 5
+instr_size (Init label) = 5
+instr_size (Create label) = 5
+instr_size _ = 1
+
+abbrev pub body_size : List Instr → ℕ
+body_size instrs = sum_by instr_size instrs
+
+abbrev pub bodies_size : List Proc → ℕ
+bodies_size procs = sum_by (λ proc. body_size proc.instrs) procs
+
+-- a string behind its length; a record with its name and the count of its fields
+abbrev pub strings_size : List (List ℕ) → ℕ
+strings_size strings = sum_by (λ string. length string + 2) strings
+
+abbrev pub records_size : List RecordType → ℕ
+records_size records = sum_by (λ kind. length kind.fields * 2 + 4) records

@@ -1,0 +1,153 @@
+-- Why units can't be joined: the first rule that they break.
+use Rattle.std.specs.Prelude.{◌≡◌, ◌⊎◌, ℕ, suc, ◌-◌, Bool, not, is_some, List, [], ◌∷◌, ◌++◌, length, map, take, codes, find, nat_eq, nat_lt, Option, Some, None, if◌then◌else◌, count_by}
+use Rattle.std.specs.List.{flat_map, list_any, sum_by, ends_with}
+use Rattle.std.specs.Option.{option_map, option_or}
+use Rattle.std.specs.Str.{bytes_eq}
+use Rattle.icn_image.specs.Spelling.{image_of}
+use Rattle.icn_unit.specs.declared.unit.UnitInstr.{UnitInstr}
+use Rattle.icn_unit.specs.PlainUnits.{Proc, Decl, Global, Procedure, Link, Record, UnitRead}
+use Rattle.icn_unit.specs.UnitRules.{place_of}
+use Rattle.icn_link.specs.declared.fault.DeclPlace.{DeclPlace}
+use Rattle.icn_link.specs.declared.fault.LinkFault.{LinkFault}
+use Rattle.icn_link.specs.declared.fault.LinkFault.TheVariants.{K1, K2, K3, NoMemory}
+use Rattle.icn_link.specs.Joined.{joined_of, locals_in, statics_in}
+use Rattle.icn_link.specs.Mentions.{Mentioned, mentioned, mentioned_by, operands_in, globals}
+use Rattle.icn_link.specs.Units.{all_decls, all_procs}
+
+-- Units that are linked and not there
+
+-- the base name that a text of `link` names: it loses one suffix
+abbrev pub base_of : List ℕ → List ℕ
+base_of text = if ends_with nat_eq text (codes ".u1") then take (length text - 3) text
+    else (if ends_with nat_eq text (codes ".u2") then take (length text - 3) text else text)
+
+-- the unit that a declaration links, where no unit has that name
+abbrev pub missing_by : List (List ℕ) → Decl → Option (List ℕ)
+missing_by names (Link text) = if list_any (bytes_eq (base_of text)) names then None else Some (base_of text)
+missing_by names (Global name) = None
+missing_by names (Procedure name) = None
+missing_by names (Record name fields) = None
+
+abbrev pub missing_in : List (List ℕ) → List Decl → Option (List ℕ)
+missing_in names [] = None
+missing_in names (decl ∷ decls) = option_or (missing_by names decl) (missing_in names decls)
+
+abbrev pub missing_fault : ℕ → List ℕ → LinkFault
+missing_fault unit name = K2 unit name
+
+-- the first of these units, where so many are before them
+abbrev pub missing_from : List (List ℕ) → ℕ → List UnitRead → Option LinkFault
+missing_from names place [] = None
+missing_from names place (unit ∷ units) =
+    option_or (option_map (missing_fault place) (missing_in names unit.decls)) (missing_from names (suc place) units)
+
+abbrev pub unit_names : List UnitRead → List (List ℕ)
+unit_names units = map (λ unit. unit.name) units
+
+abbrev pub missing : List UnitRead → Option LinkFault
+missing units = missing_from (unit_names units) 0 units
+
+-- Names that are procedure or record in two units
+
+-- a procedure or a record, with the place of its declaration
+pub record Owner : Type 0 where
+  pub name : List ℕ
+  pub place : DeclPlace
+
+abbrev pub place_at : ℕ → ℕ → DeclPlace
+place_at unit decl = record { unit = unit; decl = decl }
+
+abbrev pub owner : List ℕ → ℕ → ℕ → Owner
+owner name unit decl = record { name = name; place = place_at unit decl }
+
+abbrev pub owner_in : ℕ → ℕ → Decl → List Owner
+owner_in unit place (Procedure name) = owner name unit place ∷ []
+owner_in unit place (Record name fields) = owner name unit place ∷ []
+owner_in unit place (Global name) = []
+owner_in unit place (Link text) = []
+
+abbrev pub owners_in : ℕ → ℕ → List Decl → List Owner
+owners_in unit place [] = []
+owners_in unit place (decl ∷ decls) = owner_in unit place decl ++ owners_in unit (suc place) decls
+
+abbrev pub owners_from : ℕ → List UnitRead → List Owner
+owners_from place [] = []
+owners_from place (unit ∷ units) = owners_in place 0 unit.decls ++ owners_from (suc place) units
+
+abbrev pub owner_named : List ℕ → List Owner → Option Owner
+owner_named name owners = find (λ other. bytes_eq name other.name) owners
+
+abbrev pub repeat_of : Owner → Owner → LinkFault
+repeat_of second first = K1 second.place.unit second.name first.place second.place
+
+-- the first that has the name of an earlier one, where these are before
+abbrev pub repeated_from : List Owner → List Owner → Option LinkFault
+repeated_from before [] = None
+repeated_from before (next ∷ others) = option_or (option_map (repeat_of next) (owner_named next.name before))
+    (repeated_from (before ++ next ∷ []) others)
+
+abbrev pub repeated : List UnitRead → Option LinkFault
+repeated units = repeated_from [] (owners_from 0 units)
+
+-- Programs that are too large
+
+abbrev pub count_fault : ℕ → LinkFault
+count_fault count = K3 count
+
+-- the first number above a bound
+abbrev pub over : ℕ → List ℕ → Option LinkFault
+over most counts = option_map count_fault (find (λ count. nat_lt most count) counts)
+
+-- the place of a label is no instruction
+abbrev pub is_instruction : UnitInstr → Bool
+is_instruction instr = not (is_some (place_of instr))
+
+abbrev pub size_of : Proc → ℕ
+size_of proc = count_by is_instruction proc.instrs
+
+-- how many entries each table has, in the order in which an image has them
+abbrev pub field_counts : Decl → List ℕ
+field_counts (Record name fields) = length fields ∷ []
+field_counts (Global name) = []
+field_counts (Procedure name) = []
+field_counts (Link text) = []
+
+abbrev pub record_sizes : List Decl → List ℕ
+record_sizes decls = flat_map field_counts decls
+
+abbrev pub table_sizes : Mentioned → List Decl → List Proc → List ℕ
+table_sizes tables decls procs = length tables.strings ∷ length tables.sets ∷ length tables.integers ∷ length tables.fields
+    ∷ length (record_sizes decls) ∷ length tables.globals ∷ length procs ∷ []
+
+abbrev pub local_counts : List (List ℕ) → List Proc → List ℕ
+local_counts globals procs = map (λ proc. locals_in globals proc.names) procs
+
+abbrev pub static_counts : List (List ℕ) → List Proc → List ℕ
+static_counts globals procs = map (λ proc. statics_in globals proc.names) procs
+
+infixr 5 ◌orelse◌
+abbrev pub ◌orelse◌ : Option LinkFault → Option LinkFault → Option LinkFault
+a orelse b = option_or a b
+
+-- In this order: all instructions; the entries of each table; the operands of a call or a list; the fields of a record; the
+-- parameters and other locals of a procedure together; its statics; and the bytes of the image.
+abbrev pub too_large_of : List Decl → List Proc → Option LinkFault
+too_large_of decls procs =
+    over 16777216 (sum_by size_of procs ∷ [])
+    orelse over 65535 (table_sizes (mentioned decls procs) decls procs)
+    orelse over 65535 (mentioned_by operands_in procs)
+    orelse over 65535 (record_sizes decls)
+    orelse over 65535 (local_counts (globals decls procs) procs)
+    orelse over 65535 (static_counts (globals decls procs) procs)
+    orelse over 1073741824 (length (image_of (joined_of decls procs)) ∷ [])
+
+abbrev pub too_large : List UnitRead → Option LinkFault
+too_large units = too_large_of (all_decls units) (all_procs units)
+
+-- the first rule that units break
+abbrev pub first_fault : List UnitRead → Option LinkFault
+first_fault units = missing units orelse repeated units orelse too_large units
+
+-- A fault is this one, or want of memory.
+abbrev pub IsFault : Option LinkFault → LinkFault → Type 0
+IsFault expected fault = (fault ≡ NoMemory) ⊎ (expected ≡ Some fault)

@@ -1,0 +1,151 @@
+-- What declarations and instructions of units mention.
+use Rattle.std.specs.Prelude.{ℕ, ℤ, List, [], ◌∷◌, ◌++◌, find, Option, if◌then◌else◌, is_some}
+use Rattle.std.specs.List.{flat_map}
+use Rattle.std.specs.Str.{bytes_eq}
+use Rattle.icn_text.specs.Funcs.{func_name}
+use Rattle.icn_text.specs.declared.func.Func.{Func}
+use Rattle.icn_text.specs.declared.func.TheConstants.Func.{ALL as functions}
+use Rattle.icn_unit.specs.declared.unit.NameKind.{NameKind}
+use Rattle.icn_unit.specs.declared.unit.NameKind.TheVariants as Kinds
+use Rattle.icn_unit.specs.declared.unit.UnitInstr.{UnitInstr}
+use Rattle.icn_unit.specs.declared.unit.UnitInstr.TheVariants as Unit
+use Rattle.icn_unit.specs.declared.unit.UnitName.{UnitName}
+use Rattle.icn_unit.specs.PlainUnits.{Proc, Decl, Global, Procedure, Link, Record, proc_names}
+use Rattle.icn_link.specs.Gathering.{with_texts, with_integers}
+
+-- Instructions
+
+-- what an instruction has from a table, or how many operands it takes as it says itself
+pub data Mention : Type 0 where
+  NoMention : Mention
+  AnInteger : ℤ → Mention
+  AText : List ℕ → Mention
+  ASet : List ℕ → Mention
+  AField : List ℕ → Mention
+  Operands : ℕ → Mention
+
+abbrev pub mention_of : UnitInstr → Mention
+mention_of (Unit.Int n) = AnInteger n
+mention_of (Unit.Str bytes) = AText bytes
+mention_of (Unit.Cset members) = ASet members
+mention_of (Unit.Field name) = AField name
+mention_of (Unit.Llist count) = Operands count
+mention_of (Unit.Invoke count) = Operands count
+mention_of _ = NoMention
+
+abbrev pub integer_in : Mention → List ℤ
+integer_in (AnInteger n) = n ∷ []
+integer_in _ = []
+
+abbrev pub text_in : Mention → List (List ℕ)
+text_in (AText bytes) = bytes ∷ []
+text_in _ = []
+
+abbrev pub set_in : Mention → List (List ℕ)
+set_in (ASet members) = members ∷ []
+set_in _ = []
+
+abbrev pub field_in : Mention → List (List ℕ)
+field_in (AField name) = name ∷ []
+field_in _ = []
+
+abbrev pub operands_in : Mention → List ℕ
+operands_in (Operands count) = count ∷ []
+operands_in _ = []
+
+-- what is mentioned by the instructions of a procedure
+abbrev pub mentioned_in : {A : Type 0} → (Mention → List A) → Proc → List A
+mentioned_in mentioned proc = flat_map (λ instr. mentioned (mention_of instr)) proc.instrs
+
+-- and of all
+abbrev pub mentioned_by : {A : Type 0} → (Mention → List A) → List Proc → List A
+mentioned_by mentioned procs = flat_map (mentioned_in mentioned) procs
+
+-- Names
+
+-- the global name that a declaration declares
+abbrev pub global_in : Decl → List (List ℕ)
+global_in (Global name) = name ∷ []
+global_in (Procedure name) = name ∷ []
+global_in (Link text) = []
+global_in (Record name fields) = name ∷ []
+
+abbrev pub fields_in : Decl → List (List ℕ)
+fields_in (Record name fields) = fields
+fields_in (Global name) = []
+fields_in (Procedure name) = []
+fields_in (Link text) = []
+
+abbrev pub record_name_in : Decl → List (List ℕ)
+record_name_in (Record name fields) = name ∷ []
+record_name_in (Global name) = []
+record_name_in (Procedure name) = []
+record_name_in (Link text) = []
+
+abbrev pub record_names : List Decl → List (List ℕ)
+record_names decls = flat_map record_name_in decls
+
+-- the built-in function of a name
+abbrev pub function_named : List ℕ → Option Func
+function_named name = find (λ func. bytes_eq name (func_name func)) functions
+
+-- the name of a function that a procedure uses without declaring it
+abbrev pub function_by : NameKind → List ℕ → List (List ℕ)
+function_by Kinds.Undeclared name = if is_some (function_named name) then name ∷ [] else []
+function_by Kinds.Parameter name = []
+function_by Kinds.Local name = []
+function_by Kinds.Static name = []
+
+abbrev pub function_in : UnitName → List (List ℕ)
+function_in entry = function_by entry.kind entry.name
+
+abbrev pub functions_in : Proc → List (List ℕ)
+functions_in proc = flat_map function_in proc.names
+
+-- The tables
+
+-- what declarations declare global, each name once
+abbrev pub declared : List Decl → List (List ℕ)
+declared decls = with_texts [] (flat_map global_in decls)
+
+-- the globals by their names: what is declared, and then the functions that are used and not declared
+abbrev pub globals : List Decl → List Proc → List (List ℕ)
+globals decls procs = with_texts (declared decls) (flat_map functions_in procs)
+
+-- the fields by their names: those of records first
+abbrev pub fields : List Decl → List Proc → List (List ℕ)
+fields decls procs = with_texts [] (flat_map fields_in decls ++ mentioned_by field_in procs)
+
+-- the strings: the names of fields, records, globals and procedures, and then the literals
+abbrev pub string_mentions : List Decl → List Proc → List (List ℕ)
+string_mentions decls procs = fields decls procs ++ (record_names decls ++ (globals decls procs ++ (proc_names procs
+    ++ mentioned_by text_in procs)))
+
+abbrev pub strings : List Decl → List Proc → List (List ℕ)
+strings decls procs = with_texts [] (string_mentions decls procs)
+
+-- the csets, each by its members in ascending order
+abbrev pub sets : List Proc → List (List ℕ)
+sets procs = with_texts [] (mentioned_by set_in procs)
+
+abbrev pub integers : List Proc → List ℤ
+integers procs = with_integers [] (mentioned_by integer_in procs)
+
+-- all of these
+pub record Mentioned : Type 0 where
+  pub strings : List (List ℕ)
+  pub sets : List (List ℕ)
+  pub integers : List ℤ
+  pub fields : List (List ℕ)
+  pub declared : List (List ℕ)
+  pub globals : List (List ℕ)
+
+abbrev pub mentioned : List Decl → List Proc → Mentioned
+mentioned decls procs = record {
+  strings = strings decls procs;
+  sets = sets procs;
+  integers = integers procs;
+  fields = fields decls procs;
+  declared = declared decls;
+  globals = globals decls procs;
+}

@@ -1,0 +1,82 @@
+-- How contracts see what the linker keeps.
+use Rattle.std.specs.Prelude.{◌≡◌, ◌≤◌, ◌+◌, ℕ, true, List, [], ◌∷◌, length, map, nat_eq, Option, None}
+use Rattle.std.specs.Borrow.{Bor}
+use Rattle.std.specs.List.{list_all, sum_by}
+use Rattle.std.specs.Option.{unwrap_or}
+use Rattle.indexmap.specs.IndexMap.{IndexMap, get, get_by}
+use Rattle.std.specs.Str.{bytes_eq}
+use Rattle.icn_unit.specs.declared.unit.ProcCode.{ProcCode}
+use Rattle.icn_unit.specs.declared.unit.UnitDecl.{UnitDecl}
+use Rattle.icn_unit.specs.declared.unit.UnitInstr.{UnitInstr}
+use Rattle.icn_unit.specs.PlainUnits.{Proc, Decl}
+use Rattle.icn_unit.specs.UnitRules.{keeps_decl, keeps_proc}
+use Rattle.icn_unit.specs.UnitViews.{decl_seen, proc_seen}
+use Rattle.icn_link.specs.declared.gathered.Gathered.{Gathered}
+use Rattle.icn_link.specs.declared.labels.Labels.{Labels}
+use Rattle.icn_link.specs.declared.mention.Mention.{Mention as KeptMention}
+use Rattle.icn_link.specs.declared.mention.Mention.TheVariants as Kept
+use Rattle.icn_link.specs.declared.repeats.Owner.{Owner as KeptOwner}
+use Rattle.icn_link.specs.LinkFaults.{Owner, over, size_of, table_sizes, record_sizes, local_counts, static_counts}
+use Rattle.icn_link.specs.Resolving.{label_place}
+use Rattle.icn_link.specs.Mentions.{Mentioned, mentioned, mentioned_by, operands_in, globals, Mention, NoMention, AnInteger, AText, ASet, AField, Operands}
+
+abbrev pub decls_seen : List (Bor UnitDecl) → List Decl
+decls_seen decls = map (λ decl. decl_seen decl.now) decls
+
+abbrev pub procs_seen : List (Bor ProcCode) → List Proc
+procs_seen procs = map (λ proc. proc_seen proc.now) procs
+
+abbrev pub texts_seen : List (Bor (List ℕ)) → List (List ℕ)
+texts_seen texts = map (λ text. text.now) texts
+
+abbrev pub mention_seen : KeptMention → Mention
+mention_seen Kept.Nothing = NoMention
+mention_seen (Kept.Integer n) = AnInteger n
+mention_seen (Kept.Text bytes) = AText bytes.now
+mention_seen (Kept.Set members) = ASet members.now
+mention_seen (Kept.Field name) = AField name.now
+mention_seen (Kept.Operands count) = Operands count
+
+abbrev pub owner_seen : KeptOwner → Owner
+owner_seen owner = record { name = owner.name.now; place = owner.place }
+
+abbrev pub gathered_seen : Gathered → Mentioned
+gathered_seen tables = record {
+  strings = texts_seen tables.strings.keys;
+  sets = texts_seen tables.sets.keys;
+  integers = tables.integers.keys;
+  fields = texts_seen tables.fields.keys;
+  declared = texts_seen tables.declared.keys;
+  globals = texts_seen tables.globals.keys;
+}
+
+-- what a map has for each name
+abbrev pub places_in : {X S : Type 0} → IndexMap (Bor (List ℕ)) X S → List ℕ → Option X
+places_in places name = get_by (λ key. bytes_eq name key.now) places
+
+-- the address of a label
+abbrev pub place_in : Labels → ℕ → ℕ
+place_in labels label = unwrap_or (get nat_eq labels.places label) labels.end
+
+-- the same, where these instructions are still to come
+abbrev pub place_from : Labels → ℕ → List UnitInstr → ℕ
+place_from labels label rest = unwrap_or (get nat_eq labels.places label) (labels.end + label_place label rest)
+
+-- Each place in a table has 16 bits.
+pub record AreFew (tables : Mentioned) : Type 0 where
+  pub strings : length tables.strings ≤ 65535
+  pub sets : length tables.sets ≤ 65535
+  pub integers : length tables.integers ≤ 65535
+  pub fields : length tables.fields ≤ 65535
+  pub globals : length tables.globals ≤ 65535
+
+-- Declarations and procedures that keep the rules of units, and are not too large but for the bytes of the image.
+pub record Joinable (decls : List Decl) (procs : List Proc) : Type 0 where
+  pub kept_decls : list_all keeps_decl decls ≡ true
+  pub kept_procs : list_all keeps_proc procs ≡ true
+  pub instrs : over 16777216 (sum_by size_of procs ∷ []) ≡ None
+  pub tables : over 65535 (table_sizes (mentioned decls procs) decls procs) ≡ None
+  pub operands : over 65535 (mentioned_by operands_in procs) ≡ None
+  pub records : over 65535 (record_sizes decls) ≡ None
+  pub locals : over 65535 (local_counts (globals decls procs) procs) ≡ None
+  pub statics : over 65535 (static_counts (globals decls procs) procs) ≡ None

@@ -1,0 +1,107 @@
+// The addresses of labels.
+ghost use Rattle.std.specs.Prelude.{◌≡◌, ◌∷◌, ℕ, List, IfOk, OnOk};
+ghost use Rattle.icn_unit.specs.declared.unit.UnitInstr.{UnitInstr};
+ghost use Rattle.icn_unit.specs.UnitRules.{place_of};
+ghost use Rattle.icn_link.specs.Resolving.{label_place};
+ghost use Rattle.icn_link.specs.Views.{place_from, place_in};
+
+use crate::numbers::next_place;
+use icn_unit::UnitInstr;
+use indexmap::IndexMap;
+use std::alloc::{AllocError, Global};
+
+/// The address of each label of a procedure: how many instructions stand before its place.
+#[derive(Drop)]
+pub struct Labels {
+    pub places: IndexMap<u32, u32>,
+    // how many instructions there are
+    pub end: u32,
+}
+
+/// The addresses of the labels among instructions.
+pub fn labels_of(alloc: Global, instrs: &[UnitInstr]) -> Result<Labels, AllocError>
+    ensures { IfOk result (λ labels. (label : ℕ) → place_in labels label ≡ label_place label instrs.now) }
+{
+    let mut labels = Labels {
+        places: IndexMap::new(alloc),
+        end: 0,
+    };
+    for instr in instrs {
+        pass(&mut labels, instr)?;
+    }
+    Ok(labels)
+}
+
+// Goes on over an instruction. A label has its first place.
+fn pass(labels: &mut Labels, instr: &UnitInstr) -> Result<(), AllocError>
+    ensures { OnOk result ((label : ℕ) (rest : List UnitInstr) →
+        place_from labels.new label rest ≡ place_from labels.old label (instr.now ∷ rest)) }
+{
+    match place_of(instr) {
+        Some(label) => {
+            if labels.places.contains_key(&label) {
+                return Ok(());
+            }
+            labels.places.insert(label, labels.end)?;
+            Ok(())
+        }
+        None => {
+            labels.end = next_place(labels.end)?;
+            Ok(())
+        }
+    }
+}
+
+/// The label that has its place there.
+pub fn place_of(instr: &UnitInstr) -> Option<u32>
+    ensures { result ≡ place_of instr.now }
+{
+    match instr {
+        UnitInstr::Lab(label) => Some(*label),
+        UnitInstr::Pnull
+        | UnitInstr::Int(_)
+        | UnitInstr::Str(_)
+        | UnitInstr::Cset(_)
+        | UnitInstr::Var(_)
+        | UnitInstr::Keywd(_)
+        | UnitInstr::Pop
+        | UnitInstr::Dup
+        | UnitInstr::Op(_)
+        | UnitInstr::Llist(_)
+        | UnitInstr::Field(_)
+        | UnitInstr::Invoke(_)
+        | UnitInstr::Appl
+        | UnitInstr::Mark(_)
+        | UnitInstr::Mark0
+        | UnitInstr::Unmark
+        | UnitInstr::Eret
+        | UnitInstr::Esusp
+        | UnitInstr::Limit
+        | UnitInstr::Lsusp
+        | UnitInstr::Efail
+        | UnitInstr::Chfail(_)
+        | UnitInstr::Goto(_)
+        | UnitInstr::Loop(_)
+        | UnitInstr::Bscan
+        | UnitInstr::Escan
+        | UnitInstr::Ccase
+        | UnitInstr::Init(_)
+        | UnitInstr::Psusp
+        | UnitInstr::Pret
+        | UnitInstr::Pfail
+        | UnitInstr::Create(_)
+        | UnitInstr::Coact
+        | UnitInstr::Coret
+        | UnitInstr::Cofail => None,
+    }
+}
+
+/// The address of a label.
+pub fn place_in(labels: &Labels, label: u32) -> u32
+    ensures { result ≡ place_in labels.now label }
+{
+    match labels.places.get(&label) {
+        Some(place) => *place,
+        None => labels.end,
+    }
+}
