@@ -11,7 +11,7 @@ use Rattle.icn_value.specs.declared.val.Val.TheVariants.{Null}
 use Rattle.icn_defs.specs.Numbers.{func_of}
 use Rattle.icn_code.specs.Codes.{Proc, RecordType, Tables}
 use Rattle.icn_run.specs.Step.{IsProc, IsRecord, callee_among, callee_of, func_callee, record_among}
-use Rattle.icn_calls.specs.Calling.{IsCallee, fitted}
+use Rattle.icn_calls.specs.Calling.{IsCallee, values_for}
 use Rattle.icn_calls.specs.declared.callees.Callee.TheVariants as Callees
 
 -- Callees
@@ -91,8 +91,8 @@ take_more (suc n) (suc k) [] p = ap (λ (r : List Val). Null ∷ r) (take_more n
 take_more (suc n) k (x ∷ xs) p = ap (λ (r : List Val). x ∷ r) (take_more n k xs (omega arith))
 
 -- one null more behind them changes nothing
-pub fitted_more : (n : ℕ) (xs : List Val) → fitted n (xs ++ Null ∷ []) ≡ fitted n xs
-fitted_more n xs =
+pub values_for_more : (n : ℕ) (xs : List Val) → values_for n (xs ++ Null ∷ []) ≡ values_for n xs
+values_for_more n xs =
     let one : (xs ++ Null ∷ []) ++ replicate n Null ≡ xs ++ replicate (suc n) Null = simp append_assoc in
     ap (take n) one ∙ take_more n n xs (omega arith)
 
@@ -100,16 +100,16 @@ take_whole : (xs ys : List Val) → take (length xs) (xs ++ ys) ≡ xs
 take_whole [] ys = refl
 take_whole (x ∷ xs) ys = ap (λ (r : List Val). x ∷ r) (take_whole xs ys)
 
-pub fitted_whole : (n : ℕ) (xs : List Val) → length xs ≡ n → fitted n xs ≡ xs
-fitted_whole n xs e = ap (λ (k : ℕ). take k (xs ++ replicate n Null)) (sym e) ∙ take_whole xs (replicate n Null)
+pub values_for_whole : (n : ℕ) (xs : List Val) → length xs ≡ n → values_for n xs ≡ xs
+values_for_whole n xs e = ap (λ (k : ℕ). take k (xs ++ replicate n Null)) (sym e) ∙ take_whole xs (replicate n Null)
 
 take_taken : (n k : ℕ) (xs : List Val) → n ≤ k → take n (take n xs ++ replicate k Null) ≡ take n (xs ++ replicate k Null)
 take_taken zero k xs p = refl
 take_taken (suc n) k [] p = refl
 take_taken (suc n) k (x ∷ xs) p = ap (λ (r : List Val). x ∷ r) (take_taken n k xs (omega arith))
 
-pub fitted_cut : (n : ℕ) (xs : List Val) → fitted n (take n xs) ≡ fitted n xs
-fitted_cut n xs = take_taken n n xs (omega arith)
+pub values_for_cut : (n : ℕ) (xs : List Val) → values_for n (take n xs) ≡ values_for n xs
+values_for_cut n xs = take_taken n n xs (omega arith)
 
 pub cut_short : (n : ℕ) (xs : List Val) → length (take n xs) ≤ n
 cut_short zero xs = omega arith

@@ -27,7 +27,7 @@ use Rattle.icn_control.specs.Standing.{stack_in}
 use Rattle.icn_control.specs.Taking.{MakesValue}
 use Rattle.icn_control.proofs.GrowthSteps.{values_same}
 use Rattle.icn_control.proofs.PartSteps.{same_world}
-use Rattle.icn_calls.specs.Calling.{fitted, collected_in}
+use Rattle.icn_calls.specs.Calling.{values_for, with_parameters_in}
 
 -- Values for places
 
@@ -37,8 +37,8 @@ map_fill all (suc n) zero [] = refl
 map_fill all (suc n) (suc k) [] = ap (λ (r : List Value). NullValue ∷ r) (map_fill all n k [])
 map_fill all (suc n) k (x ∷ xs) = ap (λ (r : List Value). value_in all x ∷ r) (map_fill all n k xs)
 
-pub map_fitted : (all : Extent) (n : ℕ) (xs : List Val) → map (value_in all) (fitted n xs) ≡ filled n (map (value_in all) xs)
-map_fitted all n xs = map_fill all n n xs
+pub map_values_for : (all : Extent) (n : ℕ) (xs : List Val) → map (value_in all) (values_for n xs) ≡ filled n (map (value_in all) xs)
+map_values_for all n xs = map_fill all n n xs
 
 map_drop : (all : Extent) (n : ℕ) (xs : List Val) → map (value_in all) (drop n xs) ≡ drop n (map (value_in all) xs)
 map_drop all zero xs = refl
@@ -51,8 +51,8 @@ length_fill (suc n) zero [] p = absurd (omega arith)
 length_fill (suc n) (suc k) [] p = ap (λ (m : ℕ). suc m) (length_fill n k [] (omega arith))
 length_fill (suc n) k (x ∷ xs) p = ap (λ (m : ℕ). suc m) (length_fill n k xs (omega arith))
 
-pub length_fitted : (n : ℕ) (xs : List Val) → length (fitted n xs) ≡ n
-length_fitted n xs = length_fill n n xs (omega arith)
+pub length_values_for : (n : ℕ) (xs : List Val) → length (values_for n xs) ≡ n
+length_values_for n xs = length_fill n n xs (omega arith)
 
 null_live : (all : Extent) → IsLive all Null
 null_live all = record { live = tt }
@@ -63,8 +63,8 @@ live_fill all (suc n) zero [] a = All-nil (IsLive all)
 live_fill all (suc n) (suc k) [] a = All-cons (IsLive all) Null (take n (replicate k Null)) (null_live all) (live_fill all n k [] a)
 live_fill all (suc n) k (x ∷ xs) a = All-cons (IsLive all) x (take n (xs ++ replicate k Null)) (All-head (IsLive all) x xs a) (live_fill all n k xs (All-tail (IsLive all) x xs a))
 
-pub live_fitted : (all : Extent) (n : ℕ) (xs : List Val) → All (IsLive all) xs → All (IsLive all) (fitted n xs)
-live_fitted all n xs a = live_fill all n n xs a
+pub live_values_for : (all : Extent) (n : ℕ) (xs : List Val) → All (IsLive all) xs → All (IsLive all) (values_for n xs)
+live_values_for all n xs a = live_fill all n n xs a
 
 pub live_drop : (all : Extent) (n : ℕ) (xs : List Val) → All (IsLive all) xs → All (IsLive all) (drop n xs)
 live_drop all zero xs a = a
@@ -73,15 +73,15 @@ live_drop all (suc n) (x ∷ xs) a = live_drop all n xs (All-tail (IsLive all) x
 
 -- Parameters
 
-pub plain : (w : World) (m : FlatStack) (count : ℕ) (vals parameters : List Val) → parameters ≡ fitted count vals → (st : Store Frames) (next : List Value → Frames → Store Frames → State Frames Frames) → st.world ≡ world_of w
-    → collected_in false count w m vals st next ≡ next (map (value_in (extent_of w.heap)) parameters) (stack_in (extent_of w.heap) m) (with_world (world_of w) st)
+pub plain : (w : World) (m : FlatStack) (count : ℕ) (vals parameters : List Val) → parameters ≡ values_for count vals → (st : Store Frames) (next : List Value → Frames → Store Frames → State Frames Frames) → st.world ≡ world_of w
+    → with_parameters_in false count w m vals st next ≡ next (map (value_in (extent_of w.heap)) parameters) (stack_in (extent_of w.heap) m) (with_world (world_of w) st)
 plain w m count vals parameters e st next same =
-    ap (λ (xs : List Value). next xs (stack_in (extent_of w.heap) m) st) (sym (ap (map (value_in (extent_of w.heap))) e ∙ map_fitted (extent_of w.heap) count vals))
+    ap (λ (xs : List Value). next xs (stack_in (extent_of w.heap) m) st) (sym (ap (map (value_in (extent_of w.heap))) e ∙ map_values_for (extent_of w.heap) count vals))
     ∙ ap (next (map (value_in (extent_of w.heap)) parameters) (stack_in (extent_of w.heap) m)) (same_world w st same)
 
-pub collects : (w v : World) (m : FlatStack) (count : ℕ) (vals cut parameters : List Val) (list : Val) → MakesValue (list_row (map (value_in (extent_of w.heap)) (drop (count - 1) vals))) w m v (Ok list) → cut ≡ fitted (count - 1) vals
+pub collects : (w v : World) (m : FlatStack) (count : ℕ) (vals cut parameters : List Val) (list : Val) → MakesValue (list_row (map (value_in (extent_of w.heap)) (drop (count - 1) vals))) w m v (Ok list) → cut ≡ values_for (count - 1) vals
     → parameters ≡ cut ++ list ∷ [] → Keeps (extent_of w.heap) (extent_of v.heap) → All (IsLive (extent_of w.heap)) vals → (st : Store Frames) (next : List Value → Frames → Store Frames → State Frames Frames) → st.world ≡ world_of w
-    → collected_in true count w m vals st next ≡ next (map (value_in (extent_of v.heap)) parameters) (stack_in (extent_of v.heap) m) (with_world (world_of v) st)
+    → with_parameters_in true count w m vals st next ≡ next (map (value_in (extent_of v.heap)) parameters) (stack_in (extent_of v.heap) m) (with_world (world_of v) st)
 collects w v m count vals cut parameters list made_so c p k a st next same =
     let all : Extent = extent_of w.heap in
     let new : Extent = extent_of v.heap in
@@ -89,22 +89,22 @@ collects w v m count vals cut parameters list made_so c p k a st next same =
     let is : map (value_in new) parameters ≡ filled (count - 1) (map (value_in all) vals) ++ value_in new list ∷ []
     = ap (map (value_in new)) p ∙ map-append (value_in new) cut (list ∷ [])
     ∙ ap (λ (xs : List Val). map (value_in new) xs ++ value_in new list ∷ []) c
-    ∙ ap (λ (xs : List Value). xs ++ value_in new list ∷ []) (map_fitted new (count - 1) vals)
+    ∙ ap (λ (xs : List Value). xs ++ value_in new list ∷ []) (map_values_for new (count - 1) vals)
     ∙ ap (λ (xs : List Value). filled (count - 1) xs ++ value_in new list ∷ []) (values_same all new k vals a) in
     ap (λ (xs : List Value). list_made flat xs (stack_in all m) st behind) (sym (map_drop all (count - 1) vals))
     ∙ made_so st behind same
     ∙ ap (λ (xs : List Value). next xs (stack_in new m) (with_world (world_of v) st)) (sym is)
 
 pub collects_not : (w v : World) (m : FlatStack) (count : ℕ) (vals : List Val) (stop : Stop) → MakesValue (list_row (map (value_in (extent_of w.heap)) (drop (count - 1) vals))) w m v (Err stop)
-    → (st : Store Frames) (next : List Value → Frames → Store Frames → State Frames Frames) → st.world ≡ world_of w → HaltsWith (collected_in true count w m vals st next) st v (halt_of stop)
+    → (st : Store Frames) (next : List Value → Frames → Store Frames → State Frames Frames) → st.world ≡ world_of w → HaltsWith (with_parameters_in true count w m vals st next) st v (halt_of stop)
 collects_not w v m count vals stop made_so st next same =
     let all : Extent = extent_of w.heap in
     let behind : Value → Frames → Store Frames → State Frames Frames = λ rest x s. next (filled (count - 1) (map (value_in all) vals) ++ rest ∷ []) x s in
     subst (λ (x : State Frames Frames). HaltsWith x st v (halt_of stop)) (ap (λ (xs : List Value). list_made flat xs (stack_in all m) st behind) (map_drop all (count - 1) vals)) (made_so st behind same)
 
-pub plain_result : (b : Bool) (w : World) (m : FlatStack) (count : ℕ) (vals parameters : List Val) → b ≡ false → parameters ≡ fitted count vals → (st : Store Frames) (next : List Value → Frames → Store Frames → State Frames Frames) → st.world ≡ world_of w
-    → collected_in b count w m vals st next ≡ next (map (value_in (extent_of w.heap)) parameters) (stack_in (extent_of w.heap) m) (with_world (world_of w) st)
-plain_result b w m count vals parameters e p st next same = ap (λ (x : Bool). collected_in x count w m vals st next) e ∙ plain w m count vals parameters p st next same
+pub plain_result : (b : Bool) (w : World) (m : FlatStack) (count : ℕ) (vals parameters : List Val) → b ≡ false → parameters ≡ values_for count vals → (st : Store Frames) (next : List Value → Frames → Store Frames → State Frames Frames) → st.world ≡ world_of w
+    → with_parameters_in b count w m vals st next ≡ next (map (value_in (extent_of w.heap)) parameters) (stack_in (extent_of w.heap) m) (with_world (world_of w) st)
+plain_result b w m count vals parameters e p st next same = ap (λ (x : Bool). with_parameters_in x count w m vals st next) e ∙ plain w m count vals parameters p st next same
 
 -- Calls
 
@@ -127,7 +127,7 @@ called_deep w m number entry vals e st same = called_by w m number entry vals fa
 
 pub called_runs : (w v : World) (m k n : FlatStack) (number : ℕ) (entry : Proc) (vals parameters : List Val) → nat_le (suc (held.level m)) (heap_of w.heap).bounds.levels ≡ true
     → ((st : Store Frames) (next : List Value → Frames → Store Frames → State Frames Frames) → st.world ≡ world_of w
-    → collected_in entry.collects entry.parameters w m vals st next ≡ next (map (value_in (extent_of v.heap)) parameters) (stack_in (extent_of v.heap) m) (with_world (world_of v) st))
+    → with_parameters_in entry.collects entry.parameters w m vals st next ≡ next (map (value_in (extent_of v.heap)) parameters) (stack_in (extent_of v.heap) m) (with_world (world_of v) st))
     → k ≡ m → n ≡ held.enter number (parameters ++ replicate entry.locals Null) 0 k → (st : Store Frames) → st.world ≡ world_of w
     → called flat number entry (map (value_in (extent_of w.heap)) vals) (stack_in (extent_of w.heap) m) st ≡ running (stack_in (extent_of v.heap) n) (with_world (world_of v) st)
 called_runs w v m k n number entry vals parameters b f e p st same =
@@ -143,7 +143,7 @@ called_runs w v m k n number entry vals parameters b f e p st same =
     ∙ ap (λ (x : FlatStack). running (stack_in new x) (with_world (world_of v) st)) (sym p)
 
 pub called_halts : (w v : World) (m : FlatStack) (number : ℕ) (entry : Proc) (vals : List Val) (stop : Stop) → nat_le (suc (held.level m)) (heap_of w.heap).bounds.levels ≡ true
-    → ((st : Store Frames) (next : List Value → Frames → Store Frames → State Frames Frames) → st.world ≡ world_of w → HaltsWith (collected_in entry.collects entry.parameters w m vals st next) st v (halt_of stop)) → (st : Store Frames) → st.world ≡ world_of w
+    → ((st : Store Frames) (next : List Value → Frames → Store Frames → State Frames Frames) → st.world ≡ world_of w → HaltsWith (with_parameters_in entry.collects entry.parameters w m vals st next) st v (halt_of stop)) → (st : Store Frames) → st.world ≡ world_of w
     → HaltsWith (called flat number entry (map (value_in (extent_of w.heap)) vals) (stack_in (extent_of w.heap) m) st) st v (halt_of stop)
 called_halts w v m number entry vals stop b f st same =
     subst (λ (x : State Frames Frames). HaltsWith x st v (halt_of stop)) (sym (called_by w m number entry vals true b st same)) (f st (λ ps a s. entered flat number entry ps a s) same)

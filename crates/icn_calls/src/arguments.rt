@@ -1,7 +1,7 @@
 // Arguments for places.
 ghost use Rattle.std.specs.Prelude.{◌≡◌, ◌++◌, OnOk, length, replicate};
 ghost use Rattle.icn_value.specs.declared.val.Val.TheVariants.{Null};
-ghost use Rattle.icn_calls.specs.Calling.{fitted};
+ghost use Rattle.icn_calls.specs.Calling.{values_for};
 
 use icn_value::Val;
 use std::alloc::AllocError;
@@ -15,7 +15,7 @@ fn length_of(vals: &[Val]) -> usize
 
 /// Cuts values for so many places, or puts nulls behind them. The error is want of memory.
 pub fn fit(vals: &mut Vec<Val>, count: usize) -> Result<(), AllocError>
-    ensures { OnOk result (vals.new.items ≡ fitted count vals.old.items) }
+    ensures { OnOk result (vals.new.items ≡ values_for count vals.old.items) }
 {
     vals.truncate(count);
     while length_of(vals) < count {

@@ -1,11 +1,17 @@
 // What is called by a number.
-ghost use Rattle.std.specs.Prelude.{◌≡◌, ◌+◌, ◌<◌, ◌^◌, length};
+ghost use Rattle.std.specs.Prelude.{◌≡◌, ◌+◌, List, length, IfSome};
+ghost use Rattle.icn_defs.specs.Numbers.{func_of};
+ghost use Rattle.icn_heap.specs.Extents.{Extent, value_in};
+ghost use Rattle.icn_run.specs.Rows.{Function, Item, apply};
+ghost use Rattle.icn_run.specs.Stacks.{Frames, flat as calls};
+ghost use Rattle.icn_run.specs.Step.{Store, here, invoked, outcome};
 ghost use Rattle.icn_code.specs.Seen.{tables_of};
-ghost use Rattle.icn_calls.specs.Calling.{IsCallee};
+ghost use Rattle.icn_calls.specs.Calling.{IsCallee, function_in};
 
 use icn_code::Code;
 use icn_defs::func_numbered;
 use icn_text::Func;
+use icn_value::Val;
 
 /// What is called by a number. Procedures are numbered before constructors, and these before functions.
 #[derive(Clone, Copy, Debug, PartialEq, Eq)]
@@ -34,9 +40,18 @@ fn record_count(code: &Code) -> usize
     code.records.as_slice().len()
 }
 
-/// What a number names in a code, where it is not the greatest of 32 bits. It takes no memory.
+// The function of a number, where the first one has the number 0.
+fn function_at(place: u32) -> Option<Func>
+    ensures { result ≡ func_of (place + 1) }
+{
+    match place.checked_add(1) {
+        Some(number) => func_numbered(number),
+        None => None,
+    }
+}
+
+/// What a number names in a code. It takes no memory.
 pub fn callee_of(code: &Code, number: u32) -> Callee
-    requires { number + 1 < 2 ^ 32 }
     ensures { IsCallee (tables_of code.now) number result }
 {
     let place = number as usize;
@@ -48,8 +63,24 @@ pub fn callee_of(code: &Code, number: u32) -> Callee
     if place - procs < records {
         return Callee::Rec((place - procs) as u32);
     }
-    match func_numbered((place - procs - records + 1) as u32) {
+    match function_at((place - procs - records) as u32) {
         Some(func) => Callee::Func(func),
         None => Callee::Nothing,
+    }
+}
+
+/// The built-in function that a value names, where it names one. It takes no memory.
+pub fn function_of(code: &Code, callee: Val) -> Option<Func>
+    ensures function { result ≡ function_in (tables_of code.now) callee }
+    ensures invoked { IfSome result (λ func. (all : Extent) (items : List Item) (m : Frames) (st : Store Frames) → invoked calls (tables_of code.now) (value_in all callee) items m st ≡ outcome calls (apply st.names (Function func) items (here calls m st)) m st) }
+{
+    let Val::Proc(number) = callee else {
+        return None;
+    };
+    match callee_of(code, number) {
+        Callee::Func(func) => Some(func),
+        Callee::Proc => None,
+        Callee::Rec(_) => None,
+        Callee::Nothing => None,
     }
 }

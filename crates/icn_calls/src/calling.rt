@@ -128,7 +128,6 @@ pub fn call_procedure<K: Stack<Cell> + Drop>(
     vals: &mut Vec<Val>,
 ) -> Result<(), Halt>
     requires there { number < length (tables_of code.now).procs }
-    requires collects { (entry : Proc) → slice_get (tables_of code.now).procs number ≡ Some entry → entry.collects ≡ true → 0 < entry.parameters }
     requires bounds { (heap_of world.old.heap).bounds ≡ limits_of limits.now }
     requires stack { (tables : Tables) × IsLiveStack tables (reach_of world.old []) frames.old.flat }
     requires vals { All (IsLive (extent_of world.old.heap)) vals.old.items }

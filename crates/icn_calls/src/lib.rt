@@ -1,10 +1,14 @@
-//! What is called: procedures with their arguments, constructors and functions.
+//! What is called: procedures with their arguments, constructors, and integers, which choose an argument.
 #![tactic(auto)]
 
 mod arguments;
 mod callees;
 mod calling;
+mod constructors;
+mod integers;
 
 pub use arguments::{add_nulls, fit};
-pub use callees::{Callee, callee_of};
+pub use callees::{Callee, callee_of, function_of};
 pub use calling::{call_procedure, take_parameters};
+pub use constructors::{construct, record_of};
+pub use integers::{call_integer, chosen, number_of};

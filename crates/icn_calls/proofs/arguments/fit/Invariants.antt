@@ -1,10 +1,10 @@
 use Rattle.std.proofs.Common.{◌≡◌, ◌-◌, ◌≤◌, length}
-use Rattle.icn_calls.specs.Calling.{fitted}
+use Rattle.icn_calls.specs.Calling.{values_for}
 use Rattle.icn_calls.proofs.arguments.fit.Given as goal
 
 abbrev pub invariant-loop-vals : goal.invariant-loop-vals
 invariant-loop-vals l = record {
-  is : fitted l.count l.vals.items ≡ fitted l.count l.initial.vals.items;
+  is : values_for l.count l.vals.items ≡ values_for l.count l.initial.vals.items;
   few : length l.vals.items ≤ l.count;
 }
 

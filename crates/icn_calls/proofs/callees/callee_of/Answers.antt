@@ -27,7 +27,7 @@ returns-in-Some c =
     = subst (λ (k : ℕ). length tables.records ≤ n - k) c.proc_count-procs.ensures (subst (λ (k : ℕ). k ≤ n - c.proc_count-procs.result) c.record_count-records.ensures c.if-place-procs-2.false) in
     let func : Option Func = Some c.in-Some.func in
     let is : func ≡ func_of (n - length tables.procs - length tables.records + 1)
-    = sym c.in-Some.is ∙ c.func_numbered.ensures ∙ ap (λ (k : ℕ). func_of (n - k - c.record_count-records.result + 1)) c.proc_count-procs.ensures ∙ ap (λ (k : ℕ). func_of (n - length tables.procs - k + 1)) c.record_count-records.ensures in
+    = sym c.in-Some.is ∙ c.function_at.ensures ∙ ap (λ (k : ℕ). func_of (n - k - c.record_count-records.result + 1)) c.proc_count-procs.ensures ∙ ap (λ (k : ℕ). func_of (n - length tables.procs - k + 1)) c.record_count-records.ensures in
     at_func tables n func past past_both is
 
 pub returns-in-None : goal.returns-in-None
@@ -39,5 +39,5 @@ returns-in-None c =
     = subst (λ (k : ℕ). length tables.records ≤ n - k) c.proc_count-procs.ensures (subst (λ (k : ℕ). k ≤ n - c.proc_count-procs.result) c.record_count-records.ensures c.if-place-procs-2.false) in
     let func : Option Func = None in
     let is : func ≡ func_of (n - length tables.procs - length tables.records + 1)
-    = sym c.in-None.is ∙ c.func_numbered.ensures ∙ ap (λ (k : ℕ). func_of (n - k - c.record_count-records.result + 1)) c.proc_count-procs.ensures ∙ ap (λ (k : ℕ). func_of (n - length tables.procs - k + 1)) c.record_count-records.ensures in
+    = sym c.in-None.is ∙ c.function_at.ensures ∙ ap (λ (k : ℕ). func_of (n - k - c.record_count-records.result + 1)) c.proc_count-procs.ensures ∙ ap (λ (k : ℕ). func_of (n - length tables.procs - k + 1)) c.record_count-records.ensures in
     at_func tables n func past past_both is

@@ -21,11 +21,13 @@ use Rattle.icn_control.proofs.LiveFrames.{live_enter}
 use Rattle.icn_control.proofs.PartSteps.{at_halt}
 use Rattle.icn_calls.proofs.CallSteps.{entry_at, may_call}
 use Rattle.icn_calls.proofs.ParameterSteps.{called_halts, called_runs, length_with_nulls, live_with_nulls}
+use Rattle.icn_calls.proofs.RuleSteps.{collects_one}
 use Rattle.icn_calls.proofs.calling.call_procedure.Goals as goal
 
 pub take_parameters-requires-clause-count : goal.take_parameters-requires-clause-count
 take_parameters-requires-clause-count g c q =
-    c.requires.collects (proc_of c.index-entry.result.now) (entry_at proc_of c.args.code.now.procs.items c.args.number c.index-entry.result.now c.requires.there c.index-entry.ensures) q
+    collects_one (tables_of c.args.code.now) c.args.number (proc_of c.index-entry.result.now) c.args.code.now.rules
+    (entry_at proc_of c.args.code.now.procs.items c.args.number c.index-entry.result.now c.requires.there c.index-entry.ensures) q
 
 pub returns-in_err-take_parameters-clause-step : goal.returns-in_err-take_parameters-clause-step
 returns-in_err-take_parameters-clause-step g c entry at st same =

@@ -9,7 +9,7 @@ use Rattle.icn_vars.specs.declared.stop.Stop.TheVariants.{NoMemory}
 use Rattle.icn_vars.proofs.Growing.{locals_grow}
 use Rattle.icn_control.specs.Taking.{MakesValue}
 use Rattle.icn_control.proofs.OpenSteps.{at_stop}
-use Rattle.icn_calls.proofs.ParameterSteps.{collects, collects_not, length_fitted, live_drop, live_fitted}
+use Rattle.icn_calls.proofs.ParameterSteps.{collects, collects_not, length_values_for, live_drop, live_values_for}
 use Rattle.icn_calls.proofs.calling.collect.Goals as goal
 
 pub list_of-requires-clause-vals : goal.list_of-requires-clause-vals
@@ -37,11 +37,11 @@ returns-clause-live g c =
     let new = extent_of c.list_of.new.world.heap in
     let grown = locals_grow old new c.args.vals.now.items c.list_of.ensures.kept.extent c.requires.vals in
     All-same (IsLive new) _ _ c.in_ok-add.ensures
-    (All-push (IsLive new) _ _ (All-same (IsLive new) _ _ c.in_ok-fit.ensures (live_fitted new (c.args.count - 1) c.args.vals.now.items grown)) c.in_ok-list.ensures.live)
+    (All-push (IsLive new) _ _ (All-same (IsLive new) _ _ c.in_ok-fit.ensures (live_values_for new (c.args.count - 1) c.args.vals.now.items grown)) c.in_ok-list.ensures.live)
 
 pub returns-clause-count : goal.returns-clause-count
 returns-clause-count g c =
-    let cut : length c.fit.new.vals.items ≡ c.args.count - 1 = ap length c.in_ok-fit.ensures ∙ length_fitted (c.args.count - 1) c.args.vals.now.items in
+    let cut : length c.fit.new.vals.items ≡ c.args.count - 1 = ap length c.in_ok-fit.ensures ∙ length_values_for (c.args.count - 1) c.args.vals.now.items in
     let all : length c.add.new.vals.items ≡ length c.fit.new.vals.items + 1 = ap length c.in_ok-add.ensures ∙ length-append c.fit.new.vals.items (c.in_ok-list.list ∷ []) in
     omega (arith, cut, all, c.requires.count)
 

@@ -7,7 +7,7 @@ use Rattle.icn_vars.specs.Worlds.{reach_of}
 use Rattle.icn_vars.proofs.KeptItems.{items_all}
 use Rattle.icn_control.proofs.OpenSteps.{at_stop}
 use Rattle.icn_calls.specs.Calling.{FindsParameters}
-use Rattle.icn_calls.proofs.ParameterSteps.{length_fitted, live_fitted, plain_result}
+use Rattle.icn_calls.proofs.ParameterSteps.{length_values_for, live_values_for, plain_result}
 use Rattle.icn_calls.proofs.calling.take_parameters.Goals as goal
 
 pub returns-then-collects-clause-step : goal.returns-then-collects-clause-step
@@ -23,10 +23,10 @@ returns-in_err-fit-clause-kept g c = items_all (reach_of c.args.world.now [])
 pub returns-clause-live : goal.returns-clause-live
 returns-clause-live g c =
     let all = extent_of c.args.world.now.heap in
-    All-same (IsLive all) _ _ c.in_ok-fit.ensures (live_fitted all c.args.count c.args.vals.now.items c.requires.vals)
+    All-same (IsLive all) _ _ c.in_ok-fit.ensures (live_values_for all c.args.count c.args.vals.now.items c.requires.vals)
 
 pub returns-clause-count : goal.returns-clause-count
-returns-clause-count g c = ap length c.in_ok-fit.ensures ∙ length_fitted c.args.count c.args.vals.now.items
+returns-clause-count g c = ap length c.in_ok-fit.ensures ∙ length_values_for c.args.count c.args.vals.now.items
 
 pub returns-clause-kept : goal.returns-clause-kept
 returns-clause-kept g c = items_all (reach_of c.args.world.now [])

@@ -1,0 +1,168 @@
+-- Records that are made of arguments, and fields of records.
+use Rattle.std.proofs.Common.{◌≡◌, ℕ, ◌<◌, List, [], ◌∷◌, map, length, slice_get, Option, Some, None, Result, Ok, Err, OnOk, refl, sym, ap, ◌∙◌, subst, arith}
+use Rattle.std.specs.Prelude.{slice_index, get_or}
+use Rattle.std.specs.Option.{option_map, option_map_or}
+use Rattle.std.proofs.lemmas.List.{length-map}
+use Rattle.std.proofs.lemmas.Option.{get_or_from_slice_get, slice_get-get_or, slice_get-map, unwrap_or-slice_get}
+use Rattle.icn_value.specs.declared.val.Val.{Val}
+use Rattle.icn_value.specs.declared.val.Val.TheVariants as Vals
+use Rattle.icn_value.specs.declared.item.Item.{Item}
+use Rattle.icn_value.specs.declared.item.Item.TheVariants.{Val as HeldVal, Var as HeldVar}
+use Rattle.icn_value.specs.declared.item.VarRef.TheVariants.{Whole as HeldWhole}
+use Rattle.icn_value.specs.declared.item.Root.TheVariants.{Field as HeldField}
+use Rattle.icn_value.specs.Store.{Record, World as StoreWorld, record_at}
+use Rattle.icn_value.specs.Values.{Value}
+use Rattle.icn_defs.specs.StepRows.{record_row}
+use Rattle.icn_heap.specs.Extents.{Extent, IsLive, value_in}
+use Rattle.icn_heap.specs.declared.heap.Heap.{Heap as HeldHeap}
+use Rattle.icn_heap.specs.Heaps.{extent_of, heap_of}
+use Rattle.icn_vars.specs.declared.stop.Stop.{Stop}
+use Rattle.icn_vars.specs.declared.world.World.{World}
+use Rattle.icn_vars.specs.Stops.{halt_of}
+use Rattle.icn_args.specs.Words.{Found}
+use Rattle.icn_defs.specs.Rows.{gives_value}
+use Rattle.icn_defs.specs.Structures.{new_record_of}
+use Rattle.icn_value.specs.Store.{Outside, outside_of}
+use Rattle.icn_vars.specs.Worlds.{IsLiveItem, item_in, Reach, field_counts, reach_of, setting_of, world_of}
+use Rattle.icn_named.specs.Sizes.{FitSizes}
+use Rattle.icn_heap.specs.Parts.{record_in}
+use Rattle.icn_control.specs.Living.{with_locals}
+use Rattle.icn_frames.specs.Stacks as held
+use Rattle.icn_frames.specs.Stacks.{FlatStack}
+use Rattle.icn_code.specs.Codes.{RecordType, Tables}
+use Rattle.icn_run.specs.Rows as rows
+use Rattle.icn_run.specs.Stacks.{Frames, flat}
+use Rattle.icn_run.specs.Step.{State, Store, constructed, errs, field_applied, field_of, field_place, field_taken, filled, here, made, pushed, running, with_world}
+use Rattle.icn_control.specs.Parts.{FindsValue, HaltsWith, RunsWith}
+use Rattle.icn_control.proofs.PartSteps.{same_world, value_goes, value_halts}
+use Rattle.icn_control.specs.Standing.{stack_in}
+use Rattle.icn_control.specs.Taking.{KeepsCounts, MakesValue, made_in}
+use Rattle.icn_control.proofs.GrowthSteps.{record_keeps}
+use Rattle.icn_calls.specs.Calling.{values_for}
+use Rattle.icn_calls.proofs.ParameterSteps.{map_values_for}
+
+-- the record is made of the fields, and pushed
+abbrev made_and_pushed : World → ℕ → List Value → FlatStack → Store Frames → State Frames Frames
+made_and_pushed w kind fields m st = made_in (record_row kind fields) w m st (λ value m st. pushed flat (rows.Val value) m st)
+
+constructed_is : (w : World) (m : FlatStack) (kind at count : ℕ) (entry : RecordType) (vals fields : List Val) → at ≡ kind → count ≡ length entry.fields → fields ≡ values_for count vals → (st : Store Frames)
+    → constructed flat kind entry (map (value_in (extent_of w.heap)) vals) (stack_in (extent_of w.heap) m) st ≡ made_and_pushed w at (map (value_in (extent_of w.heap)) fields) m st
+constructed_is w m kind at count entry vals fields k c e st =
+    let all : Extent = extent_of w.heap in
+    let is : map (value_in all) fields ≡ filled (length entry.fields) (map (value_in all) vals)
+    = ap (map (value_in all)) e ∙ map_values_for all count vals ∙ ap (λ (n : ℕ). filled n (map (value_in all) vals)) c in
+    ap (λ (xs : List Value). made_and_pushed w kind xs m st) (sym is) ∙ ap (λ (n : ℕ). made_and_pushed w n (map (value_in all) fields) m st) (sym k)
+
+pub record_runs : (w v : World) (m k n : FlatStack) (kind at count : ℕ) (entry : RecordType) (vals fields : List Val) (val : Val) → at ≡ kind → count ≡ length entry.fields → fields ≡ values_for count vals
+    → MakesValue (record_row at (map (value_in (extent_of w.heap)) fields)) w m v (Ok val) → k ≡ m → n ≡ held.push (HeldVal val) k → (st : Store Frames) → st.world ≡ world_of w
+    → RunsWith (constructed flat kind entry (map (value_in (extent_of w.heap)) vals) (stack_in (extent_of w.heap) m) st) st v n
+record_runs w v m k n kind at count entry vals fields val a c e made_so p q st same =
+    constructed_is w m kind at count entry vals fields a c e st
+    ∙ made_so st (λ value m st. pushed flat (rows.Val value) m st) same
+    ∙ ap (λ (x : FlatStack). running (stack_in (extent_of v.heap) (held.push (HeldVal val) x)) (with_world (world_of v) st)) (sym p)
+    ∙ ap (λ (x : FlatStack). running (stack_in (extent_of v.heap) x) (with_world (world_of v) st)) (sym q)
+
+pub record_halts : (w v : World) (m : FlatStack) (kind at count : ℕ) (entry : RecordType) (vals fields : List Val) (stop : Stop) → at ≡ kind → count ≡ length entry.fields → fields ≡ values_for count vals
+    → MakesValue (record_row at (map (value_in (extent_of w.heap)) fields)) w m v (Err stop) → (st : Store Frames) → st.world ≡ world_of w
+    → HaltsWith (constructed flat kind entry (map (value_in (extent_of w.heap)) vals) (stack_in (extent_of w.heap) m) st) st v (halt_of stop)
+record_halts w v m kind at count entry vals fields stop a c e made_so st same =
+    subst (λ (x : State Frames Frames). HaltsWith x st v (halt_of stop)) (sym (constructed_is w m kind at count entry vals fields a c e st)) (made_so st (λ value m st. pushed flat (rows.Val value) m st) same)
+
+pub record_counted : (w v : World) (locals : List Val) (kind : ℕ) (fields : List Value) (result : Result Val Stop)
+    → ((outside : Outside) → Found (extent_of v.heap) (new_record_of (record { kind = kind; fields = fields })) (setting_of outside w locals) (setting_of outside v locals) (value_in (extent_of v.heap)) result) → OnOk result (KeepsCounts w v)
+record_counted w v locals kind fields (Ok val) f = record_keeps w v (outside_of []) locals (rows.Val (value_in (extent_of v.heap) val)) kind fields (f (outside_of []) gives_value)
+record_counted w v locals kind fields (Err stop) f = tt
+
+-- Fields
+
+-- the records of the extent are those of the heap
+record_count : (heap : HeldHeap) → length (heap_of heap).records ≡ (extent_of heap).records
+unfolding heap_of extent_of
+record_count heap = length-map heap.records.items (record_in (extent_of heap))
+
+-- how many fields a record of the heap has
+size_is : (sizes : ℕ → ℕ) (heap : HeldHeap) (id : ℕ) → FitSizes sizes (heap_of heap) → IsLive (extent_of heap) (Vals.Rec id) → slice_index (field_counts (heap_of heap)) id ≡ sizes (record_at (heap_of heap) id).kind
+size_is sizes heap id fit live =
+    let nothing : Record = record { kind = 0; fields = [] } in
+    let below : id < (extent_of heap).records = live.live in
+    let within : id < length (heap_of heap).records = omega (arith, record_count heap, below) in
+    let there : slice_get (heap_of heap).records id ≡ Some (get_or (heap_of heap).records id nothing) = slice_get-get_or (heap_of heap).records id nothing within in
+    let is : get_or (heap_of heap).records id nothing ≡ record_at (heap_of heap) id = sym (unwrap_or-slice_get (heap_of heap).records id nothing) in
+    let size : Record → ℕ = λ structure. length structure.fields in
+    get_or_from_slice_get (field_counts (heap_of heap)) id (size (get_or (heap_of heap).records id nothing)) 0
+    (slice_get-map size (heap_of heap).records id ∙ ap (option_map size) there)
+    ∙ fit.fit id (get_or (heap_of heap).records id nothing) there
+    ∙ ap (λ (structure : Record). sizes structure.kind) is
+
+pub field_live : (sizes : ℕ → ℕ) (w : World) (locals id place kind : ℕ) → FitSizes sizes (heap_of w.heap) → IsLive (extent_of w.heap) (Vals.Rec id) → kind ≡ (record_at (heap_of w.heap) id).kind → place < sizes kind
+    → IsLiveItem (with_locals locals (reach_of w [])) (HeldVar (HeldWhole (HeldField id place)))
+field_live sizes w locals id place kind fit live e p =
+    let is : slice_index (field_counts (heap_of w.heap)) id ≡ sizes kind = size_is sizes w.heap id fit live ∙ ap sizes (sym e) in
+    let within : place < slice_index (field_counts (heap_of w.heap)) id = subst (λ (n : ℕ). place < n) (sym is) p in
+    record { live = record { live = record { live = (live, within) } } }
+
+-- what comes of a field, once its item has a value
+applied_is : (w : World) (tables : Tables) (field : ℕ) (item : Item) (m : FlatStack) (val : Val) (st : Store Frames) → FindsValue (extent_of w.heap) (item_in (extent_of w.heap) item) (here flat (stack_in (extent_of w.heap) m) st) (Ok val)
+    → field_applied flat tables field (item_in (extent_of w.heap) item ∷ []) (stack_in (extent_of w.heap) m) st ≡ field_of flat tables field (value_in (extent_of w.heap) val) (stack_in (extent_of w.heap) m) st
+applied_is w tables field item m val st f =
+    value_goes (extent_of w.heap) (item_in (extent_of w.heap) item) (stack_in (extent_of w.heap) m) st val (λ value. field_of flat tables field value (stack_in (extent_of w.heap) m) st) f
+
+pub field_unfound : (w : World) (tables : Tables) (field : ℕ) (item : Item) (m : FlatStack) (stop : Stop) (st : Store Frames) → st.world ≡ world_of w
+    → FindsValue (extent_of w.heap) (item_in (extent_of w.heap) item) (here flat (stack_in (extent_of w.heap) m) st) (Err stop)
+    → HaltsWith (field_applied flat tables field (item_in (extent_of w.heap) item ∷ []) (stack_in (extent_of w.heap) m) st) st w (halt_of stop)
+field_unfound w tables field item m stop st same f =
+    value_halts w (item_in (extent_of w.heap) item) (stack_in (extent_of w.heap) m) st stop (λ value. field_of flat tables field value (stack_in (extent_of w.heap) m) st) same f
+
+-- a value that is no record has no fields
+no_record : (all : Extent) (tables : Tables) (field : ℕ) (val : Val) (m : Frames) (st : Store Frames) → ((id : ℕ) → val ≡ Vals.Rec id → ⊥) → field_of flat tables field (value_in all val) m st ≡ errs 107 (Some (value_in all val)) st
+no_record all tables field Vals.Null m st h = refl
+no_record all tables field (Vals.Integer n) m st h = refl
+no_record all tables field (Vals.Text span) m st h = refl
+no_record all tables field (Vals.Chars cset) m st h = refl
+no_record all tables field (Vals.Std file) m st h = refl
+no_record all tables field (Vals.Proc n) m st h = refl
+no_record all tables field (Vals.Rec id) m st h = absurd (h id refl)
+no_record all tables field (Vals.List id) m st h = refl
+no_record all tables field (Vals.Set id) m st h = refl
+no_record all tables field (Vals.Table id) m st h = refl
+no_record all tables field (Vals.Coexp n) m st h = refl
+
+pub not_a_record : (w : World) (tables : Tables) (field : ℕ) (item : Item) (m : FlatStack) (val : Val) (st : Store Frames) → st.world ≡ world_of w
+    → FindsValue (extent_of w.heap) (item_in (extent_of w.heap) item) (here flat (stack_in (extent_of w.heap) m) st) (Ok val) → ((id : ℕ) → val ≡ Vals.Rec id → ⊥)
+    → field_applied flat tables field (item_in (extent_of w.heap) item ∷ []) (stack_in (extent_of w.heap) m) st ≡ errs 107 (Some (value_in (extent_of w.heap) val)) (with_world (world_of w) st)
+not_a_record w tables field item m val st same f h =
+    applied_is w tables field item m val st f ∙ no_record (extent_of w.heap) tables field val (stack_in (extent_of w.heap) m) st h ∙ ap (errs 107 (Some (value_in (extent_of w.heap) val))) (same_world w st same)
+
+-- the field of a record, by its place
+taken_is : (w : World) (tables : Tables) (field : ℕ) (item : Item) (m : FlatStack) (val : Val) (id kind : ℕ) (place : Option ℕ) (st : Store Frames) → st.world ≡ world_of w
+    → FindsValue (extent_of w.heap) (item_in (extent_of w.heap) item) (here flat (stack_in (extent_of w.heap) m) st) (Ok val) → val ≡ Vals.Rec id → kind ≡ (record_at (heap_of w.heap) id).kind → place ≡ field_place tables field kind
+    → field_applied flat tables field (item_in (extent_of w.heap) item ∷ []) (stack_in (extent_of w.heap) m) st ≡ field_taken flat place id (stack_in (extent_of w.heap) m) st
+taken_is w tables field item m val id kind place st same f v k p =
+    let all : Extent = extent_of w.heap in
+    applied_is w tables field item m val st f
+    ∙ ap (λ (x : Val). field_of flat tables field (value_in all x) (stack_in all m) st) v
+    ∙ ap (λ (x : StoreWorld). field_taken flat (field_place tables field (record_at x.heap id).kind) id (stack_in all m) st) same
+    ∙ ap (λ (n : ℕ). field_taken flat (field_place tables field n) id (stack_in all m) st) (sym k)
+    ∙ ap (λ (o : Option ℕ). field_taken flat o id (stack_in all m) st) (sym p)
+
+pub no_such_field : (w : World) (tables : Tables) (field : ℕ) (item : Item) (m : FlatStack) (val : Val) (id kind : ℕ) (place : Option ℕ) (st : Store Frames) → st.world ≡ world_of w
+    → FindsValue (extent_of w.heap) (item_in (extent_of w.heap) item) (here flat (stack_in (extent_of w.heap) m) st) (Ok val) → val ≡ Vals.Rec id → kind ≡ (record_at (heap_of w.heap) id).kind → place ≡ field_place tables field kind → place ≡ None
+    → field_applied flat tables field (item_in (extent_of w.heap) item ∷ []) (stack_in (extent_of w.heap) m) st ≡ errs 207 (Some (value_in (extent_of w.heap) val)) (with_world (world_of w) st)
+no_such_field w tables field item m val id kind place st same f v k p e =
+    let all : Extent = extent_of w.heap in
+    taken_is w tables field item m val id kind place st same f v k p
+    ∙ ap (λ (o : Option ℕ). field_taken flat o id (stack_in all m) st) e
+    ∙ ap (λ (x : Val). errs 207 (Some (value_in all x)) st) (sym v)
+    ∙ ap (errs 207 (Some (value_in all val))) (same_world w st same)
+
+pub field_runs : (w : World) (tables : Tables) (field : ℕ) (item : Item) (m k n : FlatStack) (val : Val) (id kind at : ℕ) (place : Option ℕ) (st : Store Frames) → st.world ≡ world_of w
+    → FindsValue (extent_of w.heap) (item_in (extent_of w.heap) item) (here flat (stack_in (extent_of w.heap) m) st) (Ok val) → val ≡ Vals.Rec id → kind ≡ (record_at (heap_of w.heap) id).kind → place ≡ field_place tables field kind
+    → place ≡ Some at → k ≡ m → n ≡ held.push (HeldVar (HeldWhole (HeldField id at))) k
+    → RunsWith (field_applied flat tables field (item_in (extent_of w.heap) item ∷ []) (stack_in (extent_of w.heap) m) st) st w n
+field_runs w tables field item m k n val id kind at place st same f v e p there q r =
+    let all : Extent = extent_of w.heap in
+    taken_is w tables field item m val id kind place st same f v e p
+    ∙ ap (λ (o : Option ℕ). field_taken flat o id (stack_in all m) st) there
+    ∙ ap (λ (x : FlatStack). running (stack_in all (held.push (HeldVar (HeldWhole (HeldField id at))) x)) st) (sym q)
+    ∙ ap (λ (x : FlatStack). running (stack_in all x) st) (sym r)
+    ∙ ap (running (stack_in all n)) (same_world w st same)

@@ -1,0 +1,47 @@
+use Rattle.std.proofs.Common.{◌∙◌, [], List, Ok, Err, map, sym, subst}
+use Rattle.std.proofs.lemmas.List.Elements.{All-same}
+use Rattle.icn_value.specs.declared.val.Val.{Val}
+use Rattle.icn_defs.specs.StepRows.{record_row}
+use Rattle.icn_heap.specs.Extents.{IsLive, value_in}
+use Rattle.icn_heap.specs.Heaps.{extent_of}
+use Rattle.icn_vars.specs.Stops.{halt_of}
+use Rattle.icn_vars.specs.Worlds.{reach_of}
+use Rattle.icn_vars.proofs.KeptItems.{items_all}
+use Rattle.icn_frames.specs.Stacks.{FlatStack}
+use Rattle.icn_control.specs.Living.{IsLiveStack}
+use Rattle.icn_control.specs.Taking.{MakesValue}
+use Rattle.icn_control.proofs.ListSteps.{list_live}
+use Rattle.icn_control.proofs.PartSteps.{at_halt}
+use Rattle.icn_calls.proofs.ParameterSteps.{live_values_for}
+use Rattle.icn_calls.proofs.RecordSteps.{record_halts, record_runs}
+use Rattle.icn_calls.proofs.constructors.construct.Goals as goal
+
+pub returns-in_default-clause-kept : goal.returns-in_default-clause-kept
+returns-in_default-clause-kept g c = items_all (reach_of c.args.world.now [])
+
+pub record_of-requires-clause-fields : goal.record_of-requires-clause-fields
+record_of-requires-clause-fields g c =
+    let all = extent_of c.args.world.now.heap in
+    All-same (IsLive all) _ _ (c.deref.ensures.value ∙ c.in-Ok.ensures) (live_values_for all c.field_count.result c.args.vals.now.items c.requires.vals)
+
+pub returns-in_err-rec-clause-step : goal.returns-in_err-rec-clause-step
+returns-in_err-rec-clause-step g c entry at st same =
+    let w = c.args.world.now in
+    let v = c.record_of.new.world in
+    let m = c.args.frames.now.flat in
+    let stop = c.in_err-rec.field-0.0 in
+    at_halt c.from_residual.result (halt_of stop) _ _ c.from_residual.ensures.1
+    (record_halts w v m c.args.kind c.kind_of.result c.field_count.result entry c.args.vals.now.items c.deref.result.now stop c.kind_of.ensures (c.field_count.ensures entry at) (c.deref.ensures.value ∙ c.in-Ok.ensures) c.in_err-rec.ensures.made st same)
+
+pub returns-in-Ok-push-clause-step : goal.returns-in-Ok-push-clause-step
+returns-in-Ok-push-clause-step g c entry at st same =
+    let w = c.args.world.now in
+    let v = c.record_of.new.world in
+    let m = c.args.frames.now.flat in
+    record_runs w v m c.record_of.new.frames.flat c.push.new.self.flat c.args.kind c.kind_of.result c.field_count.result entry c.args.vals.now.items c.deref.result.now c.in_ok-rec.rec c.kind_of.ensures (c.field_count.ensures entry at)
+    (c.deref.ensures.value ∙ c.in-Ok.ensures) c.in_ok-rec.ensures.made c.record_of.ensures.same c.in-Ok-push.ensures.ok st same
+
+pub returns-in-Ok-push-clause-live : goal.returns-in-Ok-push-clause-live
+returns-in-Ok-push-clause-live g c t k =
+    let here : IsLiveStack t (reach_of c.args.world.now []) c.record_of.new.frames.flat = subst (λ (x : FlatStack). IsLiveStack t (reach_of c.args.world.now []) x) (sym c.record_of.ensures.same) k in
+    list_live t c.args.world.now c.record_of.new.world c.record_of.new.frames.flat c.push.new.self.flat c.in_ok-rec.rec c.in-Ok-push.ensures.ok c.record_of.ensures.kept c.in_ok-rec.ensures.live here

@@ -1,0 +1,96 @@
+// Records that are made of arguments.
+ghost use Rattle.std.specs.Prelude.{◌≡◌, ◌<◌, [], Some, length, map, slice_get, IfErr, IfOk, OnOk, MatchResult};
+ghost use Rattle.std.specs.List.{All};
+ghost use Rattle.icn_defs.specs.StepRows.{record_row};
+ghost use Rattle.icn_frames.specs.Stacks as flat;
+ghost use Rattle.icn_code.specs.Codes.{RecordType, Tables};
+ghost use Rattle.icn_code.specs.Seen.{tables_of};
+ghost use Rattle.icn_heap.specs.Extents.{IsLive, value_in};
+ghost use Rattle.icn_heap.specs.Heaps.{extent_of};
+ghost use Rattle.icn_vars.specs.Outcomes.{IsLiveHalt};
+ghost use Rattle.icn_vars.specs.Stops.{IsLiveStop};
+ghost use Rattle.icn_vars.specs.Worlds.{KeepsItems, reach_of, world_of};
+ghost use Rattle.icn_run.specs.Stacks.{Frames as FramesRead, flat as calls};
+ghost use Rattle.icn_run.specs.Step.{Store, constructed};
+ghost use Rattle.icn_control.specs.Living.{IsLiveStack};
+ghost use Rattle.icn_control.specs.Parts.{HaltsWith, RunsWith};
+ghost use Rattle.icn_control.specs.Standing.{stack_in};
+ghost use Rattle.icn_control.specs.Taking.{KeepsCounts, MakesValue};
+
+use crate::arguments::fit;
+use icn_cells::Stack;
+use icn_code::Code;
+use icn_control::Activation;
+use icn_frames::{Cell, Frames};
+use icn_structfn::new_record;
+use icn_value::{Item, Val};
+use icn_vars::{Halt, Stop, World};
+
+/// A new record of a kind with these fields, which is charged, where the stack is the same. The errors are 307 and want of
+/// memory.
+pub fn record_of<K: Stack<Cell> + Drop>(
+    frames: &mut Frames<K>,
+    world: &mut World,
+    kind: u16,
+    fields: &[Val],
+) -> Result<Val, Stop>
+    requires stack { (tables : Tables) × IsLiveStack tables (reach_of world.old []) frames.old.flat }
+    requires fields { All (IsLive (extent_of world.old.heap)) fields.now }
+    ensures same { frames.new.flat ≡ frames.old.flat }
+    ensures spare { frames.new.spare ≡ frames.old.spare }
+    ensures live { IfOk result (IsLive (extent_of world.new.heap)) }
+    ensures stops { IfErr result (IsLiveStop (extent_of world.new.heap)) }
+    ensures kept { KeepsItems (reach_of world.old []) (reach_of world.new []) }
+    ensures counts { OnOk result (KeepsCounts world.old world.new) }
+    ensures made { MakesValue (record_row kind (map (value_in (extent_of world.old.heap)) fields.now)) world.old frames.old.flat world.new result }
+{
+    frames.local_count();
+    let activation = Activation { frames };
+    new_record(world, &activation, kind, fields)
+}
+
+// How many fields a kind has, which must be there.
+fn field_count(code: &Code, kind: u32) -> usize
+    requires { kind < length (tables_of code.now).records }
+    ensures { (entry : RecordType) → slice_get (tables_of code.now).records kind ≡ Some entry → result ≡ length entry.fields }
+{
+    code.records[kind as usize].fields.as_slice().len()
+}
+
+// A kind as the heap counts them.
+fn kind_of(code: &Code, kind: u32) -> u16
+    requires { kind < length (tables_of code.now).records }
+    ensures { result ≡ kind }
+{
+    kind as u16
+}
+
+/// Pushes a new record of a kind of the code, which must be there, whose fields are the arguments, cut or with nulls behind
+/// them; it is charged. The room of the arguments is used.
+///
+/// The error is 307, or want of memory.
+pub fn construct<K: Stack<Cell> + Drop>(
+    frames: &mut Frames<K>,
+    world: &mut World,
+    code: &Code,
+    kind: u32,
+    vals: &mut Vec<Val>,
+) -> Result<(), Halt>
+    requires there { kind < length (tables_of code.now).records }
+    requires stack { (tables : Tables) × IsLiveStack tables (reach_of world.old []) frames.old.flat }
+    requires vals { All (IsLive (extent_of world.old.heap)) vals.old.items }
+    ensures step { (entry : RecordType) → slice_get (tables_of code.now).records kind ≡ Some entry → (st : Store FramesRead) → st.world ≡ world_of world.old → MatchResult result (λ _. RunsWith (constructed calls kind entry (map (value_in (extent_of world.old.heap)) vals.old.items) (stack_in (extent_of world.old.heap) frames.old.flat) st) st world.new frames.new.flat) (HaltsWith (constructed calls kind entry (map (value_in (extent_of world.old.heap)) vals.old.items) (stack_in (extent_of world.old.heap) frames.old.flat) st) st world.new) }
+    ensures live { (tables : Tables) → IsLiveStack tables (reach_of world.old []) frames.old.flat → OnOk result (IsLiveStack tables (reach_of world.new []) frames.new.flat) }
+    ensures halt { IfErr result (IsLiveHalt (reach_of world.new [])) }
+    ensures kept { KeepsItems (reach_of world.old []) (reach_of world.new []) }
+    ensures counts { OnOk result (KeepsCounts world.old world.new) }
+{
+    let Ok(()) = fit(vals, field_count(code, kind)) else {
+        return Err(Halt::NoMemory);
+    };
+    let rec = record_of(frames, world, kind_of(code, kind), vals)?;
+    match frames.push(Item::Val(rec)) {
+        Ok(()) => Ok(()),
+        Err(_) => Err(Halt::NoMemory),
+    }
+}
