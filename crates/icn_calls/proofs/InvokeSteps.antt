@@ -42,11 +42,9 @@ called_by_number tables all val n callee items m st e f =
     ap (λ (x : Val). invoked flat tables (value_in all x) items m st) e ∙ ap (λ (c : code.Callee). callee_called flat c n items m st) f
 
 pub nothing_called : (w : World) (tables : Tables) (val : Val) (n : ℕ) (items : List rows.Item) (m : Frames) (st : Store Frames) → val ≡ Vals.Proc n → callee_of tables n ≡ code.IsNothing → st.world ≡ world_of w
-    → invoked flat tables (value_in (extent_of w.heap) val) items m st ≡ errs 106 (Some (value_in (extent_of w.heap) val)) (with_world (world_of w) st)
+    → invoked flat tables (value_in (extent_of w.heap) val) items m st ≡ errs 106 (Some (rows.Procedure n)) (with_world (world_of w) st)
 nothing_called w tables val n items m st e f same =
-    called_by_number tables (extent_of w.heap) val n code.IsNothing items m st e f
-    ∙ ap (λ (x : Val). errs 106 (Some (value_in (extent_of w.heap) x)) st) (sym e)
-    ∙ ap (errs 106 (Some (value_in (extent_of w.heap) val))) (same_world w st same)
+    called_by_number tables (extent_of w.heap) val n code.IsNothing items m st e f ∙ ap (errs 106 (Some (rows.Procedure n))) (same_world w st same)
 
 -- the world is the same, whatever came of it
 pub nothing_counted : (result : Result Stage Halt) (w : World) → OnOk result (KeepsCounts w w)

@@ -6,9 +6,11 @@ mod callees;
 mod calling;
 mod constructors;
 mod integers;
+mod invoking;
 
 pub use arguments::{add_nulls, fit};
 pub use callees::{Callee, callee_of, function_of};
 pub use calling::{call_procedure, take_parameters};
 pub use constructors::{construct, record_of};
 pub use integers::{call_integer, chosen, number_of};
+pub use invoking::invoke;
