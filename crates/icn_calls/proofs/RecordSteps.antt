@@ -1,9 +1,10 @@
 -- Records that are made of arguments, and fields of records.
-use Rattle.std.proofs.Common.{◌≡◌, ℕ, ◌<◌, List, [], ◌∷◌, map, length, slice_get, Option, Some, None, Result, Ok, Err, OnOk, refl, sym, ap, ◌∙◌, subst, arith}
-use Rattle.std.specs.Prelude.{slice_index, get_or}
-use Rattle.std.specs.Option.{option_map, option_map_or}
+use Rattle.std.proofs.Common.{◌≡◌, ℕ, ◌<◌, ◌≤◌, List, [], ◌∷◌, map, length, slice_get, Option, Some, None, Result, Ok, Err, OnOk, refl, sym, ap, ◌∙◌, subst, arith}
+use Rattle.std.specs.Prelude.{get_or, slice_index}
+use Rattle.std.specs.List.{position}
+use Rattle.std.specs.Option.{option_and_then, option_map, option_map_or}
 use Rattle.std.proofs.lemmas.List.{length-map}
-use Rattle.std.proofs.lemmas.Option.{get_or_from_slice_get, slice_get-get_or, slice_get-map, unwrap_or-slice_get}
+use Rattle.std.proofs.lemmas.Option.{get_or_from_slice_get, slice_get-get_or, slice_get-map, slice_get_past, unwrap_or-slice_get}
 use Rattle.icn_value.specs.declared.val.Val.{Val}
 use Rattle.icn_value.specs.declared.val.Val.TheVariants as Vals
 use Rattle.icn_value.specs.declared.item.Item.{Item}
@@ -38,7 +39,7 @@ use Rattle.icn_control.proofs.PartSteps.{same_world, value_goes, value_halts}
 use Rattle.icn_control.specs.Standing.{stack_in}
 use Rattle.icn_control.specs.Taking.{KeepsCounts, MakesValue, made_in}
 use Rattle.icn_control.proofs.GrowthSteps.{record_keeps}
-use Rattle.icn_calls.specs.Calling.{values_for}
+use Rattle.icn_calls.specs.Calling.{field_count, is_number, values_for}
 use Rattle.icn_calls.proofs.ParameterSteps.{map_values_for}
 
 -- the record is made of the fields, and pushed
@@ -74,6 +75,24 @@ record_counted w v locals kind fields (Ok val) f = record_keeps w v (outside_of 
 record_counted w v locals kind fields (Err stop) f = tt
 
 -- Fields
+
+-- the first place of a field, by the kind of its record
+
+pub kind_there : (tables : Tables) (kind : ℕ) → kind < length tables.records → (entry : RecordType) × (slice_get tables.records kind ≡ Some entry)
+kind_there tables kind p =
+    let nothing : RecordType = record { name = 0; fields = [] } in
+    (get_or tables.records kind nothing, slice_get-get_or tables.records kind nothing p)
+
+pub place_absent : (tables : Tables) (field kind : ℕ) → length tables.records ≤ kind → None ≡ field_place tables field kind
+place_absent tables field kind p = sym (ap (option_and_then (λ (entry : RecordType). position (is_number field) entry.fields)) (slice_get_past tables.records kind p))
+
+pub place_found : (tables : Tables) (field kind : ℕ) (entry : RecordType) (fields : List ℕ) (place : Option ℕ) → slice_get tables.records kind ≡ Some entry → fields ≡ entry.fields → place ≡ position (is_number field) fields
+    → place ≡ field_place tables field kind
+place_found tables field kind entry fields place at e p =
+    p ∙ ap (position (is_number field)) e ∙ sym (ap (option_and_then (λ (entry : RecordType). position (is_number field) entry.fields)) at)
+
+pub count_found : (tables : Tables) (kind : ℕ) (entry : RecordType) (fields : List ℕ) → slice_get tables.records kind ≡ Some entry → fields ≡ entry.fields → length fields ≡ field_count tables kind
+count_found tables kind entry fields at e = ap length e ∙ sym (ap (λ (o : Option RecordType). option_map_or (λ (entry : RecordType). length entry.fields) o 0) at)
 
 -- the records of the extent are those of the heap
 record_count : (heap : HeldHeap) → length (heap_of heap).records ≡ (extent_of heap).records
@@ -147,13 +166,12 @@ taken_is w tables field item m val id kind place st same f v k p =
 
 pub no_such_field : (w : World) (tables : Tables) (field : ℕ) (item : Item) (m : FlatStack) (val : Val) (id kind : ℕ) (place : Option ℕ) (st : Store Frames) → st.world ≡ world_of w
     → FindsValue (extent_of w.heap) (item_in (extent_of w.heap) item) (here flat (stack_in (extent_of w.heap) m) st) (Ok val) → val ≡ Vals.Rec id → kind ≡ (record_at (heap_of w.heap) id).kind → place ≡ field_place tables field kind → place ≡ None
-    → field_applied flat tables field (item_in (extent_of w.heap) item ∷ []) (stack_in (extent_of w.heap) m) st ≡ errs 207 (Some (value_in (extent_of w.heap) val)) (with_world (world_of w) st)
+    → field_applied flat tables field (item_in (extent_of w.heap) item ∷ []) (stack_in (extent_of w.heap) m) st ≡ errs 207 (Some (rows.ARecord id)) (with_world (world_of w) st)
 no_such_field w tables field item m val id kind place st same f v k p e =
     let all : Extent = extent_of w.heap in
     taken_is w tables field item m val id kind place st same f v k p
     ∙ ap (λ (o : Option ℕ). field_taken flat o id (stack_in all m) st) e
-    ∙ ap (λ (x : Val). errs 207 (Some (value_in all x)) st) (sym v)
-    ∙ ap (errs 207 (Some (value_in all val))) (same_world w st same)
+    ∙ ap (errs 207 (Some (rows.ARecord id))) (same_world w st same)
 
 pub field_runs : (w : World) (tables : Tables) (field : ℕ) (item : Item) (m k n : FlatStack) (val : Val) (id kind at : ℕ) (place : Option ℕ) (st : Store Frames) → st.world ≡ world_of w
     → FindsValue (extent_of w.heap) (item_in (extent_of w.heap) item) (here flat (stack_in (extent_of w.heap) m) st) (Ok val) → val ≡ Vals.Rec id → kind ≡ (record_at (heap_of w.heap) id).kind → place ≡ field_place tables field kind

@@ -34,7 +34,7 @@ fn proc_count(code: &Code) -> usize
 }
 
 // How many records a code has.
-fn record_count(code: &Code) -> usize
+pub(crate) fn record_count(code: &Code) -> usize
     ensures { result ≡ length (tables_of code.now).records }
 {
     code.records.as_slice().len()

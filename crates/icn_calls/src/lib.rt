@@ -1,4 +1,4 @@
-//! What is called: procedures with their arguments, constructors, and integers, which choose an argument.
+//! What is called: procedures with their arguments, constructors, and integers, which choose an argument; and fields of records.
 #![tactic(auto)]
 
 mod arguments;
@@ -7,6 +7,7 @@ mod calling;
 mod constructors;
 mod integers;
 mod invoking;
+mod record_fields;
 
 pub use arguments::{add_nulls, fit};
 pub use callees::{Callee, callee_of, function_of};
@@ -14,3 +15,4 @@ pub use calling::{call_procedure, take_parameters};
 pub use constructors::{construct, record_of};
 pub use integers::{call_integer, chosen, number_of};
 pub use invoking::invoke;
+pub use record_fields::{field_place, push_field};
