@@ -1,12 +1,11 @@
 -- Which argument an integer chooses.
-use Rattle.std.proofs.Common.{◌≡◌, ℕ, zero, suc, ◌-◌, ◌≤◌, ℤ, List, map, length, slice_get, Option, Some, None, refl, sym, ap, ◌∙◌, arith}
+use Rattle.std.proofs.Common.{◌≡◌, ℕ, suc, ◌-◌, ◌≤◌, ℤ, List, map, length, slice_get, Option, Some, None, sym, ap, ◌∙◌, arith}
 use Rattle.std.specs.Option.{option_map}
 use Rattle.std.proofs.lemmas.List.{length-map}
 use Rattle.std.proofs.lemmas.Option.{slice_get-map}
 use Rattle.icn_value.specs.declared.item.Item.{Item}
 use Rattle.icn_heap.specs.Extents.{Extent}
 use Rattle.icn_vars.specs.Worlds.{item_in}
-use Rattle.icn_run.specs.Rows as rows
 use Rattle.icn_run.specs.Rows.{place_of}
 use Rattle.icn_run.specs.Step.{argument_at, chosen}
 

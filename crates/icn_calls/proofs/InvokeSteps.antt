@@ -15,7 +15,7 @@ use Rattle.icn_vars.specs.declared.world.World.{World}
 use Rattle.icn_vars.specs.Worlds.{item_in, world_of}
 use Rattle.icn_frames.specs.Stacks as held
 use Rattle.icn_frames.specs.Stacks.{FlatStack}
-use Rattle.icn_code.specs.Codes.{Proc, RecordType, Tables}
+use Rattle.icn_code.specs.Codes.{Tables}
 use Rattle.icn_run.specs.Rows as rows
 use Rattle.icn_run.specs.Rows.{Function, apply}
 use Rattle.icn_run.specs.Stacks.{Frames, flat}

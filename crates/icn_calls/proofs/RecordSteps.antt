@@ -24,7 +24,7 @@ use Rattle.icn_args.specs.Words.{Found}
 use Rattle.icn_defs.specs.Rows.{gives_value}
 use Rattle.icn_defs.specs.Structures.{new_record_of}
 use Rattle.icn_value.specs.Store.{Outside, outside_of}
-use Rattle.icn_vars.specs.Worlds.{IsLiveItem, item_in, Reach, field_counts, reach_of, setting_of, world_of}
+use Rattle.icn_vars.specs.Worlds.{IsLiveItem, item_in, field_counts, reach_of, setting_of, world_of}
 use Rattle.icn_named.specs.Sizes.{FitSizes}
 use Rattle.icn_heap.specs.Parts.{record_in}
 use Rattle.icn_control.specs.Living.{with_locals}
@@ -33,7 +33,7 @@ use Rattle.icn_frames.specs.Stacks.{FlatStack}
 use Rattle.icn_code.specs.Codes.{RecordType, Tables}
 use Rattle.icn_run.specs.Rows as rows
 use Rattle.icn_run.specs.Stacks.{Frames, flat}
-use Rattle.icn_run.specs.Step.{State, Store, constructed, errs, field_applied, field_of, field_place, field_taken, filled, here, made, pushed, running, with_world}
+use Rattle.icn_run.specs.Step.{State, Store, constructed, errs, field_applied, field_of, field_place, field_taken, filled, here, pushed, running, with_world}
 use Rattle.icn_control.specs.Parts.{FindsValue, HaltsWith, RunsWith}
 use Rattle.icn_control.proofs.PartSteps.{same_world, value_goes, value_halts}
 use Rattle.icn_control.specs.Standing.{stack_in}

@@ -1,8 +1,7 @@
 -- What the rules of a code's tables say of its procedures and its records.
-use Rattle.std.proofs.Common.{◌≡◌, ℕ, zero, suc, ◌+◌, ◌<◌, ◌≤◌, Bool, true, false, ◌&&◌, ◌||◌, not, IsTrue, List, [], ◌∷◌, length, slice_get, Option, Some, None, refl, sym, ap, ◌∙◌, subst, arith, leb-true, ltb-true}
+use Rattle.std.proofs.Common.{◌≡◌, ℕ, zero, suc, ◌<◌, ◌≤◌, Bool, true, false, ◌&&◌, ◌||◌, not, List, [], ◌∷◌, length, slice_get, Some, None, refl, ap, subst, arith, leb-true, ltb-true}
 use Rattle.std.specs.List.{list_all}
 use Rattle.std.proofs.lemmas.Option.{same_Some}
-use Rattle.icn_text.specs.declared.func.Func.{Func}
 use Rattle.icn_defs.specs.Numbers.{func_of}
 use Rattle.icn_code.specs.Codes.{Proc, RecordType, Tables}
 use Rattle.icn_code.specs.Rules.{is_proc, is_record, keeps_rules}

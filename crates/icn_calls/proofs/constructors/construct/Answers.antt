@@ -1,15 +1,12 @@
-use Rattle.std.proofs.Common.{◌∙◌, [], List, Ok, Err, map, sym, subst}
+use Rattle.std.proofs.Common.{◌∙◌, [], sym, subst}
 use Rattle.std.proofs.lemmas.List.Elements.{All-same}
-use Rattle.icn_value.specs.declared.val.Val.{Val}
-use Rattle.icn_defs.specs.StepRows.{record_row}
-use Rattle.icn_heap.specs.Extents.{IsLive, value_in}
+use Rattle.icn_heap.specs.Extents.{IsLive}
 use Rattle.icn_heap.specs.Heaps.{extent_of}
 use Rattle.icn_vars.specs.Stops.{halt_of}
 use Rattle.icn_vars.specs.Worlds.{reach_of}
 use Rattle.icn_vars.proofs.KeptItems.{items_all}
 use Rattle.icn_frames.specs.Stacks.{FlatStack}
 use Rattle.icn_control.specs.Living.{IsLiveStack}
-use Rattle.icn_control.specs.Taking.{MakesValue}
 use Rattle.icn_control.proofs.ListSteps.{list_live}
 use Rattle.icn_control.proofs.PartSteps.{at_halt}
 use Rattle.icn_calls.proofs.ParameterSteps.{live_values_for}

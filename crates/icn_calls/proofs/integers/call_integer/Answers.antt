@@ -5,7 +5,7 @@ use Rattle.icn_heap.specs.Extents.{value_in}
 use Rattle.icn_heap.specs.Heaps.{extent_of}
 use Rattle.icn_vars.specs.Worlds.{item_in}
 use Rattle.icn_run.specs.Step.{chosen}
-use Rattle.icn_calls.proofs.InvokeSteps.{chosen_runs, none_runs, not_called}
+use Rattle.icn_calls.proofs.InvokeSteps.{none_runs}
 use Rattle.icn_calls.proofs.integers.call_integer.Goals as goal
 
 pub returns-in-None-clause-step : goal.returns-in-None-clause-step

@@ -1,5 +1,4 @@
 use Rattle.std.proofs.Common.{[], map}
-use Rattle.icn_heap.specs.Extents.{value_in}
 use Rattle.icn_heap.specs.Heaps.{extent_of}
 use Rattle.icn_vars.specs.Worlds.{item_in, reach_of}
 use Rattle.icn_vars.proofs.KeptItems.{items_all}
