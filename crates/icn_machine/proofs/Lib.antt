@@ -1,1 +1,2 @@
+pub mod GiveSteps
 pub mod SetTwice

@@ -2,5 +2,7 @@
 #![tactic(auto)]
 
 mod begun;
+mod giving;
 
 pub use begun::{Earlier, OwnLocals};
+pub use giving::give_outcome;

@@ -1,5 +1,5 @@
-mod CallsNamed
+pub mod CallsNamed
 mod StepsNamed
 mod StepsSized
 mod Starting
-mod RowCounts
+pub mod RowCounts

@@ -1,0 +1,41 @@
+// What a row gives.
+ghost use Rattle.std.specs.Prelude.{IfOk, OnOk};
+ghost use Rattle.icn_value.specs.Store.{Names, Setting};
+ghost use Rattle.icn_heap.specs.Extents.{Extent};
+ghost use Rattle.icn_named.specs.Keeping.{OutcomeNamed};
+ghost use Rattle.icn_vars.specs.Outcomes.{IsLiveOutcome, outcome_in};
+ghost use Rattle.icn_vars.specs.Worlds.{Reach};
+ghost use Rattle.icn_frames.specs.Stacks as flat;
+ghost use Rattle.icn_code.specs.Codes.{Tables};
+ghost use Rattle.icn_control.specs.Living.{IsLiveStack, with_locals};
+ghost use Rattle.icn_control.specs.Standing.{stack_in};
+ghost use Rattle.icn_run_named.specs.StateNames.{StackNamed};
+ghost use Rattle.icn_machine.specs.Giving.{GivesOutcome};
+
+use icn_cells::Stack;
+use icn_control::Stage;
+use icn_frames::{Cell, Frames, Why};
+use icn_vars::Outcome;
+use std::alloc::AllocError;
+
+/// Pushes what a row gives, over what it keeps, which is suspended. The error is want of memory.
+pub fn give_outcome<K: Stack<Cell> + Drop>(
+    frames: &mut Frames<K>,
+    outcome: Outcome,
+) -> Result<Stage, AllocError>
+    ensures gives { IfOk result (λ stage. GivesOutcome outcome frames.old.flat frames.new.flat stage) }
+    ensures live { (tables : Tables) (reach : Reach) → IsLiveStack tables reach frames.old.flat → IsLiveOutcome (with_locals (flat.local_count frames.old.flat) reach) outcome → OnOk result (IsLiveStack tables reach frames.new.flat) }
+    ensures named { (names : Names) (all : Extent) (seen : Setting) → StackNamed names (stack_in all frames.old.flat) → OutcomeNamed names (outcome_in all outcome seen) → OnOk result (StackNamed names (stack_in all frames.new.flat)) }
+{
+    match outcome {
+        Outcome::Fails => Ok(Stage::Fails),
+        Outcome::Gives(item) => {
+            frames.push(item)?;
+            Ok(Stage::Runs)
+        }
+        Outcome::Suspends(item, rest) => {
+            frames.suspend(Why::Op(rest), Some(item))?;
+            Ok(Stage::Runs)
+        }
+    }
+}
