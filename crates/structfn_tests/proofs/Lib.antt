@@ -1,3 +1,0 @@
-mod Functions
-mod Naming
-mod Worlds
