@@ -1,0 +1,6 @@
+-- The names of a program that has one record and no procedure.
+use Rattle.std.specs.Prelude.{[], ◌∷◌, codes}
+use Rattle.icn_value.specs.Store.{Names}
+
+abbrev pub one_record : Names
+one_record = record { procedures = []; records = codes "p" ∷ [] }

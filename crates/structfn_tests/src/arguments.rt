@@ -1,0 +1,129 @@
+// The arguments of a call, which are the statics of a world.
+ghost use Rattle.std.specs.Prelude.{◌≡◌, ◌<◌, [], length, slice_index_or, IfOk, OnOk};
+ghost use Rattle.icn_value.specs.declared.val.Val.TheVariants.{Null};
+ghost use Rattle.icn_heap.specs.Extents.{Extent, IsLive, value_in};
+ghost use Rattle.icn_heap.specs.Heaps.{extent_of};
+ghost use Rattle.icn_named.specs.Named.{ValueNamed};
+ghost use Rattle.structfn_tests.specs.OneRecord.{AllNamed, one_record};
+
+use crate::slots::Slots;
+use icn_heap::Heap;
+use icn_text::read_integer;
+use icn_value::{Cset, File, Limits, Val};
+use icn_vars::World;
+use std::alloc::{AllocError, Global};
+
+// A world in which nothing is made, where so many cells may be charged.
+#[tactic(auto, using(crate::proofs::Worlds::new_named))]
+pub fn world(alloc: Global, cells: u64) -> Result<World, AllocError>
+    ensures { IfOk result (λ w. AllNamed w []) }
+{
+    let limits = Limits {
+        turns: 0,
+        strings: 0,
+        cells: cells.min(4294967295),
+        levels: 1,
+    };
+    let heap = Heap::new(alloc, limits)?;
+    Ok(World::new(heap, Vec::new(alloc), Vec::new(alloc)))
+}
+
+// Takes the arguments away.
+#[tactic(auto, using(crate::proofs::Worlds::statics_cleared))]
+pub fn no_arguments(w: &mut World, l: &Slots)
+    requires { AllNamed w.old l.now.vals.items }
+    ensures { AllNamed w.new l.now.vals.items }
+{
+    w.statics.clear();
+}
+
+// Adds the argument of a word.
+pub fn add_word(w: &mut World, l: &Slots, word: &[u8]) -> Result<(), AllocError>
+    requires locals { l.now.vals.items ≡ [] }
+    requires named { AllNamed w.old l.now.vals.items }
+    ensures { OnOk result (AllNamed w.new l.now.vals.items) }
+{
+    match word.split_first() {
+        None => Ok(()),
+        Some((b'"', rest)) => add_text(w, l, rest),
+        Some((b'$', rest)) => {
+            let val = earlier(w, l, rest);
+            add_value(w, l, val)
+        }
+        _ => add_value(w, l, plain(word)),
+    }
+}
+
+// What an earlier call gave, by its number.
+fn earlier(w: &World, _l: &Slots, digits: &[u8]) -> Val
+    requires { AllNamed w.now _l.now.vals.items }
+    ensures live { IsLive (extent_of w.now.heap) result }
+    ensures named { ValueNamed one_record (value_in (extent_of w.now.heap) result) }
+{
+    match read_integer(digits) {
+        Ok(n) => {
+            let place = n.unsigned_abs() as usize;
+            if place < w.globals.len() {
+                value_at(&w.globals, place)
+            } else {
+                Val::Null
+            }
+        }
+        Err(_) => Val::Null,
+    }
+}
+
+fn value_at(vals: &[Val], place: usize) -> Val
+    requires { place < length vals.now }
+    ensures { result ≡ slice_index_or vals.now place Null }
+{
+    vals[place]
+}
+
+// The value of a word that is neither a text nor an earlier value.
+fn plain(word: &[u8]) -> Val
+    ensures live { (all : Extent) → IsLive all result }
+    ensures named { (all : Extent) → ValueNamed one_record (value_in all result) }
+{
+    if word == b"&input".as_slice() {
+        return Val::Std(File::Input);
+    }
+    match word.split_first() {
+        Some((b'\'', rest)) => Val::Chars(members(rest)),
+        _ => match read_integer(word) {
+            Ok(n) => Val::Integer(n),
+            Err(_) => Val::Null,
+        },
+    }
+}
+
+fn members(bytes: &[u8]) -> Cset {
+    let mut cset = Cset::empty();
+    for byte in bytes {
+        cset = cset.with(*byte);
+    }
+    cset
+}
+
+// Adds the text of these bytes.
+#[tactic(auto, using(icn_vars::proofs::Growing::grows))]
+fn add_text(w: &mut World, l: &Slots, bytes: &[u8]) -> Result<(), AllocError>
+    requires locals { l.now.vals.items ≡ [] }
+    requires named { AllNamed w.old l.now.vals.items }
+    ensures { OnOk result (AllNamed w.new l.now.vals.items) }
+{
+    let span = w.heap.hold(bytes)?;
+    add_value(w, l, Val::Text(span))
+}
+
+// Adds an argument.
+#[tactic(auto, using(crate::proofs::Worlds::static_added))]
+pub fn add_value(w: &mut World, l: &Slots, val: Val) -> Result<(), AllocError>
+    requires live { IsLive (extent_of w.old.heap) val }
+    requires named { ValueNamed one_record (value_in (extent_of w.old.heap) val) }
+    requires all { AllNamed w.old l.now.vals.items }
+    ensures { OnOk result (AllNamed w.new l.now.vals.items) }
+{
+    w.statics.push(val)?;
+    Ok(())
+}
