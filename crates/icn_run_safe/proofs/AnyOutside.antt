@@ -40,7 +40,7 @@ over_own (hopping m st) = refl
 over_own (over ending outside) = refl
 over_own stuck = refl
 
-over_twice : {K M : Type 0} (was now : Outside) (s : State K M) → over_outside now (over_outside was s) ≡ over_outside now s
+pub over_twice : {K M : Type 0} (was now : Outside) (s : State K M) → over_outside now (over_outside was s) ≡ over_outside now s
 over_twice was now (running m st) = refl
 over_twice was now (failing m st) = refl
 over_twice was now (hopping m st) = refl
@@ -87,11 +87,11 @@ module _ (tables : Tables) where
 -- That it is so
 
 module _ (tables : Tables) (have : HaveShapes tables) (ok : TablesOk tables) (keep : RowsStayWithin) where
-  abbrev SafeState : State Parked Linked → Type 0
+  abbrev pub SafeState : State Parked Linked → Type 0
   SafeState s = Safe tables (shapes_of tables have) s
 
   -- what is safe does not ask for the outside
-  safe_over : (outside : Outside) (s : State Parked Linked) → SafeState s → SafeState (over_outside outside s)
+  pub safe_over : (outside : Outside) (s : State Parked Linked) → SafeState s → SafeState (over_outside outside s)
   safe_over outside (running m st) h = (h.0, h.1, h.2, h.3, h.4, record { world = h.5.world; coexps = h.5.coexps })
   safe_over outside (failing m st) h = (h.0, h.1, h.2, h.3, record { world = h.4.world; coexps = h.4.coexps })
   safe_over outside (hopping m st) h = (h.0, h.1, record { world = h.2.world; coexps = h.2.coexps })
@@ -99,7 +99,7 @@ module _ (tables : Tables) (have : HaveShapes tables) (ok : TablesOk tables) (ke
   safe_over outside stuck h = h
 
   -- states that are the same are so over another outside
-  same_outside : (outside : Outside) (l : State Parked Linked) (f : State Frames Frames) → Sames tables have ok keep l f → Sames tables have ok keep (over_outside outside l) (over_outside outside f)
+  pub same_outside : (outside : Outside) (l : State Parked Linked) (f : State Frames Frames) → Sames tables have ok keep l f → Sames tables have ok keep (over_outside outside l) (over_outside outside f)
   same_outside outside l f (same_running st ks' h) = same_running (record st { outside = outside }) ks' h
   same_outside outside l f (same_failing st ks' h) = same_failing (record st { outside = outside }) ks' h
   same_outside outside l f (same_hopping st ks' h) = same_hopping (record st { outside = outside }) ks' h
@@ -107,15 +107,15 @@ module _ (tables : Tables) (have : HaveShapes tables) (ok : TablesOk tables) (ke
   same_outside outside l f same_stuck = same_stuck
   same_outside outside l f (lost x) = lost x
 
-  near_over : (outside : Outside) (f : State Frames Frames) → Near tables have ok keep f → Near tables have ok keep (over_outside outside f)
+  pub near_over : (outside : Outside) (f : State Frames Frames) → Near tables have ok keep f → Near tables have ok keep (over_outside outside f)
   near_over outside f x = record { state = over_outside outside x.state; safe = safe_over outside x.state x.safe; same = same_outside outside x.state f x.same }
 
   -- a mark is opened, whatever the outside
-  opens_mark : (label : Option ℕ) (m : Frames) (st : Store Frames) → instruction_at flat tables m ≡ Some (mark_of label) → step flat tables (running m st) ≡ running (flat.mark label (flat.go (suc (flat.place m)) m)) st
+  pub opens_mark : (label : Option ℕ) (m : Frames) (st : Store Frames) → instruction_at flat tables m ≡ Some (mark_of label) → step flat tables (running m st) ≡ running (flat.mark label (flat.go (suc (flat.place m)) m)) st
   opens_mark None m st e = ap (λ o. with_found o (λ instr. instruction flat tables instr (flat.go (suc (flat.place m)) m) st)) e
   opens_mark (Some label) m st e = ap (λ o. with_found o (λ instr. instruction flat tables instr (flat.go (suc (flat.place m)) m) st)) e
 
-  due_over : (outside : Outside) (f : State Frames Frames) → IsDue tables have ok keep f → Near tables have ok keep (step flat tables f) → Follows tables have ok keep (over_outside outside f)
+  pub due_over : (outside : Outside) (f : State Frames Frames) → IsDue tables have ok keep f → Near tables have ok keep (step flat tables f) → Follows tables have ok keep (over_outside outside f)
   due_over outside (running m st) due near =
       inr (due, subst (Near tables have ok keep) (ap (over_outside outside) (opens_mark due.0 m st due.1) ∙ sym (opens_mark due.0 m (record st { outside = outside }) due.1)) (near_over outside (step flat tables (running m st)) near))
   due_over outside (failing m st) due near = absurd due
@@ -123,11 +123,11 @@ module _ (tables : Tables) (have : HaveShapes tables) (ok : TablesOk tables) (ke
   due_over outside (over ending left) due near = absurd due
   due_over outside stuck due near = absurd due
 
-  follows_over : (outside : Outside) (f : State Frames Frames) → Follows tables have ok keep f → Follows tables have ok keep (over_outside outside f)
+  pub follows_over : (outside : Outside) (f : State Frames Frames) → Follows tables have ok keep f → Follows tables have ok keep (over_outside outside f)
   follows_over outside f (inl x) = inl (near_over outside f x)
   follows_over outside f (inr x) = due_over outside f x.0 x.1
 
-  follows_run : (outsides : List Outside) (f : State Frames Frames) → Follows tables have ok keep f → Follows tables have ok keep (run_over tables outsides f)
+  pub follows_run : (outsides : List Outside) (f : State Frames Frames) → Follows tables have ok keep f → Follows tables have ok keep (run_over tables outsides f)
   follows_run [] f h = h
   follows_run (outside ∷ later) f h = follows_run later (step flat tables (over_outside outside f)) (follows_next tables have ok keep (over_outside outside f) (follows_over outside f h))
 

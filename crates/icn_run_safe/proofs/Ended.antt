@@ -31,17 +31,17 @@ use Rattle.icn_run_safe.specs.Facts.{shapes_of}
 use Rattle.icn_run_safe.proofs.NoStuck.{shaped, step_ok, start_safe, runs_ok}
 
 -- no procedure has more instructions
-abbrev most : List Procedure → ℕ
+abbrev pub most : List Procedure → ℕ
 most [] = 0
 most (proc ∷ procs) = length proc.instrs + most procs
 
-proc_within : (procs : List Procedure) (n : ℕ) (place : ℕ) (instr : Instr) → slice_get (option_map_or (λ (entry : Procedure). entry.instrs) (slice_get procs n) []) place ≡ Some instr → place < most procs
+pub proc_within : (procs : List Procedure) (n : ℕ) (place : ℕ) (instr : Instr) → slice_get (option_map_or (λ (entry : Procedure). entry.instrs) (slice_get procs n) []) place ≡ Some instr → place < most procs
 proc_within [] n place instr e = no_some instr e
 proc_within (proc ∷ procs) zero place instr e = let l = within proc.instrs place instr e in omega (arith, l)
 proc_within (proc ∷ procs) (suc n) place instr e = let l = proc_within procs n place instr e in omega (arith, l)
 
 -- the labels that lead forward
-goes_forward : (instr : Instr) (S : PlainShape) (place : ℕ) (Q : ℕ × PlainShape → Type 0) → IfSome (forward instr S) (λ to. (place < to.0) × Q to) → IsForward place instr
+pub goes_forward : (instr : Instr) (S : PlainShape) (place : ℕ) (Q : ℕ × PlainShape → Type 0) → IfSome (forward instr S) (λ to. (place < to.0) × Q to) → IsForward place instr
 goes_forward (Instrs.Mark label) S place Q h = h.0
 goes_forward (Instrs.Goto label) S place Q h = h.0
 goes_forward (Instrs.Init label) S place Q h = h.0

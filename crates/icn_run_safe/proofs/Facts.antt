@@ -42,7 +42,7 @@ goes_on C tables m st None e d = absurd (d refl)
 goes_on C tables m st (Some instr) e d = record { instr = instr; stands = e; lacks_nothing = d }
 
 module _ (tables : Tables) (have : HaveShapes tables) (ok : TablesOk tables) (keep : RowsStayWithin) where
-  abbrev sh : ℕ → ℕ → Option PlainShape
+  abbrev pub sh : ℕ → ℕ → Option PlainShape
   sh = shapes_of tables have
 
   pub given : Shaped tables (shapes_of tables have)
@@ -138,11 +138,11 @@ module _ (tables : Tables) (have : HaveShapes tables) (ok : TablesOk tables) (ke
       let few : length items < n = subst (λ c. length (operands_of c) < n) e less in
       subst (λ c. is_some (take_from n m c) ≡ false) (sym e) (map_none _ (taken n items []) (none_left n items [] few))
 
-  abbrev ShapedIn : State Frames Frames → Type 0
+  abbrev pub ShapedIn : State Frames Frames → Type 0
   ShapedIn (running m st) = IsFlatShapedAt tables sh m st
   ShapedIn state = Unit {0}
 
-  shaped_in : (l : State Parked Linked) (f : State Frames Frames) → Sames l f → Safe tables sh l → ShapedIn f
+  pub shaped_in : (l : State Parked Linked) (f : State Frames Frames) → Sames l f → Safe tables sh l → ShapedIn f
   shaped_in l f (same_running {m'} {m} st ks' h) safe =
       let G = linked_agrees repeats_anywhere (Opens tables) in
       let facts = facts_at m' (lift st ks') safe in
