@@ -10,7 +10,7 @@ use Rattle.icn_code.specs.declared.instr.Instr.TheVariants as I
 use Rattle.icn_code.specs.Codes.{Proc as Procedure, RecordType}
 use Rattle.icn_run.specs.Rows.{Value, Null, Integer, Text, Chars, Procedure as ProcedureValue, ARecord, AList, ACoexp, Static, Local, Whole, Part, Item, Val, Var, Setting, World, Outside, Outcome, Fails, Gives, Suspends, Error, Ends, integer_of, number_of, again, apply, keyword_item, value_row, list_row, text_row, record_row, coexpression_row, words_row, record_at, Operation, Function, Ending}
 use Rattle.icn_run.specs.Calls.{Pair, Why, Alt, Op as Operating, Scan, Escan, Proc, Dropped, NoMark, Goes, Repeats, Outside as WithoutLabel, Calls}
-use Rattle.icn_run.specs.Step.{Program, Launch, Status, Fresh, Active, Waiting, Exhausted, Coexp, Store, State, running, failing, over, stuck, with_found, parted, turn_if, turn, steps, step, here, with_world, with_at, valued, made, with_value, with_values, pushed, outcome, list_made, instrs_of, statics_before, with_pair, pair_now, scans_left, exchanged, maybe_exchanged, swapped_back, all_left, coexp_at, status_of, activator_of, with_status, with_activator, activated, fail_by, passed_failure, begun_by, give_by, passed_value, hop, exhausted, counted_result, result_given, is_main, is_create_body, with_new, coexp_made, refreshed_from, refreshed, entered_by, entered_if, activation, entered, filled, collected, with_parameters, called_if, called, constructed, chosen, pushed_or_fails, integer_called, Callee, IsProc, IsRecord, IsFunc, IsNothing, callee_of, callee_called, invoked, invoked_with, elements_called, applied_to_elements, field_place, field_taken, field_of, with_result, returned, proc_fails, without_mark, mark_dropped, resumed, resumed_or_dropped, fails, members_of, standing, with_popped, with_taken, unmarked, limited, limited_result, scan_opened, initial_if, initial_done, activation_of, operated, field_applied, instruction, instruction_at, begun_if, start_of, start, first_store, main_of}
+use Rattle.icn_run.specs.Step.{Program, Launch, Status, Fresh, Active, Waiting, Exhausted, Coexp, Store, State, running, failing, hopping, over, stuck, with_found, parted, turn_if, turn, steps, step, here, with_world, with_at, valued, made, with_value, with_values, pushed, outcome, list_made, instrs_of, statics_before, with_pair, pair_now, scans_left, exchanged, maybe_exchanged, swapped_back, all_left, coexp_at, status_of, activator_of, with_status, with_activator, activated, fail_by, passed_failure, begun_by, give_by, passed_value, hop, exhausted, counted_result, result_given, is_main, is_create_body, with_new, coexp_made, refreshed_from, refreshed, entered_by, entered_if, activation, entered, filled, collected, with_parameters, called_if, called, constructed, chosen, pushed_or_fails, integer_called, Callee, IsProc, IsRecord, IsFunc, IsNothing, callee_of, callee_called, invoked, invoked_with, elements_called, applied_to_elements, field_place, field_taken, field_of, with_result, returned, proc_fails, without_mark, mark_dropped, resumed, resumed_or_dropped, fails, members_of, standing, with_popped, with_taken, unmarked, limited, limited_result, scan_opened, initial_if, initial_done, activation_of, operated, field_applied, instruction, instruction_at, begun_if, start_of, start, first_store, main_of}
 use Rattle.icn_defs.specs.Keeping.{KeepsIn}
 use Rattle.icn_run_laws.specs.Laws.{Both, Then, With, SameDropped, Agrees}
 use Rattle.icn_run_laws.specs.SameStates.{IsMade, IsLacking, mark_of, Opens, RowsKeep, SameStatus, SameCoexp, alike, Rests, lift, Ready, Same, same_running, same_failing, same_hopping, same_over, same_stuck, lost}
@@ -21,6 +21,14 @@ both_map L Q R None None f h = tt
 both_map L Q R None (Some x) f h = h
 both_map L Q R (Some x') None f h = h
 both_map L Q R (Some x') (Some x) f h = f x' x h
+
+-- the turns that a state made
+abbrev pub made_turns : {K M : Type 0} → State K M → ℕ
+made_turns (running m st) = st.turns
+made_turns (failing m st) = st.turns
+made_turns (hopping m st) = st.turns
+made_turns (over ending outside) = 0
+made_turns stuck = 0
 
 module _ {K M K' M' : Type 0} (C' : Calls K' M') (C : Calls K M) (P : Program) (Lacks : M' → Type 0) (Lost : Type 0) (G : Agrees C' C (Opens P) Lacks) (keep : RowsKeep) where
   abbrev pub Rd : ℕ → M' → M → List (Coexp K') → List (Coexp K) → Type 0
@@ -598,9 +606,9 @@ module _ {K M K' M' : Type 0} (C' : Calls K' M') (C : Calls K M) (P : Program) (
   IsAtMark (running m st) = (label : Option ℕ) × Opens P (C.proc m) (C.place m) label
   IsAtMark state = ⊥
 
-  -- the first machine's state, and that of the second, or the one after its next step, which opens a mark
-  abbrev pub Reaches : State K' M' → State K M → Type 0
-  Reaches s' s = Sm s' s ⊎ (IsAtMark s × Sm s' (step C P s))
+  -- the first machine's state, and that of the second; or, after one turn more than so many, the one after its next step, which opens a mark
+  abbrev pub Reaches : ℕ → State K' M' → State K M → Type 0
+  Reaches n s' s = Sm s' s ⊎ (IsAtMark s × (Sm s' (step C P s) × (made_turns s ≡ suc n)))
 
   f_without : (m' : M') (m : M) (st : Store K) (ks' : List (Coexp K')) → Rd st.active m' m ks' st.coexps → Sm (without_mark C' P m' (lift st ks')) (without_mark C P m st)
   f_without m' m st ks' h = either_as (is_create_body C' m' (lift st ks')) (is_create_body C m st) _ _ _ _ (create_eq m' m st ks' h) (c_exhausted m' m st ks' h) (l_proc_fails m' m st ks' h)
@@ -615,11 +623,11 @@ module _ {K M K' M' : Type 0} (C' : Calls K' M') (C : Calls K M) (P : Program) (
   f_reopened label m' m st ks' e h = subst (λ o. Sm (running m' (lift st ks')) (with_found o (λ instr. instruction C P instr (C.go (suc (C.place m)) m) st))) (sym e) (open_label label m' m st ks' h)
 
   f_again : (b : Bool) (label : Option ℕ) (m' : M') (m : M) (st : Store K) (ks' : List (Coexp K')) → Opens P (C.proc m) (C.place m) label → Rd st.active m' (C.mark label (C.go (suc (C.place m)) m)) ks' st.coexps
-      → Reaches (turn_if b (lift st ks') (running m')) (turn_if b st (running m))
+      → Reaches st.turns (turn_if b (lift st ks') (running m')) (turn_if b st (running m))
   f_again false label m' m st ks' e h = inl same_over
-  f_again true label m' m st ks' e h = inr ((label, e), f_reopened label m' m (TurnOf st) ks' e h)
+  f_again true label m' m st ks' e h = inr ((label, e), (f_reopened label m' m (TurnOf st) ks' e h, refl))
 
-  f_dropped : (m' : M') (m : M) (st : Store K) (ks' : List (Coexp K')) → (h : Rd st.active m' m ks' st.coexps) → (d' : Dropped M') (d : Dropped M) → SameDropped C (Opens P) G.Next G.Now h.world st.active d' d → Reaches (mark_dropped C' P m' (lift st ks') d') (mark_dropped C P m st d)
+  f_dropped : (m' : M') (m : M) (st : Store K) (ks' : List (Coexp K')) → (h : Rd st.active m' m ks' st.coexps) → (d' : Dropped M') (d : Dropped M) → SameDropped C (Opens P) G.Next G.Now h.world st.active d' d → Reaches st.turns (mark_dropped C' P m' (lift st ks') d') (mark_dropped C P m st d)
   f_dropped m' m st ks' h NoMark NoMark x = inl (f_without m' m st ks' h)
   f_dropped m' m st ks' h (Goes a') (Goes a) x = inl (same_running st ks' (r_then st.active a' a ks' st.coexps h.world h.rests x))
   f_dropped m' m st ks' h (WithoutLabel a') (WithoutLabel a) x = inl (same_failing st ks' (r_then st.active a' a ks' st.coexps h.world h.rests x))
@@ -647,13 +655,13 @@ module _ {K M K' M' : Type 0} (C' : Calls K' M') (C : Calls K M) (P : Program) (
       (w_maybe (C'.swap_oldest (pair_now st) m') (C.swap_oldest (pair_now st) m) m' m (TurnOf st) ks' running running h (b_oldest (pair_now st) st.active m' m ks' st.coexps h) (λ a' a w r. same_running (with_world w (TurnOf st)) ks' r))
 
   f_back : (m' : M') (m : M) (st : Store K) (ks' : List (Coexp K')) → Rd st.active m' m ks' st.coexps → (o' : Option (Why × M')) (o : Option (Why × M)) → Both ⊥ (RdWith st.active ks' st.coexps) o' o
-      → Reaches (resumed_or_dropped C' P m' (lift st ks') o') (resumed_or_dropped C P m st o)
+      → Reaches st.turns (resumed_or_dropped C' P m' (lift st ks') o') (resumed_or_dropped C P m st o)
   f_back m' m st ks' h None None b = f_dropped m' m st ks' h (C'.drop_mark m') (C.drop_mark m) (G.drop_mark h.world st.active m' m h.here)
   f_back m' m st ks' h None (Some x) b = absurd b
   f_back m' m st ks' h (Some x') None b = absurd b
   f_back m' m st ks' h (Some x') (Some x) b = inl (subst (λ y. Sm (resumed C' P y x'.1 (lift st ks')) (resumed C P x.0 x.1 st)) (sym b.0) (f_resumed x.0 x'.1 x.1 st ks' b.1))
 
-  f_fails : (m' : M') (m : M) (st : Store K) (ks' : List (Coexp K')) → Rd st.active m' m ks' st.coexps → Reaches (fails C' P m' (lift st ks')) (fails C P m st)
+  f_fails : (m' : M') (m : M) (st : Store K) (ks' : List (Coexp K')) → Rd st.active m' m ks' st.coexps → Reaches st.turns (fails C' P m' (lift st ks')) (fails C P m st)
   f_fails m' m st ks' h = f_back m' m st ks' h (C'.resume m') (C.resume m) (b_with st.active m' m ks' st.coexps (C'.resume m') (C.resume m) h (G.resume h.world st.active m' m h.here))
 
   -- Steps
@@ -680,8 +688,8 @@ module _ {K M K' M' : Type 0} (C' : Calls K' M') (C : Calls K M) (P : Program) (
         subst (λ q. Lacks (C'.go (suc q) m')) (sym place) lacks,
       )) (instruction_at C P m) refl))
 
-  -- one step of the first is one step of the second, or two, where the next one opens a mark
-  pub one_step : {s' : State K' M'} {s : State K M} → (IsLacking C' P Lacks s' → Lost) → Sm s' s → Reaches (step C' P s') (step C P s)
+  -- one step of the first is one step of the second, or two, where this one is a turn and the next one opens a mark
+  pub one_step : {s' : State K' M'} {s : State K M} → (IsLacking C' P Lacks s' → Lost) → Sm s' s → Reaches (made_turns s) (step C' P s') (step C P s)
   one_step d (same_running {m'} {m} st ks' h) = inl (s_running m' m st ks' h d)
   one_step d (same_failing {m'} {m} st ks' h) = f_fails m' m st ks' h
   one_step d (same_hopping {m'} {m} st ks' h) = inl (c_hop h.world m' m st ks' h.holds h.rests)
@@ -689,9 +697,9 @@ module _ {K M K' M' : Type 0} (C' : Calls K' M') (C : Calls K M) (P : Program) (
   one_step d same_stuck = inl same_stuck
   one_step d (lost x) = inl (lost x)
 
-  counted : {s' : State K' M'} {s : State K M} → Reaches s' s → (d : ℕ) × Sm s' (steps C P d s)
+  counted : {n : ℕ} {s' : State K' M'} {s : State K M} → Reaches n s' s → (d : ℕ) × Sm s' (steps C P d s)
   counted (inl x) = (0, x)
-  counted (inr x) = (1, x.1)
+  counted (inr x) = (1, x.1.0)
 
   pub same_step : {s' : State K' M'} {s : State K M} → (IsLacking C' P Lacks s' → Lost) → Sm s' s → (d : ℕ) × Sm (step C' P s') (steps C P (suc d) s)
   same_step d h = counted (one_step d h)

@@ -21,7 +21,7 @@ use Rattle.icn_run_laws.specs.SameStates.{Opens, lift, same_running, same_failin
 use Rattle.icn_run_laws.proofs.RowsKeep.{rows_keep}
 use Rattle.icn_run_laws.proofs.OnLinked.{linked_agrees}
 use Rattle.icn_run_laws.proofs.OnMarks.{Lacks}
-use Rattle.icn_run_laws.proofs.OnSteps.{Sm, IsAtMark, one_step}
+use Rattle.icn_run_laws.proofs.OnSteps.{Sm, IsAtMark, Reaches, made_turns, one_step}
 use Rattle.icn_run_laws.proofs.SecondLaw.{starts_so}
 use Rattle.icn_run_safe.specs.Within.{RowsStayWithin}
 use Rattle.icn_run_safe.specs.Shaped.{Known, local_count, ChainOk, OuterOk, Safe, Shaped}
@@ -105,9 +105,9 @@ module _ (tables : Tables) (have : HaveShapes tables) (ok : TablesOk tables) (ke
       safe : Safe tables sh next
       safe = step_ok tables sh given keep ok x.state x.safe
 
-      by : Sames next (step flat tables f) ⊎ (IsDue (step flat tables f) × Sames next (step flat tables (step flat tables f))) → Follows (step flat tables f)
+      by : Reaches (linked repeats_anywhere) flat tables (Lacks repeats_anywhere (Opens tables)) (Unit {0}) (linked_agrees repeats_anywhere (Opens tables)) rows_keep (made_turns f) next (step flat tables f) → Follows (step flat tables f)
       by (inl y) = inl (record { state = next; safe = safe; same = y })
-      by (inr y) = inr (y.0, record { state = next; safe = safe; same = y.1 })
+      by (inr y) = inr (y.0, record { state = next; safe = safe; same = y.1.0 })
 
   follows_all : (n : ℕ) (f : State Frames Frames) → Follows f → Follows (steps flat tables n f)
   follows_all zero f h = h
