@@ -125,7 +125,7 @@ module _ {K M : Type 0} (C : Calls K M) (N : ℕ) (W : Weighs C N) (P : Program)
   s_begun false main entry vs m st h = tt
   s_begun true main entry vs m st h = s_collected entry.collects entry.parameters vs m st _ h (λ ps a st' h'. (W.begin main _ 0 a, h'.0, h'.1))
 
-  s_start : (words : List (List ℕ)) (m : M) (st : Store K) (o : Option ℕ) → Starts st → Sound C N B W (start_of C P words m st o)
+  pub s_start : (words : List (List ℕ)) (m : M) (st : Store K) (o : Option ℕ) → Starts st → Sound C N B W (start_of C P words m st o)
   s_start words m st None h = tt
   s_start words m st (Some main) h = when_found (Sound C N B W) s_allowed (λ x. Unit {0}) (slice_get P.procs main) _ (there _) (λ entry _.
       s_made (words_row words (here C m st)) m st (λ list m st. begun_if C (nat_le 1 st.world.heap.bounds.levels) main entry (list ∷ []) m st) (rows_keep.words_made words (here C m st)) (rows_keep.worded words (here C m st)) h

@@ -40,7 +40,7 @@ cut_cut cells m h x below e len le =
     sym d ∙ ap (λ xs. cut h xs) e ∙ cut_push x below h le
 
 module _ (N : ℕ) where
-  abbrev F : List Cell → Registers → ℕ → ℕ → Type 0
+  abbrev pub F : List Cell → Registers → ℕ → ℕ → Type 0
   F = Fit N
 
   -- cells in which all that the heights of others lead to stands where it stood
@@ -237,7 +237,7 @@ module _ (N : ℕ) where
 
   -- The calls
 
-  abbrev Bounded : Frames → ℕ → Type 0
+  abbrev pub Bounded : Frames → ℕ → Type 0
   Bounded m v = (s : ℕ) × (o : ℕ) × F m.cells m.registers s o × (s + o ≤ v)
 
   abbrev Fits : Frames → Type 0
@@ -488,3 +488,13 @@ module _ (N : ℕ) where
     enter = enter_law;
     leave = λ m f. leave_law m f (frame_in m.cells m.registers f.1.0 f.1.1 f.1.2);
   }
+
+  -- what bounds a stack, in its own words
+
+  pub bounded_so : (m : Frames) (v : ℕ) → flat_weighs.Bounded m v → Bounded m v
+  unfolding flat_weighs
+  bounded_so m v b = b
+
+  pub so_bounded : (m : Frames) (v : ℕ) → Bounded m v → flat_weighs.Bounded m v
+  unfolding flat_weighs
+  so_bounded m v b = b
