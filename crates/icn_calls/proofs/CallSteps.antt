@@ -28,7 +28,8 @@ proc_at (suc n) (entry ∷ procs) records p =
     let rest = proc_at n procs records (omega arith) in
     record { entry = rest.entry; there = rest.there; is = rest.is }
 
-pub past_procs : (n : ℕ) (procs : List Proc) (records : List RecordType) → length procs ≤ n → callee_among n procs records ≡ record_among (n - length procs) zero records
+pub past_procs : (n : ℕ) (procs : List Proc) (records : List RecordType) → length procs ≤ n
+    → callee_among n procs records ≡ record_among (n - length procs) zero records
 past_procs n [] records p = let e : n ≡ n - 0 = omega arith in ap (λ (k : ℕ). record_among k zero records) e
 past_procs zero (entry ∷ procs) records p = absurd (omega arith)
 past_procs (suc n) (entry ∷ procs) records p =
@@ -62,13 +63,15 @@ past_records (suc n) from (entry ∷ records) p =
 pub at_proc : (tables : Tables) (n : ℕ) → n < length tables.procs → IsCallee tables n Callees.Proc
 at_proc tables n p = let at = proc_at n tables.procs tables.records p in (at.entry, (at.there, at.is))
 
-pub at_record : (tables : Tables) (n : ℕ) → length tables.procs ≤ n → n - length tables.procs < length tables.records → IsCallee tables n (Callees.Rec (n - length tables.procs))
+pub at_record : (tables : Tables) (n : ℕ) → length tables.procs ≤ n → n - length tables.procs < length tables.records
+    → IsCallee tables n (Callees.Rec (n - length tables.procs))
 at_record tables n p q =
     let at = record_at (n - length tables.procs) zero tables.records q in
     let e : zero + (n - length tables.procs) ≡ n - length tables.procs = omega arith in
     (at.entry, (at.there, past_procs n tables.procs tables.records p ∙ at.is ∙ ap (λ (k : ℕ). IsRecord k at.entry) e))
 
-pub at_func : (tables : Tables) (n : ℕ) (func : Option Func) → length tables.procs ≤ n → length tables.records ≤ n - length tables.procs → func ≡ func_of (n - length tables.procs - length tables.records + 1) → callee_of tables n ≡ func_callee func
+pub at_func : (tables : Tables) (n : ℕ) (func : Option Func) → length tables.procs ≤ n → length tables.records ≤ n - length tables.procs
+    → func ≡ func_of (n - length tables.procs - length tables.records + 1) → callee_of tables n ≡ func_callee func
 at_func tables n func p q e = past_procs n tables.procs tables.records p ∙ past_records (n - length tables.procs) zero tables.records q ∙ ap func_callee (sym e)
 
 -- Arguments

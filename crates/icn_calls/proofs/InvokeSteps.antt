@@ -13,14 +13,12 @@ use Rattle.icn_heap.specs.Heaps.{extent_of}
 use Rattle.icn_vars.specs.declared.outcome.Halt.{Halt}
 use Rattle.icn_vars.specs.declared.world.World.{World}
 use Rattle.icn_vars.specs.Worlds.{item_in, world_of}
-use Rattle.icn_frames.specs.Stacks as held
 use Rattle.icn_frames.specs.Stacks.{FlatStack}
 use Rattle.icn_code.specs.Codes.{Tables}
 use Rattle.icn_run.specs.Rows as rows
-use Rattle.icn_run.specs.Rows.{Function, apply}
 use Rattle.icn_run.specs.Stacks.{Frames, flat}
 use Rattle.icn_run.specs.Step as code
-use Rattle.icn_run.specs.Step.{State, Store, callee_called, callee_of, chosen, errs, failing, here, integer_called, invoked, outcome, pushed_or_fails, running, with_world}
+use Rattle.icn_run.specs.Step.{State, Store, callee_called, callee_of, chosen, errs, failing, integer_called, invoked, pushed_or_fails, with_world}
 use Rattle.icn_control.specs.Parts.{FailsWith, HaltsWith, RunsWith, StandsWith}
 use Rattle.icn_control.specs.declared.machine.Stage.{Stage}
 use Rattle.icn_control.specs.Standing.{stack_in}
@@ -30,18 +28,21 @@ use Rattle.icn_calls.specs.Calling.{function_callee, function_in}
 
 -- What is no function
 
-pub never_function : (tables : Tables) (val : Val) (n : ℕ) (func : Func) → function_in tables val ≡ None → val ≡ Vals.Proc n → callee_of tables n ≡ code.IsFunc func → ⊥
+pub never_function : (tables : Tables) (val : Val) (n : ℕ) (func : Func) → function_in tables val ≡ None → val ≡ Vals.Proc n
+    → callee_of tables n ≡ code.IsFunc func → ⊥
 never_function tables val n func e f g =
     let some : Some func ≡ None = sym (ap function_callee g) ∙ ap (function_in tables) (sym f) ∙ e in
     cc
 
 -- what a number names is called with items
-pub called_by_number : (tables : Tables) (all : Extent) (val : Val) (n : ℕ) (callee : code.Callee) (items : List rows.Item) (m : Frames) (st : Store Frames) → val ≡ Vals.Proc n → callee_of tables n ≡ callee
+pub called_by_number : (tables : Tables) (all : Extent) (val : Val) (n : ℕ) (callee : code.Callee) (items : List rows.Item) (m : Frames) (st : Store Frames)
+    → val ≡ Vals.Proc n → callee_of tables n ≡ callee
     → invoked flat tables (value_in all val) items m st ≡ callee_called flat callee n items m st
 called_by_number tables all val n callee items m st e f =
     ap (λ (x : Val). invoked flat tables (value_in all x) items m st) e ∙ ap (λ (c : code.Callee). callee_called flat c n items m st) f
 
-pub nothing_called : (w : World) (tables : Tables) (val : Val) (n : ℕ) (items : List rows.Item) (m : Frames) (st : Store Frames) → val ≡ Vals.Proc n → callee_of tables n ≡ code.IsNothing → st.world ≡ world_of w
+pub nothing_called : (w : World) (tables : Tables) (val : Val) (n : ℕ) (items : List rows.Item) (m : Frames) (st : Store Frames) → val ≡ Vals.Proc n
+    → callee_of tables n ≡ code.IsNothing → st.world ≡ world_of w
     → invoked flat tables (value_in (extent_of w.heap) val) items m st ≡ errs 106 (Some (rows.Procedure n)) (with_world (world_of w) st)
 nothing_called w tables val n items m st e f same =
     called_by_number tables (extent_of w.heap) val n code.IsNothing items m st e f ∙ ap (errs 106 (Some (rows.Procedure n))) (same_world w st same)
@@ -69,20 +70,6 @@ by_number tables all (Vals.Coexp n) items m st h = refl
 
 -- Integers
 
-pub not_called : (w : World) (value : Value) (n : Option _) (items : List rows.Item) (m : Frames) (st : Store Frames) → n ≡ None → st.world ≡ world_of w
-    → integer_called flat value n items m st ≡ errs 106 (Some value) (with_world (world_of w) st)
-not_called w value n items m st e same = ap (λ o. integer_called flat value o items m st) e ∙ ap (errs 106 (Some value)) (same_world w st same)
-
-pub chosen_runs : (w : World) (value : Value) (n : Option _) (k : _) (items : List rows.Item) (m l : FlatStack) (found : Option Item) (item : Item) → n ≡ Some k
-    → option_map (item_in (extent_of w.heap)) found ≡ chosen k items → found ≡ Some item → l ≡ held.push item m → (st : Store Frames) → st.world ≡ world_of w
-    → RunsWith (integer_called flat value n items (stack_in (extent_of w.heap) m) st) st w l
-chosen_runs w value n k items m l found item e f g p st same =
-    let all : Extent = extent_of w.heap in
-    ap (λ o. integer_called flat value o items (stack_in all m) st) e
-    ∙ ap (λ (o : Option rows.Item). pushed_or_fails flat o (stack_in all m) st) (sym f ∙ ap (option_map (item_in all)) g)
-    ∙ ap (λ (x : FlatStack). running (stack_in all x) st) (sym p)
-    ∙ ap (running (stack_in all l)) (same_world w st same)
-
 pub none_runs : (w : World) (value : Value) (n : Option _) (k : _) (items : List rows.Item) (m : FlatStack) (found : Option Item) → n ≡ Some k
     → option_map (item_in (extent_of w.heap)) found ≡ chosen k items → found ≡ None → (st : Store Frames) → st.world ≡ world_of w
     → FailsWith (integer_called flat value n items (stack_in (extent_of w.heap) m) st) st w m
@@ -98,20 +85,26 @@ values_then : (w : World) (m k : FlatStack) (items : List Item) (vals : List Val
     → ((st : Store Frames) (f : List Value → State Frames Frames) → st.world ≡ world_of w → with_values_in w m items st f ≡ f (map (value_in (extent_of w.heap)) vals)) → (st : Store Frames) → st.world ≡ world_of w
     → with_values_in w m items st (λ values. next values (stack_in (extent_of w.heap) m) st) ≡ next (map (value_in (extent_of w.heap)) vals) (stack_in (extent_of w.heap) k) st
 values_then w m k items vals next e f st same =
-    f st (λ values. next values (stack_in (extent_of w.heap) m) st) same ∙ ap (λ (x : FlatStack). next (map (value_in (extent_of w.heap)) vals) (stack_in (extent_of w.heap) x) st) (sym e)
+    f st (λ values. next values (stack_in (extent_of w.heap) m) st) same
+    ∙ ap (λ (x : FlatStack). next (map (value_in (extent_of w.heap)) vals) (stack_in (extent_of w.heap) x) st) (sym e)
 
-pub values_run : (w v : World) (m k n : FlatStack) (items : List Item) (vals : List Val) (next : List Value → Frames → Store Frames → State Frames Frames) → k ≡ m
+pub values_run : (w v : World) (m k n : FlatStack) (items : List Item) (vals : List Val) (next : List Value → Frames → Store Frames → State Frames Frames)
+    → k ≡ m
     → ((st : Store Frames) (f : List Value → State Frames Frames) → st.world ≡ world_of w → with_values_in w m items st f ≡ f (map (value_in (extent_of w.heap)) vals))
-    → ((st : Store Frames) → st.world ≡ world_of w → RunsWith (next (map (value_in (extent_of w.heap)) vals) (stack_in (extent_of w.heap) k) st) st v n) → (st : Store Frames) → st.world ≡ world_of w
+    → ((st : Store Frames) → st.world ≡ world_of w → RunsWith (next (map (value_in (extent_of w.heap)) vals) (stack_in (extent_of w.heap) k) st) st v n)
+    → (st : Store Frames) → st.world ≡ world_of w
     → RunsWith (with_values_in w m items st (λ values. next values (stack_in (extent_of w.heap) m) st)) st v n
 values_run w v m k n items vals next e f h st same = values_then w m k items vals next e f st same ∙ h st same
 
 pub values_halt : (w v : World) (m k : FlatStack) (items : List Item) (vals : List Val) (halt : Halt) (next : List Value → Frames → Store Frames → State Frames Frames) → k ≡ m
     → ((st : Store Frames) (f : List Value → State Frames Frames) → st.world ≡ world_of w → with_values_in w m items st f ≡ f (map (value_in (extent_of w.heap)) vals))
-    → ((st : Store Frames) → st.world ≡ world_of w → HaltsWith (next (map (value_in (extent_of w.heap)) vals) (stack_in (extent_of w.heap) k) st) st v halt) → (st : Store Frames) → st.world ≡ world_of w
+    → ((st : Store Frames) → st.world ≡ world_of w → HaltsWith (next (map (value_in (extent_of w.heap)) vals) (stack_in (extent_of w.heap) k) st) st v halt)
+    → (st : Store Frames) → st.world ≡ world_of w
     → HaltsWith (with_values_in w m items st (λ values. next values (stack_in (extent_of w.heap) m) st)) st v halt
-values_halt w v m k items vals halt next e f h st same = subst (λ (s : State Frames Frames). HaltsWith s st v halt) (sym (values_then w m k items vals next e f st same)) (h st same)
+values_halt w v m k items vals halt next e f h st same =
+    subst (λ (s : State Frames Frames). HaltsWith s st v halt) (sym (values_then w m k items vals next e f st same)) (h st same)
 
 -- what an answer is of, once what is called is known
-pub stands_as : (result : Result Stage Halt) (v : World) (n : FlatStack) (st : Store Frames) (a b : State Frames Frames) → a ≡ b → MatchResult result (StandsWith b st v n) (HaltsWith b st v) → MatchResult result (StandsWith a st v n) (HaltsWith a st v)
+pub stands_as : (result : Result Stage Halt) (v : World) (n : FlatStack) (st : Store Frames) (a b : State Frames Frames) → a ≡ b
+    → MatchResult result (StandsWith b st v n) (HaltsWith b st v) → MatchResult result (StandsWith a st v n) (HaltsWith a st v)
 stands_as result v n st a b e h = subst (λ (s : State Frames Frames). MatchResult result (StandsWith s st v n) (HaltsWith s st v)) (sym e) h

@@ -31,7 +31,8 @@ use Rattle.icn_calls.specs.Calling.{values_for, with_parameters_in}
 
 -- Values for places
 
-map_fill : (all : Extent) (n k : ℕ) (xs : List Val) → map (value_in all) (take n (xs ++ replicate k Null)) ≡ take n (map (value_in all) xs ++ replicate k NullValue)
+map_fill : (all : Extent) (n k : ℕ) (xs : List Val)
+    → map (value_in all) (take n (xs ++ replicate k Null)) ≡ take n (map (value_in all) xs ++ replicate k NullValue)
 map_fill all zero k xs = refl
 map_fill all (suc n) zero [] = refl
 map_fill all (suc n) (suc k) [] = ap (λ (r : List Value). NullValue ∷ r) (map_fill all n k [])
@@ -61,7 +62,8 @@ live_fill : (all : Extent) (n k : ℕ) (xs : List Val) → All (IsLive all) xs �
 live_fill all zero k xs a = All-nil (IsLive all)
 live_fill all (suc n) zero [] a = All-nil (IsLive all)
 live_fill all (suc n) (suc k) [] a = All-cons (IsLive all) Null (take n (replicate k Null)) (null_live all) (live_fill all n k [] a)
-live_fill all (suc n) k (x ∷ xs) a = All-cons (IsLive all) x (take n (xs ++ replicate k Null)) (All-head (IsLive all) x xs a) (live_fill all n k xs (All-tail (IsLive all) x xs a))
+live_fill all (suc n) k (x ∷ xs) a =
+    All-cons (IsLive all) x (take n (xs ++ replicate k Null)) (All-head (IsLive all) x xs a) (live_fill all n k xs (All-tail (IsLive all) x xs a))
 
 pub live_values_for : (all : Extent) (n : ℕ) (xs : List Val) → All (IsLive all) xs → All (IsLive all) (values_for n xs)
 live_values_for all n xs a = live_fill all n n xs a
@@ -73,14 +75,17 @@ live_drop all (suc n) (x ∷ xs) a = live_drop all n xs (All-tail (IsLive all) x
 
 -- Parameters
 
-pub plain : (w : World) (m : FlatStack) (count : ℕ) (vals parameters : List Val) → parameters ≡ values_for count vals → (st : Store Frames) (next : List Value → Frames → Store Frames → State Frames Frames) → st.world ≡ world_of w
+pub plain : (w : World) (m : FlatStack) (count : ℕ) (vals parameters : List Val) → parameters ≡ values_for count vals
+    → (st : Store Frames) (next : List Value → Frames → Store Frames → State Frames Frames) → st.world ≡ world_of w
     → with_parameters_in false count w m vals st next ≡ next (map (value_in (extent_of w.heap)) parameters) (stack_in (extent_of w.heap) m) (with_world (world_of w) st)
 plain w m count vals parameters e st next same =
     ap (λ (xs : List Value). next xs (stack_in (extent_of w.heap) m) st) (sym (ap (map (value_in (extent_of w.heap))) e ∙ map_values_for (extent_of w.heap) count vals))
     ∙ ap (next (map (value_in (extent_of w.heap)) parameters) (stack_in (extent_of w.heap) m)) (same_world w st same)
 
-pub collects : (w v : World) (m : FlatStack) (count : ℕ) (vals cut parameters : List Val) (list : Val) → MakesValue (list_row (map (value_in (extent_of w.heap)) (drop (count - 1) vals))) w m v (Ok list) → cut ≡ values_for (count - 1) vals
-    → parameters ≡ cut ++ list ∷ [] → Keeps (extent_of w.heap) (extent_of v.heap) → All (IsLive (extent_of w.heap)) vals → (st : Store Frames) (next : List Value → Frames → Store Frames → State Frames Frames) → st.world ≡ world_of w
+pub collects : (w v : World) (m : FlatStack) (count : ℕ) (vals cut parameters : List Val) (list : Val)
+    → MakesValue (list_row (map (value_in (extent_of w.heap)) (drop (count - 1) vals))) w m v (Ok list) → cut ≡ values_for (count - 1) vals
+    → parameters ≡ cut ++ list ∷ [] → Keeps (extent_of w.heap) (extent_of v.heap) → All (IsLive (extent_of w.heap)) vals
+    → (st : Store Frames) (next : List Value → Frames → Store Frames → State Frames Frames) → st.world ≡ world_of w
     → with_parameters_in true count w m vals st next ≡ next (map (value_in (extent_of v.heap)) parameters) (stack_in (extent_of v.heap) m) (with_world (world_of v) st)
 collects w v m count vals cut parameters list made_so c p k a st next same =
     let all : Extent = extent_of w.heap in
@@ -95,16 +100,20 @@ collects w v m count vals cut parameters list made_so c p k a st next same =
     ∙ made_so st behind same
     ∙ ap (λ (xs : List Value). next xs (stack_in new m) (with_world (world_of v) st)) (sym is)
 
-pub collects_not : (w v : World) (m : FlatStack) (count : ℕ) (vals : List Val) (stop : Stop) → MakesValue (list_row (map (value_in (extent_of w.heap)) (drop (count - 1) vals))) w m v (Err stop)
-    → (st : Store Frames) (next : List Value → Frames → Store Frames → State Frames Frames) → st.world ≡ world_of w → HaltsWith (with_parameters_in true count w m vals st next) st v (halt_of stop)
+pub collects_not : (w v : World) (m : FlatStack) (count : ℕ) (vals : List Val) (stop : Stop)
+    → MakesValue (list_row (map (value_in (extent_of w.heap)) (drop (count - 1) vals))) w m v (Err stop)
+    → (st : Store Frames) (next : List Value → Frames → Store Frames → State Frames Frames) → st.world ≡ world_of w
+    → HaltsWith (with_parameters_in true count w m vals st next) st v (halt_of stop)
 collects_not w v m count vals stop made_so st next same =
     let all : Extent = extent_of w.heap in
     let behind : Value → Frames → Store Frames → State Frames Frames = λ rest x s. next (filled (count - 1) (map (value_in all) vals) ++ rest ∷ []) x s in
     subst (λ (x : State Frames Frames). HaltsWith x st v (halt_of stop)) (ap (λ (xs : List Value). list_made flat xs (stack_in all m) st behind) (map_drop all (count - 1) vals)) (made_so st behind same)
 
-pub plain_result : (b : Bool) (w : World) (m : FlatStack) (count : ℕ) (vals parameters : List Val) → b ≡ false → parameters ≡ values_for count vals → (st : Store Frames) (next : List Value → Frames → Store Frames → State Frames Frames) → st.world ≡ world_of w
+pub plain_result : (b : Bool) (w : World) (m : FlatStack) (count : ℕ) (vals parameters : List Val) → b ≡ false → parameters ≡ values_for count vals
+    → (st : Store Frames) (next : List Value → Frames → Store Frames → State Frames Frames) → st.world ≡ world_of w
     → with_parameters_in b count w m vals st next ≡ next (map (value_in (extent_of w.heap)) parameters) (stack_in (extent_of w.heap) m) (with_world (world_of w) st)
-plain_result b w m count vals parameters e p st next same = ap (λ (x : Bool). with_parameters_in x count w m vals st next) e ∙ plain w m count vals parameters p st next same
+plain_result b w m count vals parameters e p st next same =
+    ap (λ (x : Bool). with_parameters_in x count w m vals st next) e ∙ plain w m count vals parameters p st next same
 
 -- Calls
 
@@ -113,7 +122,8 @@ map_nulls all zero = refl
 map_nulls all (suc n) = ap (λ (r : List Value). NullValue ∷ r) (map_nulls all n)
 
 -- what a call is, once its level was tested
-called_by : (w : World) (m : FlatStack) (number : ℕ) (entry : Proc) (vals : List Val) (b : Bool) → nat_le (suc (held.level m)) (heap_of w.heap).bounds.levels ≡ b → (st : Store Frames) → st.world ≡ world_of w
+called_by : (w : World) (m : FlatStack) (number : ℕ) (entry : Proc) (vals : List Val) (b : Bool)
+    → nat_le (suc (held.level m)) (heap_of w.heap).bounds.levels ≡ b → (st : Store Frames) → st.world ≡ world_of w
     → called flat number entry (map (value_in (extent_of w.heap)) vals) (stack_in (extent_of w.heap) m) st ≡ called_if flat b number entry (map (value_in (extent_of w.heap)) vals) (stack_in (extent_of w.heap) m) st
 called_by w m number entry vals b e st same =
     let F : Bool → State Frames Frames = λ x. called_if flat x number entry (map (value_in (extent_of w.heap)) vals) (stack_in (extent_of w.heap) m) st in
@@ -121,11 +131,13 @@ called_by w m number entry vals b e st same =
     ∙ ap (λ (x : StoreWorld). F (nat_le (suc (held.level m)) x.heap.bounds.levels)) same
     ∙ ap F e
 
-pub called_deep : (w : World) (m : FlatStack) (number : ℕ) (entry : Proc) (vals : List Val) → nat_le (suc (held.level m)) (heap_of w.heap).bounds.levels ≡ false → (st : Store Frames) → st.world ≡ world_of w
+pub called_deep : (w : World) (m : FlatStack) (number : ℕ) (entry : Proc) (vals : List Val)
+    → nat_le (suc (held.level m)) (heap_of w.heap).bounds.levels ≡ false → (st : Store Frames) → st.world ≡ world_of w
     → called flat number entry (map (value_in (extent_of w.heap)) vals) (stack_in (extent_of w.heap) m) st ≡ errs 301 None (with_world (world_of w) st)
 called_deep w m number entry vals e st same = called_by w m number entry vals false e st same ∙ ap (errs 301 None) (same_world w st same)
 
-pub called_runs : (w v : World) (m k n : FlatStack) (number : ℕ) (entry : Proc) (vals parameters : List Val) → nat_le (suc (held.level m)) (heap_of w.heap).bounds.levels ≡ true
+pub called_runs : (w v : World) (m k n : FlatStack) (number : ℕ) (entry : Proc) (vals parameters : List Val)
+    → nat_le (suc (held.level m)) (heap_of w.heap).bounds.levels ≡ true
     → ((st : Store Frames) (next : List Value → Frames → Store Frames → State Frames Frames) → st.world ≡ world_of w
     → with_parameters_in entry.collects entry.parameters w m vals st next ≡ next (map (value_in (extent_of v.heap)) parameters) (stack_in (extent_of v.heap) m) (with_world (world_of v) st))
     → k ≡ m → n ≡ held.enter number (parameters ++ replicate entry.locals Null) 0 k → (st : Store Frames) → st.world ≡ world_of w
@@ -134,7 +146,8 @@ called_runs w v m k n number entry vals parameters b f e p st same =
     let new : Extent = extent_of v.heap in
     let locals : List Val = parameters ++ replicate entry.locals Null in
     let is : map (value_in new) locals ≡ map (value_in new) parameters ++ replicate entry.locals NullValue
-    = map-append (value_in new) parameters (replicate entry.locals Null) ∙ ap (λ (r : List Value). map (value_in new) parameters ++ r) (map_nulls new entry.locals) in
+    = map-append (value_in new) parameters (replicate entry.locals Null)
+    ∙ ap (λ (r : List Value). map (value_in new) parameters ++ r) (map_nulls new entry.locals) in
     called_by w m number entry vals true b st same
     ∙ f st (λ ps a s. entered flat number entry ps a s) same
     ∙ ap (λ (xs : List Value). running (flat.enter number xs (stack_in new m)) (with_world (world_of v) st)) (sym is)
@@ -142,7 +155,8 @@ called_runs w v m k n number entry vals parameters b f e p st same =
     ∙ ap (λ (x : FlatStack). running (stack_in new (held.enter number locals 0 x)) (with_world (world_of v) st)) (sym e)
     ∙ ap (λ (x : FlatStack). running (stack_in new x) (with_world (world_of v) st)) (sym p)
 
-pub called_halts : (w v : World) (m : FlatStack) (number : ℕ) (entry : Proc) (vals : List Val) (stop : Stop) → nat_le (suc (held.level m)) (heap_of w.heap).bounds.levels ≡ true
+pub called_halts : (w v : World) (m : FlatStack) (number : ℕ) (entry : Proc) (vals : List Val) (stop : Stop)
+    → nat_le (suc (held.level m)) (heap_of w.heap).bounds.levels ≡ true
     → ((st : Store Frames) (next : List Value → Frames → Store Frames → State Frames Frames) → st.world ≡ world_of w → HaltsWith (with_parameters_in entry.collects entry.parameters w m vals st next) st v (halt_of stop)) → (st : Store Frames) → st.world ≡ world_of w
     → HaltsWith (called flat number entry (map (value_in (extent_of w.heap)) vals) (stack_in (extent_of w.heap) m) st) st v (halt_of stop)
 called_halts w v m number entry vals stop b f st same =
@@ -154,7 +168,8 @@ nulls_live all (suc n) = All-cons (IsLive all) Null (replicate n Null) (null_liv
 
 pub live_with_nulls : (all : Extent) (n : ℕ) (xs : List Val) → All (IsLive all) xs → All (IsLive all) (xs ++ replicate n Null)
 live_with_nulls all n [] a = nulls_live all n
-live_with_nulls all n (x ∷ xs) a = All-cons (IsLive all) x (xs ++ replicate n Null) (All-head (IsLive all) x xs a) (live_with_nulls all n xs (All-tail (IsLive all) x xs a))
+live_with_nulls all n (x ∷ xs) a =
+    All-cons (IsLive all) x (xs ++ replicate n Null) (All-head (IsLive all) x xs a) (live_with_nulls all n xs (All-tail (IsLive all) x xs a))
 
 pub length_with_nulls : (n : ℕ) (xs : List Val) → length (xs ++ replicate n Null) ≡ length xs + n
 length_with_nulls zero [] = refl

@@ -46,7 +46,8 @@ use Rattle.icn_calls.proofs.ParameterSteps.{map_values_for}
 abbrev made_and_pushed : World → ℕ → List Value → FlatStack → Store Frames → State Frames Frames
 made_and_pushed w kind fields m st = made_in (record_row kind fields) w m st (λ value m st. pushed flat (rows.Val value) m st)
 
-constructed_is : (w : World) (m : FlatStack) (kind at count : ℕ) (entry : RecordType) (vals fields : List Val) → at ≡ kind → count ≡ length entry.fields → fields ≡ values_for count vals → (st : Store Frames)
+constructed_is : (w : World) (m : FlatStack) (kind at count : ℕ) (entry : RecordType) (vals fields : List Val) → at ≡ kind → count ≡ length entry.fields
+    → fields ≡ values_for count vals → (st : Store Frames)
     → constructed flat kind entry (map (value_in (extent_of w.heap)) vals) (stack_in (extent_of w.heap) m) st ≡ made_and_pushed w at (map (value_in (extent_of w.heap)) fields) m st
 constructed_is w m kind at count entry vals fields k c e st =
     let all : Extent = extent_of w.heap in
@@ -54,8 +55,10 @@ constructed_is w m kind at count entry vals fields k c e st =
     = ap (map (value_in all)) e ∙ map_values_for all count vals ∙ ap (λ (n : ℕ). filled n (map (value_in all) vals)) c in
     ap (λ (xs : List Value). made_and_pushed w kind xs m st) (sym is) ∙ ap (λ (n : ℕ). made_and_pushed w n (map (value_in all) fields) m st) (sym k)
 
-pub record_runs : (w v : World) (m k n : FlatStack) (kind at count : ℕ) (entry : RecordType) (vals fields : List Val) (val : Val) → at ≡ kind → count ≡ length entry.fields → fields ≡ values_for count vals
-    → MakesValue (record_row at (map (value_in (extent_of w.heap)) fields)) w m v (Ok val) → k ≡ m → n ≡ held.push (HeldVal val) k → (st : Store Frames) → st.world ≡ world_of w
+pub record_runs : (w v : World) (m k n : FlatStack) (kind at count : ℕ) (entry : RecordType) (vals fields : List Val) (val : Val) → at ≡ kind
+    → count ≡ length entry.fields → fields ≡ values_for count vals
+    → MakesValue (record_row at (map (value_in (extent_of w.heap)) fields)) w m v (Ok val) → k ≡ m → n ≡ held.push (HeldVal val) k → (st : Store Frames)
+    → st.world ≡ world_of w
     → RunsWith (constructed flat kind entry (map (value_in (extent_of w.heap)) vals) (stack_in (extent_of w.heap) m) st) st v n
 record_runs w v m k n kind at count entry vals fields val a c e made_so p q st same =
     constructed_is w m kind at count entry vals fields a c e st
@@ -63,7 +66,8 @@ record_runs w v m k n kind at count entry vals fields val a c e made_so p q st s
     ∙ ap (λ (x : FlatStack). running (stack_in (extent_of v.heap) (held.push (HeldVal val) x)) (with_world (world_of v) st)) (sym p)
     ∙ ap (λ (x : FlatStack). running (stack_in (extent_of v.heap) x) (with_world (world_of v) st)) (sym q)
 
-pub record_halts : (w v : World) (m : FlatStack) (kind at count : ℕ) (entry : RecordType) (vals fields : List Val) (stop : Stop) → at ≡ kind → count ≡ length entry.fields → fields ≡ values_for count vals
+pub record_halts : (w v : World) (m : FlatStack) (kind at count : ℕ) (entry : RecordType) (vals fields : List Val) (stop : Stop) → at ≡ kind
+    → count ≡ length entry.fields → fields ≡ values_for count vals
     → MakesValue (record_row at (map (value_in (extent_of w.heap)) fields)) w m v (Err stop) → (st : Store Frames) → st.world ≡ world_of w
     → HaltsWith (constructed flat kind entry (map (value_in (extent_of w.heap)) vals) (stack_in (extent_of w.heap) m) st) st v (halt_of stop)
 record_halts w v m kind at count entry vals fields stop a c e made_so st same =
@@ -71,7 +75,8 @@ record_halts w v m kind at count entry vals fields stop a c e made_so st same =
 
 pub record_counted : (w v : World) (locals : List Val) (kind : ℕ) (fields : List Value) (result : Result Val Stop)
     → ((outside : Outside) → Found (extent_of v.heap) (new_record_of (record { kind = kind; fields = fields })) (setting_of outside w locals) (setting_of outside v locals) (value_in (extent_of v.heap)) result) → OnOk result (KeepsCounts w v)
-record_counted w v locals kind fields (Ok val) f = record_keeps w v (outside_of []) locals (rows.Val (value_in (extent_of v.heap) val)) kind fields (f (outside_of []) gives_value)
+record_counted w v locals kind fields (Ok val) f =
+    record_keeps w v (outside_of []) locals (rows.Val (value_in (extent_of v.heap) val)) kind fields (f (outside_of []) gives_value)
 record_counted w v locals kind fields (Err stop) f = tt
 
 -- Fields
@@ -84,15 +89,19 @@ kind_there tables kind p =
     (get_or tables.records kind nothing, slice_get-get_or tables.records kind nothing p)
 
 pub place_absent : (tables : Tables) (field kind : ℕ) → length tables.records ≤ kind → None ≡ field_place tables field kind
-place_absent tables field kind p = sym (ap (option_and_then (λ (entry : RecordType). position (is_number field) entry.fields)) (slice_get_past tables.records kind p))
+place_absent tables field kind p =
+    sym (ap (option_and_then (λ (entry : RecordType). position (is_number field) entry.fields)) (slice_get_past tables.records kind p))
 
-pub place_found : (tables : Tables) (field kind : ℕ) (entry : RecordType) (fields : List ℕ) (place : Option ℕ) → slice_get tables.records kind ≡ Some entry → fields ≡ entry.fields → place ≡ position (is_number field) fields
+pub place_found : (tables : Tables) (field kind : ℕ) (entry : RecordType) (fields : List ℕ) (place : Option ℕ) → slice_get tables.records kind ≡ Some entry
+    → fields ≡ entry.fields → place ≡ position (is_number field) fields
     → place ≡ field_place tables field kind
 place_found tables field kind entry fields place at e p =
     p ∙ ap (position (is_number field)) e ∙ sym (ap (option_and_then (λ (entry : RecordType). position (is_number field) entry.fields)) at)
 
-pub count_found : (tables : Tables) (kind : ℕ) (entry : RecordType) (fields : List ℕ) → slice_get tables.records kind ≡ Some entry → fields ≡ entry.fields → length fields ≡ field_count tables kind
-count_found tables kind entry fields at e = ap length e ∙ sym (ap (λ (o : Option RecordType). option_map_or (λ (entry : RecordType). length entry.fields) o 0) at)
+pub count_found : (tables : Tables) (kind : ℕ) (entry : RecordType) (fields : List ℕ) → slice_get tables.records kind ≡ Some entry → fields ≡ entry.fields
+    → length fields ≡ field_count tables kind
+count_found tables kind entry fields at e =
+    ap length e ∙ sym (ap (λ (o : Option RecordType). option_map_or (λ (entry : RecordType). length entry.fields) o 0) at)
 
 -- the records of the extent are those of the heap
 record_count : (heap : HeldHeap) → length (heap_of heap).records ≡ (extent_of heap).records
@@ -100,7 +109,8 @@ unfolding heap_of extent_of
 record_count heap = length-map heap.records.items (record_in (extent_of heap))
 
 -- how many fields a record of the heap has
-size_is : (sizes : ℕ → ℕ) (heap : HeldHeap) (id : ℕ) → FitSizes sizes (heap_of heap) → IsLive (extent_of heap) (Vals.Rec id) → slice_index (field_counts (heap_of heap)) id ≡ sizes (record_at (heap_of heap) id).kind
+size_is : (sizes : ℕ → ℕ) (heap : HeldHeap) (id : ℕ) → FitSizes sizes (heap_of heap) → IsLive (extent_of heap) (Vals.Rec id)
+    → slice_index (field_counts (heap_of heap)) id ≡ sizes (record_at (heap_of heap) id).kind
 size_is sizes heap id fit live =
     let nothing : Record = record { kind = 0; fields = [] } in
     let below : id < (extent_of heap).records = live.live in
@@ -113,7 +123,8 @@ size_is sizes heap id fit live =
     ∙ fit.fit id (get_or (heap_of heap).records id nothing) there
     ∙ ap (λ (structure : Record). sizes structure.kind) is
 
-pub field_live : (sizes : ℕ → ℕ) (w : World) (locals id place kind : ℕ) → FitSizes sizes (heap_of w.heap) → IsLive (extent_of w.heap) (Vals.Rec id) → kind ≡ (record_at (heap_of w.heap) id).kind → place < sizes kind
+pub field_live : (sizes : ℕ → ℕ) (w : World) (locals id place kind : ℕ) → FitSizes sizes (heap_of w.heap) → IsLive (extent_of w.heap) (Vals.Rec id)
+    → kind ≡ (record_at (heap_of w.heap) id).kind → place < sizes kind
     → IsLiveItem (with_locals locals (reach_of w [])) (HeldVar (HeldWhole (HeldField id place)))
 field_live sizes w locals id place kind fit live e p =
     let is : slice_index (field_counts (heap_of w.heap)) id ≡ sizes kind = size_is sizes w.heap id fit live ∙ ap sizes (sym e) in
@@ -121,7 +132,8 @@ field_live sizes w locals id place kind fit live e p =
     record { live = record { live = record { live = (live, within) } } }
 
 -- what comes of a field, once its item has a value
-applied_is : (w : World) (tables : Tables) (field : ℕ) (item : Item) (m : FlatStack) (val : Val) (st : Store Frames) → FindsValue (extent_of w.heap) (item_in (extent_of w.heap) item) (here flat (stack_in (extent_of w.heap) m) st) (Ok val)
+applied_is : (w : World) (tables : Tables) (field : ℕ) (item : Item) (m : FlatStack) (val : Val) (st : Store Frames)
+    → FindsValue (extent_of w.heap) (item_in (extent_of w.heap) item) (here flat (stack_in (extent_of w.heap) m) st) (Ok val)
     → field_applied flat tables field (item_in (extent_of w.heap) item ∷ []) (stack_in (extent_of w.heap) m) st ≡ field_of flat tables field (value_in (extent_of w.heap) val) (stack_in (extent_of w.heap) m) st
 applied_is w tables field item m val st f =
     value_goes (extent_of w.heap) (item_in (extent_of w.heap) item) (stack_in (extent_of w.heap) m) st val (λ value. field_of flat tables field value (stack_in (extent_of w.heap) m) st) f
@@ -133,7 +145,8 @@ field_unfound w tables field item m stop st same f =
     value_halts w (item_in (extent_of w.heap) item) (stack_in (extent_of w.heap) m) st stop (λ value. field_of flat tables field value (stack_in (extent_of w.heap) m) st) same f
 
 -- a value that is no record has no fields
-no_record : (all : Extent) (tables : Tables) (field : ℕ) (val : Val) (m : Frames) (st : Store Frames) → ((id : ℕ) → val ≡ Vals.Rec id → ⊥) → field_of flat tables field (value_in all val) m st ≡ errs 107 (Some (value_in all val)) st
+no_record : (all : Extent) (tables : Tables) (field : ℕ) (val : Val) (m : Frames) (st : Store Frames) → ((id : ℕ) → val ≡ Vals.Rec id → ⊥)
+    → field_of flat tables field (value_in all val) m st ≡ errs 107 (Some (value_in all val)) st
 no_record all tables field Vals.Null m st h = refl
 no_record all tables field (Vals.Integer n) m st h = refl
 no_record all tables field (Vals.Text span) m st h = refl
@@ -147,14 +160,18 @@ no_record all tables field (Vals.Table id) m st h = refl
 no_record all tables field (Vals.Coexp n) m st h = refl
 
 pub not_a_record : (w : World) (tables : Tables) (field : ℕ) (item : Item) (m : FlatStack) (val : Val) (st : Store Frames) → st.world ≡ world_of w
-    → FindsValue (extent_of w.heap) (item_in (extent_of w.heap) item) (here flat (stack_in (extent_of w.heap) m) st) (Ok val) → ((id : ℕ) → val ≡ Vals.Rec id → ⊥)
+    → FindsValue (extent_of w.heap) (item_in (extent_of w.heap) item) (here flat (stack_in (extent_of w.heap) m) st) (Ok val)
+    → ((id : ℕ) → val ≡ Vals.Rec id → ⊥)
     → field_applied flat tables field (item_in (extent_of w.heap) item ∷ []) (stack_in (extent_of w.heap) m) st ≡ errs 107 (Some (value_in (extent_of w.heap) val)) (with_world (world_of w) st)
 not_a_record w tables field item m val st same f h =
-    applied_is w tables field item m val st f ∙ no_record (extent_of w.heap) tables field val (stack_in (extent_of w.heap) m) st h ∙ ap (errs 107 (Some (value_in (extent_of w.heap) val))) (same_world w st same)
+    applied_is w tables field item m val st f ∙ no_record (extent_of w.heap) tables field val (stack_in (extent_of w.heap) m) st h
+    ∙ ap (errs 107 (Some (value_in (extent_of w.heap) val))) (same_world w st same)
 
 -- the field of a record, by its place
-taken_is : (w : World) (tables : Tables) (field : ℕ) (item : Item) (m : FlatStack) (val : Val) (id kind : ℕ) (place : Option ℕ) (st : Store Frames) → st.world ≡ world_of w
-    → FindsValue (extent_of w.heap) (item_in (extent_of w.heap) item) (here flat (stack_in (extent_of w.heap) m) st) (Ok val) → val ≡ Vals.Rec id → kind ≡ (record_at (heap_of w.heap) id).kind → place ≡ field_place tables field kind
+taken_is : (w : World) (tables : Tables) (field : ℕ) (item : Item) (m : FlatStack) (val : Val) (id kind : ℕ) (place : Option ℕ) (st : Store Frames)
+    → st.world ≡ world_of w
+    → FindsValue (extent_of w.heap) (item_in (extent_of w.heap) item) (here flat (stack_in (extent_of w.heap) m) st) (Ok val) → val ≡ Vals.Rec id
+    → kind ≡ (record_at (heap_of w.heap) id).kind → place ≡ field_place tables field kind
     → field_applied flat tables field (item_in (extent_of w.heap) item ∷ []) (stack_in (extent_of w.heap) m) st ≡ field_taken flat place id (stack_in (extent_of w.heap) m) st
 taken_is w tables field item m val id kind place st same f v k p =
     let all : Extent = extent_of w.heap in
@@ -164,8 +181,10 @@ taken_is w tables field item m val id kind place st same f v k p =
     ∙ ap (λ (n : ℕ). field_taken flat (field_place tables field n) id (stack_in all m) st) (sym k)
     ∙ ap (λ (o : Option ℕ). field_taken flat o id (stack_in all m) st) (sym p)
 
-pub no_such_field : (w : World) (tables : Tables) (field : ℕ) (item : Item) (m : FlatStack) (val : Val) (id kind : ℕ) (place : Option ℕ) (st : Store Frames) → st.world ≡ world_of w
-    → FindsValue (extent_of w.heap) (item_in (extent_of w.heap) item) (here flat (stack_in (extent_of w.heap) m) st) (Ok val) → val ≡ Vals.Rec id → kind ≡ (record_at (heap_of w.heap) id).kind → place ≡ field_place tables field kind → place ≡ None
+pub no_such_field : (w : World) (tables : Tables) (field : ℕ) (item : Item) (m : FlatStack) (val : Val) (id kind : ℕ) (place : Option ℕ) (st : Store Frames)
+    → st.world ≡ world_of w
+    → FindsValue (extent_of w.heap) (item_in (extent_of w.heap) item) (here flat (stack_in (extent_of w.heap) m) st) (Ok val) → val ≡ Vals.Rec id
+    → kind ≡ (record_at (heap_of w.heap) id).kind → place ≡ field_place tables field kind → place ≡ None
     → field_applied flat tables field (item_in (extent_of w.heap) item ∷ []) (stack_in (extent_of w.heap) m) st ≡ errs 207 (Some (rows.ARecord id)) (with_world (world_of w) st)
 no_such_field w tables field item m val id kind place st same f v k p e =
     let all : Extent = extent_of w.heap in
@@ -174,7 +193,8 @@ no_such_field w tables field item m val id kind place st same f v k p e =
     ∙ ap (errs 207 (Some (rows.ARecord id))) (same_world w st same)
 
 pub field_runs : (w : World) (tables : Tables) (field : ℕ) (item : Item) (m k n : FlatStack) (val : Val) (id kind at : ℕ) (place : Option ℕ) (st : Store Frames) → st.world ≡ world_of w
-    → FindsValue (extent_of w.heap) (item_in (extent_of w.heap) item) (here flat (stack_in (extent_of w.heap) m) st) (Ok val) → val ≡ Vals.Rec id → kind ≡ (record_at (heap_of w.heap) id).kind → place ≡ field_place tables field kind
+    → FindsValue (extent_of w.heap) (item_in (extent_of w.heap) item) (here flat (stack_in (extent_of w.heap) m) st) (Ok val) → val ≡ Vals.Rec id
+    → kind ≡ (record_at (heap_of w.heap) id).kind → place ≡ field_place tables field kind
     → place ≡ Some at → k ≡ m → n ≡ held.push (HeldVar (HeldWhole (HeldField id at))) k
     → RunsWith (field_applied flat tables field (item_in (extent_of w.heap) item ∷ []) (stack_in (extent_of w.heap) m) st) st w n
 field_runs w tables field item m k n val id kind at place st same f v e p there q r =

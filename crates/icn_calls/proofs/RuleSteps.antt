@@ -36,7 +36,8 @@ unfolding keeps_rules
 few_records tables e = leb-true _ _ (right _ _ (left _ _ (left _ _ (left _ _ (left _ _ (left _ _ (left _ _ (left _ _ (left _ _ (left _ _ (left _ _ e)))))))))))
 
 -- a last parameter collects only where there is one
-pub collects_one : (tables : Tables) (n : ℕ) (entry : Proc) → keeps_rules tables ≡ true → slice_get tables.procs n ≡ Some entry → entry.collects ≡ true → 0 < entry.parameters
+pub collects_one : (tables : Tables) (n : ℕ) (entry : Proc) → keeps_rules tables ≡ true → slice_get tables.procs n ≡ Some entry → entry.collects ≡ true
+    → 0 < entry.parameters
 collects_one tables n entry rules at e =
     let head = left _ _ (at_place (is_proc tables) tables.procs n entry (procs_fit tables rules) at) in
     ltb-true 0 entry.parameters (second entry.collects _ e (right _ _ (left _ _ (left _ _ (left _ _ head)))))
@@ -45,8 +46,10 @@ collects_one tables n entry rules at e =
 pub kind_within : (tables : Tables) (kind : ℕ) → keeps_rules tables ≡ true → kind < length tables.records → kind < 65536
 kind_within tables kind rules p = let few : length tables.records ≤ 65535 = few_records tables rules in omega (arith, few, p)
 
-pub few_fields : (tables : Tables) (kind : ℕ) (entry : RecordType) → keeps_rules tables ≡ true → slice_get tables.records kind ≡ Some entry → length entry.fields ≤ 65535
-few_fields tables kind entry rules at = leb-true _ _ (right _ _ (left _ _ (at_place (is_record (length tables.strings) (length tables.fields)) tables.records kind entry (records_fit tables rules) at)))
+pub few_fields : (tables : Tables) (kind : ℕ) (entry : RecordType) → keeps_rules tables ≡ true → slice_get tables.records kind ≡ Some entry
+    → length entry.fields ≤ 65535
+few_fields tables kind entry rules at =
+    leb-true _ _ (right _ _ (left _ _ (at_place (is_record (length tables.strings) (length tables.fields)) tables.records kind entry (records_fit tables rules) at)))
 
 -- no function has a number of more than 32 bits
 pub none_past : (n : ℕ) → n ≡ 4294967296 → func_of n ≡ None

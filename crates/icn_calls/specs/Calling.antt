@@ -1,5 +1,5 @@
 -- What is called, and with which arguments.
-use Rattle.std.specs.Prelude.{◌≡◌, ◌==◌, ℕ, Bool, List, ◌++◌, length, map, take, replicate, slice_get, Option, None, Some, Result, MatchResult}
+use Rattle.std.specs.Prelude.{◌≡◌, ◌==◌, ℕ, Bool, List, ◌++◌, length, map, take, replicate, slice_get, Option, None, Some, Result, MatchResult, ⊤}
 use Rattle.std.specs.Option.{option_map_or}
 use Rattle.icn_text.specs.declared.func.Func.{Func}
 use Rattle.icn_value.specs.declared.val.Val.{Val}
@@ -18,6 +18,8 @@ use Rattle.icn_run.specs.Stacks.{Frames, flat}
 use Rattle.icn_run.specs.Step as code
 use Rattle.icn_run.specs.Step.{State, Store, callee_of, collected, with_world}
 use Rattle.icn_control.specs.Parts.{HaltsWith}
+use Rattle.icn_control.specs.declared.machine.Stage.{Stage}
+use Rattle.icn_control.specs.declared.machine.Stage.TheVariants as Stages
 use Rattle.icn_control.specs.Standing.{stack_in}
 use Rattle.icn_calls.specs.declared.callees.Callee.{Callee}
 use Rattle.icn_calls.specs.declared.callees.Callee.TheVariants as Callees
@@ -71,3 +73,11 @@ function_in tables (Vals.Coexp number) = None
 -- it is this number
 abbrev pub is_number : ℕ → ℕ → Bool
 is_number number other = other == number
+
+-- the run goes on: the next instruction is due, or the code fails
+abbrev pub IsGoing : Stage → Type 0
+IsGoing Stages.Runs = ⊤
+IsGoing Stages.Fails = ⊤
+IsGoing Stages.HopDue = ⊥
+IsGoing Stages.Over = ⊥
+IsGoing Stages.AtBound = ⊥

@@ -1,5 +1,5 @@
 // Calls of integers, which choose one of their arguments.
-ghost use Rattle.std.specs.Prelude.{◌≡◌, ◌<◌, ◌^◌, [], length, map, slice_get, IfErr, IfSome, OnOk, MatchResult};
+ghost use Rattle.std.specs.Prelude.{◌≡◌, ◌<◌, ◌^◌, [], length, map, slice_get, IfErr, IfOk, IfSome, OnOk, MatchResult};
 ghost use Rattle.std.specs.List.{All};
 ghost use Rattle.std.specs.Option.{option_map};
 ghost use Rattle.icn_defs.specs.Running.{number_of};
@@ -14,6 +14,7 @@ ghost use Rattle.icn_run.specs.Step.{Store, chosen, integer_called};
 ghost use Rattle.icn_control.specs.Living.{IsLiveStack, with_locals};
 ghost use Rattle.icn_control.specs.Parts.{HaltsWith, StandsWith};
 ghost use Rattle.icn_control.specs.Standing.{stack_in};
+ghost use Rattle.icn_calls.specs.Calling.{IsGoing};
 
 use icn_cells::Stack;
 use icn_control::Stage;
@@ -79,6 +80,7 @@ pub fn call_integer<K: Stack<Cell> + Drop>(
     ensures step { (st : Store FramesRead) → st.world ≡ world_of world.now → MatchResult result (StandsWith (integer_called calls (value_in (extent_of world.now.heap) callee) (number_of (value_in (extent_of world.now.heap) callee)) (map (item_in (extent_of world.now.heap)) items.now) (stack_in (extent_of world.now.heap) frames.old.flat) st) st world.now frames.new.flat) (HaltsWith (integer_called calls (value_in (extent_of world.now.heap) callee) (number_of (value_in (extent_of world.now.heap) callee)) (map (item_in (extent_of world.now.heap)) items.now) (stack_in (extent_of world.now.heap) frames.old.flat) st) st world.now) }
     ensures live { (tables : Tables) → IsLiveStack tables (reach_of world.now []) frames.old.flat → OnOk result (IsLiveStack tables (reach_of world.now []) frames.new.flat) }
     ensures halt { IfErr result (IsLiveHalt (reach_of world.now [])) }
+    ensures going { IfOk result IsGoing }
 {
     let Some(n) = number_of(&world.heap, callee) else {
         return Err(Halt::Error(106, Some(callee)));

@@ -1,5 +1,5 @@
 // Calls of values.
-ghost use Rattle.std.specs.Prelude.{◌≡◌, ◌<◌, ◌^◌, [], None, Some, length, map, slice_get, IfErr, OnOk, MatchResult};
+ghost use Rattle.std.specs.Prelude.{◌≡◌, ◌<◌, ◌^◌, [], None, Some, length, map, slice_get, IfErr, IfOk, OnOk, MatchResult};
 ghost use Rattle.std.specs.List.{All};
 ghost use Rattle.icn_value.specs.Limited.{limits_of};
 ghost use Rattle.icn_frames.specs.Stacks as flat;
@@ -15,7 +15,7 @@ ghost use Rattle.icn_control.specs.Living.{IsLiveStack, with_locals};
 ghost use Rattle.icn_control.specs.Parts.{HaltsWith, StandsWith};
 ghost use Rattle.icn_control.specs.Standing.{stack_in};
 ghost use Rattle.icn_control.specs.Taking.{KeepsCounts, with_values_in};
-ghost use Rattle.icn_calls.specs.Calling.{function_in};
+ghost use Rattle.icn_calls.specs.Calling.{IsGoing, function_in};
 
 use crate::callees::{Callee, callee_of};
 use crate::calling::call_procedure;
@@ -46,6 +46,7 @@ fn call_with<K: Stack<Cell> + Drop>(
     ensures step { (entry : Proc) → slice_get (tables_of code.now).procs number ≡ Some entry → (st : Store FramesRead) → st.world ≡ world_of world.old → MatchResult result (StandsWith (with_values_in world.old frames.old.flat items.now st (λ values. called calls number entry values (stack_in (extent_of world.old.heap) frames.old.flat) st)) st world.new frames.new.flat) (HaltsWith (with_values_in world.old frames.old.flat items.now st (λ values. called calls number entry values (stack_in (extent_of world.old.heap) frames.old.flat) st)) st world.new) }
     ensures live { IsLiveStack (tables_of code.now) (reach_of world.old []) frames.old.flat → OnOk result (IsLiveStack (tables_of code.now) (reach_of world.new []) frames.new.flat) }
     ensures halt { IfErr result (IsLiveHalt (reach_of world.new [])) }
+    ensures going { IfOk result IsGoing }
     ensures kept { KeepsItems (reach_of world.old []) (reach_of world.new []) }
     ensures counts { OnOk result (KeepsCounts world.old world.new) }
 {
@@ -72,6 +73,7 @@ fn construct_with<K: Stack<Cell> + Drop>(
     ensures step { (entry : RecordType) → slice_get (tables_of code.now).records kind ≡ Some entry → (st : Store FramesRead) → st.world ≡ world_of world.old → MatchResult result (StandsWith (with_values_in world.old frames.old.flat items.now st (λ values. constructed calls kind entry values (stack_in (extent_of world.old.heap) frames.old.flat) st)) st world.new frames.new.flat) (HaltsWith (with_values_in world.old frames.old.flat items.now st (λ values. constructed calls kind entry values (stack_in (extent_of world.old.heap) frames.old.flat) st)) st world.new) }
     ensures live { (tables : Tables) → IsLiveStack tables (reach_of world.old []) frames.old.flat → OnOk result (IsLiveStack tables (reach_of world.new []) frames.new.flat) }
     ensures halt { IfErr result (IsLiveHalt (reach_of world.new [])) }
+    ensures going { IfOk result IsGoing }
     ensures kept { KeepsItems (reach_of world.old []) (reach_of world.new []) }
     ensures counts { OnOk result (KeepsCounts world.old world.new) }
 {
@@ -105,6 +107,7 @@ pub fn invoke<K: Stack<Cell> + Drop>(
     ensures step { (st : Store FramesRead) → st.world ≡ world_of world.old → MatchResult result (StandsWith (invoked calls (tables_of code.now) (value_in (extent_of world.old.heap) callee) (map (item_in (extent_of world.old.heap)) items.now) (stack_in (extent_of world.old.heap) frames.old.flat) st) st world.new frames.new.flat) (HaltsWith (invoked calls (tables_of code.now) (value_in (extent_of world.old.heap) callee) (map (item_in (extent_of world.old.heap)) items.now) (stack_in (extent_of world.old.heap) frames.old.flat) st) st world.new) }
     ensures live { IsLiveStack (tables_of code.now) (reach_of world.old []) frames.old.flat → OnOk result (IsLiveStack (tables_of code.now) (reach_of world.new []) frames.new.flat) }
     ensures halt { IfErr result (IsLiveHalt (reach_of world.new [])) }
+    ensures going { IfOk result IsGoing }
     ensures kept { KeepsItems (reach_of world.old []) (reach_of world.new []) }
     ensures counts { OnOk result (KeepsCounts world.old world.new) }
 {

@@ -19,7 +19,8 @@ use Rattle.icn_control.specs.declared.failing.Due.TheVariants as Dues
 use Rattle.icn_control.specs.Falls.{FallsBelow}
 use Rattle.icn_value.specs.Store.{Outside, outside_of}
 use Rattle.icn_control.specs.Failing.{DueAt}
-use Rattle.icn_control.specs.Leading.{FailsUntil, LeadsToDue, IsNeverStuckOver, failing_seen, fails_now, is_failing, run_over, over_outside}
+use Rattle.icn_control.specs.Leading.{FailsUntil, LeadsToDue, failing_seen, fails_now, is_failing}
+use Rattle.icn_run_safe.specs.AnyOutside.{IsNeverStuckOver, over_outside, run_over}
 use Rattle.icn_control.specs.declared.machine.Machine.{Machine}
 use Rattle.icn_control.proofs.LiveCells.{dropped_short}
 

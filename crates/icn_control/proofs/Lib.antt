@@ -16,6 +16,7 @@ pub mod TransferSteps
 pub mod LiveTables
 pub mod ExhaustSteps
 pub mod TurnSteps
+pub mod NamedFalls
 pub mod FailSteps
 pub mod LiteralSteps
 pub mod KeywordSets
@@ -24,6 +25,7 @@ pub mod OpenSteps
 pub mod GrowthSteps
 pub mod ListSteps
 pub mod LessSteps
+pub mod StackStands
 pub mod Lifting
 pub mod CreationSteps
 pub mod KeptTables

@@ -4,12 +4,15 @@ use Rattle.icn_heap.specs.Extents.{Extent}
 use Rattle.icn_heap.specs.Heaps.{extent_of}
 use Rattle.icn_vars.specs.declared.world.World.{World}
 use Rattle.icn_vars.specs.Worlds.{Reach, world_of}
+use Rattle.icn_value.specs.Store.{Names}
 use Rattle.icn_vars.specs.Outcomes.{IsLiveResidual, residual_in}
+use Rattle.icn_named.specs.Named.{ResidualNamed}
 use Rattle.icn_frames.specs.Stacks.{FlatStack}
 use Rattle.icn_code.specs.Codes.{Tables}
 use Rattle.icn_run.specs.Calls.{Op, Proc}
 use Rattle.icn_run.specs.Stacks.{Frames, flat}
 use Rattle.icn_run.specs.Step.{State, Store, running, failing, with_world, turn, resumed, without_mark, mark_dropped}
+use Rattle.icn_run_named.specs.StateNames.{StackNamed}
 use Rattle.icn_control.specs.declared.failing.Due.{Due}
 use Rattle.icn_control.specs.declared.failing.Due.TheVariants as Dues
 use Rattle.icn_control.specs.Living.{with_locals, locals_at}
@@ -30,7 +33,9 @@ FallsTo tables state st w m due = IsDue (extent_of w.heap) tables state (with_wo
 
 -- the innermost mark of a stack is dropped
 abbrev pub DropsTo : FlatStack → FlatStack → Due → Type 0
-DropsTo m n due = (all : Extent) (tables : Tables) (st : Store Frames) → IsDue all tables (mark_dropped flat tables (stack_in all m) st (flat.drop_mark (stack_in all m))) st n due
+DropsTo m n due =
+    (all : Extent) (tables : Tables) (st : Store Frames) → IsDue all tables (mark_dropped flat tables (stack_in all m) st (flat.drop_mark (stack_in all m)))
+    st n due
 
 -- what is resumed is of the world
 abbrev pub IsLiveDue : Reach → FlatStack → Due → Type 0
@@ -41,3 +46,12 @@ IsLiveDue reach m due = ⊤
 abbrev pub FallsBelow : FlatStack → FlatStack → Due → Type 0
 FallsBelow m n Dues.Failing = length n.cells < length m.cells
 FallsBelow m n due = ⊤
+
+-- what is to be resumed names only what has a name
+abbrev pub DueNamed : Names → Extent → Due → Type 0
+DueNamed names all (Dues.Resuming rest) = ResidualNamed names (residual_in all rest)
+DueNamed names all due = ⊤
+
+-- where what a stack names has a name, so it is on the stack after, and so is what is to be resumed
+abbrev pub FallsNamed : Extent → FlatStack → FlatStack → Due → Type 0
+FallsNamed all m n due = (names : Names) → StackNamed names (stack_in all m) → StackNamed names (stack_in all n) × DueNamed names all due

@@ -1,31 +1,14 @@
 -- Where some steps of the run of a code lead.
-use Rattle.std.specs.Prelude.{◌≡◌, ◌≢◌, ◌<◌, ℕ, Bool, true, false, List, [], ◌∷◌}
+use Rattle.std.specs.Prelude.{◌≡◌, ◌<◌, ℕ, Bool, true, false}
 use Rattle.icn_value.specs.Store.{Outside}
 use Rattle.icn_code.specs.Codes.{Tables}
 use Rattle.icn_run.specs.Stacks.{Frames, flat}
-use Rattle.icn_run.specs.Step.{State, running, failing, hopping, over, stuck, step, steps}
+use Rattle.icn_run.specs.Step.{State, running, failing, hopping, over, stuck, steps}
 use Rattle.icn_control.specs.Failing.{DueAt}
 use Rattle.icn_control.specs.Machines.{stack_seen, store_seen}
 use Rattle.icn_control.specs.declared.failing.Due.{Due}
 use Rattle.icn_control.specs.declared.failing.Due.TheVariants as Dues
 use Rattle.icn_control.specs.declared.machine.Machine.{Machine}
-
--- the same state with another outside, where it goes on
-abbrev pub over_outside : Outside → State Frames Frames → State Frames Frames
-over_outside outside (running m st) = running m (record st { outside = outside })
-over_outside outside (failing m st) = failing m (record st { outside = outside })
-over_outside outside (hopping m st) = hopping m (record st { outside = outside })
-over_outside outside (over ending old) = over ending old
-over_outside outside stuck = stuck
-
--- a step over each of these outsides, one after the other
-abbrev pub run_over : Tables → List Outside → State Frames Frames → State Frames Frames
-run_over tables [] state = state
-run_over tables (outside ∷ outsides) state = run_over tables outsides (step flat tables (over_outside outside state))
-
--- No step from here on lacks anything, whatever the outside is before each.
-abbrev pub IsNeverStuckOver : Tables → State Frames Frames → Type 0
-IsNeverStuckOver tables state = (outsides : List Outside) → run_over tables outsides state ≢ stuck
 
 -- whether a state is one in which the code fails
 abbrev pub fails_now : State Frames Frames → Bool

@@ -1,5 +1,5 @@
 -- What a machine stands for: a state of the run of its code.
-use Rattle.std.specs.Prelude.{◌≡◌, ℕ, ◌<◌, Bool, List, [], map, length, slice_get, Option, None, Some, Result, MatchResult, ⊤}
+use Rattle.std.specs.Prelude.{◌≡◌, ℕ, ◌<◌, Bool, List, [], map, length, slice_get, Option, None, Some, IsSome, Result, MatchResult, ⊤}
 use Rattle.std.specs.List.{All}
 use Rattle.std.specs.Option.{option_map}
 use Rattle.icn_value.specs.Limited.{limits_of}
@@ -83,6 +83,14 @@ StandsAt tables outside state m Stages.Fails = state ≡ failing (stack_seen m) 
 StandsAt tables outside state m Stages.HopDue = (old : Frames) × (state ≡ hopping old (store_seen tables outside m))
 StandsAt tables outside state m Stages.Over = state ≡ over Done outside
 StandsAt tables outside state m Stages.AtBound = state ≡ at_bound (store_seen tables outside m)
+
+-- a stack runs, but where a hop is due
+abbrev pub HasStack : {K : Type 0} → Machine K → Stage → Type 0
+HasStack m Stages.Runs = IsSome m.stacks.table.running
+HasStack m Stages.Fails = IsSome m.stacks.table.running
+HasStack m Stages.HopDue = m.stacks.table.running ≡ None
+HasStack m Stages.Over = ⊤
+HasStack m Stages.AtBound = ⊤
 
 -- The run is over by an error or with a status; what neither reads nor writes comes to no fault. Of want of memory this says nothing.
 abbrev pub HaltsAt : {K : Type 0} → Tables → Outside → State Frames Frames → Machine K → Halt → Type 0

@@ -15,7 +15,7 @@ ghost use Rattle.icn_run.specs.Rows.{ACoexp};
 ghost use Rattle.icn_run.specs.Stacks.{flat as calls};
 ghost use Rattle.icn_run.specs.Step.{refreshed};
 ghost use Rattle.icn_control.specs.Creations.{MakesCoexp, copied, created};
-ghost use Rattle.icn_control.specs.Machines.{ComesTo, IsSound, does, stack_of, stack_seen, store_seen, world_reach};
+ghost use Rattle.icn_control.specs.Machines.{HasStack, ComesTo, IsSound, does, stack_of, stack_seen, store_seen, world_reach};
 
 use crate::machine::{Machine, Stage};
 use crate::on_stack::put;
@@ -38,6 +38,8 @@ pub fn create<K: Stack<Cell> + Drop>(m: &mut Machine<K>, label: u32) -> Result<S
     ensures step { (tables : Tables) (outside : Outside) → ComesTo tables outside (does tables outside (Instrs.Create label) m.old) m.new result }
     ensures sound { (tables : Tables) → IsSound tables m.old → OnOk result (IsSound tables m.new) }
     ensures halt { IfErr result (IsLiveHalt (world_reach m.new)) }
+    ensures limits { m.new.limits ≡ m.old.limits }
+    ensures stack { IfOk result (HasStack m.new) }
 {
     if m.turns >= m.limits.turns {
         return Ok(Stage::AtBound);
@@ -61,6 +63,8 @@ pub fn refresh<K: Stack<Cell> + Drop>(m: &mut Machine<K>) -> Result<Stage, Halt>
     ensures step { (tables : Tables) (outside : Outside) → ComesTo tables outside (does tables outside (Instrs.Op Ops.Refresh) m.old) m.new result }
     ensures sound { (tables : Tables) → IsSound tables m.old → OnOk result (IsSound tables m.new) }
     ensures halt { IfErr result (IsLiveHalt (world_reach m.new)) }
+    ensures limits { m.new.limits ≡ m.old.limits }
+    ensures stack { IfOk result (HasStack m.new) }
 {
     if m.turns >= m.limits.turns {
         return Ok(Stage::AtBound);
@@ -87,6 +91,8 @@ fn make_again<K: Stack<Cell> + Drop>(m: &mut Machine<K>, id: u32) -> Result<Stag
     ensures step { (tables : Tables) (outside : Outside) → ComesTo tables outside (refreshed calls (ACoexp id) (stack_seen m.old) (store_seen tables outside m.old)) m.new result }
     ensures sound { (tables : Tables) → IsSound tables m.old → OnOk result (IsSound tables m.new) }
     ensures halt { IfErr result (IsLiveHalt (world_reach m.new)) }
+    ensures limits { m.new.limits ≡ m.old.limits }
+    ensures stack { IfOk result (HasStack m.new) }
 {
     m.stacks.frames().local_count();
     let count = m.stacks.held(id);

@@ -1,12 +1,15 @@
 // One step of failing, but for what counts turns or other stacks.
 ghost use Rattle.std.specs.Prelude.{◌≡◌, ◌≢◌, [], false, IsSome};
 ghost use Rattle.icn_code.specs.Codes.{Tables};
+ghost use Rattle.icn_heap.specs.Extents.{Extent};
 ghost use Rattle.icn_heap.specs.Heaps.{extent_of};
+ghost use Rattle.icn_value.specs.Store.{Names};
+ghost use Rattle.icn_named.specs.Named.{WorldNamed};
 ghost use Rattle.icn_vars.specs.Worlds.{Reach, reach_of, world_of};
 ghost use Rattle.icn_frames.specs.Stacks as flat;
 ghost use Rattle.icn_run.specs.Stacks.{Frames as FramesRead, flat as calls};
 ghost use Rattle.icn_run.specs.Step.{Store, fails, stuck};
-ghost use Rattle.icn_control.specs.Falls.{DropsTo, FallsBelow, FallsTo, IsLiveDue};
+ghost use Rattle.icn_control.specs.Falls.{DropsTo, FallsBelow, FallsNamed, FallsTo, IsLiveDue};
 ghost use Rattle.icn_control.specs.Living.{IsLiveStack, StaysLive};
 ghost use Rattle.icn_control.specs.Standing.{stack_in};
 
@@ -43,6 +46,8 @@ pub fn fall<K: Stack<Cell> + Drop>(frames: &mut Frames<K>, world: &mut World) ->
     ensures live { (tables : Tables) → IsLiveStack tables (reach_of world.old []) frames.old.flat → IsLiveStack tables (reach_of world.new []) frames.new.flat }
     ensures due { IsLiveDue (reach_of world.new []) frames.new.flat result }
     ensures less { FallsBelow frames.old.flat frames.new.flat result }
+    ensures named { FallsNamed (extent_of world.old.heap) frames.old.flat frames.new.flat result }
+    ensures world_named { (names : Names) → WorldNamed names (world_of world.old) → WorldNamed names (world_of world.new) }
     ensures heap { world.new.heap ≡ world.old.heap }
     ensures reach { reach_of world.new [] ≡ reach_of world.old [] }
 {
@@ -68,6 +73,7 @@ fn drop_failed<K: Stack<Cell> + Drop>(frames: &mut Frames<K>) -> Due
     ensures live { StaysLive frames.old.flat frames.new.flat }
     ensures due { (reach : Reach) → IsLiveDue reach frames.new.flat result }
     ensures less { FallsBelow frames.old.flat frames.new.flat result }
+    ensures named { (all : Extent) → FallsNamed all frames.old.flat frames.new.flat result }
 {
     if frames.at_base() {
         return Due::Leaving;

@@ -6,9 +6,10 @@ ghost use Rattle.icn_heap.specs.Heaps.{heap_of};
 ghost use Rattle.icn_code.specs.Codes.{Tables};
 ghost use Rattle.icn_run.specs.Stacks.{flat as calls};
 ghost use Rattle.icn_run.specs.Step.{fails, stuck};
-ghost use Rattle.icn_control.specs.Failing.{DueAt};
+ghost use Rattle.icn_run_safe.specs.AnyOutside.{IsNeverStuckOver};
+ghost use Rattle.icn_control.specs.Failing.{DueAt, FailsNamed};
 ghost use Rattle.icn_control.specs.Falls.{FallsBelow, IsLiveDue};
-ghost use Rattle.icn_control.specs.Leading.{LeadsToDue, IsNeverStuckOver, failing_seen, is_failing};
+ghost use Rattle.icn_control.specs.Leading.{LeadsToDue, failing_seen, is_failing};
 ghost use Rattle.icn_control.specs.Machines.{IsSound, stack_of, stack_seen, store_seen, world_reach};
 
 use crate::failing::{Due, fall};
@@ -25,6 +26,8 @@ pub fn fail_once<K: Stack<Cell> + Drop>(m: &mut Machine<K>) -> Due
     ensures sound { (tables : Tables) → IsSound tables m.old → IsSound tables m.new }
     ensures runs { IsSome m.new.stacks.table.running }
     ensures limits { m.new.limits ≡ m.old.limits }
+    ensures heap { m.new.world.heap ≡ m.old.world.heap }
+    ensures named { FailsNamed m.old m.new result }
     ensures due { IsLiveDue (world_reach m.new) (stack_of m.new) result }
     ensures less { FallsBelow (stack_of m.old) (stack_of m.new) result }
 {
@@ -56,6 +59,8 @@ pub fn fail_on<K: Stack<Cell> + Drop>(m: &mut Machine<K>) -> Due
     ensures sound { (tables : Tables) → IsSound tables m.old → IsSound tables m.new }
     ensures runs { IsSome m.new.stacks.table.running }
     ensures limits { m.new.limits ≡ m.old.limits }
+    ensures heap { m.new.world.heap ≡ m.old.world.heap }
+    ensures named { FailsNamed m.old m.new result }
     ensures due { IsLiveDue (world_reach m.new) (stack_of m.new) result }
 {
     let mut due = Due::Failing;

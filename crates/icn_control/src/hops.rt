@@ -7,7 +7,7 @@ ghost use Rattle.icn_code.specs.Codes.{Tables};
 ghost use Rattle.icn_run.specs.Stacks.{Frames as FramesRead, flat as calls};
 ghost use Rattle.icn_run.specs.Step.{exhausted, hop};
 ghost use Rattle.icn_control.specs.Landing.{is_moved};
-ghost use Rattle.icn_control.specs.Machines.{IsSound, StandsAt, stack_seen, store_seen};
+ghost use Rattle.icn_control.specs.Machines.{HasStack, IsSound, StandsAt, stack_seen, store_seen};
 
 use crate::machine::{Machine, Stage};
 use icn_cells::Stack;
@@ -22,6 +22,8 @@ pub fn exhaust<K: Stack<Cell> + Drop>(m: &mut Machine<K>) -> Stage
     requires bounds { (heap_of m.old.world.heap).bounds ≡ limits_of m.old.limits }
     ensures step { (tables : Tables) (outside : Outside) → StandsAt tables outside (exhausted calls tables (stack_seen m.old) (store_seen tables outside m.old)) m.new result }
     ensures sound { (tables : Tables) → IsSound tables m.old → IsSound tables m.new }
+    ensures limits { m.new.limits ≡ m.old.limits }
+    ensures stack { HasStack m.new result }
 {
     pass_failure(m)
 }
@@ -33,6 +35,8 @@ pub fn hop<K: Stack<Cell> + Drop>(m: &mut Machine<K>) -> Stage
     requires bounds { (heap_of m.old.world.heap).bounds ≡ limits_of m.old.limits }
     ensures step { (tables : Tables) (outside : Outside) (old : FramesRead) → StandsAt tables outside (hop calls tables old (store_seen tables outside m.old)) m.new result }
     ensures sound { (tables : Tables) → IsSound tables m.old → IsSound tables m.new }
+    ensures limits { m.new.limits ≡ m.old.limits }
+    ensures stack { HasStack m.new result }
 {
     m.stacks.active();
     pass_failure(m)
@@ -44,6 +48,8 @@ fn pass_failure<K: Stack<Cell> + Drop>(m: &mut Machine<K>) -> Stage
     requires bounds { (heap_of m.old.world.heap).bounds ≡ limits_of m.old.limits }
     ensures step { (tables : Tables) (outside : Outside) (old : FramesRead) → StandsAt tables outside (exhausted calls tables old (store_seen tables outside m.old)) m.new result }
     ensures sound { (tables : Tables) → IsSound tables m.old → IsSound tables m.new }
+    ensures limits { m.new.limits ≡ m.old.limits }
+    ensures stack { HasStack m.new result }
 {
     if m.turns >= m.limits.turns {
         return Stage::AtBound;

@@ -13,7 +13,7 @@ ghost use Rattle.icn_heap.specs.Extents.{Extent};
 ghost use Rattle.icn_vars.specs.Worlds.{IsLiveItem, Reach, item_in};
 ghost use Rattle.icn_code.specs.Codes.{Tables};
 ghost use Rattle.icn_code.specs.declared.instr.Instr.TheVariants as Instrs;
-ghost use Rattle.icn_control.specs.Machines.{IsSound, StandsAt, does};
+ghost use Rattle.icn_control.specs.Machines.{HasStack, IsSound, StandsAt, does};
 
 use crate::machine::{Machine, Stage};
 use icn_cells::Stack;
@@ -140,6 +140,7 @@ pub fn push_keyword<K: Stack<Cell> + Drop>(
     ensures step { IfOk result (λ stage. (tables : Tables) (outside : Outside) → StandsAt tables outside (does tables outside (Instrs.Keywd word) m.old) m.new stage) }
     ensures sound { OnOk result ((tables : Tables) → IsSound tables m.old → IsSound tables m.new) }
     ensures limits { m.new.limits ≡ m.old.limits }
+    ensures stack { IfOk result (HasStack m.new) }
 {
     let active = m.stacks.active();
     let source = m.stacks.source();

@@ -4,7 +4,7 @@ ghost use Rattle.icn_value.specs.Store.{Outside};
 ghost use Rattle.icn_code.specs.Codes.{Tables};
 ghost use Rattle.icn_run.specs.Stacks.{flat as calls};
 ghost use Rattle.icn_run.specs.Step.{stuck, without_mark};
-ghost use Rattle.icn_control.specs.Machines.{IsSound, StandsAt, stack_seen, store_seen};
+ghost use Rattle.icn_control.specs.Machines.{HasStack, IsSound, StandsAt, stack_seen, store_seen};
 
 use crate::hops::exhaust;
 use crate::machine::{Machine, Stage};
@@ -20,6 +20,8 @@ pub fn end_failing<K: Stack<Cell> + Drop>(m: &mut Machine<K>) -> Stage
     requires goes_on { (tables : Tables) × ((outside : Outside) × (without_mark calls tables (stack_seen m.old) (store_seen tables outside m.old) ≢ stuck)) }
     ensures step { (tables : Tables) (outside : Outside) → StandsAt tables outside (without_mark calls tables (stack_seen m.old) (store_seen tables outside m.old)) m.new result }
     ensures sound { (tables : Tables) → IsSound tables m.old → IsSound tables m.new }
+    ensures limits { m.new.limits ≡ m.old.limits }
+    ensures stack { HasStack m.new result }
 {
     let active = m.stacks.active();
     if !m.stacks.frames().is_base() {

@@ -1,5 +1,5 @@
 // Lists that are made of operands.
-ghost use Rattle.std.specs.Prelude.{◌≡◌, [], IsSome, IfErr, OnOk, MatchResult};
+ghost use Rattle.std.specs.Prelude.{◌≡◌, [], IsSome, IfErr, OnOk, MatchResult, IfOk};
 ghost use Rattle.std.specs.List.{All};
 ghost use Rattle.icn_value.specs.Store.{Outside};
 ghost use Rattle.icn_code.specs.Codes.{Tables};
@@ -10,7 +10,7 @@ ghost use Rattle.icn_frames.specs.Stacks as flat;
 ghost use Rattle.icn_run.specs.Stacks.{Frames as FramesRead};
 ghost use Rattle.icn_run.specs.Step.{Store};
 ghost use Rattle.icn_control.specs.Living.{IsLiveStack, with_locals};
-ghost use Rattle.icn_control.specs.Machines.{ComesTo, IsSound, does, stack_of, world_reach};
+ghost use Rattle.icn_control.specs.Machines.{HasStack, ComesTo, IsSound, does, stack_of, world_reach};
 ghost use Rattle.icn_control.specs.Parts.{HaltsWith, RunsWith};
 ghost use Rattle.icn_control.specs.Taking.{KeepsCounts, listed, taken};
 
@@ -64,6 +64,7 @@ pub fn make_list<K: Stack<Cell> + Drop>(
     ensures sound { (tables : Tables) → IsSound tables m.old → OnOk result (IsSound tables m.new) }
     ensures halt { IfErr result (IsLiveHalt (world_reach m.new)) }
     ensures limits { m.new.limits ≡ m.old.limits }
+    ensures stack { IfOk result (HasStack m.new) }
 {
     let Ok(()) = take_operands(m.stacks.frames(), items, count as usize) else {
         return Err(Halt::NoMemory);

@@ -21,6 +21,8 @@ pub fn unmark<K: Stack<Cell> + Drop>(m: &mut Machine<K>)
     requires sound { (tables : Tables) × IsSound tables m.old }
     ensures step { (tables : Tables) (outside : Outside) → StandsAt tables outside (does tables outside Instrs.Unmark m.old) m.new Stages.Runs }
     ensures sound { (tables : Tables) → IsSound tables m.old → IsSound tables m.new }
+    ensures limits { m.new.limits ≡ m.old.limits }
+    ensures stack { IsSome m.new.stacks.table.running }
 {
     let pair = drop_mark(m.stacks.frames());
     restore_pair(&mut m.world, pair);
@@ -36,6 +38,8 @@ pub fn lsusp<K: Stack<Cell> + Drop>(m: &mut Machine<K>) -> Result<(), AllocError
     requires sound { (tables : Tables) × IsSound tables m.old }
     ensures step { (tables : Tables) (outside : Outside) → OnOk result (StandsAt tables outside (does tables outside Instrs.Lsusp m.old) m.new Stages.Runs) }
     ensures sound { (tables : Tables) → IsSound tables m.old → OnOk result (IsSound tables m.new) }
+    ensures limits { m.new.limits ≡ m.old.limits }
+    ensures stack { OnOk result (IsSome m.new.stacks.table.running) }
 {
     let pair = give_limited(m.stacks.frames())?;
     restore_pair(&mut m.world, pair);

@@ -16,7 +16,7 @@ ghost use Rattle.icn_run.specs.Stacks.{flat as calls};
 ghost use Rattle.icn_run.specs.Step.{activation};
 ghost use Rattle.icn_control.specs.Counting.{HasTurn};
 ghost use Rattle.icn_control.specs.Living.{IsLiveStack};
-ghost use Rattle.icn_control.specs.Machines.{ComesTo, IsSound, StandsAt, does, extent, stack_of, stack_seen, store_seen, world_reach};
+ghost use Rattle.icn_control.specs.Machines.{HasStack, ComesTo, IsSound, StandsAt, does, extent, stack_of, stack_seen, store_seen, world_reach};
 ghost use Rattle.icn_control.specs.Operands.{TakesTop, TakesTwo, coexp_number, having_result};
 
 use crate::hops::is_moved;
@@ -42,6 +42,8 @@ pub fn coact<K: Stack<Cell> + Drop>(m: &mut Machine<K>) -> Result<Stage, Halt>
     ensures step { (tables : Tables) (outside : Outside) → ComesTo tables outside (does tables outside Instrs.Coact m.old) m.new result }
     ensures sound { (tables : Tables) → IsSound tables m.old → OnOk result (IsSound tables m.new) }
     ensures halt { IfErr result (IsLiveHalt (world_reach m.new)) }
+    ensures limits { m.new.limits ≡ m.old.limits }
+    ensures stack { IfOk result (HasStack m.new) }
 {
     if m.turns >= m.limits.turns {
         return Ok(Stage::AtBound);
@@ -68,6 +70,8 @@ pub fn coret<K: Stack<Cell> + Drop>(m: &mut Machine<K>) -> Result<Stage, Halt>
     ensures step { (tables : Tables) (outside : Outside) → ComesTo tables outside (does tables outside Instrs.Coret m.old) m.new result }
     ensures sound { (tables : Tables) → IsSound tables m.old → OnOk result (IsSound tables m.new) }
     ensures halt { IfErr result (IsLiveHalt (world_reach m.new)) }
+    ensures limits { m.new.limits ≡ m.old.limits }
+    ensures stack { IfOk result (HasStack m.new) }
 {
     if m.turns >= m.limits.turns {
         return Ok(Stage::AtBound);
@@ -93,6 +97,8 @@ fn activate<K: Stack<Cell> + Drop>(m: &mut Machine<K>, id: u32, v: Val) -> Stage
     ensures step { (tables : Tables) (outside : Outside) → StandsAt tables outside (activation calls (value_in (extent m.old) v) (ACoexp id) (stack_seen m.old) (store_seen tables outside m.old)) m.new result }
     ensures sound { (tables : Tables) → HasTurn m.old → IsSound tables m.old → IsSound tables m.new }
     ensures world { m.new.world ≡ m.old.world }
+    ensures limits { m.new.limits ≡ m.old.limits }
+    ensures stack { HasStack m.new result }
 {
     m.stacks.active();
     match m.stacks.activate(id, v) {

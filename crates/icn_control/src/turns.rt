@@ -8,7 +8,7 @@ ghost use Rattle.icn_code.specs.declared.instr.Instr.TheVariants as Instrs;
 ghost use Rattle.icn_run.specs.Calls.{Proc};
 ghost use Rattle.icn_run.specs.Stacks.{flat as calls};
 ghost use Rattle.icn_run.specs.Step.{resumed, running, turn};
-ghost use Rattle.icn_control.specs.Machines.{IsSound, StandsAt, does, stack_seen, store_seen};
+ghost use Rattle.icn_control.specs.Machines.{HasStack, IsSound, StandsAt, does, stack_seen, store_seen};
 
 use crate::machine::{Machine, Stage};
 use crate::scans::swap_if_scanning;
@@ -21,6 +21,8 @@ pub fn go_back<K: Stack<Cell> + Drop>(m: &mut Machine<K>, label: u32) -> Stage
     requires bounds { (heap_of m.old.world.heap).bounds ≡ limits_of m.old.limits }
     ensures step { (tables : Tables) (outside : Outside) → StandsAt tables outside (does tables outside (Instrs.Loop label) m.old) m.new result }
     ensures sound { (tables : Tables) → IsSound tables m.old → IsSound tables m.new }
+    ensures limits { m.new.limits ≡ m.old.limits }
+    ensures stack { HasStack m.new result }
 {
     if m.turns >= m.limits.turns {
         return Stage::AtBound;
@@ -35,6 +37,8 @@ pub fn begin_again<K: Stack<Cell> + Drop>(m: &mut Machine<K>) -> Stage
     requires bounds { (heap_of m.old.world.heap).bounds ≡ limits_of m.old.limits }
     ensures step { (tables : Tables) (outside : Outside) → StandsAt tables outside (turn tables (store_seen tables outside m.old) (running (stack_seen m.old))) m.new result }
     ensures sound { (tables : Tables) → IsSound tables m.old → IsSound tables m.new }
+    ensures limits { m.new.limits ≡ m.old.limits }
+    ensures stack { IsSome m.old.stacks.table.running → HasStack m.new result }
 {
     if m.turns >= m.limits.turns {
         return Stage::AtBound;
@@ -50,6 +54,8 @@ pub fn reenter<K: Stack<Cell> + Drop>(m: &mut Machine<K>) -> Stage
     requires sound { (tables : Tables) × IsSound tables m.old }
     ensures step { (tables : Tables) (outside : Outside) → StandsAt tables outside (resumed calls tables Proc (stack_seen m.old) (store_seen tables outside m.old)) m.new result }
     ensures sound { (tables : Tables) → IsSound tables m.old → IsSound tables m.new }
+    ensures limits { m.new.limits ≡ m.old.limits }
+    ensures stack { HasStack m.new result }
 {
     if m.turns >= m.limits.turns {
         return Stage::AtBound;

@@ -8,7 +8,8 @@ use Rattle.icn_calls.proofs.CallSteps.{at_func, at_proc, at_record}
 use Rattle.icn_calls.proofs.callees.callee_of.Goals as goal
 
 pub returns-then-place-procs : goal.returns-then-place-procs
-returns-then-place-procs c = at_proc (tables_of c.args.code.now) c.args.number (subst (λ (n : ℕ). c.args.number < n) c.proc_count-procs.ensures c.if-place-procs.true)
+returns-then-place-procs c =
+    at_proc (tables_of c.args.code.now) c.args.number (subst (λ (n : ℕ). c.args.number < n) c.proc_count-procs.ensures c.if-place-procs.true)
 
 pub returns-then-place-procs-2 : goal.returns-then-place-procs-2
 returns-then-place-procs-2 c =
@@ -27,7 +28,8 @@ returns-in-Some c =
     = subst (λ (k : ℕ). length tables.records ≤ n - k) c.proc_count-procs.ensures (subst (λ (k : ℕ). k ≤ n - c.proc_count-procs.result) c.record_count-records.ensures c.if-place-procs-2.false) in
     let func : Option Func = Some c.in-Some.func in
     let is : func ≡ func_of (n - length tables.procs - length tables.records + 1)
-    = sym c.in-Some.is ∙ c.function_at.ensures ∙ ap (λ (k : ℕ). func_of (n - k - c.record_count-records.result + 1)) c.proc_count-procs.ensures ∙ ap (λ (k : ℕ). func_of (n - length tables.procs - k + 1)) c.record_count-records.ensures in
+    = sym c.in-Some.is ∙ c.function_at.ensures ∙ ap (λ (k : ℕ). func_of (n - k - c.record_count-records.result + 1)) c.proc_count-procs.ensures
+    ∙ ap (λ (k : ℕ). func_of (n - length tables.procs - k + 1)) c.record_count-records.ensures in
     at_func tables n func past past_both is
 
 pub returns-in-None : goal.returns-in-None
@@ -39,5 +41,6 @@ returns-in-None c =
     = subst (λ (k : ℕ). length tables.records ≤ n - k) c.proc_count-procs.ensures (subst (λ (k : ℕ). k ≤ n - c.proc_count-procs.result) c.record_count-records.ensures c.if-place-procs-2.false) in
     let func : Option Func = None in
     let is : func ≡ func_of (n - length tables.procs - length tables.records + 1)
-    = sym c.in-None.is ∙ c.function_at.ensures ∙ ap (λ (k : ℕ). func_of (n - k - c.record_count-records.result + 1)) c.proc_count-procs.ensures ∙ ap (λ (k : ℕ). func_of (n - length tables.procs - k + 1)) c.record_count-records.ensures in
+    = sym c.in-None.is ∙ c.function_at.ensures ∙ ap (λ (k : ℕ). func_of (n - k - c.record_count-records.result + 1)) c.proc_count-procs.ensures
+    ∙ ap (λ (k : ℕ). func_of (n - length tables.procs - k + 1)) c.record_count-records.ensures in
     at_func tables n func past past_both is

@@ -15,7 +15,8 @@ use Rattle.icn_calls.proofs.calling.collect.Goals as goal
 pub list_of-requires-clause-vals : goal.list_of-requires-clause-vals
 list_of-requires-clause-vals g c =
     let all = extent_of c.args.world.now.heap in
-    All-same (IsLive all) _ _ (c.from_place.ensures ∙ ap (drop (c.args.count - 1)) c.deref.ensures.value) (live_drop all (c.args.count - 1) c.args.vals.now.items c.requires.vals)
+    All-same (IsLive all) _ _ (c.from_place.ensures ∙ ap (drop (c.args.count - 1)) c.deref.ensures.value)
+    (live_drop all (c.args.count - 1) c.args.vals.now.items c.requires.vals)
 
 pub returns-in_err-list-clause-step : goal.returns-in_err-list-clause-step
 returns-in_err-list-clause-step g c st next same =
@@ -23,7 +24,8 @@ returns-in_err-list-clause-step g c st next same =
     let v = c.list_of.new.world in
     let made_so = subst (λ (xs : List Val). MakesValue (list_row (map (value_in (extent_of w.heap)) xs)) w c.args.frames.now.flat v (Err c.in_err-list.field-0.0))
     (c.from_place.ensures ∙ ap (drop (c.args.count - 1)) c.deref.ensures.value) c.in_err-list.ensures.made in
-    at_stop c.from_residual.result c.in_err-list.field-0.0 _ _ c.from_residual.ensures.1 (collects_not w v c.args.frames.now.flat c.args.count c.args.vals.now.items c.in_err-list.field-0.0 made_so st next same)
+    at_stop c.from_residual.result c.in_err-list.field-0.0 _ _ c.from_residual.ensures.1
+    (collects_not w v c.args.frames.now.flat c.args.count c.args.vals.now.items c.in_err-list.field-0.0 made_so st next same)
 
 pub returns-in_err-fit-clause-step : goal.returns-in_err-fit-clause-step
 returns-in_err-fit-clause-step g c st next same = at_stop c.from_residual-in_err-fit.result NoMemory _ _ c.from_residual-in_err-fit.ensures.1 tt
@@ -42,7 +44,8 @@ returns-clause-live g c =
 pub returns-clause-count : goal.returns-clause-count
 returns-clause-count g c =
     let cut : length c.fit.new.vals.items ≡ c.args.count - 1 = ap length c.in_ok-fit.ensures ∙ length_values_for (c.args.count - 1) c.args.vals.now.items in
-    let all : length c.add.new.vals.items ≡ length c.fit.new.vals.items + 1 = ap length c.in_ok-add.ensures ∙ length-append c.fit.new.vals.items (c.in_ok-list.list ∷ []) in
+    let all : length c.add.new.vals.items ≡ length c.fit.new.vals.items + 1 = ap length c.in_ok-add.ensures
+    ∙ length-append c.fit.new.vals.items (c.in_ok-list.list ∷ []) in
     omega (arith, cut, all, c.requires.count)
 
 pub returns-clause-step : goal.returns-clause-step
@@ -51,4 +54,5 @@ returns-clause-step g c =
     let v = c.list_of.new.world in
     let made_so = subst (λ (xs : List Val). MakesValue (list_row (map (value_in (extent_of w.heap)) xs)) w c.args.frames.now.flat v (Ok c.in_ok-list.list))
     (c.from_place.ensures ∙ ap (drop (c.args.count - 1)) c.deref.ensures.value) c.in_ok-list.ensures.made in
-    collects w v c.args.frames.now.flat c.args.count c.args.vals.now.items c.fit.new.vals.items c.add.new.vals.items c.in_ok-list.list made_so c.in_ok-fit.ensures c.in_ok-add.ensures c.list_of.ensures.kept.extent c.requires.vals
+    collects w v c.args.frames.now.flat c.args.count c.args.vals.now.items c.fit.new.vals.items c.add.new.vals.items c.in_ok-list.list made_so
+    c.in_ok-fit.ensures c.in_ok-add.ensures c.list_of.ensures.kept.extent c.requires.vals

@@ -32,4 +32,6 @@ pub returns-clause-kept : goal.returns-clause-kept
 returns-clause-kept g c = items_all (reach_of c.args.world.now [])
 
 pub returns-clause-step : goal.returns-clause-step
-returns-clause-step g c = plain_result c.args.collects c.args.world.now c.args.frames.now.flat c.args.count c.args.vals.now.items c.fit.new.vals.items c.if-collects.false c.in_ok-fit.ensures
+returns-clause-step g c =
+    plain_result c.args.collects c.args.world.now c.args.frames.now.flat c.args.count c.args.vals.now.items c.fit.new.vals.items c.if-collects.false
+    c.in_ok-fit.ensures

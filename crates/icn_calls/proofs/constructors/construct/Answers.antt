@@ -35,10 +35,12 @@ returns-in-Ok-push-clause-step g c entry at st same =
     let w = c.args.world.now in
     let v = c.record_of.new.world in
     let m = c.args.frames.now.flat in
-    record_runs w v m c.record_of.new.frames.flat c.push.new.self.flat c.args.kind c.kind_of.result c.field_count.result entry c.args.vals.now.items c.deref.result.now c.in_ok-rec.rec c.kind_of.ensures (c.field_count.ensures entry at)
+    record_runs w v m c.record_of.new.frames.flat c.push.new.self.flat c.args.kind c.kind_of.result c.field_count.result entry c.args.vals.now.items
+    c.deref.result.now c.in_ok-rec.rec c.kind_of.ensures (c.field_count.ensures entry at)
     (c.deref.ensures.value ∙ c.in-Ok.ensures) c.in_ok-rec.ensures.made c.record_of.ensures.same c.in-Ok-push.ensures.ok st same
 
 pub returns-in-Ok-push-clause-live : goal.returns-in-Ok-push-clause-live
 returns-in-Ok-push-clause-live g c t k =
     let here : IsLiveStack t (reach_of c.args.world.now []) c.record_of.new.frames.flat = subst (λ (x : FlatStack). IsLiveStack t (reach_of c.args.world.now []) x) (sym c.record_of.ensures.same) k in
-    list_live t c.args.world.now c.record_of.new.world c.record_of.new.frames.flat c.push.new.self.flat c.in_ok-rec.rec c.in-Ok-push.ensures.ok c.record_of.ensures.kept c.in_ok-rec.ensures.live here
+    list_live t c.args.world.now c.record_of.new.world c.record_of.new.frames.flat c.push.new.self.flat c.in_ok-rec.rec c.in-Ok-push.ensures.ok
+    c.record_of.ensures.kept c.in_ok-rec.ensures.live here

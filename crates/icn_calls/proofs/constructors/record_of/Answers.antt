@@ -16,7 +16,8 @@ returns-clause-kept g c = no_locals c.args.world.now c.new_record.new.w (held.lo
 
 pub returns-clause-counts : goal.returns-clause-counts
 returns-clause-counts g c =
-    record_counted c.args.world.now c.new_record.new.w (held.locals c.args.frames.now.flat) c.args.kind (map (value_in (extent_of c.args.world.now.heap)) c.args.fields.now) c.new_record.result c.new_record.ensures.found
+    record_counted c.args.world.now c.new_record.new.w (held.locals c.args.frames.now.flat) c.args.kind
+    (map (value_in (extent_of c.args.world.now.heap)) c.args.fields.now) c.new_record.result c.new_record.ensures.found
 
 pub returns-clause-made : goal.returns-clause-made
 returns-clause-made g c =

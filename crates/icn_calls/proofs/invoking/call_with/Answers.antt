@@ -22,11 +22,13 @@ pub returns-in_err-values_of-clause-kept : goal.returns-in_err-values_of-clause-
 returns-in_err-values_of-clause-kept g c = items_all (reach_of c.args.world.now [])
 
 pub call_procedure-requires-clause-stack : goal.call_procedure-requires-clause-stack
-call_procedure-requires-clause-stack g c = (c.requires.stack.0, subst (λ (x : FlatStack). IsLiveStack c.requires.stack.0 (reach_of c.args.world.now []) x) (sym c.values_of.ensures.same) c.requires.stack.1)
+call_procedure-requires-clause-stack g c =
+    (c.requires.stack.0, subst (λ (x : FlatStack). IsLiveStack c.requires.stack.0 (reach_of c.args.world.now []) x) (sym c.values_of.ensures.same) c.requires.stack.1)
 
 pub returns-in-Ok-clause-step : goal.returns-in-Ok-clause-step
 returns-in-Ok-clause-step g c entry at =
-    values_run c.args.world.now c.call_procedure.new.world c.args.frames.now.flat c.values_of.new.frames.flat c.call_procedure.new.frames.flat c.args.items.now c.values_of.new.vals.items (λ values a s. called flat c.args.number entry values a s)
+    values_run c.args.world.now c.call_procedure.new.world c.args.frames.now.flat c.values_of.new.frames.flat c.call_procedure.new.frames.flat
+    c.args.items.now c.values_of.new.vals.items (λ values a s. called flat c.args.number entry values a s)
     c.values_of.ensures.same c.in_ok-values_of.ensures.values (c.in-Ok.ensures.step entry at)
 
 pub returns-in-Ok-clause-live : goal.returns-in-Ok-clause-live
@@ -35,5 +37,6 @@ returns-in-Ok-clause-live g c k =
 
 pub returns-in-Err-clause-step : goal.returns-in-Err-clause-step
 returns-in-Err-clause-step g c entry at =
-    values_halt c.args.world.now c.call_procedure.new.world c.args.frames.now.flat c.values_of.new.frames.flat c.args.items.now c.values_of.new.vals.items c.in-Err.halt (λ values a s. called flat c.args.number entry values a s)
+    values_halt c.args.world.now c.call_procedure.new.world c.args.frames.now.flat c.values_of.new.frames.flat c.args.items.now c.values_of.new.vals.items
+    c.in-Err.halt (λ values a s. called flat c.args.number entry values a s)
     c.values_of.ensures.same c.in_ok-values_of.ensures.values (c.in-Err.ensures.step entry at)

@@ -17,6 +17,7 @@ returns-in_default g c =
           (by_number (tables_of c.args.code.now) all c.args.callee (map (item_in all) c.args.items.now) (stack_in all c.args.frames.now.flat) st c.in_default.not-Proc) (c.call_integer.ensures.step st same);
       live = c.call_integer.ensures.live (tables_of c.args.code.now);
       halt = c.call_integer.ensures.halt;
+      going = c.call_integer.ensures.going;
       kept = items_all (reach_of w []);
       counts = nothing_counted c.call_integer.result w;
     }
@@ -42,7 +43,8 @@ unreachable-unreachable g c = never_function (tables_of c.args.code.now) c.args.
 
 pub returns-in-Nothing-clause-step : goal.returns-in-Nothing-clause-step
 returns-in-Nothing-clause-step g c st same =
-    nothing_called c.args.world.now (tables_of c.args.code.now) c.args.callee c.in-Proc.number (map (item_in (extent_of c.args.world.now.heap)) c.args.items.now) (stack_in (extent_of c.args.world.now.heap) c.args.frames.now.flat) st c.in-Proc.is
+    nothing_called c.args.world.now (tables_of c.args.code.now) c.args.callee c.in-Proc.number
+    (map (item_in (extent_of c.args.world.now.heap)) c.args.items.now) (stack_in (extent_of c.args.world.now.heap) c.args.frames.now.flat) st c.in-Proc.is
     c.in-Nothing.ensures same
 
 pub returns-in-Nothing-clause-kept : goal.returns-in-Nothing-clause-kept

@@ -5,7 +5,8 @@ use Rattle.icn_calls.proofs.RuleSteps.{few_fields}
 use Rattle.icn_calls.proofs.record_fields.field_place.Goals as goal
 
 pub returns-then-place-records-clause-place : goal.returns-then-place-records-clause-place
-returns-then-place-records-clause-place c = place_absent (tables_of c.args.code.now) c.args.field c.args.kind (subst (λ (n : ℕ). n ≤ c.args.kind) c.record_count-records.ensures c.if-place-records.true)
+returns-then-place-records-clause-place c =
+    place_absent (tables_of c.args.code.now) c.args.field c.args.kind (subst (λ (n : ℕ). n ≤ c.args.kind) c.record_count-records.ensures c.if-place-records.true)
 
 pub fields_of-requires : goal.fields_of-requires
 fields_of-requires c = subst (λ (n : ℕ). c.args.kind < n) c.record_count-records.ensures c.if-place-records.false
@@ -20,7 +21,8 @@ pub returns-clause-place : goal.returns-clause-place
 returns-clause-place c =
     let tables = tables_of c.args.code.now in
     let there = kind_there tables c.args.kind (subst (λ (n : ℕ). c.args.kind < n) c.record_count-records.ensures c.if-place-records.false) in
-    place_found tables c.args.field c.args.kind there.0 c.fields_of.result.now c.first_place.result there.1 (c.fields_of.ensures there.0 there.1) c.first_place.ensures.place
+    place_found tables c.args.field c.args.kind there.0 c.fields_of.result.now c.first_place.result there.1 (c.fields_of.ensures there.0 there.1)
+    c.first_place.ensures.place
 
 pub returns-clause-within : goal.returns-clause-within
 returns-clause-within c =

@@ -17,6 +17,7 @@ use Rattle.icn_control.proofs.ExhaustSteps.{under}
 use Rattle.icn_control.proofs.Halts.{at_stopped, running_live}
 use Rattle.icn_control.proofs.LiveTransfers.{created_length, created_live}
 use Rattle.icn_control.proofs.MachineSteps.{stacks_on}
+use Rattle.icn_control.proofs.StackStands.{created_runs}
 use Rattle.icn_control.proofs.coexpressions.create.Goals as goal
 
 pub returns-in_err-charge_coexp-clause-step : goal.returns-in_err-charge_coexp-clause-step
@@ -76,3 +77,7 @@ returns-in-Ok-clause-sound g c tables k =
         activators = subst (λ (x : Table). EnterOthers x.coexps) (sym c.in-Ok.ensures) (new_others m.stacks.table (held.locals f) (held.proc f) f.place k.counted.activators);
       };
     }
+
+pub returns-in-Ok-clause-stack : goal.returns-in-Ok-clause-stack
+returns-in-Ok-clause-stack g c =
+    created_runs c.args.label (record c.args.m.now.stacks.table { running = Some c.frames.result.now.flat }) c.add_here.new.stacks.table refl c.in-Ok.ensures

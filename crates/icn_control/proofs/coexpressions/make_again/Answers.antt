@@ -14,6 +14,7 @@ use Rattle.icn_control.proofs.Deref.{live_locals}
 use Rattle.icn_control.proofs.Halts.{at_stopped, running_live}
 use Rattle.icn_control.proofs.LiveTransfers.{copied_length, copied_live}
 use Rattle.icn_control.proofs.MachineSteps.{stacks_on}
+use Rattle.icn_control.proofs.StackStands.{copied_runs}
 use Rattle.icn_control.proofs.coexpressions.make_again.Goals as goal
 
 pub returns-in_err-charge_coexp-clause-step : goal.returns-in_err-charge_coexp-clause-step
@@ -68,3 +69,7 @@ returns-in-Ok-clause-sound g c tables k =
         activators = copied_others table u f c.args.id refl c.in-Ok.ensures k.counted.activators;
       };
     }
+
+pub returns-in-Ok-clause-stack : goal.returns-in-Ok-clause-stack
+returns-in-Ok-clause-stack g c =
+    copied_runs c.args.id (record c.args.m.now.stacks.table { running = Some c.frames.result.now.flat }) c.add_copy.new.stacks.table refl c.in-Ok.ensures

@@ -4,6 +4,7 @@ use Rattle.icn_control.specs.Living.{IsLiveStack}
 use Rattle.icn_control.proofs.LiveCalls.{live_unmark, live_go}
 use Rattle.icn_control.proofs.FallSteps.{drops_leaving, drops_failing, drops_running, drops_beginning}
 use Rattle.icn_control.proofs.LessSteps.{unmark_less}
+use Rattle.icn_control.proofs.NamedFalls.{goes_falls, repeats_falls, unmark_falls}
 use Rattle.icn_control.proofs.failing.drop_failed.Goals as goal
 
 pub returns-then-at_base-clause-step : goal.returns-then-at_base-clause-step
@@ -38,3 +39,17 @@ returns-else-again-clause-live g c t reach k =
 
 pub returns-in-None-clause-less : goal.returns-in-None-clause-less
 returns-in-None-clause-less g c = unmark_less c.args.frames.now.flat c.unmark.new.self.flat c.unmark.result c.unmark.ensures.flat
+
+pub returns-then-at_base-clause-named : goal.returns-then-at_base-clause-named
+returns-then-at_base-clause-named g c all names k = (k, tt)
+
+pub returns-in-None-clause-named : goal.returns-in-None-clause-named
+returns-in-None-clause-named g c all = unmark_falls all c.args.frames.now.flat c.unmark.new.self.flat c.unmark.result c.unmark.ensures.flat
+
+pub returns-then-again-clause-named : goal.returns-then-again-clause-named
+returns-then-again-clause-named g c all =
+    repeats_falls all c.args.frames.now.flat c.unmark.new.self.flat c.go.new.self.flat c.unmark.result c.in-Some.place c.unmark.ensures.flat c.go.ensures.flat
+
+pub returns-else-again-clause-named : goal.returns-else-again-clause-named
+returns-else-again-clause-named g c all =
+    goes_falls all c.args.frames.now.flat c.unmark.new.self.flat c.go.new.self.flat c.unmark.result c.in-Some.place c.unmark.ensures.flat c.go.ensures.flat

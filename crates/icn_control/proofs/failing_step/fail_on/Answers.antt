@@ -4,6 +4,7 @@ use Rattle.icn_run.specs.Step.{fails}
 use Rattle.icn_control.specs.declared.failing.Due.{Due}
 use Rattle.icn_control.specs.Leading.{failing_seen, is_failing}
 use Rattle.icn_control.specs.Machines.{stack_of, stack_seen, store_seen}
+use Rattle.icn_control.proofs.NamedFalls.{fails_then_named}
 use Rattle.icn_control.proofs.LessSteps.{weight, weight_falls, failing_is, at_failing, fails_then, never_next, never_on}
 use Rattle.icn_control.proofs.failing_step.fail_on.Goals as goal
 
@@ -13,6 +14,8 @@ loop-due-init g c = record {
   sound = λ tables k. k;
   runs = c.requires.runs;
   limits = refl;
+  heap = refl;
+  named = record { stack = λ names k. (k, tt); store = λ names tables outside k. k };
   live = tt;
 }
 
@@ -42,6 +45,8 @@ loop-due-preserved g c =
       sound = λ tables k. c.fail_once-due.ensures.sound tables (c.loop-due.invariant.sound tables k);
       runs = c.fail_once-due.ensures.runs;
       limits = c.fail_once-due.ensures.limits ∙ c.loop-due.invariant.limits;
+      heap = c.fail_once-due.ensures.heap ∙ c.loop-due.invariant.heap;
+      named = fails_then_named c.args.m.now c.loop-due.m c.fail_once-due.new.m c.loop-due.due c.fail_once-due.result c.loop-due.invariant.named c.fail_once-due.ensures.named;
       live = c.fail_once-due.ensures.due;
     }
 

@@ -1,6 +1,7 @@
 use Rattle.std.proofs.Common.{◌≡◌, IsSome}
 use Rattle.icn_value.specs.Store.{Outside}
 use Rattle.icn_code.specs.Codes.{Tables}
+use Rattle.icn_control.specs.Failing.{FailsNamed}
 use Rattle.icn_control.specs.Falls.{IsLiveDue}
 use Rattle.icn_control.specs.Leading.{LeadsToDue, failing_seen}
 use Rattle.icn_control.specs.Machines.{IsSound, stack_of, world_reach}
@@ -13,6 +14,8 @@ invariant-loop-due g l = record {
   sound : (tables : Tables) → IsSound tables l.initial.m → IsSound tables l.m;
   runs : IsSome l.m.stacks.table.running;
   limits : l.m.limits ≡ l.initial.m.limits;
+  heap : l.m.world.heap ≡ l.initial.m.world.heap;
+  named : FailsNamed l.initial.m l.m l.due;
   live : IsLiveDue (world_reach l.m) (stack_of l.m) l.due;
 }
 

@@ -13,6 +13,7 @@ use Rattle.icn_control.proofs.CountedSteps.{heap_counts}
 use Rattle.icn_control.proofs.MachineSteps.{stacks_on}
 use Rattle.icn_control.proofs.FailSteps.{due_at}
 use Rattle.icn_control.specs.Falls.{FallsBelow}
+use Rattle.icn_control.proofs.NamedFalls.{stack_falls, store_falls}
 use Rattle.icn_control.proofs.failing_step.fail_once.Goals as goal
 
 pub fall-requires-clause-goes_on : goal.fall-requires-clause-goes_on
@@ -25,7 +26,8 @@ fall-requires-clause-goes_on g c =
 pub returns-clause-step : goal.returns-clause-step
 returns-clause-step g c tables outside =
     let m = c.args.m.now in
-    due_at (all_names tables) outside tables m.world c.fall.new.world m.turns m.begun.items m.stacks.table c.frames.result.now.flat c.fall.new.frames.flat c.fall.result c.frames.ensures.running c.fall.ensures.heap (c.fall.ensures.step tables)
+    due_at (all_names tables) outside tables m.world c.fall.new.world m.turns m.begun.items m.stacks.table c.frames.result.now.flat c.fall.new.frames.flat
+    c.fall.result c.frames.ensures.running c.fall.ensures.heap (c.fall.ensures.step tables)
 
 pub returns-clause-sound : goal.returns-clause-sound
 returns-clause-sound g c tables k =
@@ -36,9 +38,23 @@ returns-clause-sound g c tables k =
       stacks = subst (λ (r : Reach). AreLiveStacks tables r (record m.stacks.table { running = Some c.fall.new.frames.flat })) (sym c.fall.ensures.reach) on;
       bounds = ap (λ (h : HeldHeap). (heap_of h).bounds) c.fall.ensures.heap ∙ k.bounds;
       counts = ap (λ (h : HeldHeap). length (heap_of h).coexps) c.fall.ensures.heap ∙ k.counts;
-      counted = record { results = heap_counts m.turns m.stacks.table.active m.world.heap c.fall.new.world.heap c.fall.ensures.heap k.counted.results; activators = k.counted.activators };
+      counted =
+          record { results = heap_counts m.turns m.stacks.table.active m.world.heap c.fall.new.world.heap c.fall.ensures.heap k.counted.results; activators = k.counted.activators };
     }
 
 pub returns-clause-less : goal.returns-clause-less
 returns-clause-less g c =
     subst (λ (o : Option FlatStack). FallsBelow (running_of o) c.fall.new.frames.flat c.fall.result) (sym c.frames.ensures.running) c.fall.ensures.less
+
+pub returns-clause-heap : goal.returns-clause-heap
+returns-clause-heap g c = c.fall.ensures.heap
+
+pub returns-clause-named : goal.returns-clause-named
+returns-clause-named g c =
+    let m = c.args.m.now in
+    record {
+      stack =
+          stack_falls m.world c.fall.new.world m.stacks.table.running c.frames.result.now.flat c.fall.new.frames.flat c.fall.result c.frames.ensures.running
+          c.fall.ensures.heap c.fall.ensures.named;
+      store = store_falls m.world c.fall.new.world m.turns m.begun.items m.stacks.table c.fall.new.frames.flat c.fall.ensures.heap c.fall.ensures.world_named;
+    }

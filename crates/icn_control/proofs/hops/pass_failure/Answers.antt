@@ -11,6 +11,7 @@ use Rattle.icn_control.specs.Landing.{Beside}
 use Rattle.icn_control.proofs.ExhaustSteps.{exhausts, lands_failing, lands_hopping, turned, under}
 use Rattle.icn_control.proofs.CountedSteps.{exhaust_others, turn_fits}
 use Rattle.icn_control.proofs.LiveTables.{exhaust_live, exhaust_length}
+use Rattle.icn_control.proofs.StackStands.{moved_runs, not_moved_waits}
 use Rattle.icn_control.proofs.hops.pass_failure.Goals as goal
 
 pub returns-then-is_moved-clause-step : goal.returns-then-is_moved-clause-step
@@ -66,3 +67,11 @@ returns-else-is_moved-clause-sound g c tables k =
         activators = exhaust_others m.stacks.table u c.exhaust-went.ensures.table k.counted.activators;
       };
     }
+
+pub returns-then-is_moved-clause-stack : goal.returns-then-is_moved-clause-stack
+returns-then-is_moved-clause-stack g c =
+    moved_runs c.exhaust-went.new.self.table.running c.exhaust-went.result c.exhaust-went.ensures.went (sym c.is_moved.ensures ∙ c.if-is_moved.true)
+
+pub returns-else-is_moved-clause-stack : goal.returns-else-is_moved-clause-stack
+returns-else-is_moved-clause-stack g c =
+    not_moved_waits c.exhaust-went.new.self.table.running c.exhaust-went.result c.exhaust-went.ensures.went (sym c.is_moved.ensures ∙ c.if-is_moved.false)

@@ -16,6 +16,7 @@ use Rattle.icn_control.proofs.CountedSteps.{heap_counts}
 use Rattle.icn_control.proofs.Lifting.{ends_at, ends_body, ends_call, ends_main}
 use Rattle.icn_control.proofs.ListSteps.{on_running}
 use Rattle.icn_control.proofs.MachineSteps.{stacks_on}
+use Rattle.icn_control.proofs.StackStands.{stands_has_stack}
 use Rattle.icn_control.proofs.leaving.end_failing.Goals as goal
 
 pub returns-then-not-is_base-clause-step : goal.returns-then-not-is_base-clause-step
@@ -74,3 +75,17 @@ returns-then-active-gt0-clause-sound g c tables k =
     let m = c.args.m.now in
     let f : FlatStack = c.frames.result.now.flat in
     c.exhaust.ensures.sound tables (record { stacks = stacks_on tables (reach_of m.world []) m.stacks.table f f c.frames.ensures.running (λ l. l) k.stacks; bounds = k.bounds; counts = k.counts; counted = record { results = k.counted.results; activators = k.counted.activators } })
+
+pub returns-then-not-is_base-clause-stack : goal.returns-then-not-is_base-clause-stack
+returns-then-not-is_base-clause-stack g c =
+    let m = c.args.m.now in
+    let after : Machine g.row.K.Denot = record { world = c.leave_failing.new.world; stacks = with_stack m.stacks c.leave_failing.new.frames; turns = m.turns; begun = m.begun; limits = m.limits } in
+    let st = store_seen c.requires.goes_on.0 c.requires.goes_on.1.0 m in
+    stands_has_stack after _ st c.leave_failing.new.world c.leave_failing.new.frames.flat c.leave_failing.result (c.leave_failing.ensures.step st refl) refl
+
+pub returns-clause-stack : goal.returns-clause-stack
+returns-clause-stack g c =
+    let m = c.args.m.now in
+    let after : Machine g.row.K.Denot = record { world = c.leave_failing-2.new.world; stacks = with_stack m.stacks c.leave_failing-2.new.frames; turns = m.turns; begun = m.begun; limits = m.limits } in
+    let st = store_seen c.requires.goes_on.0 c.requires.goes_on.1.0 m in
+    stands_has_stack after _ st c.leave_failing-2.new.world c.leave_failing-2.new.frames.flat c.leave_failing-2.result (c.leave_failing-2.ensures.step st refl) refl

@@ -1,4 +1,4 @@
-use Rattle.std.proofs.Common.{◌≡◌, [], Some, length, sym, ap, ◌∙◌, subst}
+use Rattle.std.proofs.Common.{◌≡◌, [], Some, IsSome, length, sym, ap, ◌∙◌, subst}
 use Rattle.icn_value.specs.declared.item.Item.TheVariants.{Val as HeldVal}
 use Rattle.icn_value.specs.declared.val.Val.{Val}
 use Rattle.icn_heap.specs.Extents.{IsLive}
@@ -17,6 +17,7 @@ use Rattle.icn_control.proofs.Halts.{some_there}
 use Rattle.icn_control.proofs.LiveCalls.{live_push, own}
 use Rattle.icn_control.proofs.LiveTransfers.{enter_length, enter_live, live_value}
 use Rattle.icn_control.proofs.MachineSteps.{stacks_on}
+use Rattle.icn_coexp.proofs.Others.{entered_runs}
 use Rattle.icn_control.proofs.transfers.activate.Goals as goal
 
 pub returns-in-Same-clause-step : goal.returns-in-Same-clause-step
@@ -91,3 +92,10 @@ returns-in-Exhausted-clause-sound g c tables h k =
         activators = subst (λ (x : Table). EnterOthers x.coexps) (sym c.in-Exhausted.ensures.went.1) h.activators;
       };
     }
+
+pub returns-in-Moved-clause-stack : goal.returns-in-Moved-clause-stack
+returns-in-Moved-clause-stack g c =
+    entered_runs c.args.id c.args.v c.args.m.now.stacks.table c.activate.new.self.table c.in-Moved.ensures.went.2 c.in-Moved.ensures.went.0 c.in-Moved.ensures.went.1
+
+pub returns-in-Exhausted-clause-stack : goal.returns-in-Exhausted-clause-stack
+returns-in-Exhausted-clause-stack g c = subst (λ (x : Table). IsSome x.running) (sym c.in-Exhausted.ensures.went.1) c.requires.runs

@@ -23,6 +23,7 @@ use Rattle.icn_control.proofs.Halts.{at_stopped, some_there, value_error}
 use Rattle.icn_control.proofs.KeptTables.{stacks_stay}
 use Rattle.icn_control.proofs.LiveTransfers.{coexp_is_live, give_length, give_live}
 use Rattle.icn_control.proofs.MachineSteps.{stacks_on}
+use Rattle.icn_control.proofs.StackStands.{moved_runs, not_moved_waits}
 use Rattle.icn_control.proofs.transfers.coret.Goals as goal
 
 pub returns-then-m-clause-step : goal.returns-then-m-clause-step
@@ -175,3 +176,11 @@ returns-else-is_moved-clause-sound g c tables k =
         activators = give_others c.in_ok-v.v table u c.give-went.ensures.table k.counted.activators;
       };
     }
+
+pub returns-then-is_moved-clause-stack : goal.returns-then-is_moved-clause-stack
+returns-then-is_moved-clause-stack g c =
+    moved_runs c.give-went.new.self.table.running c.give-went.result c.give-went.ensures.went (sym c.is_moved.ensures ∙ c.if-is_moved.true)
+
+pub returns-else-is_moved-clause-stack : goal.returns-else-is_moved-clause-stack
+returns-else-is_moved-clause-stack g c =
+    not_moved_waits c.give-went.new.self.table.running c.give-went.result c.give-went.ensures.went (sym c.is_moved.ensures ∙ c.if-is_moved.false)

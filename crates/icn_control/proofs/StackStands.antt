@@ -1,0 +1,46 @@
+-- Whether a stack runs after a transfer.
+use Rattle.std.proofs.Common.{◌≡◌, true, false, Option, Some, None, IsSome, refl, sym, ap, subst}
+use Rattle.icn_vars.specs.declared.world.World.{World}
+use Rattle.icn_frames.specs.Stacks.{FlatStack}
+use Rattle.icn_coexp.specs.declared.table.Went.{Went}
+use Rattle.icn_coexp.specs.Transfers.{Table, went_by}
+use Rattle.icn_run.specs.Stacks.{Frames}
+use Rattle.icn_run.specs.Step.{State, Store}
+use Rattle.icn_control.specs.Creations.{copied, copied_on, created, created_on}
+use Rattle.icn_control.specs.Landing.{is_moved}
+use Rattle.icn_control.specs.Machines.{HasStack}
+use Rattle.icn_control.specs.Parts.{StandsWith}
+use Rattle.icn_control.specs.declared.machine.Machine.{Machine}
+use Rattle.icn_control.specs.declared.machine.Stage.{Stage}
+use Rattle.icn_control.specs.declared.machine.Stage.TheVariants as Stages
+
+pub moved_runs : (running : Option FlatStack) (went : Went) → went ≡ went_by running → is_moved went ≡ true → IsSome running
+moved_runs (Some m) went e f = refl
+moved_runs None went e f = let stays : is_moved went ≡ false = ap is_moved e in cc
+
+pub not_moved_waits : (running : Option FlatStack) (went : Went) → went ≡ went_by running → is_moved went ≡ false → running ≡ None
+not_moved_waits None went e f = refl
+not_moved_waits (Some m) went e f = let moves : is_moved went ≡ true = ap is_moved e in cc
+
+pub created_runs : (label : _) (t u : Table) → IsSome t.running → u ≡ created label t → IsSome u.running
+created_runs label t u r e = subst (λ (x : Table). IsSome x.running) (sym e) (by_running t.running r)
+  where
+    by_running : (o : Option FlatStack) → IsSome o → IsSome (created_on label t o).running
+    by_running (Some m) q = refl
+    by_running None q = cc
+
+pub copied_runs : (id : _) (t u : Table) → IsSome t.running → u ≡ copied id t → IsSome u.running
+copied_runs id t u r e = subst (λ (x : Table). IsSome x.running) (sym e) (by_running t.running r)
+  where
+    by_running : (o : Option FlatStack) → IsSome o → IsSome (copied_on id t o).running
+    by_running (Some m) q = refl
+    by_running None q = cc
+
+-- what touches a stack and a world alone leaves no hop due
+pub stands_has_stack : {K : Type 0} (m : Machine K) (state : State Frames Frames) (st : Store Frames) (w : World) (n : FlatStack) (stage : Stage)
+    → StandsWith state st w n stage → IsSome m.stacks.table.running → HasStack m stage
+stands_has_stack m state st w n Stages.Runs h r = r
+stands_has_stack m state st w n Stages.Fails h r = r
+stands_has_stack m state st w n Stages.HopDue h r = absurd h
+stands_has_stack m state st w n Stages.Over h r = tt
+stands_has_stack m state st w n Stages.AtBound h r = tt
