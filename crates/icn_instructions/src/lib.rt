@@ -1,0 +1,14 @@
+//! Every instruction that performs no row and calls nothing, over the machine.
+#![tactic(auto)]
+
+mod coexpressions;
+mod eret;
+mod groups;
+mod in_world;
+mod instructions;
+mod on_machine;
+mod on_stack;
+mod statics;
+
+pub use groups::{Group, group_of};
+pub use instructions::do_instruction;
