@@ -1,2 +1,4 @@
 pub mod GiveSteps
+pub mod OperateSteps
+pub mod PerformSteps
 pub mod SetTwice

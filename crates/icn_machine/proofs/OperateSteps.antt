@@ -1,0 +1,313 @@
+-- Rows that a machine performs as instructions, and as what was left is resumed.
+use Rattle.std.proofs.Common.{◌≡◌, ℕ, zero, suc, ◌+◌, Bool, true, false, nat_lt, List, [], ◌∷◌, ◌++◌, length, map, Option, Some, None, Result, Ok, Err, refl, sym, ap, ◌∙◌, subst, arith}
+use Rattle.std.proofs.lemmas.Option.{same_Some}
+use Rattle.std.specs.Prelude.{if◌then◌else◌, IfOk, IsSome, OnOk}
+use Rattle.std.specs.Option.{option_and_then, option_map}
+use Rattle.icn_host.specs.Sinks.{SinkState}
+use Rattle.icn_host.proofs.SinkSteps.{gains_nothing}
+use Rattle.icn_text.specs.declared.op.Op.{Op}
+use Rattle.icn_text.specs.declared.op.Op.TheVariants as Ops
+use Rattle.icn_value.specs.declared.item.Item.{Item}
+use Rattle.icn_value.specs.declared.residual.Residual.{Residual}
+use Rattle.icn_value.specs.Limited.{limits_of}
+use Rattle.icn_value.specs.Store.{Names, Outside, outside_of}
+use Rattle.icn_defs.specs.Applying as rows
+use Rattle.icn_defs.specs.Arities.{arity}
+use Rattle.icn_defs.specs.Rows.{Row, Outcome, Fails, Gives, Suspends, Error, Ends}
+use Rattle.icn_defs.specs.StepRows as step_rows
+use Rattle.icn_defs.specs.StepRows.{Operation}
+use Rattle.icn_heap.specs.Extents.{Extent}
+use Rattle.icn_heap.specs.Heaps.{extent_of, heap_of}
+use Rattle.icn_named.specs.Named.{ItemNamed}
+use Rattle.icn_vars.specs.declared.outcome.Halt.{Halt}
+use Rattle.icn_vars.specs.declared.outcome.Halt.TheVariants as Halts
+use Rattle.icn_vars.specs.declared.world.World.{World}
+use Rattle.icn_vars.specs.Outcomes.{IsLiveResidual}
+use Rattle.icn_vars.specs.Worlds.{KeepsItems, Reach, item_in, reach_of, world_of}
+use Rattle.icn_frames.specs.Stacks as held
+use Rattle.icn_frames.specs.Stacks.{FlatStack}
+use Rattle.icn_coexp.specs.Transfers.{Table}
+use Rattle.icn_frames_laws.proofs.CallsRead.{pop_read}
+use Rattle.icn_code.specs.declared.instr.Instr.TheVariants as Instrs
+use Rattle.icn_code.specs.Codes.{Tables}
+use Rattle.icn_streams.specs.Handed.{Handed, Follows, KeepsAllCounts, Puts, uncounted}
+use Rattle.icn_run.specs.Calls as calls
+use Rattle.icn_run.specs.Rows as run_rows
+use Rattle.icn_run.specs.Stacks.{Frames, flat}
+use Rattle.icn_run.specs.Step.{State, Store, running, failing, over, stuck, all_names, finished, here, instruction, is_main, operated, outcome, resumed, turn, turn_if, with_world}
+use Rattle.icn_run_named.specs.StateNames.{StackNamed}
+use Rattle.icn_run_named.proofs.CallsNamed as named
+use Rattle.icn_control.specs.Machines.{AreLiveStacks, ComesTo, HasStack, IsSound, running_of, store_in}
+use Rattle.icn_control.specs.Standing.{reading_of, stack_in}
+use Rattle.icn_control.specs.Counting.{EnterOthers, FitTurns}
+use Rattle.icn_control.specs.Living.{IsLiveStack, with_locals}
+use Rattle.icn_control.specs.Taking as counting
+use Rattle.icn_control.specs.Taking.{taken, taken_onto}
+use Rattle.icn_control.specs.declared.machine.Machine.{Machine}
+use Rattle.icn_control.specs.declared.machine.Stage.{Stage}
+use Rattle.icn_control.specs.declared.machine.Stage.TheVariants as Stages
+use Rattle.icn_control.proofs.CountedSteps.{list_counts, turn_more}
+use Rattle.icn_control.proofs.GrowthSteps.{grown, stacks_grow}
+use Rattle.icn_control.proofs.ListSteps.{on_running}
+use Rattle.icn_control.proofs.TakeSteps.{taken_runs}
+use Rattle.icn_machine.specs.Answering as answering
+use Rattle.icn_machine.specs.Answering.{AnswersStep, BreaksOff, BreaksPutting, BreaksReading, IsCause, Performs, Tells, having}
+use Rattle.icn_machine.specs.Performing.{PerformsRow, StandsOver, row_on}
+
+-- What a call says of a step, said of what leads to the same states
+
+answers_as : {A : Type 0} (state other : State Frames Frames) (C D : Outside → Result A Halt → Type 0) (was : Outside) (b a : Handed) (result : Result A Halt) → other ≡ state
+    → ((now : Outside) → C now result → D now result) → AnswersStep C state was b a result → AnswersStep D other was b a result
+answers_as state other C D was b a (Ok x) e h t = record { now = t.now; follows = t.follows; is = h t.now t.is }
+answers_as state other C D was b a (Err (Halts.Error number offending)) e h t = record { now = t.now; follows = t.follows; is = h t.now t.is }
+answers_as state other C D was b a (Err (Halts.Ends status)) e h t = record { now = t.now; follows = t.follows; is = h t.now t.is }
+answers_as state other C D was b a (Err Halts.ReadFault) e h t = subst (λ (x : State Frames Frames). BreaksReading x was b a) (sym e) t
+answers_as state other C D was b a (Err Halts.WriteFault) e h t = subst (λ (x : State Frames Frames). BreaksPutting x was b a) (sym e) t
+answers_as state other C D was b a (Err Halts.NoMemory) e h t = subst (λ (x : State Frames Frames). BreaksOff x was b a) (sym e) t
+
+pub performs_as : {A : Type 0} (leads others : Outside → State Frames Frames) (C D : Outside → Outside → Result A Halt → Type 0) (b a : Handed) (result : Result A Halt)
+    → ((was : Outside) → others was ≡ leads was) → ((was now : Outside) → C was now result → D was now result) → Performs leads C b a result → Performs others D b a result
+performs_as leads others C D b a result e h p = record {
+  answers = λ was told. answers_as (leads was) (others was) (C was) (D was) was b a result (e was) (h was) (p.answers was told);
+  had = p.had;
+  has = p.has;
+  meant = λ was left. answers_as (leads was) (others was) (C was) (D was) was (having p.had b) (having p.has a) result (e was) (h was) (p.meant was left);
+  caused = p.caused;
+}
+
+-- Where nothing was read or put
+
+nothing_more : (xs : List ℕ) → xs ≡ xs ++ []
+nothing_more [] = refl
+nothing_more (x ∷ xs) = ap (λ (s : List ℕ). x ∷ s) (nothing_more xs)
+
+puts_nothing : (sink : SinkState) (was : List ℕ) → Puts sink sink was was
+puts_nothing sink was = record { text = []; is = nothing_more was; gains = gains_nothing sink.held }
+
+follows_same : (b : Handed) (was : Outside) → b.left ≡ Some was.left → Follows b b was was
+follows_same b was told = record { left = told; output = puts_nothing b.output was.output; errors = puts_nothing b.errors was.errors }
+
+counts_same : (b : Handed) → KeepsAllCounts b b
+counts_same b = record { faults = refl; output = record { faults = refl; wants = refl }; errors = record { faults = refl; wants = refl } }
+
+-- the step itself neither reads nor puts
+pub performs_still : {A : Type 0} (leads : Outside → State Frames Frames) (C : Outside → Outside → Result A Halt → Type 0) (b : Handed) (x : A) → ((was : Outside) → C was was (Ok x)) → Performs leads C b b (Ok x)
+performs_still leads C b x h = record {
+  answers = λ was told. record { now = was; follows = follows_same b was told; is = h was };
+  had = [];
+  has = [];
+  meant = λ was left. record { now = was; follows = follows_same (having [] b) was (ap (λ (xs : List ℕ). Some xs) (sym left)); is = h was };
+  caused = counts_same b;
+}
+
+-- memory ran out before anything was read or put
+pub performs_idle : {A : Type 0} (leads : Outside → State Frames Frames) (C : Outside → Outside → Result A Halt → Type 0) (b : Handed) → Performs leads C b b (Err Halts.NoMemory)
+performs_idle leads C b = record {
+  answers = λ was told. answering.idle refl;
+  had = [];
+  has = [];
+  meant = λ was left. answering.idle refl;
+  caused = uncounted (counts_same b);
+}
+
+-- What a row comes to, on the machine
+
+-- the run is over as its starting call is, or something lacks
+abbrev is_finished : State Frames Frames → Bool
+is_finished (over run_rows.Done outside) = true
+is_finished stuck = true
+is_finished state = false
+
+finished_is : (st : Store Frames) → is_finished (finished st) ≡ true
+finished_is st = by_main (is_main st.active)
+  where
+    by_main : (b : Bool) → is_finished (if b then over run_rows.Done st.outside else stuck) ≡ true
+    by_main true = refl
+    by_main false = refl
+
+goes_on : (oc : Outcome) (m : Frames) (st : Store Frames) → is_finished (outcome flat oc m st) ≡ false
+goes_on (Fails seen) m st = refl
+goes_on (Gives item seen) m st = refl
+goes_on (Suspends item rest seen) m st = refl
+goes_on (Error n value seen) m st = refl
+goes_on (Ends n seen) m st = refl
+
+-- no row is the end of the starting call
+unfinished : (oc : Outcome) (m : Frames) (st other : Store Frames) → outcome flat oc m st ≡ finished other → ⊥
+unfinished oc m st other e = by_test (sym (goes_on oc m st) ∙ ap is_finished e ∙ finished_is other)
+  where
+    by_test : false ≡ true → ⊥
+    by_test q = cc
+
+-- where the machine stands with the stack and the world that a row left, a turn more
+comes_to : {K : Type 0} (m : Machine K) (t tables : Tables) (w : World) (turns : ℕ) (table : Table) (n : FlatStack) (oc : Outcome) (a : Frames) (st : Store Frames) (was now : Outside) (result : Result Stage Halt)
+    → KeepsItems (reach_of w []) (reach_of m.world []) → AreLiveStacks t (reach_of w []) table → m.stacks.table ≡ record table { running = Some n } → m.turns ≡ suc turns
+    → StandsOver (outcome flat oc a st) (store_in (all_names tables) was (world_of w) (suc turns) m.begun.items (extent_of w.heap) table) m.world n now result → ComesTo tables now (outcome flat oc a st) m result
+comes_to m t tables w turns table n oc a st was now (Ok Stages.Runs) k l e f h =
+    let F : Table → ℕ → State Frames Frames
+    = λ x y. running (stack_in (extent_of m.world.heap) (running_of x.running)) (store_in (all_names tables) now (world_of m.world) y m.begun.items (extent_of m.world.heap) x) in
+    h ∙ ap (running (stack_in (extent_of m.world.heap) n)) (grown t (all_names tables) now w m.world (suc turns) m.begun.items table (Some n) k l) ∙ ap (λ (x : Table). F x (suc turns)) (sym e) ∙ ap (F m.stacks.table) (sym f)
+comes_to m t tables w turns table n oc a st was now (Ok Stages.Fails) k l e f h =
+    let F : Table → ℕ → State Frames Frames
+    = λ x y. failing (stack_in (extent_of m.world.heap) (running_of x.running)) (store_in (all_names tables) now (world_of m.world) y m.begun.items (extent_of m.world.heap) x) in
+    h ∙ ap (failing (stack_in (extent_of m.world.heap) n)) (grown t (all_names tables) now w m.world (suc turns) m.begun.items table (Some n) k l) ∙ ap (λ (x : Table). F x (suc turns)) (sym e) ∙ ap (F m.stacks.table) (sym f)
+comes_to m t tables w turns table n oc a st was now (Ok Stages.HopDue) k l e f h = absurd h
+comes_to m t tables w turns table n oc a st was now (Ok Stages.Over) k l e f h =
+    absurd (unfinished oc a st (with_world (world_of m.world) (store_in (all_names tables) now (world_of w) (suc turns) m.begun.items (extent_of w.heap) table)) h)
+comes_to m t tables w turns table n oc a st was now (Ok Stages.AtBound) k l e f h = absurd h
+comes_to m t tables w turns table n oc a st was now (Err (Halts.Error number offending)) k l e f h = h
+comes_to m t tables w turns table n oc a st was now (Err (Halts.Ends status)) k l e f h = h
+comes_to m t tables w turns table n oc a st was now (Err Halts.ReadFault) k l e f h = absurd h
+comes_to m t tables w turns table n oc a st was now (Err Halts.WriteFault) k l e f h = absurd h
+comes_to m t tables w turns table n oc a st was now (Err Halts.NoMemory) k l e f h = tt
+
+-- the store of a machine in a turn
+abbrev pub store_in_turn : {K : Type 0} → Tables → World → ℕ → Table → Machine K → Outside → Store Frames
+store_in_turn tables w turns table m was = store_in (all_names tables) was (world_of w) (suc turns) m.begun.items (extent_of w.heap) table
+
+-- what a call said of a row on the stack that runs, said of the machine for any states that are the row's
+pub performs_on : {K : Type 0} (m : Machine K) (t tables : Tables) (w : World) (turns : ℕ) (table : Table) (k n : FlatStack) (row : Row) (leads : Outside → State Frames Frames) (b a : Handed) (result : Result Stage Halt)
+    → KeepsItems (reach_of w []) (reach_of m.world []) → AreLiveStacks t (reach_of w []) table → m.stacks.table ≡ record table { running = Some n } → m.turns ≡ suc turns
+    → ((was : Outside) → leads was ≡ row_on row w k (store_in_turn tables w turns table m was) was) → PerformsRow row w k b m.world n a result
+    → Performs leads (λ was now answer. ComesTo tables now (leads was) m answer) b a result
+performs_on m t tables w turns table k n row leads b a result kept live e f same p =
+    let st : Store Frames = store_in_turn tables w turns table m (outside_of []) in
+    let on : Frames = stack_in (extent_of w.heap) k in
+    let at : Outside → Store Frames = store_in_turn tables w turns table m in
+    performs_as (row_on row w k st) leads (λ was now answer. StandsOver (row_on row w k st was) st m.world n now answer) (λ was now answer. ComesTo tables now (leads was) m answer) b a result same
+    (λ was now h. subst (λ (x : State Frames Frames). ComesTo tables now x m result) (sym (same was)) (comes_to m t tables w turns table n (row (here flat on (at was))) on (at was) (outside_of []) now result kept live e f h))
+    (p st refl)
+
+-- a store of this world
+abbrev store_of : World → Store Frames
+store_of w = record { world = world_of w; outside = outside_of []; turns = 0; begun = []; coexps = []; active = 0; names = record { procedures = []; records = [] } }
+
+-- a stack runs where a row was answered, which never comes to a hop
+pub has_stack : {K : Type 0} (m : Machine K) (w : World) (k n : FlatStack) (row : Row) (b a : Handed) (result : Result Stage Halt) → m.stacks.table.running ≡ Some n → PerformsRow row w k b m.world n a result → IfOk result (HasStack m)
+has_stack m w k n row b a (Ok Stages.Runs) e p = subst (λ (o : Option FlatStack). IsSome o) (sym e) refl
+has_stack m w k n row b a (Ok Stages.Fails) e p = subst (λ (o : Option FlatStack). IsSome o) (sym e) refl
+has_stack m w k n row b a (Ok Stages.HopDue) e p = let said = p (store_of w) refl in absurd (said.meant (outside_of said.had) refl).is
+has_stack m w k n row b a (Ok Stages.Over) e p = tt
+has_stack m w k n row b a (Ok Stages.AtBound) e p = tt
+has_stack m w k n row b a (Err halt) e p = tt
+
+-- Operations
+
+-- but for one all operations are rows
+operated_is : (op : Op) (xs : List run_rows.Item) (m : Frames) (st : Store Frames) → (op ≡ Ops.Refresh → ⊥) → operated flat op xs m st ≡ outcome flat (step_rows.apply st.names (Operation op) xs (here flat m st)) m st
+operated_is Ops.Refresh xs m st d = absurd (d refl)
+operated_is op xs m st d = refl
+
+-- the turn is counted
+in_turn : (tables : Tables) (st : Store Frames) (event : Store Frames → State Frames Frames) → nat_lt st.turns st.world.heap.bounds.turns ≡ true → turn tables st event ≡ event (record st { turns = suc st.turns })
+in_turn tables st event b = ap (λ (x : Bool). turn_if x st event) b
+
+-- what the instruction is once its operands are taken
+pub op_is : (all : Extent) (tables : Tables) (table : Table) (m k : FlatStack) (items : List Item) (op : Op) (st : Store Frames) → table.running ≡ Some m → taken (arity op) m ≡ Some (items, k)
+    → instruction flat tables (Instrs.Op op) (stack_in all (running_of table.running)) st ≡ turn tables st (operated flat op (map (item_in all) items) (stack_in all k))
+op_is all tables table m k items op st e p =
+    on_running table m (λ x. instruction flat tables (Instrs.Op op) (stack_in all x) st) e ∙ taken_runs all (arity op) m k items (λ xs a. turn tables st (operated flat op xs a)) p
+
+pub operates : {K : Type 0} (tables : Tables) (names : Names) (w : World) (table : Table) (m k : FlatStack) (items : List Item) (op : Op) (after : Machine K) (turns : ℕ) (was : Outside) → (op ≡ Ops.Refresh → ⊥)
+    → table.running ≡ Some m → taken (arity op) m ≡ Some (items, k) → nat_lt turns (heap_of w.heap).bounds.turns ≡ true → all_names tables ≡ names
+    → instruction flat tables (Instrs.Op op) (stack_in (extent_of w.heap) (running_of table.running)) (store_in (all_names tables) was (world_of w) turns after.begun.items (extent_of w.heap) table)
+    ≡ row_on (step_rows.apply names (Operation op) (map (item_in (extent_of w.heap)) items)) w k (store_in_turn tables w turns table after was) was
+operates tables names w table m k items op after turns was d e p b n =
+    let all : Extent = extent_of w.heap in
+    let st : Store Frames = store_in (all_names tables) was (world_of w) turns after.begun.items all table in
+    let xs = map (item_in all) items in
+    op_is all tables table m k items op st e p ∙ in_turn tables st (operated flat op xs (stack_in all k)) b ∙ operated_is op xs (stack_in all k) (store_in_turn tables w turns table after was) d
+    ∙ ap (λ (ns : Names). row_on (step_rows.apply ns (Operation op) xs) w k (store_in_turn tables w turns table after was) was) n
+
+pub resumes : {K : Type 0} (tables : Tables) (w : World) (table : Table) (m : FlatStack) (rest : run_rows.Residual) (after : Machine K) (turns : ℕ) (was : Outside) → table.running ≡ Some m
+    → nat_lt turns (heap_of w.heap).bounds.turns ≡ true
+    → resumed flat tables (calls.Op rest) (stack_in (extent_of w.heap) (running_of table.running)) (store_in (all_names tables) was (world_of w) turns after.begun.items (extent_of w.heap) table)
+    ≡ row_on (rows.again rest) w m (store_in_turn tables w turns table after was) was
+resumes tables w table m rest after turns was e b =
+    let all : Extent = extent_of w.heap in
+    let st : Store Frames = store_in (all_names tables) was (world_of w) turns after.begun.items all table in
+    on_running table m (λ x. resumed flat tables (calls.Op rest) (stack_in all x) st) e
+    ∙ in_turn tables st (λ s. outcome flat (run_rows.again rest (here flat (stack_in all m) s)) (stack_in all m) s) b
+
+-- Operands
+
+taken_length : (n : ℕ) (m k : FlatStack) (onto items : List Item) → taken_onto n m onto ≡ Some (items, k) → length items ≡ n + length onto
+taken_length zero m k onto items e =
+    let here : List Item × FlatStack = (onto, m) in
+    let same : length onto ≡ length items = ap (λ (x : List Item × FlatStack). length x.0) (same_Some here (items, k) e) in
+    omega arith
+taken_length (suc n) m k onto items e = by_pop (held.pop m) e (taken_length n)
+  where
+    by_pop : (o : Option (Item × FlatStack)) → option_and_then (λ (popped : Item × FlatStack). taken_onto n popped.1 (popped.0 ∷ onto)) o ≡ Some (items, k)
+        → ((m k : FlatStack) (onto items : List Item) → taken_onto n m onto ≡ Some (items, k) → length items ≡ n + length onto) → length items ≡ suc n + length onto
+    by_pop None q f = cc
+    by_pop (Some popped) q f =
+        let more : length items ≡ n + suc (length onto) = f popped.1 k (popped.0 ∷ onto) items q in
+        omega arith
+
+pub taken_count : (n : ℕ) (m k : FlatStack) (items : List Item) → taken n m ≡ Some (items, k) → length items ≡ n
+taken_count n m k items e =
+    let long : length items ≡ n + length {A = Item} [] = taken_length n m k [] items e in
+    omega arith
+
+-- the same operands, and the same stack, under other names
+pub taken_as : (n o : ℕ) (m k l : FlatStack) (items xs : List Item) → taken n m ≡ Some (items, k) → n ≡ o → Some k ≡ Some l → xs ≡ items → taken o m ≡ Some (xs, l)
+taken_as n o m k l items xs e same kept value =
+    let F : List Item → FlatStack → Option (List Item × FlatStack) = λ x y. Some (x, y) in
+    subst (λ (x : ℕ). taken x m ≡ Some (items, k)) same e ∙ ap (λ (x : List Item). F x k) (sym value) ∙ ap (F xs) (same_Some _ _ kept)
+
+-- what is taken, and the stack without it, name only what has a name
+pub record TakesNamed (names : Names) (all : Extent) (items : List Item) (k : FlatStack) : Type 0 where
+  pub items_named : named.Each (ItemNamed names) (map (item_in all) items)
+  pub rest : named.M names (stack_in all k)
+
+popped_named : (names : Names) (all : Extent) (m : FlatStack) (popped : Item × FlatStack) → held.pop m ≡ Some popped → named.M names (stack_in all m) → ItemNamed names (item_in all popped.0) × named.M names (stack_in all popped.1)
+popped_named names all m popped e h =
+    let P : Option (run_rows.Item × Frames) → Type 0 = λ o. named.Maybe (named.Two names (ItemNamed names)) o in
+    subst P (pop_read (reading_of all) m ∙ ap (option_map (λ (x : Item × FlatStack). (item_in all x.0, stack_in all x.1))) e) (named.pop names (stack_in all m) h)
+
+named_onto : (names : Names) (all : Extent) (n : ℕ) (m k : FlatStack) (onto items : List Item) → taken_onto n m onto ≡ Some (items, k) → named.Each (ItemNamed names) (map (item_in all) onto) → named.M names (stack_in all m) → TakesNamed names all items k
+named_onto names all zero m k onto items e xs h =
+    let here : List Item × FlatStack = (onto, m) in
+    let there : TakesNamed names all onto m = record { items_named = xs; rest = h } in
+    subst (λ (x : List Item × FlatStack). TakesNamed names all x.0 x.1) (same_Some here (items, k) e) there
+named_onto names all (suc n) m k onto items e xs h = by_pop (held.pop m) refl e (named_onto names all n)
+  where
+    by_pop : (o : Option (Item × FlatStack)) → held.pop m ≡ o → option_and_then (λ (popped : Item × FlatStack). taken_onto n popped.1 (popped.0 ∷ onto)) o ≡ Some (items, k)
+        → ((m k : FlatStack) (onto items : List Item) → taken_onto n m onto ≡ Some (items, k) → named.Each (ItemNamed names) (map (item_in all) onto) → named.M names (stack_in all m) → TakesNamed names all items k) → TakesNamed names all items k
+    by_pop None p q f = cc
+    by_pop (Some popped) p q f =
+        let back = popped_named names all m popped p h in
+        f popped.1 k (popped.0 ∷ onto) items q (back.0, xs) back.1
+
+pub named_taken : (names : Names) (all : Extent) (n : ℕ) (m k : FlatStack) (items : List Item) → taken n m ≡ Some (items, k) → StackNamed names (stack_in all m) → TakesNamed names all items k
+named_taken names all n m k items e h = named_onto names all n m k [] items e tt (named.stack_in names (stack_in all m) h)
+
+-- what is said of the stack of a machine, said of the one that runs
+
+pub named_running : (names : Names) (all : Extent) (table : Table) (m : FlatStack) → table.running ≡ Some m → StackNamed names (stack_in all (running_of table.running)) → StackNamed names (stack_in all m)
+named_running names all table m e h = subst (λ (o : Option FlatStack). StackNamed names (stack_in all (running_of o))) e h
+
+pub rest_running : (reach : Reach) (table : Table) (m : FlatStack) (rest : Residual) → table.running ≡ Some m → IsLiveResidual (with_locals (held.local_count (running_of table.running)) reach) rest
+    → IsLiveResidual (with_locals (held.local_count m) reach) rest
+rest_running reach table m rest e h = subst (λ (o : Option FlatStack). IsLiveResidual (with_locals (held.local_count (running_of o)) reach) rest) e h
+
+-- what is kept by a row that is answered
+
+pub both_ok : {A E : Type 0} (result : Result A E) (P Q R : Type 0) → OnOk result P → OnOk result Q → (P → Q → R) → OnOk result R
+both_ok (Ok x) P Q R p q f = f p q
+both_ok (Err e) P Q R p q f = tt
+
+pub sound_after : {K : Type 0} (m after : Machine K) (t : Tables) (n : FlatStack) → KeepsItems (reach_of m.world []) (reach_of after.world []) → after.stacks.table ≡ record m.stacks.table { running = Some n } → after.turns ≡ m.turns + 1
+    → after.limits ≡ m.limits → IsSound t m → IsLiveStack t (reach_of after.world []) n → counting.KeepsCounts m.world after.world → IsSound t after
+sound_after m after t n kept table turns limits s l c = record {
+  stacks = subst (λ (x : Table). AreLiveStacks t (reach_of after.world []) x) (sym table) (stacks_grow t m.world after.world m.stacks.table n kept l s.stacks);
+  bounds = c.bounds ∙ s.bounds ∙ ap limits_of (sym limits);
+  counts = ap length c.coexps ∙ s.counts ∙ ap (λ (x : Table). length x.coexps) (sym table);
+  counted = record {
+    results = subst (λ (x : ℕ). FitTurns x after.stacks.table.active (heap_of after.world.heap).coexps) (sym turns)
+        (subst (λ (x : Table). FitTurns (m.turns + 1) x.active (heap_of after.world.heap).coexps) (sym table)
+        (list_counts (m.turns + 1) m.stacks.table.active (heap_of m.world.heap).coexps (heap_of after.world.heap).coexps c.coexps (turn_more m.turns m.stacks.table.active (heap_of m.world.heap).coexps s.counted.results)));
+    activators = subst (λ (x : Table). EnterOthers x.coexps) (sym table) s.counted.activators;
+  };
+}

@@ -1,0 +1,223 @@
+// Rows that are performed on a stack in a world.
+ghost use Rattle.std.specs.Prelude.{◌≡◌, [], length, map, IfErr, OnOk};
+ghost use Rattle.std.specs.List.{All};
+ghost use Rattle.icn_defs.specs.Applying as rows;
+ghost use Rattle.icn_defs.specs.StepRows as step_rows;
+ghost use Rattle.icn_heap.specs.Heaps.{extent_of};
+ghost use Rattle.icn_named.specs.Named.{ItemNamed, ResidualNamed, WorldNamed};
+ghost use Rattle.icn_vars.specs.Outcomes.{IsLiveHalt, IsLiveResidual, residual_in};
+ghost use Rattle.icn_vars.specs.Worlds.{IsLiveItem, KeepsItems, item_in, reach_of, world_of};
+ghost use Rattle.icn_frames.specs.Stacks as flat;
+ghost use Rattle.icn_code.specs.Codes.{Tables};
+ghost use Rattle.icn_streams.specs.Answers.{given};
+ghost use Rattle.icn_streams.specs.Applies.{Applies};
+ghost use Rattle.icn_streams.specs.Handed.{handed};
+ghost use Rattle.icn_apply.specs.Applicable.{IsApplicable, applied_of};
+ghost use Rattle.icn_apply.specs.NamesAfter.{AnswerNamed};
+ghost use Rattle.icn_control.specs.Living.{IsLiveStack, with_locals};
+ghost use Rattle.icn_control.specs.Standing.{stack_in};
+ghost use Rattle.icn_control.specs.Taking.{KeepsCounts};
+ghost use Rattle.icn_run_named.specs.StateNames.{StackNamed};
+ghost use Rattle.icn_machine.specs.Performing.{LeavesNamed, PerformsRow};
+
+use crate::begun::{Earlier, OwnLocals};
+use crate::giving::give_outcome;
+use icn_apply::{Applied, again, apply};
+use icn_cells::Stack;
+use icn_control::Stage;
+use icn_convert::Names;
+use icn_frames::{Cell, Frames};
+use icn_host::{Sink, Source};
+use icn_value::{Item, Residual};
+use icn_vars::{Halt, Outcome, World};
+use std::marker::{Brand, PhantomData};
+
+/// Performs an operation, but for the refreshing of a co-expression, or a function, on items of the activation that runs: pushes
+/// what it gives, or fails. The room for what is read and put is used again, whatever stands in it.
+///
+/// # Errors
+///
+/// Those of the row: `Error` and `Ends`. `ReadFault` where the input failed and `WriteFault` where an output did, `NoMemory` where
+/// memory ran out: the run is over then.
+pub fn perform<K: Stack<Cell> + Drop, N: Names, I: Source, O: Sink, E: Sink>(
+    frames: &mut Frames<K>,
+    world: &mut World,
+    what: Applied,
+    items: &[Item],
+    names: &N,
+    buffer: &mut Vec<u8>,
+    input: &mut I,
+    out: &mut O,
+    err: &mut E,
+) -> Result<Stage, Halt>
+    requires applicable { IsApplicable what (length items.now) }
+    requires stack { (tables : Tables) × IsLiveStack tables (reach_of world.old []) frames.old.flat }
+    requires items { All (IsLiveItem (with_locals (flat.local_count frames.old.flat) (reach_of world.old []))) items.now }
+    requires stack_named { StackNamed (N.known names.now) (stack_in (extent_of world.old.heap) frames.old.flat) }
+    requires world_named { WorldNamed (N.known names.now) (world_of world.old) }
+    requires items_named { All (ItemNamed (N.known names.now)) (map (item_in (extent_of world.old.heap)) items.now) }
+    ensures row { PerformsRow (step_rows.apply (N.known names.now) (applied_of what) (map (item_in (extent_of world.old.heap)) items.now)) world.old frames.old.flat (handed (I.left input.old) (I.faults input.old) (O.state out.old) (E.state err.old)) world.new frames.new.flat (handed (I.left input.new) (I.faults input.new) (O.state out.new) (E.state err.new)) result }
+    ensures live { (tables : Tables) → IsLiveStack tables (reach_of world.old []) frames.old.flat → OnOk result (IsLiveStack tables (reach_of world.new []) frames.new.flat) }
+    ensures halt { IfErr result (IsLiveHalt (reach_of world.new [])) }
+    ensures kept { KeepsItems (reach_of world.old []) (reach_of world.new []) }
+    ensures counts { OnOk result (KeepsCounts world.old world.new) }
+    ensures named { LeavesNamed (N.known names.now) world.new frames.new.flat result }
+{
+    let outcome = perform_in(frames, world, what, items, names, buffer, input, out, err)?;
+    frames.local_count();
+    match give_outcome(frames, outcome) {
+        Ok(stage) => Ok(stage),
+        Err(_) => Err(Halt::NoMemory),
+    }
+}
+
+// Applies it to items, where the locals of the stack may change.
+fn perform_in<K: Stack<Cell> + Drop, N: Names, I: Source, O: Sink, E: Sink>(
+    frames: &mut Frames<K>,
+    world: &mut World,
+    what: Applied,
+    items: &[Item],
+    names: &N,
+    buffer: &mut Vec<u8>,
+    input: &mut I,
+    out: &mut O,
+    err: &mut E,
+) -> Result<Outcome, Halt>
+    requires applicable { IsApplicable what (length items.now) }
+    requires stack { (tables : Tables) × IsLiveStack tables (reach_of world.old []) frames.old.flat }
+    requires items { All (IsLiveItem (with_locals (flat.local_count frames.old.flat) (reach_of world.old []))) items.now }
+    requires stack_named { StackNamed (N.known names.now) (stack_in (extent_of world.old.heap) frames.old.flat) }
+    requires world_named { WorldNamed (N.known names.now) (world_of world.old) }
+    requires items_named { All (ItemNamed (N.known names.now)) (map (item_in (extent_of world.old.heap)) items.now) }
+    ensures applies { Applies (step_rows.apply (N.known names.now) (applied_of what) (map (item_in (extent_of world.old.heap)) items.now)) (given world.old (flat.locals frames.old.flat) (handed (I.left input.old) (I.faults input.old) (O.state out.old) (E.state err.old))) (given world.new (flat.locals frames.new.flat) (handed (I.left input.new) (I.faults input.new) (O.state out.new) (E.state err.new))) result }
+    ensures named { AnswerNamed (N.known names.now) world.new (flat.locals frames.new.flat) result }
+    ensures stack { flat.set_locals (flat.locals frames.new.flat) frames.old.flat ≡ frames.new.flat }
+{
+    let (answer, _) = perform_lent::<K, Brand, N, I, O, E>(
+        frames, world, what, items, names, buffer, input, out, err,
+    );
+    answer
+}
+
+// Applies it to items on a stack that is lent by name, and hands the stack back.
+fn perform_lent<'a, K: Stack<Cell> + Drop, B: Earlier, N: Names, I: Source, O: Sink, E: Sink>(
+    frames: &'a mut Frames<K>,
+    world: &mut World,
+    what: Applied,
+    items: &[Item],
+    names: &N,
+    buffer: &mut Vec<u8>,
+    input: &mut I,
+    out: &mut O,
+    err: &mut E,
+) -> (Result<Outcome, Halt>, &'a mut Frames<K>)
+    requires lent { frames.ghost_name ≡ B.loan }
+    requires earlier { B.stack ≡ frames.old.flat }
+    requires applicable { IsApplicable what (length items.now) }
+    requires stack { (tables : Tables) × IsLiveStack tables (reach_of world.old []) frames.old.flat }
+    requires items { All (IsLiveItem (with_locals (flat.local_count frames.old.flat) (reach_of world.old []))) items.now }
+    requires stack_named { StackNamed (N.known names.now) (stack_in (extent_of world.old.heap) frames.old.flat) }
+    requires world_named { WorldNamed (N.known names.now) (world_of world.old) }
+    requires items_named { All (ItemNamed (N.known names.now)) (map (item_in (extent_of world.old.heap)) items.now) }
+    ensures same_reference { result.1.ghost_name ≡ frames.entry.ghost_name }
+    ensures applies { Applies (step_rows.apply (N.known names.now) (applied_of what) (map (item_in (extent_of world.old.heap)) items.now)) (given world.old (flat.locals frames.old.flat) (handed (I.left input.old) (I.faults input.old) (O.state out.old) (E.state err.old))) (given world.new (flat.locals result.1.now.flat) (handed (I.left input.new) (I.faults input.new) (O.state out.new) (E.state err.new))) result.0 }
+    ensures named { AnswerNamed (N.known names.now) world.new (flat.locals result.1.now.flat) result.0 }
+    ensures stack { flat.set_locals (flat.locals result.1.now.flat) frames.old.flat ≡ result.1.now.flat }
+{
+    frames.local_count();
+    let mut own: OwnLocals<K, B> = OwnLocals {
+        frames,
+        of: PhantomData,
+    };
+    let answer = apply(what, items, world, &mut own, names, buffer, input, out, err);
+    (answer, own.frames)
+}
+
+/// Resumes what an operation or a function left on a stack: pushes what it gives next, or fails. The errors are those of `perform`.
+pub fn perform_again<K: Stack<Cell> + Drop, N: Names, I: Source, O: Sink, E: Sink>(
+    frames: &mut Frames<K>,
+    world: &mut World,
+    rest: Residual,
+    names: &N,
+    buffer: &mut Vec<u8>,
+    input: &mut I,
+    out: &mut O,
+    err: &mut E,
+) -> Result<Stage, Halt>
+    requires stack { (tables : Tables) × IsLiveStack tables (reach_of world.old []) frames.old.flat }
+    requires rest { IsLiveResidual (with_locals (flat.local_count frames.old.flat) (reach_of world.old [])) rest }
+    requires stack_named { StackNamed (N.known names.now) (stack_in (extent_of world.old.heap) frames.old.flat) }
+    requires world_named { WorldNamed (N.known names.now) (world_of world.old) }
+    requires rest_named { ResidualNamed (N.known names.now) (residual_in (extent_of world.old.heap) rest) }
+    ensures row { PerformsRow (rows.again (residual_in (extent_of world.old.heap) rest)) world.old frames.old.flat (handed (I.left input.old) (I.faults input.old) (O.state out.old) (E.state err.old)) world.new frames.new.flat (handed (I.left input.new) (I.faults input.new) (O.state out.new) (E.state err.new)) result }
+    ensures live { (tables : Tables) → IsLiveStack tables (reach_of world.old []) frames.old.flat → OnOk result (IsLiveStack tables (reach_of world.new []) frames.new.flat) }
+    ensures halt { IfErr result (IsLiveHalt (reach_of world.new [])) }
+    ensures kept { KeepsItems (reach_of world.old []) (reach_of world.new []) }
+    ensures counts { OnOk result (KeepsCounts world.old world.new) }
+    ensures named { LeavesNamed (N.known names.now) world.new frames.new.flat result }
+{
+    let outcome = again_in(frames, world, rest, names, buffer, input, out, err)?;
+    frames.local_count();
+    match give_outcome(frames, outcome) {
+        Ok(stage) => Ok(stage),
+        Err(_) => Err(Halt::NoMemory),
+    }
+}
+
+// Resumes it, where the locals of the stack may change.
+fn again_in<K: Stack<Cell> + Drop, N: Names, I: Source, O: Sink, E: Sink>(
+    frames: &mut Frames<K>,
+    world: &mut World,
+    rest: Residual,
+    names: &N,
+    buffer: &mut Vec<u8>,
+    input: &mut I,
+    out: &mut O,
+    err: &mut E,
+) -> Result<Outcome, Halt>
+    requires stack { (tables : Tables) × IsLiveStack tables (reach_of world.old []) frames.old.flat }
+    requires rest { IsLiveResidual (with_locals (flat.local_count frames.old.flat) (reach_of world.old [])) rest }
+    requires stack_named { StackNamed (N.known names.now) (stack_in (extent_of world.old.heap) frames.old.flat) }
+    requires world_named { WorldNamed (N.known names.now) (world_of world.old) }
+    requires rest_named { ResidualNamed (N.known names.now) (residual_in (extent_of world.old.heap) rest) }
+    ensures applies { Applies (rows.again (residual_in (extent_of world.old.heap) rest)) (given world.old (flat.locals frames.old.flat) (handed (I.left input.old) (I.faults input.old) (O.state out.old) (E.state err.old))) (given world.new (flat.locals frames.new.flat) (handed (I.left input.new) (I.faults input.new) (O.state out.new) (E.state err.new))) result }
+    ensures named { AnswerNamed (N.known names.now) world.new (flat.locals frames.new.flat) result }
+    ensures stack { flat.set_locals (flat.locals frames.new.flat) frames.old.flat ≡ frames.new.flat }
+{
+    let (answer, _) = again_lent::<K, Brand, N, I, O, E>(
+        frames, world, rest, names, buffer, input, out, err,
+    );
+    answer
+}
+
+// Resumes it on a stack that is lent by name, and hands the stack back.
+fn again_lent<'a, K: Stack<Cell> + Drop, B: Earlier, N: Names, I: Source, O: Sink, E: Sink>(
+    frames: &'a mut Frames<K>,
+    world: &mut World,
+    rest: Residual,
+    names: &N,
+    buffer: &mut Vec<u8>,
+    input: &mut I,
+    out: &mut O,
+    err: &mut E,
+) -> (Result<Outcome, Halt>, &'a mut Frames<K>)
+    requires lent { frames.ghost_name ≡ B.loan }
+    requires earlier { B.stack ≡ frames.old.flat }
+    requires stack { (tables : Tables) × IsLiveStack tables (reach_of world.old []) frames.old.flat }
+    requires rest { IsLiveResidual (with_locals (flat.local_count frames.old.flat) (reach_of world.old [])) rest }
+    requires stack_named { StackNamed (N.known names.now) (stack_in (extent_of world.old.heap) frames.old.flat) }
+    requires world_named { WorldNamed (N.known names.now) (world_of world.old) }
+    requires rest_named { ResidualNamed (N.known names.now) (residual_in (extent_of world.old.heap) rest) }
+    ensures same_reference { result.1.ghost_name ≡ frames.entry.ghost_name }
+    ensures applies { Applies (rows.again (residual_in (extent_of world.old.heap) rest)) (given world.old (flat.locals frames.old.flat) (handed (I.left input.old) (I.faults input.old) (O.state out.old) (E.state err.old))) (given world.new (flat.locals result.1.now.flat) (handed (I.left input.new) (I.faults input.new) (O.state out.new) (E.state err.new))) result.0 }
+    ensures named { AnswerNamed (N.known names.now) world.new (flat.locals result.1.now.flat) result.0 }
+    ensures stack { flat.set_locals (flat.locals result.1.now.flat) frames.old.flat ≡ result.1.now.flat }
+{
+    frames.local_count();
+    let mut own: OwnLocals<K, B> = OwnLocals {
+        frames,
+        of: PhantomData,
+    };
+    let answer = again(rest, world, &mut own, names, buffer, input, out, err);
+    (answer, own.frames)
+}
