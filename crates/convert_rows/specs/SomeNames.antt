@@ -1,0 +1,6 @@
+-- The names of a program with a procedure and two records.
+use Rattle.std.specs.Prelude.{[], ◌∷◌, codes}
+use Rattle.icn_value.specs.Store.{Names}
+
+abbrev pub some_names : Names
+some_names = record { procedures = codes "main" ∷ []; records = codes "p" ∷ codes "q" ∷ [] }
