@@ -14,6 +14,7 @@ ghost use Rattle.icn_streams.specs.Applies.{Applies};
 ghost use Rattle.icn_streams.specs.Handed.{handed};
 ghost use Rattle.icn_apply.specs.Applicable.{IsApplicable, applied_of};
 ghost use Rattle.icn_apply.specs.NamesAfter.{AnswerNamed};
+ghost use Rattle.icn_apply.specs.SizesAfter.{AnswerKeepsSizes, WorldsKeepSizes};
 ghost use Rattle.icn_control.specs.Living.{IsLiveStack, with_locals};
 ghost use Rattle.icn_control.specs.Standing.{stack_in};
 ghost use Rattle.icn_control.specs.Taking.{KeepsCounts};
@@ -61,6 +62,7 @@ pub fn perform<K: Stack<Cell> + Drop, N: Names, I: Source, O: Sink, E: Sink>(
     ensures halt { IfErr result (IsLiveHalt (reach_of world.new [])) }
     ensures kept { KeepsItems (reach_of world.old []) (reach_of world.new []) }
     ensures counts { OnOk result (KeepsCounts world.old world.new) }
+    ensures sized { OnOk result (WorldsKeepSizes world.old world.new) }
     ensures named { LeavesNamed (N.known names.now) world.new frames.new.flat result }
 {
     let outcome = perform_in(frames, world, what, items, names, buffer, input, out, err)?;
@@ -91,6 +93,7 @@ fn perform_in<K: Stack<Cell> + Drop, N: Names, I: Source, O: Sink, E: Sink>(
     requires items_named { All (ItemNamed (N.known names.now)) (map (item_in (extent_of world.old.heap)) items.now) }
     ensures applies { Applies (step_rows.apply (N.known names.now) (applied_of what) (map (item_in (extent_of world.old.heap)) items.now)) (given world.old (flat.locals frames.old.flat) (handed (I.left input.old) (I.faults input.old) (O.state out.old) (E.state err.old))) (given world.new (flat.locals frames.new.flat) (handed (I.left input.new) (I.faults input.new) (O.state out.new) (E.state err.new))) result }
     ensures named { AnswerNamed (N.known names.now) world.new (flat.locals frames.new.flat) result }
+    ensures sized { AnswerKeepsSizes world.old world.new result }
     ensures stack { flat.set_locals (flat.locals frames.new.flat) frames.old.flat ≡ frames.new.flat }
 {
     let (answer, _) = perform_lent::<K, Brand, N, I, O, E>(
@@ -122,6 +125,7 @@ fn perform_lent<'a, K: Stack<Cell> + Drop, B: Earlier, N: Names, I: Source, O: S
     ensures same_reference { result.1.ghost_name ≡ frames.entry.ghost_name }
     ensures applies { Applies (step_rows.apply (N.known names.now) (applied_of what) (map (item_in (extent_of world.old.heap)) items.now)) (given world.old (flat.locals frames.old.flat) (handed (I.left input.old) (I.faults input.old) (O.state out.old) (E.state err.old))) (given world.new (flat.locals result.1.now.flat) (handed (I.left input.new) (I.faults input.new) (O.state out.new) (E.state err.new))) result.0 }
     ensures named { AnswerNamed (N.known names.now) world.new (flat.locals result.1.now.flat) result.0 }
+    ensures sized { AnswerKeepsSizes world.old world.new result.0 }
     ensures stack { flat.set_locals (flat.locals result.1.now.flat) frames.old.flat ≡ result.1.now.flat }
 {
     frames.local_count();
@@ -154,6 +158,7 @@ pub fn perform_again<K: Stack<Cell> + Drop, N: Names, I: Source, O: Sink, E: Sin
     ensures halt { IfErr result (IsLiveHalt (reach_of world.new [])) }
     ensures kept { KeepsItems (reach_of world.old []) (reach_of world.new []) }
     ensures counts { OnOk result (KeepsCounts world.old world.new) }
+    ensures sized { OnOk result (WorldsKeepSizes world.old world.new) }
     ensures named { LeavesNamed (N.known names.now) world.new frames.new.flat result }
 {
     let outcome = again_in(frames, world, rest, names, buffer, input, out, err)?;
@@ -182,6 +187,7 @@ fn again_in<K: Stack<Cell> + Drop, N: Names, I: Source, O: Sink, E: Sink>(
     requires rest_named { ResidualNamed (N.known names.now) (residual_in (extent_of world.old.heap) rest) }
     ensures applies { Applies (rows.again (residual_in (extent_of world.old.heap) rest)) (given world.old (flat.locals frames.old.flat) (handed (I.left input.old) (I.faults input.old) (O.state out.old) (E.state err.old))) (given world.new (flat.locals frames.new.flat) (handed (I.left input.new) (I.faults input.new) (O.state out.new) (E.state err.new))) result }
     ensures named { AnswerNamed (N.known names.now) world.new (flat.locals frames.new.flat) result }
+    ensures sized { AnswerKeepsSizes world.old world.new result }
     ensures stack { flat.set_locals (flat.locals frames.new.flat) frames.old.flat ≡ frames.new.flat }
 {
     let (answer, _) = again_lent::<K, Brand, N, I, O, E>(
@@ -211,6 +217,7 @@ fn again_lent<'a, K: Stack<Cell> + Drop, B: Earlier, N: Names, I: Source, O: Sin
     ensures same_reference { result.1.ghost_name ≡ frames.entry.ghost_name }
     ensures applies { Applies (rows.again (residual_in (extent_of world.old.heap) rest)) (given world.old (flat.locals frames.old.flat) (handed (I.left input.old) (I.faults input.old) (O.state out.old) (E.state err.old))) (given world.new (flat.locals result.1.now.flat) (handed (I.left input.new) (I.faults input.new) (O.state out.new) (E.state err.new))) result.0 }
     ensures named { AnswerNamed (N.known names.now) world.new (flat.locals result.1.now.flat) result.0 }
+    ensures sized { AnswerKeepsSizes world.old world.new result.0 }
     ensures stack { flat.set_locals (flat.locals result.1.now.flat) frames.old.flat ≡ result.1.now.flat }
 {
     frames.local_count();
