@@ -1,0 +1,2 @@
+pub mod RowVariables
+pub mod StepsKept
