@@ -1,4 +1,9 @@
+pub mod CallFacts
+pub mod ElementSteps
 pub mod GiveSteps
+pub mod InvokeSteps
+pub mod OperandCalls
 pub mod OperateSteps
+pub mod PerformEvents
 pub mod PerformSteps
 pub mod SetTwice

@@ -1,3 +1,4 @@
 pub mod Answering
 pub mod Giving
+pub mod Invoking
 pub mod Performing

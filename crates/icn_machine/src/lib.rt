@@ -2,11 +2,16 @@
 #![tactic(auto)]
 
 mod begun;
+mod elements;
+mod fields;
 mod giving;
+mod invoking;
 mod operations;
 mod performing;
 
 pub use begun::{Earlier, OwnLocals};
+pub use fields::field;
 pub use giving::give_outcome;
+pub use invoking::{appl, call_value, invoke};
 pub use operations::{operate, resume};
 pub use performing::{perform, perform_again};

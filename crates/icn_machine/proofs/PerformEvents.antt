@@ -1,0 +1,239 @@
+-- What is performed on a stack in a world, on a machine, and what neither reads nor puts anything.
+use Rattle.std.proofs.Common.{◌≡◌, ℕ, suc, Bool, true, false, nat_lt, if◌then◌else◌, List, [], Some, Result, Ok, Err, MatchResult, refl, sym, ap, ◌∙◌, subst}
+use Rattle.std.specs.Prelude.{IfOk, ⊤}
+use Rattle.icn_value.specs.Store.{Names, Outside, outside_of}
+use Rattle.icn_defs.specs.Rows.{Outcome, Row, Fails, Gives, Suspends, Error, Ends}
+use Rattle.icn_heap.specs.Heaps.{extent_of, heap_of}
+use Rattle.icn_vars.specs.declared.outcome.Halt.{Halt}
+use Rattle.icn_vars.specs.declared.outcome.Halt.TheVariants as Halts
+use Rattle.icn_vars.specs.declared.world.World.{World}
+use Rattle.icn_vars.specs.Worlds.{KeepsItems, reach_of, world_of}
+use Rattle.icn_frames.specs.Stacks.{FlatStack}
+use Rattle.icn_coexp.specs.Transfers.{Table}
+use Rattle.icn_code.specs.Codes.{Tables}
+use Rattle.icn_run.specs.Rows.{Done}
+use Rattle.icn_run.specs.Stacks.{Frames, flat}
+use Rattle.icn_run.specs.Step.{State, Store, running, failing, over, all_names, finished, is_main, outcome, stuck, with_world, turn, turn_if}
+use Rattle.icn_streams.specs.Handed.{Handed, uncounted}
+use Rattle.icn_streams.proofs.Following.{follows_all}
+use Rattle.icn_control.specs.Machines.{AreLiveStacks, ComesTo, running_of, stack_seen, store_in, store_seen}
+use Rattle.icn_control.specs.Parts.{HaltsWith, StandsWith}
+use Rattle.icn_control.specs.Standing.{stack_in}
+use Rattle.icn_control.specs.declared.machine.Machine.{Machine}
+use Rattle.icn_control.specs.declared.machine.Stage.{Stage}
+use Rattle.icn_control.specs.declared.machine.Stage.TheVariants as Stages
+use Rattle.icn_control.proofs.GrowthSteps.{grown}
+use Rattle.icn_calls.specs.Calling.{IsGoing}
+use Rattle.icn_machine.specs.Answering.{AnswersStep, BreaksOff, BreaksPutting, BreaksReading, IsCause, Performs, having, idle}
+use Rattle.icn_machine.specs.Invoking.{PerformsEvent}
+use Rattle.icn_machine.specs.Performing.{PerformsOn, PerformsRow, StandsOver, over_outside, row_on}
+
+-- The same step, said otherwise
+
+answers_as : {A : Type 0} (Comes Same : Outside → Result A Halt → Type 0) (a b : State Frames Frames) (was : Outside) (before after : Handed) (result : Result A Halt)
+    → a ≡ b → ((now : Outside) → Comes now result → Same now result)
+    → AnswersStep Comes b was before after result → AnswersStep Same a was before after result
+answers_as Comes Same a b was before after (Ok x) e h t = record { now = t.now; follows = t.follows; is = h t.now t.is }
+answers_as Comes Same a b was before after (Err (Halts.Error number offending)) e h t = record { now = t.now; follows = t.follows; is = h t.now t.is }
+answers_as Comes Same a b was before after (Err (Halts.Ends status)) e h t = record { now = t.now; follows = t.follows; is = h t.now t.is }
+answers_as Comes Same a b was before after (Err Halts.ReadFault) e h t = subst (λ (s : State Frames Frames). BreaksReading s was before after) (sym e) t
+answers_as Comes Same a b was before after (Err Halts.WriteFault) e h t = subst (λ (s : State Frames Frames). BreaksPutting s was before after) (sym e) t
+answers_as Comes Same a b was before after (Err Halts.NoMemory) e h t = subst (λ (s : State Frames Frames). BreaksOff s was before after) (sym e) t
+
+-- where the states to which a step leads are the same, and what is said of each answer follows
+pub performs_as : {A : Type 0} (leads others : Outside → State Frames Frames) (Comes Same : Outside → Outside → Result A Halt → Type 0) (before after : Handed)
+    (result : Result A Halt) → ((was : Outside) → leads was ≡ others was) → ((was now : Outside) → Comes was now result → Same was now result)
+    → Performs others Comes before after result → Performs leads Same before after result
+performs_as leads others Comes Same before after result e h p = record {
+  answers = λ was told. answers_as (Comes was) (Same was) (leads was) (others was) was before after result (e was) (h was) (p.answers was told);
+  had = p.had;
+  has = p.has;
+  meant =
+      λ was left. answers_as (Comes was) (Same was) (leads was) (others was) was (having p.had before) (having p.has after) result (e was) (h was) (p.meant was left);
+  caused = p.caused;
+}
+
+-- What neither reads nor puts anything
+
+-- no object failed
+abbrev pub IsFaultless : {A : Type 0} → Result A Halt → Type 0
+IsFaultless (Ok a) = ⊤
+IsFaultless (Err (Halts.Error number offending)) = ⊤
+IsFaultless (Err (Halts.Ends status)) = ⊤
+IsFaultless (Err Halts.ReadFault) = ⊥
+IsFaultless (Err Halts.WriteFault) = ⊥
+IsFaultless (Err Halts.NoMemory) = ⊤
+
+still_answers : {A : Type 0} (Comes : Outside → Result A Halt → Type 0) (state : State Frames Frames) (was : Outside) (before : Handed) (result : Result A Halt)
+    → before.left ≡ Some was.left → IsFaultless result → Comes was result → AnswersStep Comes state was before before result
+still_answers Comes state was before (Ok a) told f h = record { now = was; follows = follows_all before was told; is = h }
+still_answers Comes state was before (Err (Halts.Error number offending)) told f h = record { now = was; follows = follows_all before was told; is = h }
+still_answers Comes state was before (Err (Halts.Ends status)) told f h = record { now = was; follows = follows_all before was told; is = h }
+still_answers Comes state was before (Err Halts.ReadFault) told f h = absurd f
+still_answers Comes state was before (Err Halts.WriteFault) told f h = absurd f
+still_answers Comes state was before (Err Halts.NoMemory) told f h = idle refl
+
+still_caused : {A : Type 0} (before : Handed) (result : Result A Halt) → IsFaultless result → IsCause result before before
+still_caused before (Ok a) f = record { faults = refl; output = record { faults = refl; wants = refl }; errors = record { faults = refl; wants = refl } }
+still_caused before (Err (Halts.Error number offending)) f =
+    record { faults = refl; output = record { faults = refl; wants = refl }; errors = record { faults = refl; wants = refl } }
+still_caused before (Err (Halts.Ends status)) f =
+    record { faults = refl; output = record { faults = refl; wants = refl }; errors = record { faults = refl; wants = refl } }
+still_caused before (Err Halts.ReadFault) f = absurd f
+still_caused before (Err Halts.WriteFault) f = absurd f
+still_caused before (Err Halts.NoMemory) f =
+    uncounted (record { faults = refl; output = record { faults = refl; wants = refl }; errors = record { faults = refl; wants = refl } })
+
+-- what is so over each outside is performed, where nothing is read or put
+pub still_performs : {A : Type 0} (leads : Outside → State Frames Frames) (Comes : Outside → Outside → Result A Halt → Type 0) (before : Handed) (result : Result A Halt)
+    → IsFaultless result → ((was : Outside) → Comes was was result) → Performs leads Comes before before result
+still_performs leads Comes before result f h = record {
+  answers = λ was told. still_answers (Comes was) (leads was) was before result told f (h was);
+  had = [];
+  has = [];
+  meant = λ was left. still_answers (Comes was) (leads was) was (having [] before) result (ap (λ (text : List ℕ). Some text) (sym left)) f (h was);
+  caused = still_caused before result f;
+}
+
+comes_faultless : {K : Type 0} (tables : Tables) (outside : Outside) (state : State Frames Frames) (m : Machine K) (result : Result Stage Halt)
+    → ComesTo tables outside state m result → IsFaultless result
+comes_faultless tables outside state m (Ok stage) h = tt
+comes_faultless tables outside state m (Err (Halts.Error number offending)) h = tt
+comes_faultless tables outside state m (Err (Halts.Ends status)) h = tt
+comes_faultless tables outside state m (Err Halts.ReadFault) h = absurd h
+comes_faultless tables outside state m (Err Halts.WriteFault) h = absurd h
+comes_faultless tables outside state m (Err Halts.NoMemory) h = tt
+
+-- an instruction over a machine that neither reads nor puts anything
+pub comes_performs : {K : Type 0} (tables : Tables) (leads : Outside → State Frames Frames) (m : Machine K) (before : Handed) (result : Result Stage Halt)
+    → ((outside : Outside) → ComesTo tables outside (leads outside) m result) → PerformsOn tables leads m before before result
+comes_performs tables leads m before result h =
+    still_performs leads (λ was now answer. ComesTo tables now (leads was) m answer) before result (comes_faultless tables (outside_of []) (leads (outside_of [])) m result (h (outside_of []))) h
+
+-- the same on a stack in a world
+
+halts_over : (state : State Frames Frames) (st : Store Frames) (w : World) (m : FlatStack) (was : Outside) (halt : Halt)
+    → HaltsWith state (over_outside was st) w halt → StandsOver state st w m was (Err halt)
+halts_over state st w m was (Halts.Error number offending) h = h
+halts_over state st w m was (Halts.Ends status) h = absurd h
+halts_over state st w m was Halts.ReadFault h = h
+halts_over state st w m was Halts.WriteFault h = h
+halts_over state st w m was Halts.NoMemory h = tt
+
+pub stands_over : (state : State Frames Frames) (st : Store Frames) (w : World) (m : FlatStack) (was : Outside) (result : Result Stage Halt)
+    → MatchResult result (StandsWith state (over_outside was st) w m) (HaltsWith state (over_outside was st) w) → StandsOver state st w m was result
+stands_over state st w m was (Ok stage) h = h
+stands_over state st w m was (Err halt) h = halts_over state st w m was halt h
+
+with_faultless : (state : State Frames Frames) (st : Store Frames) (w : World) (m : FlatStack) (result : Result Stage Halt)
+    → MatchResult result (StandsWith state st w m) (HaltsWith state st w) → IsFaultless result
+with_faultless state st w m (Ok stage) h = tt
+with_faultless state st w m (Err (Halts.Error number offending)) h = tt
+with_faultless state st w m (Err (Halts.Ends status)) h = tt
+with_faultless state st w m (Err Halts.ReadFault) h = absurd h
+with_faultless state st w m (Err Halts.WriteFault) h = absurd h
+with_faultless state st w m (Err Halts.NoMemory) h = tt
+
+pub still_event : (names : Names) (event : Store Frames → State Frames Frames) (w v : World) (n : FlatStack) (before : Handed) (result : Result Stage Halt)
+    → ((st : Store Frames) → st.world ≡ world_of w → MatchResult result (StandsWith (event st) st v n) (HaltsWith (event st) st v))
+    → PerformsEvent names event w before v n before result
+still_event names event w v n before result h st same names_same =
+    still_performs (λ was. event (over_outside was st)) (λ was now answer. StandsOver (event (over_outside was st)) st v n now answer) before result
+    (with_faultless (event st) st v n result (h st same)) (λ was. stands_over (event (over_outside was st)) st v n was result (h (over_outside was st) same))
+
+-- an event that is another one, over whatever outside
+pub event_as : (names : Names) (event other : Store Frames → State Frames Frames) (w v : World) (n : FlatStack) (before after : Handed) (result : Result Stage Halt)
+    → ((st : Store Frames) → st.world ≡ world_of w → st.names ≡ names → event st ≡ other st)
+    → PerformsEvent names other w before v n after result → PerformsEvent names event w before v n after result
+event_as names event other w v n before after result e p st same names_same =
+    performs_as (λ was. event (over_outside was st)) (λ was. other (over_outside was st)) (λ was now answer. StandsOver (other (over_outside was st)) st v n now answer)
+    (λ was now answer. StandsOver (event (over_outside was st)) st v n now answer) before after result (λ was. e (over_outside was st) same names_same)
+    (λ was now h. subst (λ (s : State Frames Frames). StandsOver s st v n now result) (sym (e (over_outside was st) same names_same)) h) (p st same names_same)
+
+-- a row is performed as an event
+pub row_event : (names : Names) (row : Row) (w v : World) (m n : FlatStack) (before after : Handed) (result : Result Stage Halt)
+    → PerformsRow row w m before v n after result
+    → PerformsEvent names (λ st. row_on row w m st st.outside) w before v n after result
+row_event names row w v m n before after result p st same names_same = p st same
+
+-- Rows go on
+
+never_finished : (o : Outcome) (m : Frames) (st other : Store Frames) → outcome flat o m st ≡ finished other → ⊥
+never_finished o m st other e = by_main (is_main other.active) o e
+  where
+    by_main : (b : Bool) (o : Outcome) → outcome flat o m st ≡ (if b then over Done other.outside else stuck) → ⊥
+    by_main true (Fails seen) e = cc
+    by_main true (Gives item seen) e = cc
+    by_main true (Suspends item rest seen) e = cc
+    by_main true (Error number value seen) e = cc
+    by_main true (Ends status seen) e = cc
+    by_main false (Fails seen) e = cc
+    by_main false (Gives item seen) e = cc
+    by_main false (Suspends item rest seen) e = cc
+    by_main false (Error number value seen) e = cc
+    by_main false (Ends status seen) e = cc
+
+pub row_going : (row : Row) (w v : World) (m n : FlatStack) (before after : Handed) (result : Result Stage Halt) (st : Store Frames) → st.world ≡ world_of w
+    → PerformsRow row w m before v n after result → IfOk result IsGoing
+row_going row w v m n before after (Ok Stages.Runs) st same p = tt
+row_going row w v m n before after (Ok Stages.Fails) st same p = tt
+row_going row w v m n before after (Ok Stages.HopDue) st same p = let q = p st same in (q.meant (outside_of q.had) refl).is
+row_going row w v m n before after (Ok Stages.Over) st same p =
+    let q = p st same in
+    let was : Outside = outside_of q.had in
+    let t = q.meant was refl in
+    never_finished (row _) (stack_in (extent_of w.heap) m) (over_outside was st) (with_world (world_of v) (over_outside t.now st)) t.is
+row_going row w v m n before after (Ok Stages.AtBound) st same p = let q = p st same in (q.meant (outside_of q.had) refl).is
+row_going row w v m n before after (Err halt) st same p = tt
+
+-- On a machine
+
+pub stands_on : {K : Type 0} (m : Machine K) (t tables : Tables) (was now : Outside) (w : World) (turns : ℕ) (table : Table) (n : FlatStack) (state : State Frames Frames) (result : Result Stage Halt)
+    → KeepsItems (reach_of w []) (reach_of m.world []) → AreLiveStacks t (reach_of w []) table → m.turns ≡ suc turns
+    → m.stacks.table ≡ record table { running = Some n } → IfOk result IsGoing
+    → StandsOver state (store_in (all_names tables) was (world_of w) (suc turns) m.begun.items (extent_of w.heap) table) m.world n now result
+    → ComesTo tables now state m result
+stands_on {K} m t tables was now w turns table n state result k l e f g h = by_result result g h
+  where
+    st : Store Frames
+    st = store_in (all_names tables) was (world_of w) (suc turns) m.begun.items (extent_of w.heap) table
+
+    after : ℕ → Table → Store Frames
+    after count u = store_in (all_names tables) now (world_of m.world) count m.begun.items (extent_of m.world.heap) u
+
+    seen : (next : Frames → Store Frames → State Frames Frames)
+        → next (stack_in (extent_of m.world.heap) n) (store_in (all_names tables) now (world_of m.world) (suc turns) m.begun.items (extent_of w.heap) table)
+        ≡ next (stack_seen m) (store_seen tables now m)
+    seen next =
+        let F : Table → ℕ → State Frames Frames = λ u count. next (stack_in (extent_of m.world.heap) (running_of u.running)) (after count u) in
+        ap (next (stack_in (extent_of m.world.heap) n)) (grown t (all_names tables) now w m.world (suc turns) m.begun.items table (Some n) k l)
+        ∙ ap (λ (count : ℕ). F (record table { running = Some n }) count) (sym e)
+        ∙ ap (λ (u : Table). F u m.turns) (sym f)
+
+    by_result : (result : Result Stage Halt) → IfOk result IsGoing → StandsOver state st m.world n now result → ComesTo tables now state m result
+    by_result (Ok Stages.Runs) g h = h ∙ seen running
+    by_result (Ok Stages.Fails) g h = h ∙ seen failing
+    by_result (Ok Stages.HopDue) g h = absurd g
+    by_result (Ok Stages.Over) g h = absurd g
+    by_result (Ok Stages.AtBound) g h = absurd g
+    by_result (Err (Halts.Error number offending)) g h = h
+    by_result (Err (Halts.Ends status)) g h = h
+    by_result (Err Halts.ReadFault) g h = absurd h
+    by_result (Err Halts.WriteFault) g h = absurd h
+    by_result (Err Halts.NoMemory) g h = tt
+
+-- an event behind a turn, on the machine that is left
+pub turn_performs : {K : Type 0} (m : Machine K) (t tables : Tables) (leads : Outside → State Frames Frames) (w : World) (turns : ℕ) (table : Table) (n : FlatStack)
+    (event : Store Frames → State Frames Frames) (before after : Handed) (result : Result Stage Halt) → nat_lt turns (heap_of w.heap).bounds.turns ≡ true
+    → KeepsItems (reach_of w []) (reach_of m.world []) → AreLiveStacks t (reach_of w []) table → m.turns ≡ suc turns
+    → m.stacks.table ≡ record table { running = Some n } → IfOk result IsGoing
+    → ((was : Outside) → leads was ≡ turn tables (store_in (all_names tables) was (world_of w) turns m.begun.items (extent_of w.heap) table) event)
+    → PerformsEvent (all_names tables) event w before m.world n after result → PerformsOn tables leads m before after result
+turn_performs m t tables leads w turns table n event before after result b k l e f g is p =
+    let st : Outside → Store Frames = λ was. store_in (all_names tables) was (world_of w) (suc turns) m.begun.items (extent_of w.heap) table in
+    let goes : (was : Outside) → leads was ≡ event (st was)
+    = λ was. is was ∙ ap (λ (x : Bool). turn_if x (store_in (all_names tables) was (world_of w) turns m.begun.items (extent_of w.heap) table) event) b in
+    performs_as leads (λ was. event (st was)) (λ was now answer. StandsOver (event (st was)) (st (outside_of [])) m.world n now answer) (λ was now answer. ComesTo tables now (leads was) m answer)
+    before after result goes
+    (λ was now h. subst (λ (s : State Frames Frames). ComesTo tables now s m result) (sym (goes was)) (stands_on m t tables (outside_of []) now w turns table n (event (st was)) result k l e f g h))
+    (p (st (outside_of [])) refl refl)

@@ -1,0 +1,151 @@
+use Rattle.std.proofs.Common.{◌≡◌, ◌+◌, true, false, nat_lt, ◌∷◌, Option, IsSome, [], refl, ap, ◌∙◌, subst, add-one}
+use Rattle.std.proofs.lemmas.Option.{same_Some}
+use Rattle.std.specs.List.{All}
+use Rattle.std.proofs.lemmas.List.Elements.{All-head, All-tail}
+use Rattle.icn_value.specs.Limited.{Bounds}
+use Rattle.icn_heap.specs.Heaps.{extent_of, heap_of}
+use Rattle.icn_vars.specs.Worlds.{Reach, IsLiveItem, reach_of}
+use Rattle.icn_frames.specs.Stacks as held
+use Rattle.icn_frames.specs.Stacks.{FlatStack}
+use Rattle.icn_coexp.specs.Transfers.{with_stack}
+use Rattle.icn_code.specs.Seen.{tables_of}
+use Rattle.icn_code.specs.declared.instr.Instr.TheVariants as Instrs
+use Rattle.icn_run.specs.Stacks.{flat}
+use Rattle.icn_run.specs.Step.{all_names, applied_to_elements}
+use Rattle.icn_run_named.specs.StateNames.{StackNamed}
+use Rattle.icn_control.specs.Living.{IsLiveStack, with_locals}
+use Rattle.icn_control.specs.Machines.{IsSound, running_of}
+use Rattle.icn_control.specs.declared.machine.Machine.{Machine}
+use Rattle.icn_control.specs.Standing.{stack_in}
+use Rattle.icn_control.specs.Taking.{KeepsCounts, taken}
+use Rattle.icn_control.proofs.ExhaustSteps.{under}
+use Rattle.icn_control.proofs.ListSteps.{no_more}
+use Rattle.icn_control.proofs.LiteralSteps.{running_live}
+use Rattle.icn_control.proofs.MachineSteps.{stacks_on}
+use Rattle.icn_control.proofs.TakeSteps.{live_taken}
+use Rattle.icn_machine.proofs.OperandCalls.{both_on, bound_performs, going_has_stack, operands_perform, sound_after, store_left, taken_named}
+use Rattle.icn_machine.proofs.invoking.appl.Goals as goal
+
+pub take_two-two-requires : goal.take_two-two-requires
+take_two-two-requires g c = subst (λ (o : Option FlatStack). IsSome (taken 2 (running_of o))) c.frames.ensures.running c.requires.operands
+
+pub returns-then-m-clause-step : goal.returns-then-m-clause-step
+returns-then-m-clause-step g c =
+    let m = c.args.m.now in
+    let t = tables_of c.args.code.now in
+    let after : Machine g.row.K.Denot = record { world = m.world; stacks = with_stack m.stacks c.take_two-two.new.frames; turns = m.turns; begun = m.begun; limits = m.limits } in
+    let none : nat_lt m.turns (heap_of m.world.heap).bounds.turns ≡ false
+    = ap (λ (x : Bounds). nat_lt m.turns x.turns) c.requires.sound.1.bounds ∙ no_more m.turns m.limits.turns c.if-m.true in
+    bound_performs m after t Instrs.Appl 2 (applied_to_elements flat t) c.frames.result.now.flat c.take_two-two.new.frames.flat
+    (c.take_two-two.result.0 ∷ c.take_two-two.result.1 ∷ []) _
+    (λ a st. refl) c.frames.ensures.running
+    c.take_two-two.ensures none
+    (λ outside. refl)
+
+pub returns-then-m-clause-sound : goal.returns-then-m-clause-sound
+returns-then-m-clause-sound g c k =
+    let m = c.args.m.now in
+    let t = tables_of c.args.code.now in
+    record {
+      stacks = stacks_on t (reach_of m.world []) m.stacks.table c.frames.result.now.flat c.take_two-two.new.frames.flat c.frames.ensures.running
+          (λ l. (live_taken t (reach_of m.world []) 2 c.frames.result.now.flat c.take_two-two.new.frames.flat (c.take_two-two.result.0 ∷ c.take_two-two.result.1 ∷ []) c.take_two-two.ensures l).rest) k.stacks;
+      bounds = k.bounds;
+      counts = k.counts;
+      counted = record { results = k.counted.results; activators = k.counted.activators };
+    }
+
+pub returns-then-m-clause-named : goal.returns-then-m-clause-named
+returns-then-m-clause-named g c =
+    let m = c.args.m.now in
+    let names = g.N.Names.known c.args.names.now in
+    let all = extent_of m.world.heap in (
+      (taken_named names all 2 c.frames.result.now.flat c.take_two-two.new.frames.flat (c.take_two-two.result.0 ∷ c.take_two-two.result.1 ∷ []) c.take_two-two.ensures
+          (subst (λ (o : Option FlatStack). StackNamed names (stack_in all (running_of o))) c.frames.ensures.running c.requires.stack_named)).1,
+      c.requires.world_named,
+    )
+
+pub returns-then-m-clause-store_named : goal.returns-then-m-clause-store_named
+returns-then-m-clause-store_named g c outside h = record { world = h.world; coexps = h.coexps }
+
+pub call_with_elements-requires-clause-bounds : goal.call_with_elements-requires-clause-bounds
+call_with_elements-requires-clause-bounds g c = c.requires.sound.1.bounds
+
+pub call_with_elements-requires-clause-stack : goal.call_with_elements-requires-clause-stack
+call_with_elements-requires-clause-stack g c =
+    let m = c.args.m.now in
+    let t = c.requires.sound.0 in
+    let live = running_live t (reach_of m.world []) m.stacks.table c.frames.result.now.flat c.frames.ensures.running c.requires.sound.1.stacks in
+    let rest = live_taken t (reach_of m.world []) 2 c.frames.result.now.flat c.take_two-two.new.frames.flat (c.take_two-two.result.0 ∷ c.take_two-two.result.1 ∷ []) c.take_two-two.ensures live in
+    (t, subst (λ (x : FlatStack). IsLiveStack t (reach_of m.world []) x) (same_Some _ _ c.frames-2.ensures.running) rest.rest)
+
+pub call_with_elements-requires-clause-callee : goal.call_with_elements-requires-clause-callee
+call_with_elements-requires-clause-callee g c =
+    let m = c.args.m.now in
+    let t = c.requires.sound.0 in
+    let live = running_live t (reach_of m.world []) m.stacks.table c.frames.result.now.flat c.frames.ensures.running c.requires.sound.1.stacks in
+    let rest = live_taken t (reach_of m.world []) 2 c.frames.result.now.flat c.take_two-two.new.frames.flat (c.take_two-two.result.0 ∷ c.take_two-two.result.1 ∷ []) c.take_two-two.ensures live in
+    let reach : Reach = with_locals (held.local_count c.frames-2.result.now.flat) (reach_of m.world []) in
+    All-head (IsLiveItem reach) c.take_two-two.result.0 (c.take_two-two.result.1 ∷ [])
+    (subst (λ (x : FlatStack). All (IsLiveItem (with_locals (held.local_count x) (reach_of m.world []))) (c.take_two-two.result.0 ∷ c.take_two-two.result.1 ∷ [])) (same_Some _ _ c.frames-2.ensures.running) rest.items_live)
+
+pub call_with_elements-requires-clause-from : goal.call_with_elements-requires-clause-from
+call_with_elements-requires-clause-from g c =
+    let m = c.args.m.now in
+    let t = c.requires.sound.0 in
+    let live = running_live t (reach_of m.world []) m.stacks.table c.frames.result.now.flat c.frames.ensures.running c.requires.sound.1.stacks in
+    let rest = live_taken t (reach_of m.world []) 2 c.frames.result.now.flat c.take_two-two.new.frames.flat (c.take_two-two.result.0 ∷ c.take_two-two.result.1 ∷ []) c.take_two-two.ensures live in
+    let reach : Reach = with_locals (held.local_count c.frames-2.result.now.flat) (reach_of m.world []) in
+    All-head (IsLiveItem reach) c.take_two-two.result.1 []
+    (All-tail (IsLiveItem reach) c.take_two-two.result.0 (c.take_two-two.result.1 ∷ [])
+    (subst (λ (x : FlatStack). All (IsLiveItem (with_locals (held.local_count x) (reach_of m.world []))) (c.take_two-two.result.0 ∷ c.take_two-two.result.1 ∷ [])) (same_Some _ _ c.frames-2.ensures.running) rest.items_live))
+
+pub call_with_elements-requires-clause-stack_named : goal.call_with_elements-requires-clause-stack_named
+call_with_elements-requires-clause-stack_named g c =
+    let m = c.args.m.now in
+    let names = g.N.Names.known c.args.names.now in
+    let all = extent_of m.world.heap in
+    let both = taken_named names all 2 c.frames.result.now.flat c.take_two-two.new.frames.flat (c.take_two-two.result.0 ∷ c.take_two-two.result.1 ∷ []) c.take_two-two.ensures
+    (subst (λ (o : Option FlatStack). StackNamed names (stack_in all (running_of o))) c.frames.ensures.running c.requires.stack_named) in
+    subst (λ (x : FlatStack). StackNamed names (stack_in all x)) (same_Some _ _ c.frames-2.ensures.running) both.1
+
+pub returns-clause-step : goal.returns-clause-step
+returns-clause-step g c =
+    let m = c.args.m.now in
+    let t = tables_of c.args.code.now in
+    let after : Machine g.row.K.Denot = record { world = c.call_with_elements.new.world; stacks = with_stack m.stacks c.call_with_elements.new.frames; turns = m.turns + 1; begun = m.begun; limits = m.limits } in
+    let more : nat_lt m.turns (heap_of m.world.heap).bounds.turns ≡ true
+    = ap (λ (x : Bounds). nat_lt m.turns x.turns) c.requires.sound.1.bounds ∙ under m.turns m.limits.turns c.if-m.false in
+    operands_perform m after c.requires.sound.0 t Instrs.Appl 2 (applied_to_elements flat t) c.frames.result.now.flat c.take_two-two.new.frames.flat
+    c.frames-2.result.now.flat c.call_with_elements.new.frames.flat
+    (c.take_two-two.result.0 ∷ c.take_two-two.result.1 ∷ []) (c.take_two-two.result.0 ∷ c.take_two-two.result.1 ∷ []) _ _ c.call_with_elements.result
+    (λ a st. refl) c.frames.ensures.running
+    c.take_two-two.ensures
+    (same_Some _ _ c.frames-2.ensures.running) refl more c.call_with_elements.ensures.kept c.requires.sound.1.stacks (add-one m.turns) refl refl
+    c.call_with_elements.ensures.going c.call_with_elements.ensures.step
+
+pub returns-clause-sound : goal.returns-clause-sound
+returns-clause-sound g c k =
+    let m = c.args.m.now in
+    let t = tables_of c.args.code.now in
+    let after : Machine g.row.K.Denot = record { world = c.call_with_elements.new.world; stacks = with_stack m.stacks c.call_with_elements.new.frames; turns = m.turns + 1; begun = m.begun; limits = m.limits } in
+    let live = running_live t (reach_of m.world []) m.stacks.table c.frames.result.now.flat c.frames.ensures.running k.stacks in
+    let rest = live_taken t (reach_of m.world []) 2 c.frames.result.now.flat c.take_two-two.new.frames.flat (c.take_two-two.result.0 ∷ c.take_two-two.result.1 ∷ []) c.take_two-two.ensures live in
+    let here : IsLiveStack t (reach_of m.world []) c.frames-2.result.now.flat = subst (λ (x : FlatStack). IsLiveStack t (reach_of m.world []) x) (same_Some _ _ c.frames-2.ensures.running) rest.rest in
+    both_on c.call_with_elements.result (IsLiveStack t (reach_of c.call_with_elements.new.world []) c.call_with_elements.new.frames.flat)
+    (KeepsCounts m.world c.call_with_elements.new.world) (IsSound t after)
+    (c.call_with_elements.ensures.live here) c.call_with_elements.ensures.counts
+    (λ l counts. sound_after m after t c.call_with_elements.new.frames.flat refl refl refl c.call_with_elements.ensures.kept l counts k)
+
+pub returns-clause-stack : goal.returns-clause-stack
+returns-clause-stack g c =
+    let m = c.args.m.now in
+    let after : Machine g.row.K.Denot = record { world = c.call_with_elements.new.world; stacks = with_stack m.stacks c.call_with_elements.new.frames; turns = m.turns + 1; begun = m.begun; limits = m.limits } in
+    going_has_stack after c.call_with_elements.result c.call_with_elements.ensures.going refl
+
+pub returns-clause-store_named : goal.returns-clause-store_named
+returns-clause-store_named g c outside h =
+    let m = c.args.m.now in
+    let names = g.N.Names.known c.args.names.now in
+    store_left c.requires.sound.0 names (all_names (tables_of c.args.code.now)) outside m.world c.call_with_elements.new.world m.turns (m.turns + 1)
+    m.begun.items m.stacks.table c.call_with_elements.new.frames.flat c.call_with_elements.result
+    c.call_with_elements.ensures.kept c.requires.sound.1.stacks c.call_with_elements.ensures.named h

@@ -1,0 +1,86 @@
+use Rattle.std.proofs.Common.{◌≡◌, [], List, length, map, suc, sym, ap, subst, arith}
+use Rattle.std.specs.List.{All}
+use Rattle.std.proofs.lemmas.List.Elements.{All-head, All-tail}
+use Rattle.icn_value.specs.declared.item.Item.{Item}
+use Rattle.icn_heap.specs.Heaps.{extent_of, heap_of}
+use Rattle.icn_named.specs.Named.{ItemNamed}
+use Rattle.icn_named.specs.Sizes.{FitSizes}
+use Rattle.icn_vars.specs.Stops.{halt_of}
+use Rattle.icn_vars.specs.Worlds.{Reach, IsLiveItem, item_in, reach_of}
+use Rattle.icn_vars.proofs.KeptItems.{items_all}
+use Rattle.icn_frames.specs.Stacks as held
+use Rattle.icn_frames.specs.Stacks.{FlatStack}
+use Rattle.icn_code.specs.Seen.{tables_of}
+use Rattle.icn_run.specs.Stacks.{flat}
+use Rattle.icn_run.specs.Step.{all_names}
+use Rattle.icn_run_named.specs.KeepingSizes.{field_count}
+use Rattle.icn_run_named.specs.StateNames.{StackNamed}
+use Rattle.icn_control.specs.Living.{IsLiveStack, with_locals}
+use Rattle.icn_control.specs.Standing.{stack_in}
+use Rattle.icn_machine.proofs.CallFacts.{no_names_left, nothing_on}
+use Rattle.icn_machine.proofs.InvokeSteps.{first_event, first_stops}
+use Rattle.icn_machine.proofs.invoking.call_first.Goals as goal
+
+pub unreachable-unreachable : goal.unreachable-unreachable
+unreachable-unreachable g c = omega (arith, c.requires.some, c.in_default.ensures.cases)
+
+pub value_of-requires-clause-item : goal.value_of-requires-clause-item
+value_of-requires-clause-item g c =
+    let live : Reach = with_locals (held.local_count c.args.frames.now.flat) (reach_of c.args.world.now []) in
+    All-head (IsLiveItem live) _ _ (subst (λ (xs : List Item). All (IsLiveItem live) xs) c.in-Some.ensures.cases.0 c.requires.items)
+
+pub returns-in_err-callee-clause-step : goal.returns-in_err-callee-clause-step
+returns-in_err-callee-clause-step g c =
+    first_stops (tables_of c.args.code.now) (all_names (tables_of c.args.code.now)) c.args.world.now c.args.frames.now.flat c.value_of.new.frames.flat
+    c.args.items.now c.in-Some.first.now c.in-Some.others.now
+    c.in_err-callee.field-0.0 _ c.from_residual.result c.in-Some.ensures.cases.0 c.from_residual.ensures.1 c.in_err-callee.ensures.value
+
+pub returns-in_err-callee-clause-kept : goal.returns-in_err-callee-clause-kept
+returns-in_err-callee-clause-kept g c = items_all (reach_of c.args.world.now [])
+
+pub returns-in_err-callee-clause-named : goal.returns-in_err-callee-clause-named
+returns-in_err-callee-clause-named g c =
+    no_names_left c.from_residual.result (g.N.Names.known c.args.names.now) c.args.world.now c.value_of.new.frames.flat (halt_of c.in_err-callee.field-0.0)
+    c.from_residual.ensures.1
+
+pub returns-in_err-callee-clause-sized : goal.returns-in_err-callee-clause-sized
+returns-in_err-callee-clause-sized g c fits =
+    nothing_on c.from_residual.result (halt_of c.in_err-callee.field-0.0) (FitSizes (field_count (tables_of c.args.code.now)) (heap_of c.args.world.now.heap))
+    c.from_residual.ensures.1
+
+pub call_value-requires-clause-few : goal.call_value-requires-clause-few
+call_value-requires-clause-few g c =
+    let more : length c.args.items.now ≡ suc (length c.in-Some.others.now) = ap (λ (xs : List Item). length xs) c.in-Some.ensures.cases.0 in
+    omega (arith, more, c.requires.few)
+
+pub call_value-requires-clause-stack : goal.call_value-requires-clause-stack
+call_value-requires-clause-stack g c =
+    (c.requires.stack.0, subst (λ (x : FlatStack). IsLiveStack c.requires.stack.0 (reach_of c.args.world.now []) x) (sym c.value_of.ensures.same) c.requires.stack.1)
+
+pub call_value-requires-clause-items : goal.call_value-requires-clause-items
+call_value-requires-clause-items g c =
+    let live : Reach = with_locals (held.local_count c.args.frames.now.flat) (reach_of c.args.world.now []) in
+    let others : All (IsLiveItem live) c.in-Some.others.now = All-tail (IsLiveItem live) _ _ (subst (λ (xs : List Item). All (IsLiveItem live) xs) c.in-Some.ensures.cases.0 c.requires.items) in
+    subst (λ (x : FlatStack). All (IsLiveItem (with_locals (held.local_count x) (reach_of c.args.world.now []))) c.in-Some.others.now) (sym c.value_of.ensures.same) others
+
+pub call_value-requires-clause-stack_named : goal.call_value-requires-clause-stack_named
+call_value-requires-clause-stack_named g c =
+    subst (λ (x : FlatStack). StackNamed (g.N.Names.known c.args.names.now) (stack_in (extent_of c.args.world.now.heap) x)) (sym c.value_of.ensures.same) c.requires.stack_named
+
+pub call_value-requires-clause-items_named : goal.call_value-requires-clause-items_named
+call_value-requires-clause-items_named g c =
+    let all = extent_of c.args.world.now.heap in
+    All-tail (ItemNamed (g.N.Names.known c.args.names.now)) (item_in all c.in-Some.first.now) (map (item_in all) c.in-Some.others.now)
+    (subst (λ (xs : List Item). All (ItemNamed (g.N.Names.known c.args.names.now)) (map (item_in all) xs)) c.in-Some.ensures.cases.0 c.requires.items_named)
+
+pub returns-clause-step : goal.returns-clause-step
+returns-clause-step g c =
+    let w = c.args.world.now in
+    first_event (tables_of c.args.code.now) (all_names (tables_of c.args.code.now)) w c.call_value.new.world c.args.frames.now.flat c.value_of.new.frames.flat
+    c.call_value.new.frames.flat c.args.items.now c.in-Some.others.now
+    c.in-Some.first.now c.in_ok-callee.callee _ _ c.call_value.result c.in-Some.ensures.cases.0 c.value_of.ensures.same c.in_ok-callee.ensures.value
+    c.call_value.ensures.step
+
+pub returns-clause-live : goal.returns-clause-live
+returns-clause-live g c k =
+    c.call_value.ensures.live (subst (λ (x : FlatStack). IsLiveStack (tables_of c.args.code.now) (reach_of c.args.world.now []) x) (sym c.value_of.ensures.same) k)

@@ -1,0 +1,299 @@
+// Calls.
+ghost use Rattle.std.specs.Prelude.{◌≡◌, ◌<◌, ◌^◌, ◌∷◌, [], Some, suc, length, map, IsSome, IfErr, IfOk, OnOk};
+ghost use Rattle.std.specs.List.{All};
+ghost use Rattle.icn_value.specs.Limited.{limits_of};
+ghost use Rattle.icn_value.specs.Store.{Outside};
+ghost use Rattle.icn_heap.specs.Extents.{IsLive, value_in};
+ghost use Rattle.icn_heap.specs.Heaps.{extent_of, heap_of};
+ghost use Rattle.icn_named.specs.Named.{ItemNamed, WorldNamed};
+ghost use Rattle.icn_named.specs.Sizes.{FitSizes};
+ghost use Rattle.icn_vars.specs.Outcomes.{IsLiveHalt};
+ghost use Rattle.icn_vars.specs.Worlds.{IsLiveItem, KeepsItems, item_in, reach_of, world_of};
+ghost use Rattle.icn_frames.specs.Stacks as flat;
+ghost use Rattle.icn_code.specs.Codes.{Tables};
+ghost use Rattle.icn_code.specs.Seen.{tables_of};
+ghost use Rattle.icn_code.specs.declared.instr.Instr.TheVariants as Instrs;
+ghost use Rattle.icn_run.specs.Stacks.{flat as calls};
+ghost use Rattle.icn_run.specs.Step.{all_names, applied_to_elements, invoked, invoked_with};
+ghost use Rattle.icn_run_named.specs.KeepingSizes.{field_count};
+ghost use Rattle.icn_run_named.specs.StateNames.{StackNamed, StoreNamed};
+ghost use Rattle.icn_streams.specs.Handed.{handed};
+ghost use Rattle.icn_control.specs.Living.{IsLiveStack, with_locals};
+ghost use Rattle.icn_control.specs.Machines.{HasStack, IsSound, does, stack_of, stack_seen, store_seen, world_reach};
+ghost use Rattle.icn_control.specs.Standing.{stack_in};
+ghost use Rattle.icn_control.specs.Taking.{KeepsCounts, taken};
+ghost use Rattle.icn_calls.specs.Calling.{IsGoing};
+ghost use Rattle.icn_machine.specs.Invoking.{PerformsEvent};
+ghost use Rattle.icn_machine.specs.Performing.{LeavesNamed, PerformsOn};
+
+use crate::elements::elements_of;
+use crate::performing::perform;
+use icn_apply::Applied;
+use icn_calls::function_of;
+use icn_cells::Stack;
+use icn_code::Code;
+use icn_control::{Machine, Stage, take_operands, value_of};
+use icn_convert::Names;
+use icn_frames::{Cell, Frames};
+use icn_host::{Sink, Source};
+use icn_run_named::{steps_keep_names, steps_keep_sizes};
+use icn_value::{Item, Limits, Val};
+use icn_vars::{Halt, World};
+
+/// Calls a value with items: a built-in function is performed on them, a procedure entered, a record made, and a number
+/// chooses one of them. The rooms for values and for what is read and put are used again, whatever they hold.
+///
+/// # Errors
+///
+/// Those of a function (`perform`), and of anything else that is called (`icn_calls::invoke`).
+pub fn call_value<K: Stack<Cell> + Drop, N: Names, I: Source, O: Sink, E: Sink>(
+    frames: &mut Frames<K>,
+    world: &mut World,
+    code: &Code,
+    limits: &Limits,
+    callee: Val,
+    items: &[Item],
+    vals: &mut Vec<Val>,
+    names: &N,
+    buffer: &mut Vec<u8>,
+    input: &mut I,
+    out: &mut O,
+    err: &mut E,
+) -> Result<Stage, Halt>
+    requires known { N.known names.now ≡ all_names (tables_of code.now) }
+    requires few { length items.now < 2 ^ 63 }
+    requires bounds { (heap_of world.old.heap).bounds ≡ limits_of limits.now }
+    requires stack { (tables : Tables) × IsLiveStack tables (reach_of world.old []) frames.old.flat }
+    requires callee { IsLive (extent_of world.old.heap) callee }
+    requires items { All (IsLiveItem (with_locals (flat.local_count frames.old.flat) (reach_of world.old []))) items.now }
+    requires stack_named { StackNamed (N.known names.now) (stack_in (extent_of world.old.heap) frames.old.flat) }
+    requires world_named { WorldNamed (N.known names.now) (world_of world.old) }
+    requires items_named { All (ItemNamed (N.known names.now)) (map (item_in (extent_of world.old.heap)) items.now) }
+    ensures step { PerformsEvent (all_names (tables_of code.now)) (λ st. invoked calls (tables_of code.now) (value_in (extent_of world.old.heap) callee) (map (item_in (extent_of world.old.heap)) items.now) (stack_in (extent_of world.old.heap) frames.old.flat) st) world.old (handed (I.left input.old) (I.faults input.old) (O.state out.old) (E.state err.old)) world.new frames.new.flat (handed (I.left input.new) (I.faults input.new) (O.state out.new) (E.state err.new)) result }
+    ensures live { IsLiveStack (tables_of code.now) (reach_of world.old []) frames.old.flat → OnOk result (IsLiveStack (tables_of code.now) (reach_of world.new []) frames.new.flat) }
+    ensures halt { IfErr result (IsLiveHalt (reach_of world.new [])) }
+    ensures kept { KeepsItems (reach_of world.old []) (reach_of world.new []) }
+    ensures counts { OnOk result (KeepsCounts world.old world.new) }
+    ensures going { IfOk result IsGoing }
+    ensures named { LeavesNamed (N.known names.now) world.new frames.new.flat result }
+    ensures sized { FitSizes (field_count (tables_of code.now)) (heap_of world.old.heap) → OnOk result (FitSizes (field_count (tables_of code.now)) (heap_of world.new.heap)) }
+{
+    steps_keep_names();
+    steps_keep_sizes();
+    match function_of(code, callee) {
+        Some(func) => perform(
+            frames,
+            world,
+            Applied::Func(func),
+            items,
+            names,
+            buffer,
+            input,
+            out,
+            err,
+        ),
+        None => icn_calls::invoke(frames, world, code, limits, callee, items, vals),
+    }
+}
+
+// Calls the value of the first of some items, which must be there, with the others. The error is also that of the first item.
+fn call_first<K: Stack<Cell> + Drop, N: Names, I: Source, O: Sink, E: Sink>(
+    frames: &mut Frames<K>,
+    world: &mut World,
+    code: &Code,
+    limits: &Limits,
+    items: &[Item],
+    vals: &mut Vec<Val>,
+    names: &N,
+    buffer: &mut Vec<u8>,
+    input: &mut I,
+    out: &mut O,
+    err: &mut E,
+) -> Result<Stage, Halt>
+    requires known { N.known names.now ≡ all_names (tables_of code.now) }
+    requires some { 0 < length items.now }
+    requires few { length items.now < 2 ^ 63 }
+    requires bounds { (heap_of world.old.heap).bounds ≡ limits_of limits.now }
+    requires stack { (tables : Tables) × IsLiveStack tables (reach_of world.old []) frames.old.flat }
+    requires items { All (IsLiveItem (with_locals (flat.local_count frames.old.flat) (reach_of world.old []))) items.now }
+    requires stack_named { StackNamed (N.known names.now) (stack_in (extent_of world.old.heap) frames.old.flat) }
+    requires world_named { WorldNamed (N.known names.now) (world_of world.old) }
+    requires items_named { All (ItemNamed (N.known names.now)) (map (item_in (extent_of world.old.heap)) items.now) }
+    ensures step { PerformsEvent (all_names (tables_of code.now)) (λ st. invoked_with calls (tables_of code.now) (map (item_in (extent_of world.old.heap)) items.now) (stack_in (extent_of world.old.heap) frames.old.flat) st) world.old (handed (I.left input.old) (I.faults input.old) (O.state out.old) (E.state err.old)) world.new frames.new.flat (handed (I.left input.new) (I.faults input.new) (O.state out.new) (E.state err.new)) result }
+    ensures live { IsLiveStack (tables_of code.now) (reach_of world.old []) frames.old.flat → OnOk result (IsLiveStack (tables_of code.now) (reach_of world.new []) frames.new.flat) }
+    ensures halt { IfErr result (IsLiveHalt (reach_of world.new [])) }
+    ensures kept { KeepsItems (reach_of world.old []) (reach_of world.new []) }
+    ensures counts { OnOk result (KeepsCounts world.old world.new) }
+    ensures going { IfOk result IsGoing }
+    ensures named { LeavesNamed (N.known names.now) world.new frames.new.flat result }
+    ensures sized { FitSizes (field_count (tables_of code.now)) (heap_of world.old.heap) → OnOk result (FitSizes (field_count (tables_of code.now)) (heap_of world.new.heap)) }
+{
+    let Some((first, others)) = items.split_first() else {
+        unreachable!()
+    };
+    let callee = value_of(frames, world, *first)?;
+    call_value(
+        frames, world, code, limits, callee, others, vals, names, buffer, input, out, err,
+    )
+}
+
+/// Calls the operand below so many others with these, as a turn; all of them must be there. The rooms for operands, for values
+/// and for what is read and put are used again, whatever they hold.
+///
+/// # Errors
+///
+/// That of the operand that is called, where it has no value, and those of `call_value`.
+pub fn invoke<K: Stack<Cell> + Drop, N: Names, I: Source, O: Sink, E: Sink>(
+    m: &mut Machine<K>,
+    code: &Code,
+    count: u32,
+    items: &mut Vec<Item>,
+    vals: &mut Vec<Val>,
+    names: &N,
+    buffer: &mut Vec<u8>,
+    input: &mut I,
+    out: &mut O,
+    err: &mut E,
+) -> Result<Stage, Halt>
+    requires known { N.known names.now ≡ all_names (tables_of code.now) }
+    requires runs { IsSome m.old.stacks.table.running }
+    requires operands { IsSome (taken (suc count) (stack_of m.old)) }
+    requires sound { (tables : Tables) × IsSound tables m.old }
+    requires stack_named { StackNamed (N.known names.now) (stack_seen m.old) }
+    requires world_named { WorldNamed (N.known names.now) (world_of m.old.world) }
+    ensures step { PerformsOn (tables_of code.now) (λ outside. does (tables_of code.now) outside (Instrs.Invoke count) m.old) m.new (handed (I.left input.old) (I.faults input.old) (O.state out.old) (E.state err.old)) (handed (I.left input.new) (I.faults input.new) (O.state out.new) (E.state err.new)) result }
+    ensures sound { IsSound (tables_of code.now) m.old → OnOk result (IsSound (tables_of code.now) m.new) }
+    ensures halt { IfErr result (IsLiveHalt (world_reach m.new)) }
+    ensures limits { m.new.limits ≡ m.old.limits }
+    ensures stack { IfOk result (HasStack m.new) }
+    ensures named { LeavesNamed (N.known names.now) m.new.world (stack_of m.new) result }
+    ensures store_named { (outside : Outside) → StoreNamed (N.known names.now) (store_seen (tables_of code.now) outside m.old) → OnOk result (StoreNamed (N.known names.now) (store_seen (tables_of code.now) outside m.new)) }
+    ensures sized { FitSizes (field_count (tables_of code.now)) (heap_of m.old.world.heap) → OnOk result (FitSizes (field_count (tables_of code.now)) (heap_of m.new.world.heap)) }
+{
+    let Ok(()) = take_operands(m.stacks.frames(), items, count as usize + 1) else {
+        return Err(Halt::NoMemory);
+    };
+    if m.turns >= m.limits.turns {
+        return Ok(Stage::AtBound);
+    }
+    m.turns += 1;
+    call_first(
+        m.stacks.frames(),
+        &mut m.world,
+        code,
+        &m.limits,
+        items,
+        vals,
+        names,
+        buffer,
+        input,
+        out,
+        err,
+    )
+}
+
+// Calls the value of an item with the elements of the list, or the fields of the record, that another item's value is. The
+// errors are also those of the two items, the callee's first, and 126.
+fn call_with_elements<K: Stack<Cell> + Drop, N: Names, I: Source, O: Sink, E: Sink>(
+    frames: &mut Frames<K>,
+    world: &mut World,
+    code: &Code,
+    limits: &Limits,
+    callee: Item,
+    from: Item,
+    items: &mut Vec<Item>,
+    vals: &mut Vec<Val>,
+    names: &N,
+    buffer: &mut Vec<u8>,
+    input: &mut I,
+    out: &mut O,
+    err: &mut E,
+) -> Result<Stage, Halt>
+    requires known { N.known names.now ≡ all_names (tables_of code.now) }
+    requires bounds { (heap_of world.old.heap).bounds ≡ limits_of limits.now }
+    requires stack { (tables : Tables) × IsLiveStack tables (reach_of world.old []) frames.old.flat }
+    requires callee { IsLiveItem (with_locals (flat.local_count frames.old.flat) (reach_of world.old [])) callee }
+    requires from { IsLiveItem (with_locals (flat.local_count frames.old.flat) (reach_of world.old [])) from }
+    requires stack_named { StackNamed (N.known names.now) (stack_in (extent_of world.old.heap) frames.old.flat) }
+    requires world_named { WorldNamed (N.known names.now) (world_of world.old) }
+    ensures step { PerformsEvent (all_names (tables_of code.now)) (λ st. applied_to_elements calls (tables_of code.now) (item_in (extent_of world.old.heap) callee ∷ item_in (extent_of world.old.heap) from ∷ []) (stack_in (extent_of world.old.heap) frames.old.flat) st) world.old (handed (I.left input.old) (I.faults input.old) (O.state out.old) (E.state err.old)) world.new frames.new.flat (handed (I.left input.new) (I.faults input.new) (O.state out.new) (E.state err.new)) result }
+    ensures live { IsLiveStack (tables_of code.now) (reach_of world.old []) frames.old.flat → OnOk result (IsLiveStack (tables_of code.now) (reach_of world.new []) frames.new.flat) }
+    ensures halt { IfErr result (IsLiveHalt (reach_of world.new [])) }
+    ensures kept { KeepsItems (reach_of world.old []) (reach_of world.new []) }
+    ensures counts { OnOk result (KeepsCounts world.old world.new) }
+    ensures going { IfOk result IsGoing }
+    ensures named { LeavesNamed (N.known names.now) world.new frames.new.flat result }
+    ensures sized { FitSizes (field_count (tables_of code.now)) (heap_of world.old.heap) → OnOk result (FitSizes (field_count (tables_of code.now)) (heap_of world.new.heap)) }
+{
+    let callee = value_of(frames, world, callee)?;
+    let from = value_of(frames, world, from)?;
+    elements_of(world, from, items)?;
+    call_value(
+        frames, world, code, limits, callee, items, vals, names, buffer, input, out, err,
+    )
+}
+
+/// Calls the operand below the top one with the elements of the list, or the fields of the record, that the top one is, as a turn;
+/// both must be there. The rooms for items, for values and for what is read and put are used again, whatever they hold.
+///
+/// # Errors
+///
+/// That of an operand that has no value, the lower one's first, 126 where the top one is no list and no record, and those of
+/// `call_value`.
+pub fn appl<K: Stack<Cell> + Drop, N: Names, I: Source, O: Sink, E: Sink>(
+    m: &mut Machine<K>,
+    code: &Code,
+    items: &mut Vec<Item>,
+    vals: &mut Vec<Val>,
+    names: &N,
+    buffer: &mut Vec<u8>,
+    input: &mut I,
+    out: &mut O,
+    err: &mut E,
+) -> Result<Stage, Halt>
+    requires known { N.known names.now ≡ all_names (tables_of code.now) }
+    requires runs { IsSome m.old.stacks.table.running }
+    requires operands { IsSome (taken 2 (stack_of m.old)) }
+    requires sound { (tables : Tables) × IsSound tables m.old }
+    requires stack_named { StackNamed (N.known names.now) (stack_seen m.old) }
+    requires world_named { WorldNamed (N.known names.now) (world_of m.old.world) }
+    ensures step { PerformsOn (tables_of code.now) (λ outside. does (tables_of code.now) outside Instrs.Appl m.old) m.new (handed (I.left input.old) (I.faults input.old) (O.state out.old) (E.state err.old)) (handed (I.left input.new) (I.faults input.new) (O.state out.new) (E.state err.new)) result }
+    ensures sound { IsSound (tables_of code.now) m.old → OnOk result (IsSound (tables_of code.now) m.new) }
+    ensures halt { IfErr result (IsLiveHalt (world_reach m.new)) }
+    ensures limits { m.new.limits ≡ m.old.limits }
+    ensures stack { IfOk result (HasStack m.new) }
+    ensures named { LeavesNamed (N.known names.now) m.new.world (stack_of m.new) result }
+    ensures store_named { (outside : Outside) → StoreNamed (N.known names.now) (store_seen (tables_of code.now) outside m.old) → OnOk result (StoreNamed (N.known names.now) (store_seen (tables_of code.now) outside m.new)) }
+    ensures sized { FitSizes (field_count (tables_of code.now)) (heap_of m.old.world.heap) → OnOk result (FitSizes (field_count (tables_of code.now)) (heap_of m.new.world.heap)) }
+{
+    let two = take_two(m.stacks.frames());
+    if m.turns >= m.limits.turns {
+        return Ok(Stage::AtBound);
+    }
+    m.turns += 1;
+    call_with_elements(
+        m.stacks.frames(),
+        &mut m.world,
+        code,
+        &m.limits,
+        two.0,
+        two.1,
+        items,
+        vals,
+        names,
+        buffer,
+        input,
+        out,
+        err,
+    )
+}
+
+// Takes two operands, which must be there; the top one comes last.
+fn take_two<K: Stack<Cell> + Drop>(frames: &mut Frames<K>) -> (Item, Item)
+    requires { IsSome (taken 2 frames.old.flat) }
+    ensures { taken 2 frames.old.flat ≡ Some (result.0 ∷ result.1 ∷ [], frames.new.flat) }
+{
+    let upper = frames.pop();
+    let lower = frames.pop();
+    (lower, upper)
+}
