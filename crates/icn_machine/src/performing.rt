@@ -64,7 +64,6 @@ pub fn perform<K: Stack<Cell> + Drop, N: Names, I: Source, O: Sink, E: Sink>(
     ensures counts { OnOk result (KeepsCounts world.old world.new) }
     ensures sized { OnOk result (WorldsKeepSizes world.old world.new) }
     ensures named { LeavesNamed (N.known names.now) world.new frames.new.flat result }
-    ensures sized { OnOk result (WorldsKeepSizes world.old world.new) }
 {
     let outcome = perform_in(frames, world, what, items, names, buffer, input, out, err)?;
     frames.local_count();

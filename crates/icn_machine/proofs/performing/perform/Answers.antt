@@ -4,8 +4,6 @@ use Rattle.icn_heap.specs.Heaps.{extent_of}
 use Rattle.icn_vars.specs.Worlds.{item_in, reach_of, setting_of}
 use Rattle.icn_frames.specs.Stacks as flat
 use Rattle.icn_machine.proofs.PerformSteps.{apply_counts, counts_after, given_row, halt_live, kept_after, named_with, names_left, outcome_live, performs_err, performs_lack, stack_live}
-use Rattle.icn_machine.proofs.CallFacts.{nothing_on}
-use Rattle.icn_apply.specs.SizesAfter.{WorldsKeepSizes}
 use Rattle.icn_machine.proofs.performing.perform.Goals as goal
 
 pub returns-in_err-outcome-clause-row : goal.returns-in_err-outcome-clause-row
@@ -64,9 +62,3 @@ returns-in-Err-clause-row g c = performs_lack c.args.world.now c.perform_in.new.
 
 pub returns-in-Err-clause-kept : goal.returns-in-Err-clause-kept
 returns-in-Err-clause-kept g c = kept_after c.args.world.now c.perform_in.new.world c.args.frames.now.flat c.perform_in.new.frames.flat _ _ _ _ c.in_ok-outcome.ensures.applies
-
-pub returns-in_err-outcome-clause-sized : goal.returns-in_err-outcome-clause-sized
-returns-in_err-outcome-clause-sized g c = nothing_on c.from_residual.result c.in_err-outcome.field-0.0 (WorldsKeepSizes c.args.world.now c.perform_in.new.world) c.from_residual.ensures.1
-
-pub returns-in-Ok-clause-sized : goal.returns-in-Ok-clause-sized
-returns-in-Ok-clause-sized g c = c.in_ok-outcome.ensures.sized

@@ -47,6 +47,3 @@ pub returns-clause-stack : goal.returns-clause-stack
 returns-clause-stack g c =
     let after : FlatStack = c.apply-answer.new.l.frames.now.flat in
     subst (λ (x : FlatStack). flat.set_locals (flat.locals after) x ≡ after) c.requires.earlier c.apply-answer.new.l.same
-
-pub returns-clause-sized : goal.returns-clause-sized
-returns-clause-sized g c = c.apply-answer.ensures.sized
