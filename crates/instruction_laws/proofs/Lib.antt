@@ -1,2 +1,3 @@
 pub mod RowVariables
 pub mod StepsKept
+pub mod CaseMarks
