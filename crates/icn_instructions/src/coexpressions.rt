@@ -40,6 +40,7 @@ pub fn do_with_coexpressions<K: Stack<Cell> + Drop>(
         Instr::Coact => coact(m),
         Instr::Coret => coret(m),
         Instr::Cofail => Ok(exhaust(m)),
+        // Of the operations this group has the refreshing alone.
         Instr::Op(_) => refresh(m),
         _ => unreachable!(),
     }
