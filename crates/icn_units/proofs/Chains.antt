@@ -7,15 +7,22 @@ use Rattle.icn_translate.specs.declared.builder.Ways.{Ways}
 use Rattle.icn_translate.specs.Drafts.{Draft, put, next_label, with_label, put_variable, unmentioned, in_loop, outside_loop, innermost, put_next, put_last, in_case, outside_case, put_end}
 use Rattle.icn_translate.specs.Translation.{loop_end}
 
+-- the place of the name whose variable an instruction pushes
+abbrev pub variable_in : UnitInstr → Option ℕ
+variable_in (I.Var k) = Some k
+variable_in i = None
+
 -- an instruction that goes to a label, and is no place of one
 pub record GoesTo (n : ℕ) (i : UnitInstr) : Type 0 where
   pub label : label_in i ≡ Some n
   pub place : place_of i ≡ None
+  pub variable : variable_in i ≡ None
 
--- an instruction without a label
+-- an instruction without a label, and of no name
 pub record IsPlain (i : UnitInstr) : Type 0 where
   pub label : label_in i ≡ None
   pub place : place_of i ≡ None
+  pub variable : variable_in i ≡ None
 
 -- What is kept, and why each step of a form keeps it. Of labels that have a number and no place yet the newest stands first.
 pub record Keeps : Type 1 where
@@ -82,27 +89,25 @@ pub on : {K : Keeps} {n : ℕ} {step : Draft → Draft} → Runs K n step → {d
 on {K = K} {step = step} r {d = d} {e = e} {ns = ns} c =
     record { leads = K.joined d e (step e) ns c.leads (r.run e (here c)); inside = c.inside }
 
-pub plainly : {K : Keeps} {n : ℕ} (i : UnitInstr) → label_in i ≡ None → place_of i ≡ None
+pub plainly : {K : Keeps} {n : ℕ} (i : UnitInstr) → label_in i ≡ None → place_of i ≡ None → variable_in i ≡ None
     → {d e : Draft} {ns : List ℕ} → Chain K n d e ns → Chain K n d (put i e) ns
-plainly {K = K} i l p {d = d} {e = e} {ns = ns} c =
-    record { leads = K.instr d e ns i (K.plain e i (record { label = l; place = p })) c.leads; inside = c.inside }
+plainly {K = K} i l p v {d = d} {e = e} {ns = ns} c =
+    let plain : IsPlain i = record { label = l; place = p; variable = v } in
+    record { leads = K.instr d e ns i (K.plain e i plain) c.leads; inside = c.inside }
 
 pub label : {K : Keeps} {n : ℕ} {d e : Draft} {ns : List ℕ} → Chain K n d e ns
     → Chain K n d (with_label e) (next_label e ∷ ns)
 label {K = K} {d = d} {e = e} {ns = ns} c = record { leads = K.numbered d e ns c.leads; inside = c.inside }
 
 -- a new label, and an instruction that goes to it
-pub labelled : {K : Keeps} {n : ℕ} (word : ℕ → UnitInstr) → ((l : ℕ) → label_in (word l) ≡ Some l)
-    → ((l : ℕ) → place_of (word l) ≡ None) → {d e : Draft} {ns : List ℕ}
+pub labelled : {K : Keeps} {n : ℕ} (word : ℕ → UnitInstr) → ((l : ℕ) → GoesTo l (word l))
+    → {d e : Draft} {ns : List ℕ}
     → Chain K n d e ns → Chain K n d (put (word (next_label e)) (with_label e)) (next_label e ∷ ns)
-labelled {K = K} word l p {d = d} {e = e} {ns = ns} c =
+labelled {K = K} word goes {d = d} {e = e} {ns = ns} c =
     let i = word (next_label e) in
-    let may = K.fresh e i (record { label = l (next_label e); place = p (next_label e) }) in
-    record {
-      leads = K.instr d (with_label e) (next_label e ∷ ns) i may (K.numbered d e ns c.leads);
-      inside =
-          c.inside;
-    }
+    let leads = K.instr d (with_label e) (next_label e ∷ ns) i (K.fresh e i (goes (next_label e)))
+    (K.numbered d e ns c.leads) in
+    record { leads = leads; inside = c.inside }
 
 pub placed : {K : Keeps} {n : ℕ} {d e : Draft} {m : ℕ} {ns : List ℕ} → Chain K n d e (m ∷ ns)
     → Chain K n d (put (I.Lab m) e) ns

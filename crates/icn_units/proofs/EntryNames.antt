@@ -1,6 +1,6 @@
 -- The names of the code of a procedure are those of its draft, no two of them are the same, and they stand in order.
-use Rattle.std.proofs.Common.{◌≡◌, ◌≤◌, ◌<◌, ◌⊎◌, inl, inr, ℕ, Bool, true, false, ◌&&◌, List, [], ◌∷◌, ◌++◌, length, map, drop, refl, sym, ap, ◌∙◌, subst, append_assoc, nat_le, if◌then◌else◌, arith}
-use Rattle.std.specs.List.{flat_map, list_any}
+use Rattle.std.proofs.Common.{◌≡◌, ◌≤◌, ◌<◌, ◌⊎◌, inl, inr, ℕ, Bool, true, false, ◌&&◌, List, [], ◌∷◌, ◌++◌, length, map, drop, refl, sym, ap, ◌∙◌, subst, append_assoc, nat_le, nat_lt, suc, if◌then◌else◌, arith}
+use Rattle.std.specs.List.{flat_map, list_all, list_any}
 use Rattle.std.specs.Str.{bytes_eq}
 use Rattle.std.proofs.Math.Seq.{drop-append_seam}
 use Rattle.std.proofs.lemmas.List.{map-append}
@@ -15,6 +15,8 @@ use Rattle.icn_decls.specs.Contexts.{fault, outermost}
 use Rattle.icn_decls.specs.Faults.{Met, none_met, with_name, repeated, all_repeated, too_many, declared_names, initial_faults, all_faults, procedure_faults}
 use Rattle.icn_unit.specs.declared.unit.NameKind.{NameKind}
 use Rattle.icn_unit.specs.declared.unit.NameKind.TheVariants.{Parameter, Undeclared}
+use Rattle.icn_unit.specs.declared.unit.UnitInstr.{UnitInstr}
+use Rattle.icn_unit.specs.declared.unit.UnitInstr.TheVariants as I
 use Rattle.icn_unit.specs.declared.unit.UnitName.{UnitName}
 use Rattle.icn_unit.specs.PlainUnits.{entry_names}
 use Rattle.icn_unit.specs.UnitRules.{names_differ, in_order, rank}
@@ -22,20 +24,23 @@ use Rattle.icn_translate.specs.ProcCodes.{entry_of, texts_of, kind_of, local_ent
 use Rattle.icn_units.proofs.Forms.{none_before, none_behind}
 use Rattle.icn_units.proofs.Naming.{once_each, nor_of, is_not, Names, naming, are_named}
 use Rattle.icn_units.proofs.Procedures.{procedure_leads}
+use Rattle.icn_units.proofs.Chains.{variable_in}
+use Rattle.icn_units.proofs.Variables.{Below, AllBelow, Vars, variables, have_vars}
+use Rattle.icn_units.specs.CodeNames.{variable_is_named, variables_are_named}
 
 -- Names that none of which is declared twice
 
-same_text : (text : List ℕ) → bytes_eq text text ≡ true
+pub same_text : (text : List ℕ) → bytes_eq text text ≡ true
 same_text text = (bytes_eq-Decides text text).1 refl
 
-met_again : (met : Met) (name x : List ℕ) → met x ≡ true → with_name met name x ≡ true
+pub met_again : (met : Met) (name x : List ℕ) → met x ≡ true → with_name met name x ≡ true
 met_again met name x h = by (bytes_eq name x)
   where
     by : (b : Bool) → (if b then true else met x) ≡ true
     by true = refl
     by false = h
 
-met_now : (met : Met) (name : List ℕ) → with_name met name name ≡ true
+pub met_now : (met : Met) (name : List ℕ) → with_name met name name ≡ true
 met_now met name = ap (λ b. if b then true else met name) (same_text name)
 
 not_met : (met : Met) (name : Name) → repeated C1 met name ≡ [] → met name.text ≡ false
@@ -45,7 +50,7 @@ not_met met name h = by (met name.text) h
     by true h = absurd (cc)
     by false h = refl
 
-differs : (met : Met) (x y : List ℕ) → met x ≡ true → met y ≡ false → bytes_eq x y ≡ false
+pub differs : (met : Met) (x y : List ℕ) → met x ≡ true → met y ≡ false → bytes_eq x y ≡ false
 differs met x y h g = by (bytes_eq x y) refl
   where
     by : (b : Bool) → bytes_eq x y ≡ b → b ≡ false
@@ -176,6 +181,24 @@ procedure_order procedure texts =
     (from_lower (locals ++ others) (omega arith) behind) in
     ap in_order (append_assoc parameters locals others) ∙ in_order_from 0 (parameters ++ (locals ++ others)) all
 
+-- Variables
+
+names_length : (entries : List UnitName) → length (entry_names entries) ≡ length entries
+names_length [] = refl
+names_length (entry ∷ entries) = ap suc (names_length entries)
+
+lt_test : (a b : ℕ) → a < b → nat_lt a b ≡ true
+lt_test a b h = le_test (suc a) b h
+
+one_named : (n : ℕ) (i : UnitInstr) → Below n (variable_in i) → variable_is_named n i ≡ true
+one_named n (I.Var k) h = lt_test k n h
+one_named n i h = refl
+
+all_named : (n : ℕ) (is : List UnitInstr) → AllBelow n is → list_all (variable_is_named n) is ≡ true
+all_named n [] h = refl
+all_named n (i ∷ is) h = and_both (variable_is_named n i) (list_all (variable_is_named n) is) (one_named n i h.0)
+    (all_named n is h.1)
+
 -- A whole procedure
 
 module _ (met : Met) (procedure : Procedure) (faultless : procedure_faults met procedure ≡ []) where
@@ -216,3 +239,14 @@ module _ (met : Met) (procedure : Procedure) (faultless : procedure_faults met p
 
   pub code_names_in_order : in_order (proc_code procedure).names ≡ true
   code_names_in_order = procedure_order procedure (undeclared procedure)
+
+  whole_vars : Vars (begun procedure) (drafted procedure) []
+  whole_vars = have_vars (begun procedure) (drafted procedure) []
+      (procedure_leads variables met procedure faultless)
+
+  pub code_variables_named : variables_are_named (proc_code procedure) ≡ true
+  code_variables_named =
+      let long : length (proc_code procedure).names ≡ length (drafted procedure).names =
+      sym (names_length (proc_code procedure).names) ∙ ap length code_names in
+      all_named (length (proc_code procedure).names) (drafted procedure).instrs
+      (subst (λ n. AllBelow n (drafted procedure).instrs) (sym long) (whole_vars.below tt))

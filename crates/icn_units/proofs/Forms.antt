@@ -25,7 +25,7 @@ use Rattle.icn_translate.specs.Drafts.{Draft, ◌▹◌, put, next_label, with_l
 use Rattle.icn_translate.specs.Instructions.{literal_instr, known_keyword, keyword_by, keyword_instr, section_op, infix_form, prefix_form}
 use Rattle.icn_translate.specs.Open.{Open, Outermost, Marked, Looped, Each, unmarks_for_break, unmarks_for_next, around}
 use Rattle.icn_translate.specs.Translation.{is_empty, is_nothing, is_no_element, elements, bounded, created, if_mark, unless_empty, either_step, control_part, in_control, in_body, back, loop_end, prefix_by, plain_form, update, augmented_form, case_of, looped_body, translate, operands, arguments, conjunction, conjuncts, compound, creations, other_creations, subscripts, to_step, otherwise, looped_part, suspended_part, guarded, guarded_clause, default_part, default_clause, initially, body}
-use Rattle.icn_units.proofs.Chains.{Keeps, Runs, Chain, ◌▸◌, here, on, plainly, label, labelled, placed, second_placed, outer_runs}
+use Rattle.icn_units.proofs.Chains.{variable_in, Keeps, Runs, Chain, ◌▸◌, here, on, plainly, label, labelled, placed, second_placed, outer_runs}
 
 -- Lists of faults that are empty
 
@@ -63,6 +63,11 @@ literal_place : (v : Literal) → place_of (literal_instr v) ≡ None
 literal_place (Literals.Integer n) = refl
 literal_place (Literals.Text bytes) = refl
 literal_place (Literals.Cset members) = refl
+
+literal_variable : (v : Literal) → variable_in (literal_instr v) ≡ None
+literal_variable (Literals.Integer n) = refl
+literal_variable (Literals.Text bytes) = refl
+literal_variable (Literals.Cset members) = refl
 
 known_label : (k : KeywordNamed) → label_in (known_keyword k) ≡ None
 known_label K.Ascii = refl
@@ -104,6 +109,26 @@ known_place K.Source = refl
 known_place K.Subject = refl
 known_place K.Ucase = refl
 
+known_variable : (k : KeywordNamed) → variable_in (known_keyword k) ≡ None
+known_variable K.Ascii = refl
+known_variable K.Cset = refl
+known_variable K.Current = refl
+known_variable K.Digits = refl
+known_variable K.Errout = refl
+known_variable K.Fail = refl
+known_variable K.Input = refl
+known_variable K.Lcase = refl
+known_variable K.Letters = refl
+known_variable K.Level = refl
+known_variable K.Main = refl
+known_variable K.Null = refl
+known_variable K.Output = refl
+known_variable K.Pos = refl
+known_variable K.Random = refl
+known_variable K.Source = refl
+known_variable K.Subject = refl
+known_variable K.Ucase = refl
+
 keyword_label : (k : Option KeywordNamed) → label_in (keyword_by k) ≡ None
 keyword_label None = refl
 keyword_label (Some k) = known_label k
@@ -111,6 +136,10 @@ keyword_label (Some k) = known_label k
 keyword_place : (k : Option KeywordNamed) → place_of (keyword_by k) ≡ None
 keyword_place None = refl
 keyword_place (Some k) = known_place k
+
+keyword_variable : (k : Option KeywordNamed) → variable_in (keyword_by k) ≡ None
+keyword_variable None = refl
+keyword_variable (Some k) = known_variable k
 
 module _ (S : Keeps) where
   pub from : {n : ℕ} (d : Draft) → S.Inside n d → Chain S n d d []
@@ -121,8 +150,9 @@ module _ (S : Keeps) where
   nothing_runs : {n : ℕ} → Runs S n (λ d. d)
   nothing_runs = record { run = λ d h. S.none d }
 
-  put_runs : {n : ℕ} (i : UnitInstr) → label_in i ≡ None → place_of i ≡ None → Runs S n (put i)
-  put_runs i l p = record { run = λ d h. (from d h ▸ plainly i l p).leads }
+  put_runs : {n : ℕ} (i : UnitInstr) → label_in i ≡ None → place_of i ≡ None → variable_in i ≡ None
+      → Runs S n (put i)
+  put_runs i l p v = record { run = λ d h. (from d h ▸ plainly i l p v).leads }
 
   then_runs : {n : ℕ} {s t : Draft → Draft} → Runs S n s → Runs S n t → Runs S n (λ d. t (s d))
   then_runs r q = record { run = λ d h. (from d h ▸ on r ▸ on q).leads }
@@ -141,27 +171,28 @@ module _ (S : Keeps) where
 
   bounded_runs : {n : ℕ} {s : Draft → Draft} → Runs S n s → Runs S n (bounded s)
   bounded_runs r = record {
-    run = λ d h. (from d h ▸ labelled I.Mark (λ l. refl) (λ l. refl) ▸ on r
-        ▸ plainly I.Unmark refl refl ▸ placed).leads;
+    run = λ d h. (from d h ▸ labelled I.Mark (λ l. record { label = refl; place = refl; variable = refl }) ▸ on r
+        ▸ plainly I.Unmark refl refl refl ▸ placed).leads;
   }
 
   created_runs : {n : ℕ} {s : Draft → Draft} → Runs S 0 s → Runs S n (created s)
   created_runs r = record {
-    run = λ d h. (from d h ▸ labelled I.Create (λ l. refl) (λ l. refl)
-        ▸ labelled I.Mark (λ l. refl) (λ l. refl) ▸ on (outer_runs r) ▸ plainly I.Coret refl refl
-        ▸ plainly I.Efail refl refl ▸ placed
-        ▸ plainly I.Cofail refl refl ▸ placed).leads;
+    run = λ d h. (from d h ▸ labelled I.Create (λ l. record { label = refl; place = refl; variable = refl })
+        ▸ labelled I.Mark (λ l. record { label = refl; place = refl; variable = refl }) ▸ on (outer_runs r)
+        ▸ plainly I.Coret refl refl refl
+        ▸ plainly I.Efail refl refl refl ▸ placed
+        ▸ plainly I.Cofail refl refl refl ▸ placed).leads;
   }
 
   unmarks_for_break_run : {n : ℕ} (o : Open) → Runs S n (unmarks_for_break o)
   unmarks_for_break_run Outermost = nothing_runs
-  unmarks_for_break_run (Marked o) = then_runs (put_runs I.Unmark refl refl) (unmarks_for_break_run o)
+  unmarks_for_break_run (Marked o) = then_runs (put_runs I.Unmark refl refl refl) (unmarks_for_break_run o)
   unmarks_for_break_run (Looped o) = nothing_runs
-  unmarks_for_break_run (Each o) = put_runs I.Unmark refl refl
+  unmarks_for_break_run (Each o) = put_runs I.Unmark refl refl refl
 
   unmarks_for_next_run : {n : ℕ} (o : Open) → Runs S n (unmarks_for_next o)
   unmarks_for_next_run Outermost = nothing_runs
-  unmarks_for_next_run (Marked o) = then_runs (put_runs I.Unmark refl refl) (unmarks_for_next_run o)
+  unmarks_for_next_run (Marked o) = then_runs (put_runs I.Unmark refl refl refl) (unmarks_for_next_run o)
   unmarks_for_next_run (Looped o) = nothing_runs
   unmarks_for_next_run (Each o) = nothing_runs
 
@@ -174,12 +205,13 @@ module _ (S : Keeps) where
         let m = next_label d in
         let e = put (I.Lab m) (with_label d) in
         let c : Chain S n d e [] = from d h ▸ label ▸ placed in
-        let inner : Chain S n e (marked (put I.Mark0 e)) [] = from e (here c) ▸ plainly I.Mark0 refl refl ▸ on r in
+        let inner : Chain S n e (marked (put I.Mark0 e)) [] = from e (here c) ▸ plainly I.Mark0 refl refl refl
+        ▸ on r in
         let may = S.may_later e _ [] (I.Chfail m) inner.leads
         (S.may_behind (with_label d) (I.Chfail m) (I.Lab m)
-        (S.fresh d (I.Chfail m) (record { label = refl; place = refl }))) in
+        (S.fresh d (I.Chfail m) (record { label = refl; place = refl; variable = refl }))) in
         let all = S.joined d e _ [] c.leads inner.leads in
-        S.instr d _ [] I.Esusp (S.plain _ I.Esusp (record { label = refl; place = refl }))
+        S.instr d _ [] I.Esusp (S.plain _ I.Esusp (record { label = refl; place = refl; variable = refl }))
         (S.instr d _ [] (I.Chfail m) may all);
   }
 
@@ -187,55 +219,68 @@ module _ (S : Keeps) where
       → Runs S n (prefix_by form operand marked)
   prefix_runs Activation r q = record {
     run =
-        λ d h. (from d h ▸ plainly I.Pnull refl refl ▸ on r ▸ plainly I.Coact refl refl).leads;
+        λ d h. (from d h ▸ plainly I.Pnull refl refl refl ▸ on r ▸ plainly I.Coact refl refl refl).leads;
   }
   prefix_runs Repetition {operand = operand} r q = repetition_runs q operand
-  prefix_runs (Operation op) r q = record { run = λ d h. (from d h ▸ on r ▸ plainly (I.Op op) refl refl).leads }
+  prefix_runs (Operation op) r q = record {
+    run =
+        λ d h. (from d h ▸ on r ▸ plainly (I.Op op) refl refl refl).leads;
+  }
 
   plain_runs : {n : ℕ} (form : InfixForm) {a marked b : Draft → Draft} → Runs S n a → Runs S n marked → Runs S n b
       → Runs S n (plain_form form a marked b)
-  plain_runs Both a m b = record { run = λ d h. (from d h ▸ on a ▸ plainly I.Pop refl refl ▸ on b).leads }
+  plain_runs Both a m b = record { run = λ d h. (from d h ▸ on a ▸ plainly I.Pop refl refl refl ▸ on b).leads }
   plain_runs Scanning a m b = record {
     run =
-        λ d h. (from d h ▸ on a ▸ plainly I.Bscan refl refl ▸ on b ▸ plainly I.Escan refl refl).leads;
+        λ d h. (from d h ▸ on a ▸ plainly I.Bscan refl refl refl ▸ on b ▸ plainly I.Escan refl refl refl).leads;
   }
   plain_runs Either a m b = record {
     run =
-        λ d h. (from d h ▸ labelled I.Mark (λ l. refl) (λ l. refl) ▸ on m ▸ plainly I.Esusp refl refl
-        ▸ labelled I.Goto (λ l. refl) (λ l. refl) ▸ second_placed ▸ on b ▸ placed).leads;
+        λ d h. (from d h ▸ labelled I.Mark (λ l. record { label = refl; place = refl; variable = refl }) ▸ on m
+        ▸ plainly I.Esusp refl refl refl
+        ▸ labelled I.Goto (λ l. record { label = refl; place = refl; variable = refl }) ▸ second_placed ▸ on b
+        ▸ placed).leads;
   }
   plain_runs Limiting a m b = record {
     run =
-        λ d h. (from d h ▸ on b ▸ plainly I.Limit refl refl ▸ on m ▸ plainly I.Lsusp refl refl).leads;
+        λ d h. (from d h ▸ on b ▸ plainly I.Limit refl refl refl ▸ on m ▸ plainly I.Lsusp refl refl refl).leads;
   }
-  plain_runs Activating a m b = record { run = λ d h. (from d h ▸ on a ▸ on b ▸ plainly I.Coact refl refl).leads }
-  plain_runs Spreading a m b = record { run = λ d h. (from d h ▸ on a ▸ on b ▸ plainly I.Appl refl refl).leads }
+  plain_runs Activating a m b = record {
+    run =
+        λ d h. (from d h ▸ on a ▸ on b ▸ plainly I.Coact refl refl refl).leads;
+  }
+  plain_runs Spreading a m b = record {
+    run =
+        λ d h. (from d h ▸ on a ▸ on b ▸ plainly I.Appl refl refl refl).leads;
+  }
   plain_runs (Operating op) a m b = record
-      { run = λ d h. (from d h ▸ on a ▸ on b ▸ plainly (I.Op op) refl refl).leads }
+      { run = λ d h. (from d h ▸ on a ▸ on b ▸ plainly (I.Op op) refl refl refl).leads }
 
-  update_runs : {n : ℕ} (i : UnitInstr) → label_in i ≡ None → place_of i ≡ None → {a b : Draft → Draft} → Runs S n a
+  update_runs : {n : ℕ} (i : UnitInstr) → label_in i ≡ None → place_of i ≡ None → variable_in i ≡ None
+      → {a b : Draft → Draft} → Runs S n a
       → Runs S n b → Runs S n (update i a b)
-  update_runs i l p a b = record {
+  update_runs i l p v a b = record {
     run = λ d h.
-        (from d h ▸ on a ▸ plainly I.Dup refl refl ▸ on b ▸ plainly i l p ▸ plainly (I.Op O.Assign) refl refl).leads;
+        (from d h ▸ on a ▸ plainly I.Dup refl refl refl ▸ on b ▸ plainly i l p v
+        ▸ plainly (I.Op O.Assign) refl refl refl).leads;
   }
 
   augmented_runs : {n : ℕ} (form : InfixForm) {a b : Draft → Draft} → Runs S n a → Runs S n b
       → Runs S n (augmented_form form a b)
   augmented_runs Both a b = record {
     run =
-        λ d h. (from d h ▸ on a ▸ on b ▸ plainly (I.Op O.Assign) refl refl).leads;
+        λ d h. (from d h ▸ on a ▸ on b ▸ plainly (I.Op O.Assign) refl refl refl).leads;
   }
   augmented_runs Scanning a b = record {
     run =
-        λ d h. (from d h ▸ on a ▸ plainly I.Dup refl refl ▸ plainly I.Bscan refl refl ▸ on b
-        ▸ plainly I.Escan refl refl ▸ plainly (I.Op O.Assign) refl refl).leads;
+        λ d h. (from d h ▸ on a ▸ plainly I.Dup refl refl refl ▸ plainly I.Bscan refl refl refl ▸ on b
+        ▸ plainly I.Escan refl refl refl ▸ plainly (I.Op O.Assign) refl refl refl).leads;
   }
   augmented_runs Either a b = nothing_runs
   augmented_runs Limiting a b = nothing_runs
-  augmented_runs Activating a b = update_runs I.Coact refl refl a b
-  augmented_runs Spreading a b = update_runs I.Appl refl refl a b
-  augmented_runs (Operating op) a b = update_runs (I.Op op) refl refl a b
+  augmented_runs Activating a b = update_runs I.Coact refl refl refl a b
+  augmented_runs Spreading a b = update_runs I.Appl refl refl refl a b
+  augmented_runs (Operating op) a b = update_runs (I.Op op) refl refl refl a b
 
   binary_runs : {n : ℕ} (o : Open) (place : Place) (infix_ : Infix) (a b : Tree) → Runs S n (translate o a)
       → Runs S n (translate (Marked o) a) → Runs S n (translate o b)
@@ -250,7 +295,7 @@ module _ (S : Keeps) where
     run = λ d h.
         let c : Chain S (suc n) d (put_next I.Mark d) [] =
         record { leads = S.next_mark d d [] n h (S.none d); inside = h } in
-        (c ▸ on r ▸ plainly I.Unmark refl refl).leads;
+        (c ▸ on r ▸ plainly I.Unmark refl refl refl).leads;
   }
 
   -- behind a first label
@@ -265,7 +310,7 @@ module _ (S : Keeps) where
         let f = inner (in_loop unmentioned e) in
         let within = r.run (in_loop unmentioned e) (S.inside_loop e unmentioned n (here c)) in
         let first = S.may_behind (with_label d) (I.Loop m) (I.Lab m)
-        (S.fresh d (I.Loop m) (record { label = refl; place = refl })) in
+        (S.fresh d (I.Loop m) (record { label = refl; place = refl; variable = refl })) in
         S.loop d e f [] (I.Loop m) c.leads within
         (S.may_later (in_loop unmentioned e) f [] (I.Loop m) within (S.may_inside e unmentioned (I.Loop m) first));
   }
@@ -275,20 +320,24 @@ module _ (S : Keeps) where
       → Runs S n (λ d. d ▹ control_part kind control ▹ part ▹ loop_end (back kind (next_label d)))
   kinds_run While c p = loop_runs
       (record {
-        run = λ d h. (from d h ▸ plainly I.Mark0 refl refl ▸ on c ▸ plainly I.Unmark refl refl ▸ on p).leads;
+        run = λ d h. (from d h ▸ plainly I.Mark0 refl refl refl ▸ on c ▸ plainly I.Unmark refl refl refl
+            ▸ on p).leads;
       })
   kinds_run Until c p = loop_runs
       (record {
-        run = λ d h. (from d h ▸ labelled I.Mark (λ l. refl) (λ l. refl) ▸ on c ▸ plainly I.Unmark refl refl
-            ▸ plainly I.Efail refl refl ▸ placed ▸ on p).leads;
+        run = λ d h. (from d h ▸ labelled I.Mark (λ l. record { label = refl; place = refl; variable = refl })
+            ▸ on c ▸ plainly I.Unmark refl refl refl
+            ▸ plainly I.Efail refl refl refl ▸ placed ▸ on p).leads;
       })
   kinds_run {n = n} Every {control = control} {part = part} c p = record {
     run = λ d h.
         let e = in_loop unmentioned d in
         let within : Chain S (suc n) e (part (put I.Pop (control (put I.Mark0 e)))) [] =
-        from e (S.inside_loop d unmentioned n h) ▸ plainly I.Mark0 refl refl ▸ on c ▸ plainly I.Pop refl refl
+        from e (S.inside_loop d unmentioned n h) ▸ plainly I.Mark0 refl refl refl ▸ on c
+        ▸ plainly I.Pop refl refl refl
         ▸ on p in
-        S.loop d d _ [] I.Efail (S.none d) within.leads (S.plain _ I.Efail (record { label = refl; place = refl }));
+        S.loop d d _ [] I.Efail (S.none d) within.leads
+        (S.plain _ I.Efail (record { label = refl; place = refl; variable = refl }));
   }
 
   next_runs : {n : ℕ} (o : Open) → Runs S (suc n) (λ d. d ▹ unmarks_for_next o ▹ put_next I.Goto)
@@ -305,7 +354,8 @@ module _ (S : Keeps) where
         let e = unmarks_for_break o d in
         let c : Chain S (suc n) d e [] = from d h ▸ on (unmarks_for_break_run o) in
         let i = here c in
-        let f = S.aside_loop d e (s (outside_loop e)) [] n i c.leads (r.run (outside_loop e) (S.inside_outer e n i)) in
+        let f = S.aside_loop d e (s (outside_loop e)) [] n i c.leads
+        (r.run (outside_loop e) (S.inside_outer e n i)) in
         S.last_goto d _ [] n (S.inside_later d _ [] (suc n) f h) f;
   }
 
@@ -320,7 +370,7 @@ module _ (S : Keeps) where
         let e = in_case None d in
         let i = S.inside_case d None n h in
         let within : Chain S n e (default (put I.Pop (guards e))) [] =
-        record { leads = g.run e i (S.case_begins d None); inside = i } ▸ plainly I.Pop refl refl ▸ on r in
+        record { leads = g.run e i (S.case_begins d None); inside = i } ▸ plainly I.Pop refl refl refl ▸ on r in
         S.case d d _ [] (S.none d) within.leads;
   }
 
@@ -332,8 +382,10 @@ module _ (S : Keeps) where
         let m = next_label d in
         let c : Chain S n d (b (put I.Pop (put I.Unmark
         (put (I.Op O.Equivalent) (s (put I.Ccase (put (I.Mark m) (with_label d)))))))) (m ∷ []) =
-        from d h ▸ labelled I.Mark (λ l. refl) (λ l. refl) ▸ plainly I.Ccase refl refl ▸ on r
-        ▸ plainly (I.Op O.Equivalent) refl refl ▸ plainly I.Unmark refl refl ▸ plainly I.Pop refl refl ▸ on q in
+        from d h ▸ labelled I.Mark (λ l. record { label = refl; place = refl; variable = refl })
+        ▸ plainly I.Ccase refl refl refl ▸ on r
+        ▸ plainly (I.Op O.Equivalent) refl refl refl ▸ plainly I.Unmark refl refl refl
+        ▸ plainly I.Pop refl refl refl ▸ on q in
         S.place d _ m [] (S.end_goto d _ (m ∷ []) (S.case_later d _ (m ∷ []) c.leads w) c.leads);
   }
 
@@ -341,41 +393,45 @@ module _ (S : Keeps) where
   cases_then {n = n} {s = s} {t = t} r q = record {
     run = λ d h w.
         let c = r.run d h w in
-        S.joined d (s d) (t (s d)) [] c (q.run (s d) (S.inside_later d (s d) [] n c h) (S.case_later d (s d) [] c w));
+        S.joined d (s d) (t (s d)) [] c (q.run (s d) (S.inside_later d (s d) [] n c h)
+        (S.case_later d (s d) [] c w));
   }
 
   -- Forms
 
   mutual
     tree_runs : (o : Open) (c : Context) (e : Tree) → faults c e ≡ [] → Runs S (length c.loops) (translate o e)
-    tree_runs o c Empty x = put_runs I.Pnull refl refl
+    tree_runs o c Empty x = put_runs I.Pnull refl refl refl
     tree_runs o c (Constant place v) x = put_runs (literal_instr v) (literal_label v) (literal_place v)
+        (literal_variable v)
     tree_runs o c (Identifier name) x = record { run = λ d h. S.variable d d [] name.text (S.none d) }
     tree_runs o c (Keyword place name) x = put_runs (keyword_instr name.text) (keyword_label (keyword_of name.text))
-        (keyword_place (keyword_of name.text))
+        (keyword_place (keyword_of name.text)) (keyword_variable (keyword_of name.text))
     tree_runs o c (Parentheses place es) x = conjunction_runs o c es x
     tree_runs o c (Listing place es) x = then_runs (arguments_run o c es x)
-        (put_runs (I.Llist (elements es)) refl refl)
+        (put_runs (I.Llist (elements es)) refl refl refl)
     tree_runs o c (Compound place es) x = compound_runs o c es x
     tree_runs o c (Call place f es) x = then_runs
         (then_runs (tree_runs o c f (none_before _ _ x)) (arguments_run o c es (none_behind _ _ x)))
-        (put_runs (I.Invoke (elements es)) refl refl)
+        (put_runs (I.Invoke (elements es)) refl refl refl)
     tree_runs o c (CoCall place f es) x = then_runs
         (then_runs (then_runs (tree_runs o c f (none_before _ _ x)) (creations_run es (none_behind _ _ x)))
-        (put_runs (I.Llist (elements es)) refl refl)) (put_runs (I.Invoke 1) refl refl)
+        (put_runs (I.Llist (elements es)) refl refl refl)) (put_runs (I.Invoke 1) refl refl refl)
     tree_runs o c (Subscript place e es) x =
         then_runs (tree_runs o c e (none_before _ _ x)) (subscripts_run o c es (none_behind _ _ x))
     tree_runs o c (Section place kind e i j) x =
         then_runs (then_runs (then_runs (tree_runs o c e (none_before _ _ x))
         (tree_runs o c i (none_before _ _ (none_behind _ _ x))))
-        (tree_runs o c j (none_behind _ _ (none_behind _ _ x)))) (put_runs (I.Op (section_op kind)) refl refl)
-    tree_runs o c (Field place e name) x = then_runs (tree_runs o c e x) (put_runs (I.Field name.text) refl refl)
+        (tree_runs o c j (none_behind _ _ (none_behind _ _ x)))) (put_runs (I.Op (section_op kind)) refl refl refl)
+    tree_runs o c (Field place e name) x = then_runs (tree_runs o c e x)
+        (put_runs (I.Field name.text) refl refl refl)
     tree_runs o c (Prefix place operator e) x =
         prefix_runs (prefix_form operator) (tree_runs o c e x) (tree_runs (Marked o) c e x)
     tree_runs o c (Not place e) x = let r = tree_runs (Marked o) c e x in
         record {
-          run = λ d h. (from d h ▸ labelled I.Mark (λ l. refl) (λ l. refl)
-              ▸ on r ▸ plainly I.Unmark refl refl ▸ plainly I.Efail refl refl ▸ placed ▸ plainly I.Pnull refl refl).leads;
+          run = λ d h. (from d h ▸ labelled I.Mark (λ l. record { label = refl; place = refl; variable = refl })
+              ▸ on r ▸ plainly I.Unmark refl refl refl ▸ plainly I.Efail refl refl refl ▸ placed
+              ▸ plainly I.Pnull refl refl refl).leads;
         }
     tree_runs o c (Binary place infix_ a b) x =
         binary_runs o place infix_ a b (tree_runs o c a (none_before _ _ x))
@@ -383,12 +439,13 @@ module _ (S : Keeps) where
     tree_runs o c (To place a b by) x = then_runs
         (then_runs (then_runs (tree_runs o c a (none_before _ _ x))
         (tree_runs o c b (none_before _ _ (none_behind _ _ x))))
-        (to_step_runs o c by (none_behind _ _ (none_behind _ _ x)))) (put_runs (I.Op O.ToBy) refl refl)
+        (to_step_runs o c by (none_behind _ _ (none_behind _ _ x)))) (put_runs (I.Op O.ToBy) refl refl refl)
     tree_runs o c (If place e a b) x = branches_run o c b (none_behind _ _ (none_behind _ _ x))
         (tree_runs (Marked o) c e (none_before _ _ x)) (tree_runs o c a (none_before _ _ (none_behind _ _ x)))
     tree_runs o c (Case place e clauses) x =
-        then_runs (then_runs (then_runs (put_runs I.Mark0 refl refl) (tree_runs (Marked o) c e (none_before _ _ x)))
-        (put_runs I.Eret refl refl))
+        then_runs (then_runs (then_runs (put_runs I.Mark0 refl refl refl)
+        (tree_runs (Marked o) c e (none_before _ _ x)))
+        (put_runs I.Eret refl refl refl))
         (case_runs (guarded_run o c false clauses (none_behind _ _ x))
         (default_part_runs o c false clauses (none_behind _ _ x)))
     tree_runs o c (Loop place kind e b) x = kinds_run kind
@@ -398,21 +455,21 @@ module _ (S : Keeps) where
     tree_runs o c (Create place e) x = created_runs (tree_runs Outermost created_context e x)
     tree_runs o c (Next place) x = subst (λ n. Runs S n (translate o (Next place)))
         (sym (next_inside c.in_create c.loops place x)) (next_runs o)
-    tree_runs o c (Fail place) x = put_runs I.Pfail refl refl
+    tree_runs o c (Fail place) x = put_runs I.Pfail refl refl refl
     tree_runs o c (Break place e) x = subst (λ n. Runs S n (translate o (Break place e)))
         (sym (break_inside c.in_create c.loops place (none_before _ _ x)))
         (break_runs o (tree_runs (around o) (left c) e (none_behind _ _ x)))
     tree_runs o c (Return place e) x = let r = tree_runs (Marked o) c e (none_behind _ _ x) in
         record {
-          run = λ d h. (from d h ▸ labelled I.Mark (λ l. refl) (λ l. refl)
-              ▸ on r ▸ plainly I.Pret refl refl ▸ placed ▸ plainly I.Pfail refl refl).leads;
+          run = λ d h. (from d h ▸ labelled I.Mark (λ l. record { label = refl; place = refl; variable = refl })
+              ▸ on r ▸ plainly I.Pret refl refl refl ▸ placed ▸ plainly I.Pfail refl refl refl).leads;
         }
     tree_runs o c (Suspend place e b) x = then_runs
-        (then_runs (then_runs (then_runs (then_runs (put_runs I.Mark0 refl refl)
+        (then_runs (then_runs (then_runs (then_runs (put_runs I.Mark0 refl refl refl)
         (tree_runs (Marked o) c e (none_before _ _ (none_behind _ _ x))))
-        (put_runs I.Psusp refl refl)) (put_runs I.Pop refl refl))
+        (put_runs I.Psusp refl refl refl)) (put_runs I.Pop refl refl refl))
         (suspended_part_runs (Marked (Marked o)) c b (none_behind _ _ (none_behind _ _ x))))
-        (put_runs I.Efail refl refl)
+        (put_runs I.Efail refl refl refl)
 
     operands_run : (o : Open) (c : Context) (es : Trees) → all_faults c es ≡ []
         → Runs S (length c.loops) (operands o es)
@@ -436,7 +493,7 @@ module _ (S : Keeps) where
         → Runs S (length c.loops) (conjuncts o es)
     conjuncts_run o c NoTrees x = nothing_runs
     conjuncts_run o c (More e es) x = then_runs
-        (then_runs (put_runs I.Pop refl refl) (tree_runs o c e (none_before _ _ x)))
+        (then_runs (put_runs I.Pop refl refl refl) (tree_runs o c e (none_before _ _ x)))
         (conjuncts_run o c es (none_behind _ _ x))
 
     compound_runs : (o : Open) (c : Context) (es : Trees) → all_faults c es ≡ []
@@ -463,12 +520,12 @@ module _ (S : Keeps) where
         → Runs S (length c.loops) (subscripts o es)
     subscripts_run o c NoTrees x = nothing_runs
     subscripts_run o c (More e es) x = then_runs
-        (then_runs (tree_runs o c e (none_before _ _ x)) (put_runs (I.Op O.Subscript) refl refl))
+        (then_runs (tree_runs o c e (none_before _ _ x)) (put_runs (I.Op O.Subscript) refl refl refl))
         (subscripts_run o c es (none_behind _ _ x))
 
     to_step_runs : (o : Open) (c : Context) (by : MaybeTree) → maybe_faults c by ≡ []
         → Runs S (length c.loops) (to_step o by)
-    to_step_runs o c Absent x = put_runs _ refl refl
+    to_step_runs o c Absent x = put_runs _ refl refl refl
     to_step_runs o c (Present e) x = tree_runs o c e x
 
     branches_run : (o : Open) (c : Context) (b : MaybeTree) → maybe_faults c b ≡ []
@@ -477,13 +534,15 @@ module _ (S : Keeps) where
         ▹ otherwise o b (next_label d))
     branches_run o c Absent x r q = record {
       run =
-          λ d h. (from d h ▸ plainly I.Mark0 refl refl ▸ on r ▸ plainly I.Unmark refl refl ▸ on q).leads;
+          λ d h. (from d h ▸ plainly I.Mark0 refl refl refl ▸ on r ▸ plainly I.Unmark refl refl refl ▸ on q).leads;
     }
     branches_run o c (Present b) x r q = let p = tree_runs o c b x in
         record {
-          run = λ d h. (from d h ▸ labelled I.Mark (λ l. refl) (λ l. refl) ▸ on r
-              ▸ plainly I.Unmark refl refl ▸ on q
-              ▸ labelled I.Goto (λ l. refl) (λ l. refl) ▸ second_placed ▸ on p ▸ placed).leads;
+          run = λ d h. (from d h ▸ labelled I.Mark (λ l. record { label = refl; place = refl; variable = refl })
+              ▸ on r
+              ▸ plainly I.Unmark refl refl refl ▸ on q
+              ▸ labelled I.Goto (λ l. record { label = refl; place = refl; variable = refl }) ▸ second_placed ▸ on p
+              ▸ placed).leads;
         }
 
     looped_part_runs : (o : Open) (c : Context) (b : MaybeTree) → maybe_faults (looped true c) b ≡ []
@@ -511,7 +570,7 @@ module _ (S : Keeps) where
 
     default_part_runs : (o : Open) (c : Context) (has : Bool) (clauses : Clauses) → clauses_faults c has clauses
         ≡ [] → Runs S (length c.loops) (default_part o clauses)
-    default_part_runs o c has NoClauses x = put_runs I.Efail refl refl
+    default_part_runs o c has NoClauses x = put_runs I.Efail refl refl refl
     default_part_runs o c has (MoreClauses clause clauses) x =
         default_clause_runs o c has clause (none_before _ _ x)
         (default_part_runs o c (is_default has clause) clauses (none_behind _ _ x))
@@ -529,12 +588,12 @@ module _ (S : Keeps) where
   initially_runs (Initially place e) x = let r = tree_runs Outermost outermost e x in record {
     run = λ d h.
         let m = next_label d in
-        let c = from d h ▸ labelled I.Init (λ l. refl) (λ l. refl) in
+        let c = from d h ▸ labelled I.Init (λ l. record { label = refl; place = refl; variable = refl }) in
         let may = S.may_behind (with_label d) (I.Mark m) (I.Init m)
-        (S.fresh d (I.Mark m) (record { label = refl; place = refl })) in
+        (S.fresh d (I.Mark m) (record { label = refl; place = refl; variable = refl })) in
         let begun : Chain S 0 d (put (I.Mark m) (put (I.Init m) (with_label d))) (m ∷ []) =
         record { leads = S.instr d _ (m ∷ []) (I.Mark m) may c.leads; inside = h } in
-        (begun ▸ on r ▸ plainly I.Unmark refl refl ▸ placed).leads;
+        (begun ▸ on r ▸ plainly I.Unmark refl refl refl ▸ placed).leads;
   }
 
   pub body_runs : (es : Trees) → all_faults outermost es ≡ [] → Runs S 0 (body es)

@@ -6,3 +6,5 @@ pub mod Nesting
 pub mod Procedures
 pub mod Naming
 pub mod EntryNames
+pub mod FileNames
+pub mod Variables

@@ -38,11 +38,11 @@ other_way a b h = by (bytes_eq b a) refl
     by true e = absurd (let same = (bytes_eq-Decides b a).0 e in let back = (bytes_eq-Decides a b).1 (sym same) in
         cc)
 
-both_of : (b t : Bool) → (b && t) ≡ true → (b ≡ true) × (t ≡ true)
+pub both_of : (b t : Bool) → (b && t) ≡ true → (b ≡ true) × (t ≡ true)
 both_of true t h = (refl, h)
 both_of false t h = absurd (cc)
 
-neither_of : (b t : Bool) → (b || t) ≡ false → (b ≡ false) × (t ≡ false)
+pub neither_of : (b t : Bool) → (b || t) ≡ false → (b ≡ false) × (t ≡ false)
 neither_of true t h = absurd (cc)
 neither_of false t h = (refl, h)
 
@@ -54,7 +54,7 @@ pub is_not : (b t : Bool) → b ≡ false → t ≡ true → (not b && t) ≡ tr
 is_not true t h g = absurd (cc)
 is_not false t h g = g
 
-was_not : (b : Bool) → not b ≡ true → b ≡ false
+pub was_not : (b : Bool) → not b ≡ true → b ≡ false
 was_not true h = absurd (cc)
 was_not false h = refl
 

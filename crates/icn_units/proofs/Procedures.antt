@@ -35,7 +35,7 @@ procedure_leads K met procedure x =
     (from K (begun procedure) (K.inside_none (begun procedure))
     ▸ on (initially_runs K procedure.initial (none_before first others trees))
     ▸ on (body_runs K procedure.body (none_behind first others trees))
-    ▸ plainly I.Pfail refl refl).leads
+    ▸ plainly I.Pfail refl refl refl).leads
 
 -- Numbers
 

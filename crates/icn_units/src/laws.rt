@@ -1,10 +1,12 @@
 // Laws of the codes of procedures.
-ghost use Rattle.std.specs.Prelude.{◌≡◌, [], true};
-ghost use Rattle.icn_tree.specs.Trees.{Procedure};
-ghost use Rattle.icn_decls.specs.Faults.{procedure_faults, Met};
+ghost use Rattle.std.specs.Prelude.{◌≡◌, [], true, List};
+ghost use Rattle.icn_tree.specs.Trees.{Declaration, Procedure};
+ghost use Rattle.icn_decls.specs.Faults.{context_faults, procedure_faults, Met};
+ghost use Rattle.icn_translate.specs.FileUnits.{proc_codes, unit_decls};
 ghost use Rattle.icn_translate.specs.ProcCodes.{proc_code};
-ghost use Rattle.icn_unit.specs.PlainUnits.{entry_names};
-ghost use Rattle.icn_unit.specs.UnitRules.{in_order, labels_differ, labels_placed, names_differ, placed};
+ghost use Rattle.icn_unit.specs.PlainUnits.{entry_names, owned_names, proc_names};
+ghost use Rattle.icn_unit.specs.UnitRules.{in_order, labels_differ, labels_placed, names_differ, placed, same_names};
+ghost use Rattle.icn_units.specs.CodeNames.{variables_are_named};
 
 /// In the code of a procedure that breaks no context rule no label has two places, and each label that an instruction goes to
 /// has one.
@@ -15,10 +17,21 @@ pub fn labels_have_one_place()
         → labels_placed (proc_code procedure).instrs ≡ true }
 {}
 
-/// The names of that code differ, and stand in order: parameters, locals and statics, and then those that are not declared.
+/// The names of that code differ, and stand in order: parameters, locals and statics, and then those that are not declared. Each
+/// variable that an instruction pushes is that of one of them.
 pub fn names_stand_once()
     ensures differ { (met : Met) (procedure : Procedure) → procedure_faults met procedure ≡ []
         → names_differ (entry_names (proc_code procedure).names) ≡ true }
     ensures order { (met : Met) (procedure : Procedure) → procedure_faults met procedure ≡ []
         → in_order (proc_code procedure).names ≡ true }
+    ensures variables { (met : Met) (procedure : Procedure) → procedure_faults met procedure ≡ []
+        → variables_are_named (proc_code procedure) ≡ true }
+{}
+
+/// The procedures and the records of a file that breaks no context rule differ by their names in its unit, and the procedures
+/// are those that the declarations name, in their order.
+pub fn file_names_differ()
+    ensures procedures { (file : List Declaration) → context_faults file ≡ [] → names_differ (proc_names (proc_codes file)) ≡ true }
+    ensures owners { (file : List Declaration) → context_faults file ≡ [] → names_differ (owned_names (unit_decls file)) ≡ true }
+    ensures same { (file : List Declaration) → same_names (proc_codes file) (unit_decls file) ≡ true }
 {}

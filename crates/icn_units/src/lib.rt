@@ -3,4 +3,4 @@
 
 mod laws;
 
-pub use laws::{labels_have_one_place, names_stand_once};
+pub use laws::{file_names_differ, labels_have_one_place, names_stand_once};

@@ -1,0 +1,14 @@
+-- What the code of a procedure takes from its names.
+use Rattle.std.specs.Prelude.{ℕ, Bool, true, nat_lt, length}
+use Rattle.std.specs.List.{list_all}
+use Rattle.icn_unit.specs.declared.unit.UnitInstr.{UnitInstr}
+use Rattle.icn_unit.specs.declared.unit.UnitInstr.TheVariants.{Var}
+use Rattle.icn_unit.specs.PlainUnits.{Proc}
+
+-- where an instruction pushes a variable, it is that of one of so many names
+abbrev pub variable_is_named : ℕ → UnitInstr → Bool
+variable_is_named names (Var k) = nat_lt k names
+variable_is_named names _ = true
+
+abbrev pub variables_are_named : Proc → Bool
+variables_are_named proc = list_all (variable_is_named (length proc.names)) proc.instrs
