@@ -58,7 +58,8 @@ not_as s t e d = λ q. d (e ∙ q)
 
 pub pop_there : (all : Extent) (m : FlatStack) (next : rows.Item → Frames → State Frames Frames) → with_popped flat (stack_in all m) next ≢ stuck
     → IsSome (held.pop m)
-pop_there all m next d = read_there (popped_read (reading_of all)) (held.pop m) (there_as _ _ (pop_read (reading_of all) m) (found_there (flat.pop (stack_in all m)) (parted next) d))
+pop_there all m next d = read_there (popped_read (reading_of all)) (held.pop m)
+    (there_as _ _ (pop_read (reading_of all) m) (found_there (flat.pop (stack_in all m)) (parted next) d))
 
 pop_on : (all : Extent) (m k : FlatStack) (item : Item) (next : rows.Item → Frames → State Frames Frames) → held.pop m ≡ Some (item, k)
     → with_popped flat (stack_in all m) next ≢ stuck → next (item_in all item) (stack_in all k) ≢ stuck
@@ -68,7 +69,8 @@ pop_on all m k item next e d = not_as _ _ (popped_runs m k item e all next) d
 take_next : (all : Extent) (n : ℕ) (items : List Item)
     → ((m : FlatStack) (xs : List Item) → IsSome (code.taken n (stack_in all m) (stack_in all m).cells (map (item_in all) xs)) → IsSome (taken_onto n m xs))
     → (o : Option (Item × FlatStack))
-    → IsSome (option_and_then (λ (pair : rows.Item × Frames). code.taken n pair.1 pair.1.cells (pair.0 ∷ map (item_in all) items)) (option_map (popped_read (reading_of all)) o))
+    → IsSome (option_and_then (λ (pair : rows.Item × Frames). code.taken n pair.1 pair.1.cells (pair.0 ∷ map (item_in all) items))
+    (option_map (popped_read (reading_of all)) o))
     → IsSome (option_and_then (λ (popped : Item × FlatStack). taken_onto n popped.1 (popped.0 ∷ items)) o)
 take_next all n items h (Some popped) q = h popped.1 (popped.0 ∷ items) q
 take_next all n items h None q = q
@@ -78,7 +80,9 @@ take_onto_there : (all : Extent) (n : ℕ) (m : FlatStack) (items : List Item)
 take_onto_there all zero m items h = refl
 take_onto_there all (suc n) m items h =
     take_next all n items (take_onto_there all n) (held.pop m)
-    (there_as _ _ (taken_pop n (stack_in all m) (map (item_in all) items) ∙ ap (option_and_then (λ (pair : rows.Item × Frames). code.taken n pair.1 pair.1.cells (pair.0 ∷ map (item_in all) items))) (pop_read (reading_of all) m)) h)
+    (there_as _ _ (taken_pop n (stack_in all m) (map (item_in all) items) ∙ ap
+    (option_and_then (λ (pair : rows.Item × Frames). code.taken n pair.1 pair.1.cells (pair.0 ∷ map (item_in all) items)))
+    (pop_read (reading_of all) m)) h)
 
 pub take_there : (all : Extent) (n : ℕ) (m : FlatStack) (next : List rows.Item → Frames → State Frames Frames)
     → with_taken flat n (stack_in all m) next ≢ stuck → IsSome (taken n m)
@@ -173,7 +177,8 @@ drop_get (y ∷ s) (suc i) x e = drop_get s i x e
 
 counts_there : (t : Tables) (reach : Reach) (all : Extent) (m : FlatStack) → IsLiveStack t reach m → IsSome (flat.count_down (stack_in all m))
     → IsSome (held.count_down m)
-counts_there t reach all m k h = by_cell (cell_at m.registers.mark m.cells) refl (there_as _ _ (ap (code.counted (stack_in all m)) (at_read (reading_of all) m.registers.mark m.cells)) h)
+counts_there t reach all m k h = by_cell (cell_at m.registers.mark m.cells) refl
+    (there_as _ _ (ap (code.counted (stack_in all m)) (at_read (reading_of all) m.registers.mark m.cells)) h)
   where
     none_left : (r : Registers) → cell_at m.registers.mark m.cells ≡ Some (Limit 0 r) → ⊥
     none_left r c =
@@ -208,7 +213,9 @@ string_lacks all tables m k st d = get_within tables.strings k (found_there (sli
 
 pub unmark_lacks : (all : Extent) (tables : Tables) (reach : Reach) (m : FlatStack) (st : Store Frames) → IsLiveStack tables reach m
     → done all tables Instrs.Unmark m st ≢ stuck → held.at_base m ≡ false
-unmark_lacks all tables reach m st k d = unmarks_off m k.root (read_there (unmarked_read (reading_of all)) (held.unmark m) (there_as _ _ (unmark_read (reading_of all) m) (found_there (flat.unmark (stack_in all m)) _ d)))
+unmark_lacks all tables reach m st k d = unmarks_off m k.root
+    (read_there (unmarked_read (reading_of all)) (held.unmark m) (there_as _ _ (unmark_read (reading_of all) m)
+    (found_there (flat.unmark (stack_in all m)) _ d)))
 
 pub esusp_operand : (all : Extent) (tables : Tables) (m : FlatStack) (st : Store Frames) → done all tables Instrs.Esusp m st ≢ stuck → IsSome (held.pop m)
 esusp_operand all tables m st d = pop_there all m _ d
@@ -218,13 +225,15 @@ pub esusp_mark : (all : Extent) (tables : Tables) (reach : Reach) (m : FlatStack
 esusp_mark all tables reach m st k d =
     if_some (held.pop m) (λ popped. held.at_base popped.1 ≡ false)
     (λ popped e. suspends_off popped.1 (live_pop tables reach m popped.1 popped.0 e k).rest.root
-    (read_there (stack_in all) (held.suspend_mark popped.1) (there_as _ _ (suspend_mark_read (reading_of all) popped.1) (found_there (flat.suspend_mark (stack_in all popped.1)) _ (pop_on all m popped.1 popped.0 _ e d)))))
+    (read_there (stack_in all) (held.suspend_mark popped.1) (there_as _ _ (suspend_mark_read (reading_of all) popped.1)
+    (found_there (flat.suspend_mark (stack_in all popped.1)) _ (pop_on all m popped.1 popped.0 _ e d)))))
 
 pub lsusp_count : (all : Extent) (tables : Tables) (reach : Reach) (m : FlatStack) (st : Store Frames) → IsLiveStack tables reach m
     → done all tables Instrs.Lsusp m st ≢ stuck → IfSome (held.pop m) (λ popped. IsSome (held.count_down popped.1))
 lsusp_count all tables reach m st k d =
     if_some (held.pop m) (λ popped. IsSome (held.count_down popped.1))
-    (λ popped e. counts_there tables reach all popped.1 (live_pop tables reach m popped.1 popped.0 e k).rest (found_there (flat.count_down (stack_in all popped.1)) _ (pop_on all m popped.1 popped.0 _ e d)))
+    (λ popped e. counts_there tables reach all popped.1 (live_pop tables reach m popped.1 popped.0 e k).rest
+    (found_there (flat.count_down (stack_in all popped.1)) _ (pop_on all m popped.1 popped.0 _ e d)))
 
 pub lsusp_mark : (all : Extent) (tables : Tables) (reach : Reach) (m : FlatStack) (st : Store Frames) → IsLiveStack tables reach m
     → done all tables Instrs.Lsusp m st ≢ stuck → IfSome (held.pop m) (λ popped. held.at_base popped.1 ≡ false)
@@ -236,10 +245,12 @@ lsusp_mark all tables reach m st k d =
 
 pub chfail_lacks : (all : Extent) (tables : Tables) (m : FlatStack) (label : ℕ) (st : Store Frames) → done all tables (Instrs.Chfail label) m st ≢ stuck
     → IsSome (held.relabel label m)
-chfail_lacks all tables m label st d = read_there (stack_in all) (held.relabel label m) (there_as _ _ (relabel_read (reading_of all) label m) (found_there (flat.relabel label (stack_in all m)) _ d))
+chfail_lacks all tables m label st d = read_there (stack_in all) (held.relabel label m)
+    (there_as _ _ (relabel_read (reading_of all) label m) (found_there (flat.relabel label (stack_in all m)) _ d))
 
 pub ccase_operand : (all : Extent) (tables : Tables) (m : FlatStack) (st : Store Frames) → done all tables Instrs.Ccase m st ≢ stuck → IsSome (held.below m)
-ccase_operand all tables m st d = read_there (item_in all) (held.below m) (there_as _ _ (below_read (reading_of all) m) (found_there (flat.below (stack_in all m)) _ d))
+ccase_operand all tables m st d = read_there (item_in all) (held.below m)
+    (there_as _ _ (below_read (reading_of all) m) (found_there (flat.below (stack_in all m)) _ d))
 
 not_none : {A : Type 0} (o : Option A) → IsSome o → is_none o ≡ false
 not_none (Some x) h = refl
@@ -260,7 +271,8 @@ eret_mark w tables t reach m k item val st e l h d =
     let all : Extent = extent_of w.heap in
     let found = not_as _ _ (popped_value w m k item val e st h (λ value a. unmarked flat a st (pushed flat (rows.Val value)))) d in
     unmarks_off k (live_pop t reach m k item e l).rest.root
-    (read_there (unmarked_read (reading_of all)) (held.unmark k) (there_as _ _ (unmark_read (reading_of all) k) (found_there (flat.unmark (stack_in all k)) _ found)))
+    (read_there (unmarked_read (reading_of all)) (held.unmark k) (there_as _ _ (unmark_read (reading_of all) k)
+    (found_there (flat.unmark (stack_in all k)) _ found)))
 
 exchanged_lacks : (all : Extent) (k : FlatStack) (next : Frames → Store Frames → State Frames Frames) (st : Store Frames) → k.registers.scan ≡ None
     → exchanged (flat.swap_newest (pair_now st) (stack_in all k)) next st ≡ stuck

@@ -49,7 +49,8 @@ pub done_lacks : (tables : Tables) (all : Extent) (table : Table) (f : FlatStack
 done_lacks tables all table f instr st r d = λ q. d (done_is tables all table f instr st r ∙ q)
 
 -- a stack that goes on
-pub stack_runs : (tables : Tables) (names : Names) (outside : Outside) (world : StoreWorld) (turns : ℕ) (begun : List Bool) (all : Extent) (table : Table) (f n : FlatStack) (instr : Instr) → table.running ≡ Some f → GoesOnIn tables instr f n
+pub stack_runs : (tables : Tables) (names : Names) (outside : Outside) (world : StoreWorld) (turns : ℕ) (begun : List Bool) (all : Extent) (table : Table)
+    (f n : FlatStack) (instr : Instr) → table.running ≡ Some f → GoesOnIn tables instr f n
     → instruction flat tables instr (stack_in all (running_of table.running)) (store_in names outside world turns begun all table)
     ≡ running (stack_in all n) (store_in names outside world turns begun all (record table { running = Some n }))
 stack_runs tables names outside world turns begun all table f n instr r h =
@@ -60,7 +61,9 @@ abbrev pub store_was : {K : Type 0} → Tables → Outside → World → Table �
 store_was tables outside w table m = store_in (all_names tables) outside (world_of w) m.turns m.begun.items (extent_of w.heap) table
 
 -- what stands after it, in a world that may have grown
-module _ {K : Type 0} (m : Machine K) (tables : Tables) (outside : Outside) (w : World) (table : Table) (n : FlatStack) (t : m.stacks.table ≡ record table { running = Some n }) (kept : KeepsItems (reach_of w []) (reach_of m.world [])) (live : AreLiveStacks tables (reach_of w []) table) where
+module _ {K : Type 0} (m : Machine K) (tables : Tables) (outside : Outside) (w : World) (table : Table) (n : FlatStack)
+    (t : m.stacks.table ≡ record table { running = Some n }) (kept : KeepsItems (reach_of w []) (reach_of m.world []))
+    (live : AreLiveStacks tables (reach_of w []) table) where
   moved : (F : Frames → Store Frames → State Frames Frames)
       → F (stack_in (extent_of m.world.heap) n) (with_world (world_of m.world) (store_was tables outside w table m))
       ≡ F (stack_in (extent_of m.world.heap) (running_of m.stacks.table.running))
@@ -90,7 +93,8 @@ module _ {K : Type 0} (m : Machine K) (tables : Tables) (outside : Outside) (w :
   world_halts state Halts.NoMemory h = tt
 
 -- what comes of an instruction that touches the stack and the world alone
-pub world_comes : {K : Type 0} (m : Machine K) (tables : Tables) (elsewhere outside : Outside) (w : World) (table : Table) (f n : FlatStack) (instr : Instr) (result : Result Stage Halt) → m.stacks.table ≡ record table { running = Some n }
+pub world_comes : {K : Type 0} (m : Machine K) (tables : Tables) (elsewhere outside : Outside) (w : World) (table : Table) (f n : FlatStack) (instr : Instr)
+    (result : Result Stage Halt) → m.stacks.table ≡ record table { running = Some n }
     → KeepsItems (reach_of w []) (reach_of m.world []) → AreLiveStacks tables (reach_of w []) table → table.running ≡ Some f
     → ComesIn tables instr w f m.world n result
     → instruction flat tables instr (stack_in (extent_of w.heap) (running_of table.running)) (store_was tables elsewhere w table m) ≢ stuck
@@ -113,7 +117,8 @@ world_comes m tables elsewhere outside w table f n instr (Err halt) t kept live 
     (world_halts m tables outside w table n t kept live (done all tables instr f here) halt (h here refl))
 
 -- a stack runs after it, as it enters no co-expression
-pub world_stack : {K : Type 0} (m : Machine K) (tables : Tables) (instr : Instr) (w : World) (f : FlatStack) (v : World) (n : FlatStack) (result : Result Stage Halt) (st : Store Frames) → st.world ≡ world_of w → IsSome m.stacks.table.running
+pub world_stack : {K : Type 0} (m : Machine K) (tables : Tables) (instr : Instr) (w : World) (f : FlatStack) (v : World) (n : FlatStack)
+    (result : Result Stage Halt) (st : Store Frames) → st.world ≡ world_of w → IsSome m.stacks.table.running
     → ComesIn tables instr w f v n result → IfOk result (HasStack m)
 world_stack m tables instr w f v n (Ok Stages.Runs) st e p h = p
 world_stack m tables instr w f v n (Ok Stages.Fails) st e p h = p

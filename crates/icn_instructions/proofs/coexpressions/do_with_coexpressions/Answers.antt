@@ -50,30 +50,44 @@ refresh-requires-clause-runs g c =
 pub coact-requires-clause-upper : goal.coact-requires-clause-upper
 coact-requires-clause-upper g c =
     upper_there (stack_of c.args.m.now)
-    (take_there (extent c.args.m.now) 2 (stack_of c.args.m.now) _ (lacks_as (extent c.args.m.now) (tables_of c.args.code.now) c.args.instr Instrs.Coact (stack_of c.args.m.now) (store_seen (tables_of c.args.code.now) c.requires.goes_on.0 c.args.m.now) c.in-Coact.is c.requires.goes_on.1))
+    (take_there (extent c.args.m.now) 2 (stack_of c.args.m.now) _
+    (lacks_as (extent c.args.m.now) (tables_of c.args.code.now) c.args.instr Instrs.Coact (stack_of c.args.m.now)
+    (store_seen (tables_of c.args.code.now) c.requires.goes_on.0 c.args.m.now) c.in-Coact.is c.requires.goes_on.1))
 
 pub coact-requires-clause-lower : goal.coact-requires-clause-lower
 coact-requires-clause-lower g c =
     lower_there (stack_of c.args.m.now)
-    (take_there (extent c.args.m.now) 2 (stack_of c.args.m.now) _ (lacks_as (extent c.args.m.now) (tables_of c.args.code.now) c.args.instr Instrs.Coact (stack_of c.args.m.now) (store_seen (tables_of c.args.code.now) c.requires.goes_on.0 c.args.m.now) c.in-Coact.is c.requires.goes_on.1))
+    (take_there (extent c.args.m.now) 2 (stack_of c.args.m.now) _
+    (lacks_as (extent c.args.m.now) (tables_of c.args.code.now) c.args.instr Instrs.Coact (stack_of c.args.m.now)
+    (store_seen (tables_of c.args.code.now) c.requires.goes_on.0 c.args.m.now) c.in-Coact.is c.requires.goes_on.1))
 
 pub coret-requires-clause-operand : goal.coret-requires-clause-operand
 coret-requires-clause-operand g c =
     coret_operand (extent c.args.m.now) (tables_of c.args.code.now) (stack_of c.args.m.now)
     (store_seen (tables_of c.args.code.now) c.requires.goes_on.0 c.args.m.now)
-    (lacks_as (extent c.args.m.now) (tables_of c.args.code.now) c.args.instr Instrs.Coret (stack_of c.args.m.now) (store_seen (tables_of c.args.code.now) c.requires.goes_on.0 c.args.m.now) c.in-Coret.is c.requires.goes_on.1)
+    (lacks_as (extent c.args.m.now) (tables_of c.args.code.now) c.args.instr Instrs.Coret (stack_of c.args.m.now)
+    (store_seen (tables_of c.args.code.now) c.requires.goes_on.0 c.args.m.now) c.in-Coret.is c.requires.goes_on.1)
 
 pub coret-requires-clause-base : goal.coret-requires-clause-base
 coret-requires-clause-base g c =
-    (coret_body (extent c.args.m.now) (tables_of c.args.code.now) (stack_of c.args.m.now) (store_seen (tables_of c.args.code.now) c.requires.goes_on.0 c.args.m.now) (lacks_as (extent c.args.m.now) (tables_of c.args.code.now) c.args.instr Instrs.Coret (stack_of c.args.m.now) (store_seen (tables_of c.args.code.now) c.requires.goes_on.0 c.args.m.now) c.in-Coret.is c.requires.goes_on.1)).0
+    (coret_body (extent c.args.m.now) (tables_of c.args.code.now) (stack_of c.args.m.now)
+    (store_seen (tables_of c.args.code.now) c.requires.goes_on.0 c.args.m.now)
+    (lacks_as (extent c.args.m.now) (tables_of c.args.code.now) c.args.instr Instrs.Coret (stack_of c.args.m.now)
+    (store_seen (tables_of c.args.code.now) c.requires.goes_on.0 c.args.m.now) c.in-Coret.is c.requires.goes_on.1)).0
 
 pub coret-requires-clause-other : goal.coret-requires-clause-other
 coret-requires-clause-other g c =
-    (coret_body (extent c.args.m.now) (tables_of c.args.code.now) (stack_of c.args.m.now) (store_seen (tables_of c.args.code.now) c.requires.goes_on.0 c.args.m.now) (lacks_as (extent c.args.m.now) (tables_of c.args.code.now) c.args.instr Instrs.Coret (stack_of c.args.m.now) (store_seen (tables_of c.args.code.now) c.requires.goes_on.0 c.args.m.now) c.in-Coret.is c.requires.goes_on.1)).1
+    (coret_body (extent c.args.m.now) (tables_of c.args.code.now) (stack_of c.args.m.now)
+    (store_seen (tables_of c.args.code.now) c.requires.goes_on.0 c.args.m.now)
+    (lacks_as (extent c.args.m.now) (tables_of c.args.code.now) c.args.instr Instrs.Coret (stack_of c.args.m.now)
+    (store_seen (tables_of c.args.code.now) c.requires.goes_on.0 c.args.m.now) c.in-Coret.is c.requires.goes_on.1)).1
 
 pub exhaust-requires-clause-other : goal.exhaust-requires-clause-other
 exhaust-requires-clause-other g c =
-    (cofail_body (extent c.args.m.now) (tables_of c.args.code.now) (stack_of c.args.m.now) (store_seen (tables_of c.args.code.now) c.requires.goes_on.0 c.args.m.now) (lacks_as (extent c.args.m.now) (tables_of c.args.code.now) c.args.instr Instrs.Cofail (stack_of c.args.m.now) (store_seen (tables_of c.args.code.now) c.requires.goes_on.0 c.args.m.now) c.in-Cofail.is c.requires.goes_on.1)).1
+    (cofail_body (extent c.args.m.now) (tables_of c.args.code.now) (stack_of c.args.m.now)
+    (store_seen (tables_of c.args.code.now) c.requires.goes_on.0 c.args.m.now)
+    (lacks_as (extent c.args.m.now) (tables_of c.args.code.now) c.args.instr Instrs.Cofail (stack_of c.args.m.now)
+    (store_seen (tables_of c.args.code.now) c.requires.goes_on.0 c.args.m.now) c.in-Cofail.is c.requires.goes_on.1)).1
 
 pub exhaust-requires-clause-bounds : goal.exhaust-requires-clause-bounds
 exhaust-requires-clause-bounds g c =
@@ -84,7 +98,9 @@ refresh-requires-clause-operand g c =
     let is : c.args.instr ≡ Instrs.Op Ops.Refresh = c.in-Op.is ∙ ap Instrs.Op
     (op_refreshes c.in-Op.field-0 (ap group_of (sym c.in-Op.is) ∙ c.requires.group)) in
     one_there (stack_of c.args.m.now)
-    (take_there (extent c.args.m.now) 1 (stack_of c.args.m.now) _ (lacks_as (extent c.args.m.now) (tables_of c.args.code.now) c.args.instr (Instrs.Op Ops.Refresh) (stack_of c.args.m.now) (store_seen (tables_of c.args.code.now) c.requires.goes_on.0 c.args.m.now) is c.requires.goes_on.1))
+    (take_there (extent c.args.m.now) 1 (stack_of c.args.m.now) _
+    (lacks_as (extent c.args.m.now) (tables_of c.args.code.now) c.args.instr (Instrs.Op Ops.Refresh) (stack_of c.args.m.now)
+    (store_seen (tables_of c.args.code.now) c.requires.goes_on.0 c.args.m.now) is c.requires.goes_on.1))
 
 pub unreachable-requires : goal.unreachable-requires
 unreachable-requires g c =
@@ -181,9 +197,12 @@ pub returns-in-Cofail-clause-step : goal.returns-in-Cofail-clause-step
 returns-in-Cofail-clause-step g c =
     let body = cofail_body (extent c.args.m.now) (tables_of c.args.code.now) (stack_of c.args.m.now)
     (store_seen (tables_of c.args.code.now) c.requires.goes_on.0 c.args.m.now)
-    (lacks_as (extent c.args.m.now) (tables_of c.args.code.now) c.args.instr Instrs.Cofail (stack_of c.args.m.now) (store_seen (tables_of c.args.code.now) c.requires.goes_on.0 c.args.m.now) c.in-Cofail.is c.requires.goes_on.1) in
+    (lacks_as (extent c.args.m.now) (tables_of c.args.code.now) c.args.instr Instrs.Cofail (stack_of c.args.m.now)
+    (store_seen (tables_of c.args.code.now) c.requires.goes_on.0 c.args.m.now) c.in-Cofail.is c.requires.goes_on.1) in
     λ outside. comes_to_as (tables_of c.args.code.now) outside c.args.instr Instrs.Cofail c.args.m.now c.exhaust.new.m (Ok c.exhaust.result) c.in-Cofail.is
-    (subst (λ (s : State Frames Frames). StandsAt (tables_of c.args.code.now) outside s c.exhaust.new.m c.exhaust.result) (sym (cofail_is (extent c.args.m.now) (tables_of c.args.code.now) (stack_of c.args.m.now) (store_seen (tables_of c.args.code.now) outside c.args.m.now) body.0 body.1)) (c.exhaust.ensures.step (tables_of c.args.code.now) outside))
+    (subst (λ (s : State Frames Frames). StandsAt (tables_of c.args.code.now) outside s c.exhaust.new.m c.exhaust.result)
+    (sym (cofail_is (extent c.args.m.now) (tables_of c.args.code.now) (stack_of c.args.m.now)
+    (store_seen (tables_of c.args.code.now) outside c.args.m.now) body.0 body.1)) (c.exhaust.ensures.step (tables_of c.args.code.now) outside))
 
 pub returns-in-Cofail-clause-sound : goal.returns-in-Cofail-clause-sound
 returns-in-Cofail-clause-sound g c =

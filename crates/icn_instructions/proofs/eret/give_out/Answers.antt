@@ -33,14 +33,17 @@ unmark-pair-requires g c =
     let w = c.args.world.now in
     let asked = c.requires.goes_on in
     subst (λ (x : FlatStack). at_base x ≡ false) (sym c.value_of.ensures.same)
-    (eret_mark w asked.0 c.requires.live.0 (reach_of w []) c.args.frames.now.flat c.pop-x.new.self.flat c.pop-x.result c.in_ok-v.v asked.1.0 c.pop-x.ensures.flat c.requires.live.1 (c.in_ok-v.ensures.value asked.1.0 asked.1.1.0) asked.1.1.1)
+    (eret_mark w asked.0 c.requires.live.0
+    (reach_of w []) c.args.frames.now.flat c.pop-x.new.self.flat c.pop-x.result c.in_ok-v.v asked.1.0 c.pop-x.ensures.flat c.requires.live.1
+    (c.in_ok-v.ensures.value asked.1.0 asked.1.1.0) asked.1.1.1)
 
 pub restore_pair-requires : goal.restore_pair-requires
 restore_pair-requires g c =
     let w = c.args.world.now in
     let t = c.requires.live.0 in
     let popped = live_pop t (reach_of w []) c.args.frames.now.flat c.pop-x.new.self.flat c.pop-x.result c.pop-x.ensures.flat c.requires.live.1 in
-    (live_unmark t (reach_of w []) c.pop-x.new.self.flat c.unmark-pair.new.self.flat c.unmark-pair.result (ap unmark (sym c.value_of.ensures.same) ∙ c.unmark-pair.ensures.flat) popped.rest).pair_live
+    (live_unmark t (reach_of w []) c.pop-x.new.self.flat c.unmark-pair.new.self.flat c.unmark-pair.result
+    (ap unmark (sym c.value_of.ensures.same) ∙ c.unmark-pair.ensures.flat) popped.rest).pair_live
 
 pub returns-clause-step : goal.returns-clause-step
 returns-clause-step g c =

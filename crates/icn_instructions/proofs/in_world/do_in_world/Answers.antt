@@ -15,7 +15,8 @@ use Rattle.icn_instructions.proofs.in_world.do_in_world.Goals as goal
 pub push_string-requires-clause-place : goal.push_string-requires-clause-place
 push_string-requires-clause-place g c =
     string_lacks (extent_of c.args.world.now.heap) (tables_of c.args.code.now) c.args.frames.now.flat c.in-Str.place c.requires.goes_on.0
-    (lacks_as (extent_of c.args.world.now.heap) (tables_of c.args.code.now) c.args.instr (Instrs.Str c.in-Str.place) c.args.frames.now.flat c.requires.goes_on.0 c.in-Str.is c.requires.goes_on.1.1)
+    (lacks_as (extent_of c.args.world.now.heap) (tables_of c.args.code.now) c.args.instr
+    (Instrs.Str c.in-Str.place) c.args.frames.now.flat c.requires.goes_on.0 c.in-Str.is c.requires.goes_on.1.1)
 
 pub push_string-requires-clause-live : goal.push_string-requires-clause-live
 push_string-requires-clause-live g c =
@@ -46,38 +47,53 @@ give_back-requires-clause-live g c =
     ((tables_of c.args.code.now), c.requires.live)
 
 pub give_out-requires-clause-goes_on : goal.give_out-requires-clause-goes_on
-give_out-requires-clause-goes_on g c =
-    ((tables_of c.args.code.now), (c.requires.goes_on.0, (c.requires.goes_on.1.0, lacks_as (extent_of c.args.world.now.heap) (tables_of c.args.code.now) c.args.instr Instrs.Eret c.args.frames.now.flat c.requires.goes_on.0 c.in-Eret.is c.requires.goes_on.1.1)))
+give_out-requires-clause-goes_on g c = (
+  (tables_of c.args.code.now),
+  (
+    c.requires.goes_on.0,
+    (
+      c.requires.goes_on.1.0,
+      lacks_as (extent_of c.args.world.now.heap)
+          (tables_of c.args.code.now) c.args.instr Instrs.Eret c.args.frames.now.flat c.requires.goes_on.0 c.in-Eret.is c.requires.goes_on.1.1,
+    ),
+  ),
+)
 
 pub limit-requires-clause-operand : goal.limit-requires-clause-operand
 limit-requires-clause-operand g c =
     pop_there (extent_of c.args.world.now.heap) c.args.frames.now.flat _
-    (lacks_as (extent_of c.args.world.now.heap) (tables_of c.args.code.now) c.args.instr Instrs.Limit c.args.frames.now.flat c.requires.goes_on.0 c.in-Limit.is c.requires.goes_on.1.1)
+    (lacks_as (extent_of c.args.world.now.heap)
+    (tables_of c.args.code.now) c.args.instr Instrs.Limit c.args.frames.now.flat c.requires.goes_on.0 c.in-Limit.is c.requires.goes_on.1.1)
 
 pub open_scan-requires-clause-operand : goal.open_scan-requires-clause-operand
 open_scan-requires-clause-operand g c =
     pop_there (extent_of c.args.world.now.heap) c.args.frames.now.flat _
-    (lacks_as (extent_of c.args.world.now.heap) (tables_of c.args.code.now) c.args.instr Instrs.Bscan c.args.frames.now.flat c.requires.goes_on.0 c.in-Bscan.is c.requires.goes_on.1.1)
+    (lacks_as (extent_of c.args.world.now.heap)
+    (tables_of c.args.code.now) c.args.instr Instrs.Bscan c.args.frames.now.flat c.requires.goes_on.0 c.in-Bscan.is c.requires.goes_on.1.1)
 
 pub leave_scan-requires-clause-operand : goal.leave_scan-requires-clause-operand
 leave_scan-requires-clause-operand g c =
     pop_there (extent_of c.args.world.now.heap) c.args.frames.now.flat _
-    (lacks_as (extent_of c.args.world.now.heap) (tables_of c.args.code.now) c.args.instr Instrs.Escan c.args.frames.now.flat c.requires.goes_on.0 c.in-Escan.is c.requires.goes_on.1.1)
+    (lacks_as (extent_of c.args.world.now.heap)
+    (tables_of c.args.code.now) c.args.instr Instrs.Escan c.args.frames.now.flat c.requires.goes_on.0 c.in-Escan.is c.requires.goes_on.1.1)
 
 pub suspend_with-requires-clause-operand : goal.suspend_with-requires-clause-operand
 suspend_with-requires-clause-operand g c =
     pop_there (extent_of c.args.world.now.heap) c.args.frames.now.flat _
-    (lacks_as (extent_of c.args.world.now.heap) (tables_of c.args.code.now) c.args.instr Instrs.Psusp c.args.frames.now.flat c.requires.goes_on.0 c.in-Psusp.is c.requires.goes_on.1.1)
+    (lacks_as (extent_of c.args.world.now.heap)
+    (tables_of c.args.code.now) c.args.instr Instrs.Psusp c.args.frames.now.flat c.requires.goes_on.0 c.in-Psusp.is c.requires.goes_on.1.1)
 
 pub give_back-requires-clause-operand : goal.give_back-requires-clause-operand
 give_back-requires-clause-operand g c =
     pop_there (extent_of c.args.world.now.heap) c.args.frames.now.flat _
-    (lacks_as (extent_of c.args.world.now.heap) (tables_of c.args.code.now) c.args.instr Instrs.Pret c.args.frames.now.flat c.requires.goes_on.0 c.in-Pret.is c.requires.goes_on.1.1)
+    (lacks_as (extent_of c.args.world.now.heap)
+    (tables_of c.args.code.now) c.args.instr Instrs.Pret c.args.frames.now.flat c.requires.goes_on.0 c.in-Pret.is c.requires.goes_on.1.1)
 
 pub leave_scan-requires-clause-scan : goal.leave_scan-requires-clause-scan
 leave_scan-requires-clause-scan g c =
     escan_scan (extent_of c.args.world.now.heap) (tables_of c.args.code.now) c.args.frames.now.flat c.requires.goes_on.0
-    (lacks_as (extent_of c.args.world.now.heap) (tables_of c.args.code.now) c.args.instr Instrs.Escan c.args.frames.now.flat c.requires.goes_on.0 c.in-Escan.is c.requires.goes_on.1.1)
+    (lacks_as (extent_of c.args.world.now.heap)
+    (tables_of c.args.code.now) c.args.instr Instrs.Escan c.args.frames.now.flat c.requires.goes_on.0 c.in-Escan.is c.requires.goes_on.1.1)
 
 pub fail_procedure-requires : goal.fail_procedure-requires
 fail_procedure-requires g c =

@@ -30,8 +30,15 @@ do_on_stack-requires-clause-group g c =
     sym c.group_of.ensures ∙ c.in-Stack.is
 
 pub do_on_stack-requires-clause-goes_on : goal.do_on_stack-requires-clause-goes_on
-do_on_stack-requires-clause-goes_on g c =
-    ((extent c.args.m.now), ((store_seen (tables_of c.args.code.now) c.requires.goes_on.0 c.args.m.now), done_lacks (tables_of c.args.code.now) (extent c.args.m.now) c.args.m.now.stacks.table c.frames.result.now.flat c.args.instr (store_seen (tables_of c.args.code.now) c.requires.goes_on.0 c.args.m.now) c.frames.ensures.running c.requires.goes_on.1))
+do_on_stack-requires-clause-goes_on g c = (
+  (extent c.args.m.now),
+  (
+    (store_seen (tables_of c.args.code.now) c.requires.goes_on.0 c.args.m.now),
+    done_lacks (tables_of c.args.code.now)
+        (extent c.args.m.now) c.args.m.now.stacks.table c.frames.result.now.flat c.args.instr
+        (store_seen (tables_of c.args.code.now) c.requires.goes_on.0 c.args.m.now) c.frames.ensures.running c.requires.goes_on.1,
+  ),
+)
 
 pub do_on_stack-requires-clause-in_range : goal.do_on_stack-requires-clause-in_range
 do_on_stack-requires-clause-in_range g c =
@@ -39,20 +46,35 @@ do_on_stack-requires-clause-in_range g c =
     (runs_as c.args.m.now.stacks.table c.frames.result.now.flat c.frames.ensures.running) c.requires.in_range
 
 pub do_on_stack-requires-clause-case_mark : goal.do_on_stack-requires-clause-case_mark
-do_on_stack-requires-clause-case_mark g c =
-    ((extent c.args.m.now), subst (λ (x : FlatStack). HasCaseMark c.args.instr (stack_in (extent c.args.m.now) x)) (runs_as c.args.m.now.stacks.table c.frames.result.now.flat c.frames.ensures.running) c.requires.case_mark)
+do_on_stack-requires-clause-case_mark g c = (
+  (extent c.args.m.now),
+  subst (λ (x : FlatStack). HasCaseMark c.args.instr (stack_in (extent c.args.m.now) x))
+      (runs_as c.args.m.now.stacks.table c.frames.result.now.flat c.frames.ensures.running) c.requires.case_mark,
+)
 
 pub do_on_stack-requires-clause-live : goal.do_on_stack-requires-clause-live
-do_on_stack-requires-clause-live g c =
-    (world_reach c.args.m.now, (may_name (tables_of c.args.code.now) c.requires.variables.0 c.args.m.now c.requires.variables.1, running_live (tables_of c.args.code.now) (world_reach c.args.m.now) c.args.m.now.stacks.table c.frames.result.now.flat c.frames.ensures.running c.requires.sound.stacks))
+do_on_stack-requires-clause-live g c = (
+  world_reach c.args.m.now,
+  (
+    may_name (tables_of c.args.code.now) c.requires.variables.0 c.args.m.now c.requires.variables.1,
+    running_live
+        (tables_of c.args.code.now) (world_reach c.args.m.now) c.args.m.now.stacks.table c.frames.result.now.flat c.frames.ensures.running c.requires.sound.stacks,
+  ),
+)
 
 pub do_in_world-requires-clause-group : goal.do_in_world-requires-clause-group
 do_in_world-requires-clause-group g c =
     sym c.group_of.ensures ∙ c.in-World.is
 
 pub do_in_world-requires-clause-goes_on : goal.do_in_world-requires-clause-goes_on
-do_in_world-requires-clause-goes_on g c =
-    ((store_seen (tables_of c.args.code.now) c.requires.goes_on.0 c.args.m.now), (refl, done_lacks (tables_of c.args.code.now) (extent c.args.m.now) c.args.m.now.stacks.table c.frames-in-World.result.now.flat c.args.instr (store_seen (tables_of c.args.code.now) c.requires.goes_on.0 c.args.m.now) c.frames-in-World.ensures.running c.requires.goes_on.1))
+do_in_world-requires-clause-goes_on g c = (
+  (store_seen (tables_of c.args.code.now) c.requires.goes_on.0 c.args.m.now),
+  (
+    refl,
+    done_lacks (tables_of c.args.code.now) (extent c.args.m.now) c.args.m.now.stacks.table c.frames-in-World.result.now.flat c.args.instr
+        (store_seen (tables_of c.args.code.now) c.requires.goes_on.0 c.args.m.now) c.frames-in-World.ensures.running c.requires.goes_on.1,
+  ),
+)
 
 pub do_in_world-requires-clause-live : goal.do_in_world-requires-clause-live
 do_in_world-requires-clause-live g c =
@@ -115,7 +137,8 @@ returns-in-Ok-clause-sound g c =
     record {
       stacks = stacks_on (tables_of c.args.code.now) (world_reach c.args.m.now) c.args.m.now.stacks.table c.frames.result.now.flat
           c.do_on_stack.new.frames.flat c.frames.ensures.running
-          (λ l. c.in-Ok.ensures.live (world_reach c.args.m.now) (may_name (tables_of c.args.code.now) c.requires.variables.0 c.args.m.now c.requires.variables.1) l) k.stacks;
+          (λ l. c.in-Ok.ensures.live (world_reach c.args.m.now) (may_name
+          (tables_of c.args.code.now) c.requires.variables.0 c.args.m.now c.requires.variables.1) l) k.stacks;
       bounds = k.bounds;
       counts = k.counts;
       counted = record { results = k.counted.results; activators = k.counted.activators };
@@ -144,7 +167,11 @@ returns-in-World-clause-sound g c =
       stacks = stacks_grow (tables_of c.args.code.now) m.world v m.stacks.table c.do_in_world.new.frames.flat c.do_in_world.ensures.kept live k.stacks;
       bounds = counts.bounds ∙ k.bounds;
       counts = ap length counts.coexps ∙ k.counts;
-      counted = record { results = list_counts m.turns m.stacks.table.active (heap_of m.world.heap).coexps (heap_of v.heap).coexps counts.coexps k.counted.results; activators = k.counted.activators };
+      counted = record {
+        results = list_counts m.turns m.stacks.table.active (heap_of m.world.heap).coexps
+            (heap_of v.heap).coexps counts.coexps k.counted.results;
+        activators = k.counted.activators;
+      };
     }) c.do_in_world.ensures.live c.do_in_world.ensures.counts
 
 pub returns-in-World-clause-halt : goal.returns-in-World-clause-halt

@@ -54,33 +54,38 @@ init-requires-clause-runs g c =
 pub make_list-requires-clause-operands : goal.make_list-requires-clause-operands
 make_list-requires-clause-operands g c =
     take_there (extent c.args.m.now) c.in-Llist.count (stack_of c.args.m.now) _
-    (lacks_as (extent c.args.m.now) (tables_of c.args.code.now) c.args.instr (Instrs.Llist c.in-Llist.count) (stack_of c.args.m.now) (store_seen (tables_of c.args.code.now) c.requires.goes_on.0 c.args.m.now) c.in-Llist.is c.requires.goes_on.1)
+    (lacks_as (extent c.args.m.now) (tables_of c.args.code.now) c.args.instr (Instrs.Llist c.in-Llist.count) (stack_of c.args.m.now)
+    (store_seen (tables_of c.args.code.now) c.requires.goes_on.0 c.args.m.now) c.in-Llist.is c.requires.goes_on.1)
 
 pub unmark-requires-clause-mark : goal.unmark-requires-clause-mark
 unmark-requires-clause-mark g c =
     unmark_lacks (extent c.args.m.now) (tables_of c.args.code.now) (world_reach c.args.m.now) (stack_of c.args.m.now)
     (store_seen (tables_of c.args.code.now) c.requires.goes_on.0 c.args.m.now)
     (runs_live (tables_of c.args.code.now) (world_reach c.args.m.now) c.args.m.now.stacks.table c.requires.runs c.requires.sound.stacks)
-    (lacks_as (extent c.args.m.now) (tables_of c.args.code.now) c.args.instr Instrs.Unmark (stack_of c.args.m.now) (store_seen (tables_of c.args.code.now) c.requires.goes_on.0 c.args.m.now) c.in-Unmark.is c.requires.goes_on.1)
+    (lacks_as (extent c.args.m.now) (tables_of c.args.code.now) c.args.instr Instrs.Unmark (stack_of c.args.m.now)
+    (store_seen (tables_of c.args.code.now) c.requires.goes_on.0 c.args.m.now) c.in-Unmark.is c.requires.goes_on.1)
 
 pub lsusp-requires-clause-operand : goal.lsusp-requires-clause-operand
 lsusp-requires-clause-operand g c =
     pop_there (extent c.args.m.now) (stack_of c.args.m.now) _
-    (lacks_as (extent c.args.m.now) (tables_of c.args.code.now) c.args.instr Instrs.Lsusp (stack_of c.args.m.now) (store_seen (tables_of c.args.code.now) c.requires.goes_on.0 c.args.m.now) c.in-Lsusp.is c.requires.goes_on.1)
+    (lacks_as (extent c.args.m.now) (tables_of c.args.code.now) c.args.instr Instrs.Lsusp (stack_of c.args.m.now)
+    (store_seen (tables_of c.args.code.now) c.requires.goes_on.0 c.args.m.now) c.in-Lsusp.is c.requires.goes_on.1)
 
 pub lsusp-requires-clause-mark : goal.lsusp-requires-clause-mark
 lsusp-requires-clause-mark g c =
     lsusp_mark (extent c.args.m.now) (tables_of c.args.code.now) (world_reach c.args.m.now) (stack_of c.args.m.now)
     (store_seen (tables_of c.args.code.now) c.requires.goes_on.0 c.args.m.now)
     (runs_live (tables_of c.args.code.now) (world_reach c.args.m.now) c.args.m.now.stacks.table c.requires.runs c.requires.sound.stacks)
-    (lacks_as (extent c.args.m.now) (tables_of c.args.code.now) c.args.instr Instrs.Lsusp (stack_of c.args.m.now) (store_seen (tables_of c.args.code.now) c.requires.goes_on.0 c.args.m.now) c.in-Lsusp.is c.requires.goes_on.1)
+    (lacks_as (extent c.args.m.now) (tables_of c.args.code.now) c.args.instr Instrs.Lsusp (stack_of c.args.m.now)
+    (store_seen (tables_of c.args.code.now) c.requires.goes_on.0 c.args.m.now) c.in-Lsusp.is c.requires.goes_on.1)
 
 pub lsusp-requires-clause-count : goal.lsusp-requires-clause-count
 lsusp-requires-clause-count g c =
     lsusp_count (extent c.args.m.now) (tables_of c.args.code.now) (world_reach c.args.m.now) (stack_of c.args.m.now)
     (store_seen (tables_of c.args.code.now) c.requires.goes_on.0 c.args.m.now)
     (runs_live (tables_of c.args.code.now) (world_reach c.args.m.now) c.args.m.now.stacks.table c.requires.runs c.requires.sound.stacks)
-    (lacks_as (extent c.args.m.now) (tables_of c.args.code.now) c.args.instr Instrs.Lsusp (stack_of c.args.m.now) (store_seen (tables_of c.args.code.now) c.requires.goes_on.0 c.args.m.now) c.in-Lsusp.is c.requires.goes_on.1)
+    (lacks_as (extent c.args.m.now) (tables_of c.args.code.now) c.args.instr Instrs.Lsusp (stack_of c.args.m.now)
+    (store_seen (tables_of c.args.code.now) c.requires.goes_on.0 c.args.m.now) c.in-Lsusp.is c.requires.goes_on.1)
 
 pub go_back-requires-clause-bounds : goal.go_back-requires-clause-bounds
 go_back-requires-clause-bounds g c =

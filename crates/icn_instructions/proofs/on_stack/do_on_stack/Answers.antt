@@ -75,7 +75,8 @@ pub change_label-requires : goal.change_label-requires
 change_label-requires g c =
     let tables : Tables = tables_of c.args.code.now in
     chfail_lacks c.requires.goes_on.0 tables c.args.frames.now.flat c.in-Chfail.label c.requires.goes_on.1.0
-    (lacks_as c.requires.goes_on.0 tables c.args.instr (Instrs.Chfail c.in-Chfail.label) c.args.frames.now.flat c.requires.goes_on.1.0 c.in-Chfail.is c.requires.goes_on.1.1)
+    (lacks_as c.requires.goes_on.0 tables c.args.instr
+    (Instrs.Chfail c.in-Chfail.label) c.args.frames.now.flat c.requires.goes_on.1.0 c.in-Chfail.is c.requires.goes_on.1.1)
 
 pub push_below-requires-clause-operand : goal.push_below-requires-clause-operand
 push_below-requires-clause-operand g c =
@@ -169,7 +170,8 @@ returns-in-Static-clause-step g c =
     let first : c.first_static-first.result ≡ statics_before tables (held.proc c.args.frames.now.flat) = c.first_static-first.ensures ∙ ap
     (statics_before tables) c.proc.ensures in
     on_ok c.push_static.result _ _
-    (λ h. goes_as tables c.args.instr (Instrs.Static c.in-Static.place) c.args.frames.now.flat c.push_static.new.frames.flat c.in-Static.is (h tables first)) c.push_static.ensures.step
+    (λ h. goes_as tables c.args.instr (Instrs.Static c.in-Static.place) c.args.frames.now.flat c.push_static.new.frames.flat c.in-Static.is
+    (h tables first)) c.push_static.ensures.step
 
 pub returns-in-Static-clause-live : goal.returns-in-Static-clause-live
 returns-in-Static-clause-live g c =
@@ -196,7 +198,9 @@ pub returns-in-Global-clause-live : goal.returns-in-Global-clause-live
 returns-in-Global-clause-live g c =
     let tables : Tables = tables_of c.args.code.now in
     on_ok c.push_global.result _ _
-    (λ h reach names l. h tables reach (global_there tables reach (held.proc c.args.frames.now.flat) c.in-Global.place (range_as tables (held.proc c.args.frames.now.flat) c.args.instr (Instrs.Global c.in-Global.place) c.in-Global.is c.requires.in_range) names) l) c.push_global.ensures.live
+    (λ h reach names l. h tables reach (global_there tables reach (held.proc c.args.frames.now.flat) c.in-Global.place
+    (range_as tables (held.proc c.args.frames.now.flat) c.args.instr
+    (Instrs.Global c.in-Global.place) c.in-Global.is c.requires.in_range) names) l) c.push_global.ensures.live
 
 pub returns-in-Global-clause-no_memory : goal.returns-in-Global-clause-no_memory
 returns-in-Global-clause-no_memory g c =
