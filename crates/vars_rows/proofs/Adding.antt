@@ -1,0 +1,20 @@
+-- A world to which a static is added.
+use Rattle.std.proofs.Common.{◌≡◌, ℕ, Bool, true, false, List, [], ◌∷◌, ◌++◌}
+use Rattle.std.specs.Prelude.{if◌then◌else◌}
+use Rattle.std.proofs.lemmas.List.Elements.{All-push}
+use Rattle.icn_value.specs.declared.item.Pair.{Pair}
+use Rattle.icn_value.specs.declared.val.Val.{Val}
+use Rattle.icn_heap.specs.Extents.{Extent, IsLive}
+use Rattle.icn_vars.specs.Facts.{IsSoundWorld}
+
+pub static_added : (all : Extent) (pair : Pair) (random : ℕ) (globals statics items : List Val) (val : Val) (pushed : Bool) → IsSoundWorld all pair random globals statics → IsLive all val
+    → items ≡ (if pushed then statics ++ val ∷ [] else statics) → IsSoundWorld all pair random globals items
+static_added all pair random globals statics items val true sound live is = rw is (record {
+  live_globals = sound.live_globals;
+  live_statics = All-push (IsLive all) statics val sound.live_statics live;
+  subject = sound.subject;
+  low = sound.low;
+  high = sound.high;
+  state = sound.state;
+})
+static_added all pair random globals statics items val false sound live is = rw is sound
