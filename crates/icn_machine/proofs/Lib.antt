@@ -1,7 +1,15 @@
+pub mod AdvanceSteps
 pub mod CallFacts
+pub mod CodeRules
+pub mod DoingSteps
 pub mod ElementSteps
+pub mod FailFalls
+pub mod FailingSteps
 pub mod GiveSteps
 pub mod InvokeSteps
+pub mod KeptSteps
+pub mod LoopSteps
+pub mod NextSteps
 pub mod OperandCalls
 pub mod OperateSteps
 pub mod PerformEvents

@@ -2,3 +2,5 @@ pub mod Answering
 pub mod Giving
 pub mod Invoking
 pub mod Performing
+pub mod Stepping
+pub mod Steps

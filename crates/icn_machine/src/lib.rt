@@ -3,15 +3,19 @@
 
 mod begun;
 mod elements;
+mod failing;
 mod fields;
 mod giving;
 mod invoking;
 mod operations;
 mod performing;
+mod stepping;
 
 pub use begun::{Earlier, OwnLocals};
+pub use failing::fail_through;
 pub use fields::field;
 pub use giving::give_outcome;
 pub use invoking::{appl, call_value, invoke};
 pub use operations::{operate, resume};
 pub use performing::{perform, perform_again};
+pub use stepping::{Rooms, Stepped, step};

@@ -1,0 +1,277 @@
+-- What some steps come to, put together.
+use Rattle.std.proofs.Common.{◌≡◌, ℕ, zero, suc, ◌+◌, List, [], ◌∷◌, ◌++◌, true, Some, Result, Ok, Err, refl, sym, ap, ◌∙◌, subst, arith}
+use Rattle.icn_host.specs.Counts.{one_more}
+use Rattle.icn_value.specs.Store.{Outside, outside_of}
+use Rattle.icn_vars.specs.declared.outcome.Halt.{Halt}
+use Rattle.icn_vars.specs.declared.outcome.Halt.TheVariants as Halts
+use Rattle.icn_code.specs.Codes.{Tables}
+use Rattle.icn_run.specs.Stacks.{Frames, flat}
+use Rattle.icn_run.specs.Step.{State, running, failing, hopping, step, steps}
+use Rattle.icn_run_safe.specs.AnyOutside.{over_outside, run_over}
+use Rattle.icn_streams.specs.Handed.{Handed, Follows, KeepsAllCounts, WantsMemory, WritingFails, uncounted, output_wants, errors_want, output_fails as writing_output, errors_fail as writing_errors}
+use Rattle.icn_streams.proofs.Idle.{all_counts}
+use Rattle.icn_streams.proofs.Following.{follows_all, follows_then}
+use Rattle.icn_control.specs.Machines.{ComesTo, StandsAt, stack_seen, store_seen}
+use Rattle.icn_control.specs.declared.machine.Machine.{Machine}
+use Rattle.icn_control.specs.declared.machine.Stage.{Stage}
+use Rattle.icn_control.specs.declared.machine.Stage.TheVariants as Stages
+use Rattle.icn_machine.specs.Answering.{AnswersStep, IsCause, having, idle}
+use Rattle.icn_machine.specs.Performing.{PerformsOn}
+use Rattle.icn_machine.specs.Stepping.{Advances, IsAt, IsFirstFault, Leads, OutputFails, StandsBy, errors_fail, goes_on, output_fails, outside_at}
+
+-- Where a machine stands
+
+-- the state has the outside over which the machine stands for it
+pub at_own : {K : Type 0} (tables : Tables) (was : Outside) (state : State Frames Frames) (m : Machine K) (stage : Stage)
+    → IsAt tables was state m stage → outside_at state ≡ was
+at_own tables was state m Stages.Runs e = ap outside_at e
+at_own tables was state m Stages.Fails e = ap outside_at e
+at_own tables was state m Stages.HopDue e = ap outside_at e.1
+at_own tables was state m Stages.Over e = absurd e
+at_own tables was state m Stages.AtBound e = absurd e
+
+-- over another outside it stands for the state with that
+pub at_elsewhere : {K : Type 0} (tables : Tables) (was now : Outside) (state : State Frames Frames) (m : Machine K) (stage : Stage)
+    → IsAt tables was state m stage → IsAt tables now (over_outside now state) m stage
+at_elsewhere tables was now state m Stages.Runs e = ap (over_outside now) e
+at_elsewhere tables was now state m Stages.Fails e = ap (over_outside now) e
+at_elsewhere tables was now state m Stages.HopDue e = (e.0, ap (over_outside now) e.1)
+at_elsewhere tables was now state m Stages.Over e = absurd e
+at_elsewhere tables was now state m Stages.AtBound e = absurd e
+
+pub at_same : {K : Type 0} (tables : Tables) (was : Outside) (state : State Frames Frames) (m : Machine K) (stage : Stage)
+    → IsAt tables was state m stage → over_outside was state ≡ state
+at_same tables was state m Stages.Runs e = ap (over_outside was) e ∙ sym e
+at_same tables was state m Stages.Fails e = ap (over_outside was) e ∙ sym e
+at_same tables was state m Stages.HopDue e = ap (over_outside was) e.1 ∙ sym e.1
+at_same tables was state m Stages.Over e = absurd e
+at_same tables was state m Stages.AtBound e = absurd e
+
+-- where the run goes on, the machine stands for some state
+pub some_state : {K : Type 0} (tables : Tables) (was : Outside) (m : Machine K) (stage : Stage) → goes_on stage ≡ true
+    → (state : State Frames Frames) × IsAt tables was state m stage
+some_state tables was m Stages.Runs e = (running (stack_seen m) (store_seen tables was m), refl)
+some_state tables was m Stages.Fails e = (failing (stack_seen m) (store_seen tables was m), refl)
+some_state tables was m Stages.HopDue e = (hopping (stack_seen m) (store_seen tables was m), (stack_seen m, refl))
+some_state tables was m Stages.Over e = cc
+some_state tables was m Stages.AtBound e = cc
+
+pub is_at : {K : Type 0} (tables : Tables) (was : Outside) (state : State Frames Frames) (m : Machine K) (stage : Stage) → goes_on stage ≡ true
+    → StandsAt tables was state m stage → IsAt tables was state m stage
+is_at tables was state m Stages.Runs e h = h
+is_at tables was state m Stages.Fails e h = h
+is_at tables was state m Stages.HopDue e h = h
+is_at tables was state m Stages.Over e h = cc
+is_at tables was state m Stages.AtBound e h = cc
+
+-- Steps
+
+steps_then : (tables : Tables) (n k : ℕ) (a : State Frames Frames) → steps flat tables (n + k) a ≡ steps flat tables k (steps flat tables n a)
+steps_then tables zero k a = let e : zero + k ≡ k = omega arith in ap (λ (j : ℕ). steps flat tables j a) e
+steps_then tables (suc n) k a =
+    let e : suc n + k ≡ suc (n + k) = omega arith in
+    ap (λ (j : ℕ). steps flat tables j a) e ∙ steps_then tables n k (step flat tables a)
+
+over_then : (tables : Tables) (os ps : List Outside) (a : State Frames Frames) → run_over tables (os ++ ps) a ≡ run_over tables ps (run_over tables os a)
+over_then tables [] ps a = refl
+over_then tables (o ∷ os) ps a = over_then tables os ps (step flat tables (over_outside o a))
+
+-- Causes
+
+counts_then : (a b c : Handed) → KeepsAllCounts a b → KeepsAllCounts b c → KeepsAllCounts a c
+counts_then a b c h k = record {
+  faults = k.faults ∙ h.faults;
+  output = record { faults = k.output.faults ∙ h.output.faults; wants = k.output.wants ∙ h.output.wants };
+  errors = record { faults = k.errors.faults ∙ h.errors.faults; wants = k.errors.wants ∙ h.errors.wants };
+}
+
+output_then : (a b c : Handed) → KeepsAllCounts a b → OutputFails b c → OutputFails a c
+output_then a b c h (output_fails f o e) = output_fails (f ∙ h.faults)
+    (record { faults = o.faults ∙ ap one_more h.output.faults; wants = o.wants ∙ h.output.wants })
+    (record { faults = e.faults ∙ h.errors.faults; wants = e.wants ∙ h.errors.wants })
+output_then a b c h (errors_fail f o e) = errors_fail (f ∙ h.faults)
+    (record { faults = o.faults ∙ h.output.faults; wants = o.wants ∙ h.output.wants })
+    (record { faults = e.faults ∙ ap one_more h.errors.faults; wants = e.wants ∙ h.errors.wants })
+
+memory_then : (a b c : Handed) → KeepsAllCounts a b → WantsMemory b c → WantsMemory a c
+memory_then a b c h (uncounted k) = uncounted (counts_then a b c h k)
+memory_then a b c h (output_wants f o e) = output_wants (f ∙ h.faults)
+    (record { faults = o.faults ∙ h.output.faults; wants = o.wants ∙ ap one_more h.output.wants })
+    (record { faults = e.faults ∙ h.errors.faults; wants = e.wants ∙ h.errors.wants })
+memory_then a b c h (errors_want f o e) = errors_want (f ∙ h.faults)
+    (record { faults = o.faults ∙ h.output.faults; wants = o.wants ∙ h.output.wants })
+    (record { faults = e.faults ∙ h.errors.faults; wants = e.wants ∙ ap one_more h.errors.wants })
+
+-- what is answered first has failed nothing
+fault_then : {A : Type 0} (a b c : Handed) (result : Result A Halt) → KeepsAllCounts a b → IsFirstFault result b c → IsFirstFault result a c
+fault_then a b c (Ok x) h k = counts_then a b c h k
+fault_then a b c (Err (Halts.Error number offending)) h k = counts_then a b c h k
+fault_then a b c (Err (Halts.Ends status)) h k = counts_then a b c h k
+fault_then a b c (Err Halts.ReadFault) h k = record {
+  faults = k.faults ∙ ap one_more h.faults;
+  output = record { faults = k.output.faults ∙ h.output.faults; wants = k.output.wants ∙ h.output.wants };
+  errors = record { faults = k.errors.faults ∙ h.errors.faults; wants = k.errors.wants ∙ h.errors.wants };
+}
+fault_then a b c (Err Halts.WriteFault) h k = output_then a b c h k
+fault_then a b c (Err Halts.NoMemory) h k = memory_then a b c h k
+
+output_failed : (a b : Handed) → WritingFails a b → OutputFails a b
+output_failed a b (writing_output left f o e) = output_fails f o e
+output_failed a b (writing_errors left f o e) = errors_fail f o e
+
+-- the cause of a call is that of the first step
+first_fault : {A : Type 0} (a b : Handed) (result : Result A Halt) → IsCause result a b → IsFirstFault result a b
+first_fault a b (Ok x) k = k
+first_fault a b (Err (Halts.Error number offending)) k = k
+first_fault a b (Err (Halts.Ends status)) k = k
+first_fault a b (Err Halts.ReadFault) k = record {
+  faults = k.faults;
+  output = record { faults = ap (λ s. s.faults) k.output; wants = ap (λ s. s.wants) k.output };
+  errors = record { faults = ap (λ s. s.faults) k.errors; wants = ap (λ s. s.wants) k.errors };
+}
+first_fault a b (Err Halts.WriteFault) k = output_failed a b k
+first_fault a b (Err Halts.NoMemory) k = k
+
+-- One step
+
+stands_by : {K : Type 0} (tables : Tables) (now : Outside) (state : State Frames Frames) (n : Machine K) (result : Result Stage Halt)
+    → ComesTo tables now state n result → StandsBy tables now state n result
+stands_by tables now state n (Ok stage) h = h
+stands_by tables now state n (Err (Halts.Error number offending)) h = h
+stands_by tables now state n (Err (Halts.Ends status)) h = h
+stands_by tables now state n (Err Halts.ReadFault) h = tt
+stands_by tables now state n (Err Halts.WriteFault) h = tt
+stands_by tables now state n (Err Halts.NoMemory) h = tt
+
+-- what neither reads nor puts answers no fault
+quiet_answer : {K : Type 0} (tables : Tables) (state : State Frames Frames) (n : Machine K) (h : Handed) (was : Outside) (result : Result Stage Halt)
+    → h.left ≡ Some was.left
+    → ComesTo tables was state n result → AnswersStep (λ now answer. ComesTo tables now state n answer) state was h h result
+quiet_answer tables state n h was (Ok stage) told k = record { now = was; follows = follows_all h was told; is = k }
+quiet_answer tables state n h was (Err (Halts.Error number offending)) told k = record { now = was; follows = follows_all h was told; is = k }
+quiet_answer tables state n h was (Err (Halts.Ends status)) told k = record { now = was; follows = follows_all h was told; is = k }
+quiet_answer tables state n h was (Err Halts.ReadFault) told k = absurd k
+quiet_answer tables state n h was (Err Halts.WriteFault) told k = absurd k
+quiet_answer tables state n h was (Err Halts.NoMemory) told k = idle refl
+
+quiet_cause : {K : Type 0} (tables : Tables) (state : State Frames Frames) (n : Machine K) (h : Handed) (was : Outside) (result : Result Stage Halt)
+    → ComesTo tables was state n result → IsFirstFault result h h
+quiet_cause tables state n h was (Ok stage) k = all_counts h
+quiet_cause tables state n h was (Err (Halts.Error number offending)) k = all_counts h
+quiet_cause tables state n h was (Err (Halts.Ends status)) k = all_counts h
+quiet_cause tables state n h was (Err Halts.ReadFault) k = absurd k
+quiet_cause tables state n h was (Err Halts.WriteFault) k = absurd k
+quiet_cause tables state n h was (Err Halts.NoMemory) k = uncounted (all_counts h)
+
+-- a step is answered from the state's own outside on
+own_step : {K : Type 0} (tables : Tables) (m : Machine K) (stage : Stage) (n : Machine K) (was : Outside) (state : State Frames Frames) (before after : Handed) (result : Result Stage Halt)
+    → IsAt tables was state m stage → before.left ≡ Some was.left
+    → AnswersStep (λ now answer. ComesTo tables now (step flat tables state) n answer) (step flat tables state) was before after result → Leads tables state was before n after result
+own_step tables m stage n was state before after result at told last =
+    let own = at_own tables was state m stage at in record {
+      count = 0;
+      between = before;
+      follows = subst (λ (o : Outside). Follows before before was o) (sym own) (follows_all before was told);
+      last = subst (λ (o : Outside). AnswersStep (λ now answer. ComesTo tables now (step flat tables state) n answer) (step flat tables state) o before after result) (sym own) last;
+    }
+
+-- a step that neither reads nor puts
+pub quiet_step : {K : Type 0} (tables : Tables) (m : Machine K) (stage : Stage) (h : Handed) (n : Machine K) (result : Result Stage Halt) → goes_on stage ≡ true
+    → ((was : Outside) (state : State Frames Frames) → IsAt tables was state m stage → ComesTo tables was (step flat tables state) n result)
+    → Advances tables m stage h n h result
+quiet_step tables m stage h n result goes comes = record {
+  answers = λ was state at told. own_step tables m stage n was state h h result at told (quiet_answer tables (step flat tables state) n h was result told (comes was state at));
+  meant = λ was state at. record {
+    first = was;
+    later = [];
+    now = was;
+    is = subst (λ (s : State Frames Frames). StandsBy tables was (step flat tables s) n result) (sym (at_same tables was state m stage at))
+        (stands_by tables was (step flat tables state) n result (comes was state at));
+  };
+  caused =
+      let some = some_state tables (outside_of []) m stage goes in
+      quiet_cause tables (step flat tables some.0) n h (outside_of []) result (comes (outside_of []) some.0 some.1);
+}
+
+-- where the machine stands over the input that the answer is meant for
+meant_at : {K : Type 0} (tables : Tables) (state : State Frames Frames) (n : Machine K) (was : Outside) (before after : Handed) (result : Result Stage Halt)
+    → AnswersStep (λ now answer. ComesTo tables now state n answer) state was before after result → (now : Outside) × StandsBy tables now state n result
+meant_at tables state n was before after (Ok stage) h = (h.now, h.is)
+meant_at tables state n was before after (Err (Halts.Error number offending)) h = (h.now, h.is)
+meant_at tables state n was before after (Err (Halts.Ends status)) h = (h.now, h.is)
+meant_at tables state n was before after (Err Halts.ReadFault) h = (was, tt)
+meant_at tables state n was before after (Err Halts.WriteFault) h = (was, tt)
+meant_at tables state n was before after (Err Halts.NoMemory) h = (was, tt)
+
+-- a step that performs a row
+pub performed_step : {K : Type 0} (tables : Tables) (leads : Outside → State Frames Frames) (m : Machine K) (stage : Stage) (before : Handed) (n : Machine K) (after : Handed) (result : Result Stage Halt)
+    → ((was : Outside) (state : State Frames Frames) → IsAt tables was state m stage → step flat tables state ≡ leads was)
+    → PerformsOn tables leads n before after result → Advances tables m stage before n after result
+performed_step tables leads m stage before n after result is p = record {
+  answers = λ was state at told. own_step tables m stage n was state before after result at told
+      (subst (λ (s : State Frames Frames). AnswersStep (λ now answer. ComesTo tables now s n answer) s was before after result) (sym (is was state at)) (p.answers was told));
+  meant = λ was state at.
+      let first : Outside = outside_of p.had in
+      let same : step flat tables (over_outside first state) ≡ leads first = is first (over_outside first state) (at_elsewhere tables was first state m stage at) in
+      let there = meant_at tables (leads first) n first (having p.had before) (having p.has after) result (p.meant first refl) in
+      record {
+        first = first;
+        later = [];
+        now = there.0;
+        is = subst (λ (s : State Frames Frames). StandsBy tables there.0 s n result) (sym same) there.1;
+      };
+  caused = first_fault before after result p.caused;
+}
+
+-- Some steps after others
+pub advances_then : {K : Type 0} (tables : Tables) (m : Machine K) (stage : Stage) (a : Handed) (n : Machine K) (next : Stage) (b : Handed) (k : Machine K) (c : Handed) (result : Result Stage Halt)
+    → goes_on next ≡ true
+    → Advances tables m stage a n b (Ok next) → Advances tables n next b k c result → Advances tables m stage a k c result
+advances_then tables m stage a n next b k c result goes first second = record {
+  answers = λ was state at told.
+      let one = first.answers was state at told in
+      let now = one.last.now in
+      let there = steps flat tables (suc one.count) state in
+      let two = second.answers now there (is_at tables now there n next goes one.last.is) one.last.follows.left in
+      let same : steps flat tables (suc one.count + two.count) state ≡ steps flat tables two.count there = steps_then tables (suc one.count) two.count state in
+      let more : suc (suc one.count + two.count) ≡ suc one.count + suc two.count = omega arith in
+      let all : steps flat tables (suc (suc one.count + two.count)) state ≡ steps flat tables (suc two.count) there = ap (λ (j : ℕ). steps flat tables j state) more ∙ steps_then tables (suc one.count) (suc two.count) state in
+      record {
+        count = suc one.count + two.count;
+        between = two.between;
+        follows = subst (λ (s : State Frames Frames). Follows a two.between was (outside_at s)) (sym same) (follows_then (follows_then one.follows one.last.follows) two.follows);
+        last = subst (λ (s : State Frames Frames). AnswersStep (λ now answer. ComesTo tables now (steps flat tables (suc (suc one.count + two.count)) state) k answer) (steps flat tables (suc (suc one.count + two.count)) state) (outside_at s) two.between c result) (sym same)
+            (subst (λ (s : State Frames Frames). AnswersStep (λ now answer. ComesTo tables now s k answer) s (outside_at (steps flat tables two.count there)) two.between c result) (sym all) two.last);
+      };
+  meant = λ was state at.
+      let one = first.meant was state at in
+      let there = run_over tables (one.first ∷ one.later) state in
+      let two = second.meant one.now there (is_at tables one.now there n next goes one.is) in
+      record {
+        first = one.first;
+        later = one.later ++ two.first ∷ two.later;
+        now = two.now;
+        is = subst (λ (s : State Frames Frames). StandsBy tables two.now s k result) (sym (over_then tables (one.first ∷ one.later) (two.first ∷ two.later) state)) two.is;
+      };
+  caused = fault_then a b c result first.caused second.caused;
+}
+
+quiet_so : {K : Type 0} (tables : Tables) (state : State Frames Frames) (n : Machine K) (h : Handed) (was : Outside) (result : Result Stage Halt)
+    → ComesTo tables was state n result → IsCause result h h
+quiet_so tables state n h was (Ok stage) k = all_counts h
+quiet_so tables state n h was (Err (Halts.Error number offending)) k = all_counts h
+quiet_so tables state n h was (Err (Halts.Ends status)) k = all_counts h
+quiet_so tables state n h was (Err Halts.ReadFault) k = absurd k
+quiet_so tables state n h was (Err Halts.WriteFault) k = absurd k
+quiet_so tables state n h was (Err Halts.NoMemory) k = uncounted (all_counts h)
+
+-- an instruction that neither reads nor puts, as one that may
+pub quietly_performs : {K : Type 0} (tables : Tables) (leads : Outside → State Frames Frames) (n : Machine K) (h : Handed) (result : Result Stage Halt)
+    → ((outside : Outside) → ComesTo tables outside (leads outside) n result) → PerformsOn tables leads n h h result
+quietly_performs tables leads n h result comes = record {
+  answers = λ was told. quiet_answer tables (leads was) n h was result told (comes was);
+  had = [];
+  has = [];
+  meant = λ was left. quiet_answer tables (leads was) n (having [] h) was result (ap Some (sym left)) (comes was);
+  caused = quiet_so tables (leads (outside_of [])) n h (outside_of []) result (comes (outside_of []));
+}

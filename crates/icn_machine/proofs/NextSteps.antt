@@ -1,0 +1,230 @@
+-- The instruction that is due, and what comes of it.
+use Rattle.std.proofs.Common.{◌≡◌, ◌≢◌, ◌<◌, ℕ, suc, true, false, [], length, Option, Some, None, Result, Ok, Err, OnOk, refl, sym, ap, ◌∙◌, subst}
+use Rattle.std.specs.Prelude.{IfOk, IsSome, slice_get}
+use Rattle.std.proofs.lemmas.Option.{slice_get_within}
+use Rattle.icn_text.specs.declared.op.Op.{Op}
+use Rattle.icn_text.specs.declared.op.Op.TheVariants as Ops
+use Rattle.icn_defs.specs.Arities.{arity}
+use Rattle.icn_value.specs.Store.{Names, Outside, outside_of}
+use Rattle.icn_heap.specs.Extents.{Extent}
+use Rattle.icn_heap.specs.Heaps.{heap_of}
+use Rattle.icn_named.specs.Named.{WorldNamed}
+use Rattle.icn_named.specs.Sizes.{FitSizes}
+use Rattle.icn_vars.specs.declared.outcome.Halt.{Halt}
+use Rattle.icn_vars.specs.declared.outcome.Halt.TheVariants as Halts
+use Rattle.icn_vars.specs.Worlds.{world_of}
+use Rattle.icn_frames.specs.Stacks as held
+use Rattle.icn_frames.specs.Stacks.{FlatStack}
+use Rattle.icn_frames_laws.proofs.CallsRead.{proc_read}
+use Rattle.icn_code.specs.Codes.{Tables}
+use Rattle.icn_code.specs.declared.instr.Instr.{Instr}
+use Rattle.icn_code.specs.declared.instr.Instr.TheVariants as Instrs
+use Rattle.icn_run.specs.Stacks.{Frames, flat}
+use Rattle.icn_run.specs.Step.{State, Store, running, stuck, step, all_names, instruction, instruction_at, instrs_of, with_found}
+use Rattle.icn_run_named.specs.StateNames.{StackNamed, StateNamed, StoreNamed}
+use Rattle.icn_run_named.specs.KeepingNames.{MayCall, StepsKeepNames}
+use Rattle.icn_run_named.specs.KeepingSizes.{StateFits, StepsKeepSizes, StoreFits, field_count}
+use Rattle.icn_streams.specs.Handed.{Handed}
+use Rattle.icn_control.specs.Machines.{ComesTo, HasStack, IsSound, StandsAt, does, extent, stack_of, stack_seen, store_seen}
+use Rattle.icn_control.specs.Standing.{reading_of, stack_in}
+use Rattle.icn_control.specs.Taking.{taken}
+use Rattle.icn_control.specs.declared.machine.Machine.{Machine}
+use Rattle.icn_control.specs.declared.machine.Stage.{Stage}
+use Rattle.icn_control.specs.declared.machine.Stage.TheVariants as Stages
+use Rattle.icn_instructions.specs.Groups.{group_of, group_of_op}
+use Rattle.icn_instructions.specs.declared.groups.Group.TheVariants as Groups
+use Rattle.icn_instructions.proofs.LackSteps.{one_there, take_there}
+use Rattle.icn_machine.specs.Performing.{LeavesNamed, PerformsOn}
+use Rattle.icn_machine.specs.Stepping.{Advances, AlwaysOver, EndsWhole, IsDoing, IsKept, IsReady, KeepsState, LacksNothing, applies_op, is_applied, is_whole}
+use Rattle.icn_machine.proofs.AdvanceSteps.{performed_step}
+use Rattle.icn_machine.proofs.KeptSteps.{always_next, kept_at, kept_over, next_lacks_nothing}
+
+-- The instruction that is due
+
+-- it stands in the procedure, as else the step would be stuck
+pub instr_within : (tables : Tables) (all : Extent) (f : FlatStack) (st : Store Frames) → step flat tables (running (stack_in all f) st) ≢ stuck
+    → f.place < length (instrs_of tables (held.proc f))
+instr_within tables all f st d = by_instr (slice_get (instrs_of tables (flat.proc (stack_in all f))) f.place) refl
+  where
+    by_instr : (o : Option Instr) → slice_get (instrs_of tables (flat.proc (stack_in all f))) f.place ≡ o → f.place < length (instrs_of tables (held.proc f))
+    by_instr (Some instr) e =
+        subst (λ (p : ℕ). f.place < length (instrs_of tables p)) (proc_read (reading_of all) f) (slice_get_within (instrs_of tables (flat.proc (stack_in all f))) f.place instr e)
+    by_instr None e = absurd (d (ap (λ (o : Option Instr). with_found o (λ instr. instruction flat tables instr (flat.go (suc f.place) (stack_in all f)) st)) e))
+
+pub read_instr : (tables : Tables) (all : Extent) (f : FlatStack) (instr : Instr) → slice_get (instrs_of tables (held.proc f)) f.place ≡ Some instr
+    → instruction_at flat tables (stack_in all f) ≡ Some instr
+read_instr tables all f instr e = ap (λ (p : ℕ). slice_get (instrs_of tables p) f.place) (proc_read (reading_of all) f) ∙ e
+
+-- what the step does is what the instruction does at the next place
+pub step_does : (tables : Tables) (m : Frames) (instr : Instr) (st : Store Frames) → instruction_at flat tables m ≡ Some instr
+    → step flat tables (running m st) ≡ instruction flat tables instr (flat.go (suc m.place) m) st
+step_does tables m instr st e = ap (λ (o : Option Instr). with_found o (λ instr. instruction flat tables instr (flat.go (suc m.place) m) st)) e
+
+-- the state is kept over every outside
+pub kept_running : {K : Type 0} (tables : Tables) (m : Machine K) → KeepsState tables m Stages.Runs → (outside : Outside)
+    → IsKept tables (running (stack_seen m) (store_seen tables outside m))
+kept_running tables m k outside = kept_over tables outside (running (stack_seen m) (store_seen tables k.0 m)) (subst (λ (s : State Frames Frames). IsKept tables s) k.1.1.0 k.1.1.1)
+
+pub never_running : {K : Type 0} (tables : Tables) (m : Machine K) → KeepsState tables m Stages.Runs → (outside : Outside)
+    → step flat tables (running (stack_seen m) (store_seen tables outside m)) ≢ stuck
+never_running tables m k outside = next_lacks_nothing tables (running (stack_seen m) (store_seen tables outside m)) (kept_running tables m k outside)
+
+pub always_doing : (tables : Tables) (m : Frames) (instr : Instr) (st : Store Frames) → instruction_at flat tables m ≡ Some instr
+    → IsKept tables (running m st) → AlwaysOver tables (LacksNothing tables) (instruction flat tables instr (flat.go (suc m.place) m) st)
+always_doing tables m instr st e k =
+    subst (λ (s : State Frames Frames). AlwaysOver tables (LacksNothing tables) s) (step_does tables m instr st e) (always_next tables (LacksNothing tables) (running m st) k.always)
+
+-- What comes of it
+
+-- an instruction that performs no row says it over every outside
+pub applied_kind : (instr : Instr) → is_applied instr ≡ false → group_of instr ≢ Groups.Application
+applied_kind (Instrs.Op op) e = by_op op e
+  where
+    by_op : (op : Op) → applies_op op ≡ false → group_of_op op ≢ Groups.Application
+    by_op Ops.Refresh e = λ q. absurd (cc)
+    by_op _ e = cc
+applied_kind (Instrs.Field place) e = cc
+applied_kind (Instrs.Invoke count) e = cc
+applied_kind Instrs.Appl e = cc
+applied_kind _ e = λ q. absurd (cc)
+
+pub no_refresh : (op : Op) → applies_op op ≡ true → op ≢ Ops.Refresh
+no_refresh op e q = let same : applies_op op ≡ false = ap applies_op q in let bad : true ≡ false = sym e ∙ same in absurd (cc)
+
+pub applied_is : (i j : Instr) → i ≡ j → is_applied i ≡ true → is_applied j ≡ true
+applied_is i j e h = subst (λ (x : Instr). is_applied x ≡ true) e h
+
+pub calls_none : (instr : Instr) → is_applied instr ≡ false → MayCall instr → ⊥
+calls_none (Instrs.Invoke count) e h = cc
+calls_none Instrs.Appl e h = cc
+calls_none (Instrs.Op op) e h = h
+calls_none (Instrs.Field place) e h = h
+calls_none _ e h = h
+
+-- no other instruction is one
+pub no_other : (instr : Instr) → is_applied instr ≡ true → ((op : Op) → instr ≡ Instrs.Op op → ⊥) → ((n : ℕ) → instr ≡ Instrs.Field n → ⊥)
+    → ((n : ℕ) → instr ≡ Instrs.Invoke n → ⊥) → (instr ≡ Instrs.Appl → ⊥) → ⊥
+no_other (Instrs.Op op) e a b c d = a op refl
+no_other (Instrs.Field n) e a b c d = b n refl
+no_other (Instrs.Invoke n) e a b c d = c n refl
+no_other Instrs.Appl e a b c d = d refl
+no_other _ e a b c d = cc
+
+-- what is taken is there
+pub doing_not_stuck : {K : Type 0} (tables : Tables) (m : Machine K) (instr j : Instr) → instr ≡ j → IsDoing tables m instr → (outside : Outside)
+    → does tables outside j m ≢ stuck
+doing_not_stuck tables m instr j e d outside = subst (λ (x : Instr). does tables outside x m ≢ stuck) e ((d.always outside []).goes_on)
+
+pub op_operands : {K : Type 0} (tables : Tables) (m : Machine K) (instr : Instr) (op : Op) → instr ≡ Instrs.Op op → IsDoing tables m instr
+    → IsSome (taken (arity op) (stack_of m))
+op_operands tables m instr op e d = take_there (extent m) (arity op) (stack_of m) _ (doing_not_stuck tables m instr (Instrs.Op op) e d (outside_of []))
+
+pub invoke_operands : {K : Type 0} (tables : Tables) (m : Machine K) (instr : Instr) (n : ℕ) → instr ≡ Instrs.Invoke n → IsDoing tables m instr
+    → IsSome (taken (suc n) (stack_of m))
+invoke_operands tables m instr n e d = take_there (extent m) (suc n) (stack_of m) _ (doing_not_stuck tables m instr (Instrs.Invoke n) e d (outside_of []))
+
+pub appl_operands : {K : Type 0} (tables : Tables) (m : Machine K) (instr : Instr) → instr ≡ Instrs.Appl → IsDoing tables m instr
+    → IsSome (taken 2 (stack_of m))
+appl_operands tables m instr e d = take_there (extent m) 2 (stack_of m) _ (doing_not_stuck tables m instr Instrs.Appl e d (outside_of []))
+
+pub field_operand : {K : Type 0} (tables : Tables) (m : Machine K) (instr : Instr) (n : ℕ) → instr ≡ Instrs.Field n → IsDoing tables m instr
+    → IsSome (held.pop (stack_of m))
+field_operand tables m instr n e d = one_there (stack_of m) (take_there (extent m) 1 (stack_of m) _ (doing_not_stuck tables m instr (Instrs.Field n) e d (outside_of [])))
+
+pub names_as : {K : Type 0} (names : Names) (tables : Tables) (m : Machine K) (instr : Instr) → names ≡ all_names tables → IsDoing tables m instr
+    → StackNamed names (stack_seen m)
+names_as names tables m instr e d = subst (λ (n : Names). StackNamed n (stack_seen m)) (sym e) d.stack_named
+
+pub world_names_as : {K : Type 0} (names : Names) (tables : Tables) (m : Machine K) (instr : Instr) → names ≡ all_names tables
+    → IsDoing tables m instr → WorldNamed names (world_of m.world)
+world_names_as names tables m instr e d = subst (λ (n : Names). WorldNamed n (world_of m.world)) (sym e) (d.store_named (outside_of [])).world
+
+-- where a machine stands over some outside
+abbrev pub LandsBy : {K : Type 0} → Tables → (Outside → State Frames Frames) → Machine K → Stage → Type 0
+LandsBy tables leads n stage = (was : Outside) × ((now : Outside) × StandsAt tables now (leads was) n stage)
+
+pub lands_by : {K : Type 0} (tables : Tables) (leads : Outside → State Frames Frames) (before : Handed) (n : Machine K) (after : Handed) (result : Result Stage Halt)
+    → PerformsOn tables leads n before after result → IfOk result (LandsBy tables leads n)
+lands_by tables leads before n after (Ok stage) p = let first : Outside = outside_of p.had in let told = p.meant first refl in (first, (told.now, told.is))
+lands_by tables leads before n after (Err halt) p = tt
+
+pub lands_quietly_by : {K : Type 0} (tables : Tables) (leads : Outside → State Frames Frames) (n : Machine K) (result : Result Stage Halt)
+    → ((outside : Outside) → ComesTo tables outside (leads outside) n result) → IfOk result (LandsBy tables leads n)
+lands_quietly_by tables leads n (Ok stage) f = let o : Outside = outside_of [] in (o, (o, f o))
+lands_quietly_by tables leads n (Err halt) f = tt
+
+-- by the laws of names and sizes
+pub done_ready : {K : Type 0} (tables : Tables) → StepsKeepNames → StepsKeepSizes → (m n : Machine K) (instr : Instr) (result : Result Stage Halt)
+    → (MayCall instr → ⊥) → IsDoing tables m instr
+    → IfOk result (LandsBy tables (λ o. does tables o instr m) n) → OnOk result (IsSound tables n) → IfOk result (HasStack n) → IfOk result (IsReady tables n)
+done_ready tables names sizes m n instr (Err halt) calls d l sound stack = tt
+done_ready tables names sizes m n instr (Ok stage) calls d l sound stack = record {
+  sound = sound;
+  stack = stack;
+  kept = kept_at tables l.1.0 (does tables l.0 instr m) n stage l.1.1 (record {
+    always = d.always l.0;
+    named = names.instructions tables instr (stack_seen m) (store_seen tables l.0 m) calls d.stack_named (d.store_named l.0);
+    fits = sizes.instructions tables instr (stack_seen m) (store_seen tables l.0 m) calls (d.fits l.0);
+  });
+}
+
+-- where the call says it itself
+named_by : {K : Type 0} (names : Names) (tables : Tables) (now : Outside) (state : State Frames Frames) (n : Machine K) (stage : Stage)
+    → StandsAt tables now state n stage → StackNamed names (stack_seen n) → StoreNamed names (store_seen tables now n) → StateNamed names state
+named_by names tables now state n Stages.Runs e h k = subst (λ (s : State Frames Frames). StateNamed names s) (sym e) (h, k)
+named_by names tables now state n Stages.Fails e h k = subst (λ (s : State Frames Frames). StateNamed names s) (sym e) (h, k)
+named_by names tables now state n Stages.HopDue e h k = subst (λ (s : State Frames Frames). StateNamed names s) (sym e.1) k
+named_by names tables now state n Stages.Over e h k = subst (λ (s : State Frames Frames). StateNamed names s) (sym e) tt
+named_by names tables now state n Stages.AtBound e h k = subst (λ (s : State Frames Frames). StateNamed names s) (sym e) tt
+
+fits_by : {K : Type 0} (tables : Tables) (now : Outside) (state : State Frames Frames) (n : Machine K) (stage : Stage)
+    → StandsAt tables now state n stage → StoreFits tables (store_seen tables now n) → StateFits tables state
+fits_by tables now state n Stages.Runs e h = subst (λ (s : State Frames Frames). StateFits tables s) (sym e) h
+fits_by tables now state n Stages.Fails e h = subst (λ (s : State Frames Frames). StateFits tables s) (sym e) h
+fits_by tables now state n Stages.HopDue e h = subst (λ (s : State Frames Frames). StateFits tables s) (sym e.1) h
+fits_by tables now state n Stages.Over e h = subst (λ (s : State Frames Frames). StateFits tables s) (sym e) tt
+fits_by tables now state n Stages.AtBound e h = subst (λ (s : State Frames Frames). StateFits tables s) (sym e) tt
+
+pub called_ready : {K : Type 0} (names : Names) (tables : Tables) (m n : Machine K) (instr j : Instr) (result : Result Stage Halt)
+    → names ≡ all_names tables → instr ≡ j → IsDoing tables m instr
+    → IfOk result (LandsBy tables (λ o. does tables o j m) n) → OnOk result (IsSound tables n) → IfOk result (HasStack n)
+    → LeavesNamed names n.world (stack_of n) result
+    → ((outside : Outside) → StoreNamed names (store_seen tables outside m) → OnOk result (StoreNamed names (store_seen tables outside n)))
+    → (FitSizes (field_count tables) (heap_of m.world.heap) → OnOk result (FitSizes (field_count tables) (heap_of n.world.heap))) → IfOk result (IsReady tables n)
+called_ready names tables m n instr j (Err halt) e i d l sound stack named store sized = tt
+called_ready names tables m n instr j (Ok stage) e i d l sound stack named store sized = record {
+  sound = sound;
+  stack = stack;
+  kept = kept_at tables l.1.0 (does tables l.0 j m) n stage l.1.1 (record {
+    always = subst (λ (x : Instr). AlwaysOver tables (LacksNothing tables) (does tables l.0 x m)) i (d.always l.0);
+    named = named_by (all_names tables) tables l.1.0 (does tables l.0 j m) n stage l.1.1
+        (subst (λ (x : Names). StackNamed x (stack_seen n)) e named.0)
+        (subst (λ (x : Names). StoreNamed x (store_seen tables l.1.0 n)) e (store l.1.0 (subst (λ (x : Names). StoreNamed x (store_seen tables l.1.0 m)) (sym e) (d.store_named l.1.0))));
+    fits = fits_by tables l.1.0 (does tables l.0 j m) n stage l.1.1 (sized (d.fits l.1.0));
+  });
+}
+
+-- the step of the run
+pub next_step : {K : Type 0} (tables : Tables) (m k : Machine K) (instr : Instr) (before : Handed) (n : Machine K) (after : Handed) (result : Result Stage Halt)
+    → ((outside : Outside) → step flat tables (running (stack_seen m) (store_seen tables outside m)) ≡ does tables outside instr k)
+    → PerformsOn tables (λ o. does tables o instr k) n before after result → Advances tables m Stages.Runs before n after result
+next_step tables m k instr before n after result e p =
+    performed_step tables (λ o. does tables o instr k) m Stages.Runs before n after result (λ was state at. ap (step flat tables) at ∙ e was) p
+
+-- an instruction that is done whole performs no row
+pub whole_applies_none : (instr : Instr) → is_whole instr ≡ true → is_applied instr ≡ true → ⊥
+whole_applies_none Instrs.Pop e h = cc
+whole_applies_none Instrs.Unmark e h = cc
+whole_applies_none (Instrs.Chfail label) e h = cc
+whole_applies_none (Instrs.Goto label) e h = cc
+whole_applies_none (Instrs.Loop label) e h = cc
+whole_applies_none (Instrs.Init label) e h = cc
+whole_applies_none _ e h = cc
+
+pub ends_whole : (result : Result Stage Halt) → EndsWhole result → result ≢ Err Halts.NoMemory
+ends_whole (Ok stage) h = λ e. absurd (cc)
+ends_whole (Err (Halts.Error number offending)) h = λ e. absurd (cc)
+ends_whole (Err (Halts.Ends status)) h = λ e. absurd (cc)
+ends_whole (Err Halts.ReadFault) h = λ e. absurd (cc)
+ends_whole (Err Halts.WriteFault) h = λ e. absurd (cc)
+ends_whole (Err Halts.NoMemory) h = absurd h

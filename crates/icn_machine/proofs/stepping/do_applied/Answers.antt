@@ -1,0 +1,139 @@
+use Rattle.std.proofs.Common.{sym, subst, []}
+use Rattle.icn_value.specs.Store.{outside_of}
+use Rattle.icn_code.specs.Seen.{tables_of}
+use Rattle.icn_code.specs.declared.instr.Instr.{Instr}
+use Rattle.icn_code.specs.declared.instr.Instr.TheVariants as Instrs
+use Rattle.icn_control.specs.Machines.{does}
+use Rattle.icn_control.specs.Machines.{ComesTo}
+use Rattle.icn_machine.proofs.AdvanceSteps.{quietly_performs}
+use Rattle.icn_machine.proofs.DoingSteps.{applied_performs, calls_as}
+use Rattle.icn_machine.proofs.NextSteps.{appl_operands, applied_is, called_ready, done_ready, field_operand, invoke_operands, lands_by, lands_quietly_by, names_as, no_other, no_refresh, op_operands, world_names_as}
+use Rattle.icn_machine.proofs.stepping.do_applied.Goals as goal
+
+pub operate-requires-clause-runs : goal.operate-requires-clause-runs
+operate-requires-clause-runs g c = c.requires.doing.runs
+
+pub operate-requires-clause-sound : goal.operate-requires-clause-sound
+operate-requires-clause-sound g c = ((tables_of c.args.code.now), c.requires.doing.sound)
+
+pub operate-requires-clause-stack_named : goal.operate-requires-clause-stack_named
+operate-requires-clause-stack_named g c = names_as _ (tables_of c.args.code.now) c.args.m.now c.args.instr c.requires.known c.requires.doing
+
+pub operate-requires-clause-world_named : goal.operate-requires-clause-world_named
+operate-requires-clause-world_named g c = world_names_as _ (tables_of c.args.code.now) c.args.m.now c.args.instr c.requires.known c.requires.doing
+
+pub field-requires-clause-runs : goal.field-requires-clause-runs
+field-requires-clause-runs g c = c.requires.doing.runs
+
+pub field-requires-clause-sound : goal.field-requires-clause-sound
+field-requires-clause-sound g c = ((tables_of c.args.code.now), c.requires.doing.sound)
+
+pub invoke-requires-clause-runs : goal.invoke-requires-clause-runs
+invoke-requires-clause-runs g c = c.requires.doing.runs
+
+pub invoke-requires-clause-sound : goal.invoke-requires-clause-sound
+invoke-requires-clause-sound g c = ((tables_of c.args.code.now), c.requires.doing.sound)
+
+pub invoke-requires-clause-stack_named : goal.invoke-requires-clause-stack_named
+invoke-requires-clause-stack_named g c = names_as _ (tables_of c.args.code.now) c.args.m.now c.args.instr c.requires.known c.requires.doing
+
+pub invoke-requires-clause-world_named : goal.invoke-requires-clause-world_named
+invoke-requires-clause-world_named g c = world_names_as _ (tables_of c.args.code.now) c.args.m.now c.args.instr c.requires.known c.requires.doing
+
+pub invoke-requires-clause-known : goal.invoke-requires-clause-known
+invoke-requires-clause-known g c = c.requires.known
+
+pub appl-requires-clause-runs : goal.appl-requires-clause-runs
+appl-requires-clause-runs g c = c.requires.doing.runs
+
+pub appl-requires-clause-sound : goal.appl-requires-clause-sound
+appl-requires-clause-sound g c = ((tables_of c.args.code.now), c.requires.doing.sound)
+
+pub appl-requires-clause-stack_named : goal.appl-requires-clause-stack_named
+appl-requires-clause-stack_named g c = names_as _ (tables_of c.args.code.now) c.args.m.now c.args.instr c.requires.known c.requires.doing
+
+pub appl-requires-clause-world_named : goal.appl-requires-clause-world_named
+appl-requires-clause-world_named g c = world_names_as _ (tables_of c.args.code.now) c.args.m.now c.args.instr c.requires.known c.requires.doing
+
+pub appl-requires-clause-known : goal.appl-requires-clause-known
+appl-requires-clause-known g c = c.requires.known
+
+pub operate-requires-clause-row : goal.operate-requires-clause-row
+operate-requires-clause-row g c = no_refresh c.in-Op.op (applied_is c.args.instr (Instrs.Op c.in-Op.op) c.in-Op.is c.requires.applied)
+
+pub operate-requires-clause-operands : goal.operate-requires-clause-operands
+operate-requires-clause-operands g c = op_operands (tables_of c.args.code.now) c.args.m.now c.args.instr c.in-Op.op c.in-Op.is c.requires.doing
+
+pub field-requires-clause-operand : goal.field-requires-clause-operand
+field-requires-clause-operand g c = field_operand (tables_of c.args.code.now) c.args.m.now c.args.instr c.in-Field.place c.in-Field.is c.requires.doing
+
+pub field-requires-clause-sizes : goal.field-requires-clause-sizes
+field-requires-clause-sizes g c = c.requires.doing.fits (outside_of [])
+
+pub invoke-requires-clause-operands : goal.invoke-requires-clause-operands
+invoke-requires-clause-operands g c = invoke_operands (tables_of c.args.code.now) c.args.m.now c.args.instr c.in-Invoke.count c.in-Invoke.is c.requires.doing
+
+pub appl-requires-clause-operands : goal.appl-requires-clause-operands
+appl-requires-clause-operands g c = appl_operands (tables_of c.args.code.now) c.args.m.now c.args.instr c.in-Appl.is c.requires.doing
+
+pub returns-in-Op-clause-step : goal.returns-in-Op-clause-step
+returns-in-Op-clause-step g c = applied_performs (tables_of c.args.code.now) c.args.m.now c.operate.new.m c.args.instr (Instrs.Op c.in-Op.op) _ _ c.operate.result c.in-Op.is (c.operate.ensures.step (tables_of c.args.code.now) (sym c.requires.known))
+
+pub returns-in-Op-clause-ready : goal.returns-in-Op-clause-ready
+returns-in-Op-clause-ready g c =
+    done_ready (tables_of c.args.code.now) c.steps_keep_names.ensures.kept c.steps_keep_sizes.ensures.kept c.args.m.now c.operate.new.m c.args.instr c.operate.result (calls_as c.args.instr (Instrs.Op c.in-Op.op) c.in-Op.is (λ h. h)) c.requires.doing
+    (lands_by (tables_of c.args.code.now) (λ o. does (tables_of c.args.code.now) o c.args.instr c.args.m.now) _ c.operate.new.m _ c.operate.result (applied_performs (tables_of c.args.code.now) c.args.m.now c.operate.new.m c.args.instr (Instrs.Op c.in-Op.op) _ _ c.operate.result c.in-Op.is (c.operate.ensures.step (tables_of c.args.code.now) (sym c.requires.known)))) (c.operate.ensures.sound (tables_of c.args.code.now) c.requires.doing.sound) c.operate.ensures.stack
+
+pub returns-in-Op-clause-halt : goal.returns-in-Op-clause-halt
+returns-in-Op-clause-halt g c = c.operate.ensures.halt
+
+pub returns-in-Op-clause-limits : goal.returns-in-Op-clause-limits
+returns-in-Op-clause-limits g c = c.operate.ensures.limits
+
+pub returns-in-Field-clause-step : goal.returns-in-Field-clause-step
+returns-in-Field-clause-step g c = applied_performs (tables_of c.args.code.now) c.args.m.now c.field.new.m c.args.instr (Instrs.Field c.in-Field.place) _ _ c.field.result c.in-Field.is (quietly_performs (tables_of c.args.code.now) (λ o. does (tables_of c.args.code.now) o (Instrs.Field c.in-Field.place) c.args.m.now) c.field.new.m _ c.field.result c.field.ensures.step)
+
+pub returns-in-Field-clause-ready : goal.returns-in-Field-clause-ready
+returns-in-Field-clause-ready g c =
+    done_ready (tables_of c.args.code.now) c.steps_keep_names.ensures.kept c.steps_keep_sizes.ensures.kept c.args.m.now c.field.new.m c.args.instr c.field.result (calls_as c.args.instr (Instrs.Field c.in-Field.place) c.in-Field.is (λ h. h)) c.requires.doing
+    (lands_quietly_by (tables_of c.args.code.now) (λ o. does (tables_of c.args.code.now) o c.args.instr c.args.m.now) c.field.new.m c.field.result (λ o. subst (λ (x : Instr). ComesTo (tables_of c.args.code.now) o (does (tables_of c.args.code.now) o x c.args.m.now) c.field.new.m c.field.result) (sym c.in-Field.is) (c.field.ensures.step o))) (c.field.ensures.sound (tables_of c.args.code.now) c.requires.doing.sound) c.field.ensures.stack
+
+pub returns-in-Field-clause-halt : goal.returns-in-Field-clause-halt
+returns-in-Field-clause-halt g c = c.field.ensures.halt
+
+pub returns-in-Field-clause-limits : goal.returns-in-Field-clause-limits
+returns-in-Field-clause-limits g c = c.field.ensures.limits
+
+pub returns-in-Invoke-clause-step : goal.returns-in-Invoke-clause-step
+returns-in-Invoke-clause-step g c = applied_performs (tables_of c.args.code.now) c.args.m.now c.invoke.new.m c.args.instr (Instrs.Invoke c.in-Invoke.count) _ _ c.invoke.result c.in-Invoke.is (c.invoke.ensures.step)
+
+pub returns-in-Invoke-clause-ready : goal.returns-in-Invoke-clause-ready
+returns-in-Invoke-clause-ready g c =
+    called_ready _ (tables_of c.args.code.now) c.args.m.now c.invoke.new.m c.args.instr (Instrs.Invoke c.in-Invoke.count) c.invoke.result c.requires.known c.in-Invoke.is c.requires.doing (lands_by (tables_of c.args.code.now) (λ o. does (tables_of c.args.code.now) o (Instrs.Invoke c.in-Invoke.count) c.args.m.now) _ c.invoke.new.m _ c.invoke.result c.invoke.ensures.step)
+    (c.invoke.ensures.sound c.requires.doing.sound) c.invoke.ensures.stack c.invoke.ensures.named c.invoke.ensures.store_named c.invoke.ensures.sized
+
+pub returns-in-Invoke-clause-halt : goal.returns-in-Invoke-clause-halt
+returns-in-Invoke-clause-halt g c = c.invoke.ensures.halt
+
+pub returns-in-Invoke-clause-limits : goal.returns-in-Invoke-clause-limits
+returns-in-Invoke-clause-limits g c = c.invoke.ensures.limits
+
+pub returns-in-Appl-clause-step : goal.returns-in-Appl-clause-step
+returns-in-Appl-clause-step g c = applied_performs (tables_of c.args.code.now) c.args.m.now c.appl.new.m c.args.instr Instrs.Appl _ _ c.appl.result c.in-Appl.is (c.appl.ensures.step)
+
+pub returns-in-Appl-clause-ready : goal.returns-in-Appl-clause-ready
+returns-in-Appl-clause-ready g c =
+    called_ready _ (tables_of c.args.code.now) c.args.m.now c.appl.new.m c.args.instr Instrs.Appl c.appl.result c.requires.known c.in-Appl.is c.requires.doing (lands_by (tables_of c.args.code.now) (λ o. does (tables_of c.args.code.now) o Instrs.Appl c.args.m.now) _ c.appl.new.m _ c.appl.result c.appl.ensures.step)
+    (c.appl.ensures.sound c.requires.doing.sound) c.appl.ensures.stack c.appl.ensures.named c.appl.ensures.store_named c.appl.ensures.sized
+
+pub returns-in-Appl-clause-halt : goal.returns-in-Appl-clause-halt
+returns-in-Appl-clause-halt g c = c.appl.ensures.halt
+
+pub returns-in-Appl-clause-limits : goal.returns-in-Appl-clause-limits
+returns-in-Appl-clause-limits g c = c.appl.ensures.limits
+
+pub unreachable-requires : goal.unreachable-requires
+unreachable-requires g c = no_other c.args.instr c.requires.applied c.in_default.not-Op c.in_default.not-Field c.in_default.not-Invoke c.in_default.not-Appl
+
+pub unreachable-unreachable : goal.unreachable-unreachable
+unreachable-unreachable g c = c.unreachable.type_inv

@@ -1,0 +1,45 @@
+use Rattle.std.proofs.Common.{[]}
+use Rattle.icn_value.specs.Store.{outside_of}
+use Rattle.icn_code.specs.Seen.{tables_of}
+use Rattle.icn_control.specs.Machines.{does}
+use Rattle.icn_machine.proofs.DoingSteps.{whole_done}
+use Rattle.icn_machine.proofs.NextSteps.{applied_kind, calls_none, done_ready, lands_quietly_by}
+use Rattle.icn_machine.proofs.stepping.do_plain.Goals as goal
+
+pub do_instruction-requires-clause-kind : goal.do_instruction-requires-clause-kind
+do_instruction-requires-clause-kind g c = applied_kind c.args.instr c.requires.applied
+
+pub do_instruction-requires-clause-runs : goal.do_instruction-requires-clause-runs
+do_instruction-requires-clause-runs g c = c.requires.doing.runs
+
+pub do_instruction-requires-clause-sound : goal.do_instruction-requires-clause-sound
+do_instruction-requires-clause-sound g c = c.requires.doing.sound
+
+pub do_instruction-requires-clause-goes_on : goal.do_instruction-requires-clause-goes_on
+do_instruction-requires-clause-goes_on g c = ((outside_of []), (c.requires.doing.always (outside_of []) []).goes_on)
+
+pub do_instruction-requires-clause-in_range : goal.do_instruction-requires-clause-in_range
+do_instruction-requires-clause-in_range g c = c.requires.doing.in_range
+
+pub do_instruction-requires-clause-case_mark : goal.do_instruction-requires-clause-case_mark
+do_instruction-requires-clause-case_mark g c = c.requires.doing.mark
+
+pub do_instruction-requires-clause-variables : goal.do_instruction-requires-clause-variables
+do_instruction-requires-clause-variables g c = ((outside_of []), c.requires.doing.variables (outside_of []))
+
+pub returns-clause-step : goal.returns-clause-step
+returns-clause-step g c = c.do_instruction.ensures.step
+
+pub returns-clause-ready : goal.returns-clause-ready
+returns-clause-ready g c =
+    done_ready (tables_of c.args.code.now) c.steps_keep_names.ensures.kept c.steps_keep_sizes.ensures.kept c.args.m.now c.do_instruction.new.m c.args.instr c.do_instruction.result (calls_none c.args.instr c.requires.applied) c.requires.doing
+    (lands_quietly_by (tables_of c.args.code.now) (λ o. does (tables_of c.args.code.now) o c.args.instr c.args.m.now) c.do_instruction.new.m c.do_instruction.result c.do_instruction.ensures.step) c.do_instruction.ensures.sound c.do_instruction.ensures.stack
+
+pub returns-clause-whole : goal.returns-clause-whole
+returns-clause-whole g c whole = whole_done (tables_of c.args.code.now) c.args.m.now c.do_instruction.new.m c.args.instr c.do_instruction.result whole c.do_instruction.ensures.step c.do_instruction.ensures.no_memory
+
+pub returns-clause-halt : goal.returns-clause-halt
+returns-clause-halt g c = c.do_instruction.ensures.halt
+
+pub returns-clause-limits : goal.returns-clause-limits
+returns-clause-limits g c = c.do_instruction.ensures.limits

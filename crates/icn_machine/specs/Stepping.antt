@@ -1,0 +1,239 @@
+-- What some steps of the run of a code come to, on a machine.
+use Rattle.std.specs.Prelude.{◌≡◌, ◌≢◌, ◌⊎◌, ◌<◌, ◌==◌, ℕ, suc, length, Bool, true, false, List, [], ◌∷◌, Some, IsSome, Result, Ok, Err, ⊤}
+use Rattle.icn_host.specs.Counts.{one_more}
+use Rattle.icn_value.specs.Store.{Outside, outside_of}
+use Rattle.icn_vars.specs.declared.outcome.Halt.{Halt}
+use Rattle.icn_vars.specs.declared.outcome.Halt.TheVariants as Halts
+use Rattle.icn_code.specs.Codes.{Tables}
+use Rattle.icn_text.specs.declared.op.Op.{Op}
+use Rattle.icn_text.specs.declared.op.Op.TheVariants as Ops
+use Rattle.icn_code.specs.declared.instr.Instr.{Instr}
+use Rattle.icn_code.specs.declared.instr.Instr.TheVariants as Instrs
+use Rattle.icn_frames.specs.Stacks as held
+use Rattle.icn_run.specs.Stacks.{Frames, flat}
+use Rattle.icn_run.specs.Step.{State, running, failing, hopping, over, stuck, steps, all_names, instruction_at}
+use Rattle.icn_run_named.specs.StateNames.{StackNamed, StateNamed, StoreNamed}
+use Rattle.icn_run_named.specs.KeepingSizes.{StateFits, StoreFits}
+use Rattle.icn_run_safe.specs.AnyOutside.{run_over}
+use Rattle.icn_streams.specs.Handed.{Handed, Follows, FailsOnce, KeepsAllCounts, KeepsCounts, WantsMemory}
+use Rattle.icn_instructions.specs.Ranges.{HasCaseMark, HasVariables, IsInRange}
+use Rattle.icn_control.specs.Machines.{ComesTo, HaltsAt, HasStack, IsSound, StandsAt, does, stack_of, stack_seen, store_seen}
+use Rattle.icn_control.specs.declared.machine.Machine.{Machine}
+use Rattle.icn_control.specs.declared.machine.Stage.{Stage}
+use Rattle.icn_control.specs.declared.machine.Stage.TheVariants as Stages
+use Rattle.icn_machine.specs.Answering.{AnswersStep}
+
+-- What holds of each state that a run comes to
+
+-- It holds of a state and of all to which steps lead, whatever the outside is before each.
+abbrev pub AlwaysOver : Tables → (State Frames Frames → Type 0) → State Frames Frames → Type 0
+AlwaysOver tables Holds state = (outsides : List Outside) → Holds (run_over tables outsides state)
+
+-- the store has the variables of the tables
+abbrev pub FindsVariables : Tables → State Frames Frames → Type 0
+FindsVariables tables (running m st) = HasVariables tables st
+FindsVariables tables (failing m st) = HasVariables tables st
+FindsVariables tables (hopping m st) = HasVariables tables st
+FindsVariables tables (over ending outside) = ⊤
+FindsVariables tables stuck = ⊤
+
+-- where a case is due, a mark of its own is open
+abbrev pub FindsMark : Tables → State Frames Frames → Type 0
+FindsMark tables (running m st) = (instr : Instr) → instruction_at flat tables m ≡ Some instr → HasCaseMark instr (flat.go (suc (flat.place m)) m)
+FindsMark tables (failing m st) = ⊤
+FindsMark tables (hopping m st) = ⊤
+FindsMark tables (over ending outside) = ⊤
+FindsMark tables stuck = ⊤
+
+-- nothing lacks
+pub record LacksNothing (tables : Tables) (state : State Frames Frames) : Type 0 where
+  pub goes_on : state ≢ stuck
+  pub variables : FindsVariables tables state
+  pub mark : FindsMark tables state
+
+-- From this state on nothing ever lacks; what it names has a name, and each of its records is as long as its kind.
+pub record IsKept (tables : Tables) (state : State Frames Frames) : Type 0 where
+  pub always : AlwaysOver tables (LacksNothing tables) state
+  pub named : StateNamed (all_names tables) state
+  pub fits : StateFits tables state
+
+-- where a run goes on
+abbrev pub goes_on : Stage → Bool
+goes_on Stages.Runs = true
+goes_on Stages.Fails = true
+goes_on Stages.HopDue = true
+goes_on Stages.Over = false
+goes_on Stages.AtBound = false
+
+-- whether failing or a hop is due
+abbrev pub is_failing : Stage → Bool
+is_failing Stages.Fails = true
+is_failing Stages.HopDue = true
+is_failing Stages.Runs = false
+is_failing Stages.Over = false
+is_failing Stages.AtBound = false
+
+-- the outside of a state, with the report of an error in it
+abbrev pub outside_at : State Frames Frames → Outside
+outside_at (running m st) = st.outside
+outside_at (failing m st) = st.outside
+outside_at (hopping m st) = st.outside
+outside_at (over ending outside) = outside
+outside_at stuck = outside_of []
+
+-- The state for which a machine stands, where its run goes on.
+abbrev pub IsAt : {K : Type 0} → Tables → Outside → State Frames Frames → Machine K → Stage → Type 0
+IsAt tables outside state m Stages.Runs = state ≡ running (stack_seen m) (store_seen tables outside m)
+IsAt tables outside state m Stages.Fails = state ≡ failing (stack_seen m) (store_seen tables outside m)
+IsAt tables outside state m Stages.HopDue = (old : Frames) × (state ≡ hopping old (store_seen tables outside m))
+IsAt tables outside state m Stages.Over = ⊥
+IsAt tables outside state m Stages.AtBound = ⊥
+
+-- all this holds of a state for which a machine stands
+abbrev pub KeepsState : {K : Type 0} → Tables → Machine K → Stage → Type 0
+KeepsState tables m stage = (outside : Outside) × ((state : State Frames Frames) × (IsAt tables outside state m stage × IsKept tables state))
+
+-- where the run goes on
+abbrev pub IsKeptAt : {K : Type 0} → Tables → Machine K → Stage → Type 0
+IsKeptAt tables m Stages.Runs = KeepsState tables m Stages.Runs
+IsKeptAt tables m Stages.Fails = KeepsState tables m Stages.Fails
+IsKeptAt tables m Stages.HopDue = KeepsState tables m Stages.HopDue
+IsKeptAt tables m Stages.Over = ⊤
+IsKeptAt tables m Stages.AtBound = ⊤
+
+-- A machine goes on from this stage of the run of a code.
+pub record IsReady {K : Type 0} (tables : Tables) (m : Machine K) (stage : Stage) : Type 0 where
+  pub sound : IsSound tables m
+  pub stack : HasStack m stage
+  pub kept : IsKeptAt tables m stage
+
+-- What some steps come to
+
+-- So many steps are done whole, and what was handed follows them; then what was answered is so of one step more.
+pub record Leads {K : Type 0} (tables : Tables) (state : State Frames Frames) (was : Outside) (before : Handed) (n : Machine K) (after : Handed) (result : Result Stage Halt) : Type 0 where
+  pub count : ℕ
+  pub between : Handed
+  pub follows : Follows before between was (outside_at (steps flat tables count state))
+  pub last : AnswersStep (λ now answer. ComesTo tables now (steps flat tables (suc count) state) n answer) (steps flat tables (suc count) state) (outside_at (steps flat tables count state)) between after result
+
+-- where a machine stands, or how the run is over; of a fault and of want of memory nothing is said
+abbrev pub StandsBy : {K : Type 0} → Tables → Outside → State Frames Frames → Machine K → Result Stage Halt → Type 0
+StandsBy tables outside state n (Ok stage) = StandsAt tables outside state n stage
+StandsBy tables outside state n (Err (Halts.Error number offending)) = HaltsAt tables outside state n (Halts.Error number offending)
+StandsBy tables outside state n (Err (Halts.Ends status)) = HaltsAt tables outside state n (Halts.Ends status)
+StandsBy tables outside state n (Err Halts.ReadFault) = ⊤
+StandsBy tables outside state n (Err Halts.WriteFault) = ⊤
+StandsBy tables outside state n (Err Halts.NoMemory) = ⊤
+
+-- Steps lead there, one at least, each over some outside.
+pub record LeadsOver {K : Type 0} (tables : Tables) (state : State Frames Frames) (n : Machine K) (result : Result Stage Halt) : Type 0 where
+  pub first : Outside
+  pub later : List Outside
+  pub now : Outside
+  pub is : StandsBy tables now (run_over tables (first ∷ later) state) n result
+
+-- the input has failed, once, and nothing else
+pub record InputFails (before after : Handed) : Type 0 where
+  pub faults : after.faults ≡ one_more before.faults
+  pub output : KeepsCounts before.output after.output
+  pub errors : KeepsCounts before.errors after.errors
+
+-- one of the outputs has failed, once, and nothing else
+pub data OutputFails (before after : Handed) : Type 0 where
+  output_fails : after.faults ≡ before.faults → FailsOnce before.output after.output → KeepsCounts before.errors after.errors → OutputFails before after
+  errors_fail : after.faults ≡ before.faults → KeepsCounts before.output after.output → FailsOnce before.errors after.errors → OutputFails before after
+
+-- A fault is answered where that object has failed for the first time; where it is not, nothing has failed.
+abbrev pub IsFirstFault : {A : Type 0} → Result A Halt → Handed → Handed → Type 0
+IsFirstFault (Ok a) before after = KeepsAllCounts before after
+IsFirstFault (Err (Halts.Error number offending)) before after = KeepsAllCounts before after
+IsFirstFault (Err (Halts.Ends status)) before after = KeepsAllCounts before after
+IsFirstFault (Err Halts.ReadFault) before after = InputFails before after
+IsFirstFault (Err Halts.WriteFault) before after = OutputFails before after
+IsFirstFault (Err Halts.NoMemory) before after = WantsMemory before after
+
+-- From where a machine stands, steps lead to what was answered: over the outside that the input tells, if it does, and over some input in any case.
+pub record Advances {K : Type 0} (tables : Tables) (m : Machine K) (stage : Stage) (before : Handed) (n : Machine K) (after : Handed) (result : Result Stage Halt) : Type 0 where
+  pub answers : (was : Outside) (state : State Frames Frames) → IsAt tables was state m stage → before.left ≡ Some was.left
+      → Leads tables state was before n after result
+  pub meant : (was : Outside) (state : State Frames Frames) → IsAt tables was state m stage → LeadsOver tables state n result
+  pub caused : IsFirstFault result before after
+
+-- An instruction is being done: the place is that of the next one, nothing lacks, and all that holds of the state of the run is so still.
+pub record IsDoing {K : Type 0} (tables : Tables) (m : Machine K) (instr : Instr) : Type 0 where
+  pub sound : IsSound tables m
+  pub runs : IsSome m.stacks.table.running
+  pub always : (outside : Outside) → AlwaysOver tables (LacksNothing tables) (does tables outside instr m)
+  pub variables : (outside : Outside) → HasVariables tables (store_seen tables outside m)
+  pub in_range : IsInRange tables (held.proc (stack_of m)) instr
+  pub mark : HasCaseMark instr (stack_seen m)
+  pub stack_named : StackNamed (all_names tables) (stack_seen m)
+  pub store_named : (outside : Outside) → StoreNamed (all_names tables) (store_seen tables outside m)
+  pub fits : (outside : Outside) → StoreFits tables (store_seen tables outside m)
+
+-- whether an instruction performs an operation, calls something or takes a field
+abbrev pub applies_op : Op → Bool
+applies_op Ops.Refresh = false
+applies_op op = true
+
+abbrev pub is_applied : Instr → Bool
+is_applied (Instrs.Op op) = applies_op op
+is_applied (Instrs.Field place) = true
+is_applied (Instrs.Invoke count) = true
+is_applied Instrs.Appl = true
+is_applied instr = false
+
+-- whether an instruction is done whole, without memory, and never fails
+abbrev pub is_whole : Instr → Bool
+is_whole Instrs.Pop = true
+is_whole Instrs.Unmark = true
+is_whole (Instrs.Chfail label) = true
+is_whole (Instrs.Goto label) = true
+is_whole (Instrs.Loop label) = true
+is_whole (Instrs.Init label) = true
+is_whole instr = false
+
+-- nothing fails, and memory was not wanting
+abbrev pub EndsWhole : Result Stage Halt → Type 0
+EndsWhole (Ok stage) = is_failing stage ≡ false
+EndsWhole (Err (Halts.Error number offending)) = ⊤
+EndsWhole (Err (Halts.Ends status)) = ⊤
+EndsWhole (Err Halts.ReadFault) = ⊤
+EndsWhole (Err Halts.WriteFault) = ⊤
+EndsWhole (Err Halts.NoMemory) = ⊥
+
+-- No step was done, or some steps lead to what was answered.
+pub data GoesOn {K : Type 0} (tables : Tables) (m : Machine K) (stage : Stage) (before : Handed) (n : Machine K) (after : Handed) (result : Result Stage Halt) : Type 0 where
+  stays : n ≡ m → after ≡ before → result ≡ Ok stage → GoesOn tables m stage before n after result
+  advances : Advances tables m stage before n after result → GoesOn tables m stage before n after result
+
+-- Failing
+
+-- a turn more was made, and there was one
+pub record IsTurn {K : Type 0} (m n : Machine K) : Type 0 where
+  pub more : n.turns ≡ suc m.turns
+  pub within : m.turns < m.limits.turns
+
+-- where the code goes on failing, a turn was made or fewer cells stand
+abbrev pub FailsFurther : {K : Type 0} → Machine K → Machine K → Stage → Type 0
+FailsFurther m n Stages.Fails = IsTurn m n ⊎ ((n.turns ≡ m.turns) × (length (stack_seen n).cells < length (stack_seen m).cells))
+FailsFurther m n Stages.HopDue = IsTurn m n
+FailsFurther m n Stages.Runs = ⊤
+FailsFurther m n Stages.Over = ⊤
+FailsFurther m n Stages.AtBound = ⊤
+
+-- where failing or a hop is due, a turn was made
+abbrev pub MakesTurn : {K : Type 0} → Machine K → Machine K → Stage → Type 0
+MakesTurn m n Stages.Fails = IsTurn m n
+MakesTurn m n Stages.HopDue = IsTurn m n
+MakesTurn m n Stages.Runs = ⊤
+MakesTurn m n Stages.Over = ⊤
+MakesTurn m n Stages.AtBound = ⊤
+
+-- whether failing goes on in the same turn
+abbrev pub fails_within : Stage → ℕ → ℕ → Bool
+fails_within Stages.Fails now turns = now == turns
+fails_within Stages.HopDue now turns = false
+fails_within Stages.Runs now turns = false
+fails_within Stages.Over now turns = false
+fails_within Stages.AtBound now turns = false

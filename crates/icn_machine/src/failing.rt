@@ -1,0 +1,164 @@
+// Failing, until the next instruction is due.
+ghost use Rattle.std.specs.Prelude.{◌≡◌, false, Ok, IfErr, IfOk};
+ghost use Rattle.icn_code.specs.Codes.{Tables};
+ghost use Rattle.icn_vars.specs.Outcomes.{IsLiveHalt};
+ghost use Rattle.icn_run.specs.Step.{all_names};
+ghost use Rattle.icn_streams.specs.Handed.{Handed, handed};
+ghost use Rattle.icn_control.specs.Machines.{world_reach};
+ghost use Rattle.icn_control.specs.declared.machine.Stage.TheVariants as Stages;
+ghost use Rattle.icn_machine.specs.Stepping.{Advances, FailsFurther, GoesOn, IsReady, MakesTurn, fails_within, is_failing};
+
+use crate::operations::resume;
+use icn_cells::Stack;
+use icn_control::{Due, Machine, Stage, begin_again, end_failing, fail_once, hop, reenter};
+use icn_convert::Names;
+use icn_frames::Cell;
+use icn_host::{Sink, Source};
+use icn_run_named::{steps_keep_names, steps_keep_sizes};
+use icn_vars::Halt;
+
+// One step of failing, with the turn that it may count. The errors are those of what is resumed.
+fn fail_next<K: Stack<Cell> + Drop, N: Names, I: Source, O: Sink, E: Sink>(
+    m: &mut Machine<K>,
+    names: &N,
+    buffer: &mut Vec<u8>,
+    input: &mut I,
+    out: &mut O,
+    err: &mut E,
+) -> Result<Stage, Halt>
+    requires ready { (tables : Tables) × ((all_names tables ≡ N.known names.now) × IsReady tables m.old Stages.Fails) }
+    ensures steps { (tables : Tables) → all_names tables ≡ N.known names.now → IsReady tables m.old Stages.Fails → Advances tables m.old Stages.Fails (handed (I.left input.old) (I.faults input.old) (O.state out.old) (E.state err.old)) m.new (handed (I.left input.new) (I.faults input.new) (O.state out.new) (E.state err.new)) result }
+    ensures ready { (tables : Tables) → all_names tables ≡ N.known names.now → IsReady tables m.old Stages.Fails → IfOk result (IsReady tables m.new) }
+    ensures further { IfOk result (FailsFurther m.old m.new) }
+    ensures halt { IfErr result (IsLiveHalt (world_reach m.new)) }
+    ensures limits { m.new.limits ≡ m.old.limits }
+{
+    steps_keep_names();
+    steps_keep_sizes();
+    match fail_once(m) {
+        Due::Failing => Ok(Stage::Fails),
+        Due::Running => Ok(Stage::Runs),
+        Due::Beginning => Ok(begin_again(m)),
+        Due::Resuming(rest) => resume(m, rest, names, buffer, input, out, err),
+        Due::Reentering => Ok(reenter(m)),
+        Due::Leaving => Ok(end_failing(m)),
+    }
+}
+
+// Whether failing goes on in the same turn.
+fn fails_within(stage: Stage, now: u64, turns: u64) -> bool
+    ensures { result ≡ fails_within stage now turns }
+{
+    match stage {
+        Stage::Fails => now == turns,
+        Stage::HopDue => false,
+        Stage::Runs => false,
+        Stage::Over => false,
+        Stage::AtBound => false,
+    }
+}
+
+// Whether failing or a hop is due.
+pub fn is_failing(stage: Stage) -> bool
+    ensures { result ≡ is_failing stage }
+{
+    match stage {
+        Stage::Fails => true,
+        Stage::HopDue => true,
+        Stage::Runs => false,
+        Stage::Over => false,
+        Stage::AtBound => false,
+    }
+}
+
+// Fails until a turn was made, or the code fails no more. The errors are those of `fail_next`.
+fn fail_to_turn<K: Stack<Cell> + Drop, N: Names, I: Source, O: Sink, E: Sink>(
+    m: &mut Machine<K>,
+    names: &N,
+    buffer: &mut Vec<u8>,
+    input: &mut I,
+    out: &mut O,
+    err: &mut E,
+) -> Result<Stage, Halt>
+    requires ready { (tables : Tables) × ((all_names tables ≡ N.known names.now) × IsReady tables m.old Stages.Fails) }
+    ensures steps { (tables : Tables) → all_names tables ≡ N.known names.now → IsReady tables m.old Stages.Fails → GoesOn tables m.old Stages.Fails (handed (I.left input.old) (I.faults input.old) (O.state out.old) (E.state err.old)) m.new (handed (I.left input.new) (I.faults input.new) (O.state out.new) (E.state err.new)) result }
+    ensures ready { (tables : Tables) → all_names tables ≡ N.known names.now → IsReady tables m.old Stages.Fails → IfOk result (IsReady tables m.new) }
+    ensures turn { IfOk result (MakesTurn m.old m.new) }
+    ensures halt { IfErr result (IsLiveHalt (world_reach m.new)) }
+    ensures limits { m.new.limits ≡ m.old.limits }
+{
+    let turns = m.turns;
+    let mut stage = Stage::Fails;
+    while fails_within(stage, m.turns, turns) {
+        stage = fail_next(m, names, buffer, input, out, err)?;
+    }
+    Ok(stage)
+}
+
+// A hop that is due, as a turn.
+fn hop_next<K: Stack<Cell> + Drop>(m: &mut Machine<K>) -> Stage
+    requires ready { (tables : Tables) × IsReady tables m.old Stages.HopDue }
+    ensures steps { (tables : Tables) (h : Handed) → IsReady tables m.old Stages.HopDue → Advances tables m.old Stages.HopDue h m.new h (Ok result) }
+    ensures ready { (tables : Tables) → IsReady tables m.old Stages.HopDue → IsReady tables m.new result }
+    ensures turn { MakesTurn m.old m.new result }
+    ensures limits { m.new.limits ≡ m.old.limits }
+{
+    steps_keep_names();
+    steps_keep_sizes();
+    hop(m)
+}
+
+// Fails until a turn was made, or hops, where one of both is due. The errors are those of `fail_next`.
+fn fail_turn<K: Stack<Cell> + Drop, N: Names, I: Source, O: Sink, E: Sink>(
+    m: &mut Machine<K>,
+    stage: Stage,
+    names: &N,
+    buffer: &mut Vec<u8>,
+    input: &mut I,
+    out: &mut O,
+    err: &mut E,
+) -> Result<Stage, Halt>
+    requires ready { (tables : Tables) × ((all_names tables ≡ N.known names.now) × IsReady tables m.old stage) }
+    ensures steps { (tables : Tables) → all_names tables ≡ N.known names.now → IsReady tables m.old stage → GoesOn tables m.old stage (handed (I.left input.old) (I.faults input.old) (O.state out.old) (E.state err.old)) m.new (handed (I.left input.new) (I.faults input.new) (O.state out.new) (E.state err.new)) result }
+    ensures ready { (tables : Tables) → all_names tables ≡ N.known names.now → IsReady tables m.old stage → IfOk result (IsReady tables m.new) }
+    ensures turn { IfOk result (MakesTurn m.old m.new) }
+    ensures halt { IfErr result (IsLiveHalt (world_reach m.new)) }
+    ensures limits { m.new.limits ≡ m.old.limits }
+{
+    match stage {
+        Stage::Fails => fail_to_turn(m, names, buffer, input, out, err),
+        Stage::HopDue => Ok(hop_next(m)),
+        Stage::Runs => Ok(Stage::Runs),
+        Stage::Over => Ok(Stage::Over),
+        Stage::AtBound => Ok(Stage::AtBound),
+    }
+}
+
+/// Fails, and hops where that is due, until the next instruction is due or the run is over. The room for what is read and put is
+/// used again, whatever it holds.
+///
+/// # Errors
+///
+/// Those of what is resumed (`resume`). Nothing else of failing takes memory.
+pub fn fail_through<K: Stack<Cell> + Drop, N: Names, I: Source, O: Sink, E: Sink>(
+    m: &mut Machine<K>,
+    from: Stage,
+    names: &N,
+    buffer: &mut Vec<u8>,
+    input: &mut I,
+    out: &mut O,
+    err: &mut E,
+) -> Result<Stage, Halt>
+    requires ready { (tables : Tables) × ((all_names tables ≡ N.known names.now) × IsReady tables m.old from) }
+    ensures steps { (tables : Tables) → all_names tables ≡ N.known names.now → IsReady tables m.old from → GoesOn tables m.old from (handed (I.left input.old) (I.faults input.old) (O.state out.old) (E.state err.old)) m.new (handed (I.left input.new) (I.faults input.new) (O.state out.new) (E.state err.new)) result }
+    ensures ready { (tables : Tables) → all_names tables ≡ N.known names.now → IsReady tables m.old from → IfOk result (IsReady tables m.new) }
+    ensures fails_no_more { IfOk result (λ stage. is_failing stage ≡ false) }
+    ensures halt { IfErr result (IsLiveHalt (world_reach m.new)) }
+    ensures limits { m.new.limits ≡ m.old.limits }
+{
+    let mut stage = from;
+    while is_failing(stage) {
+        stage = fail_turn(m, stage, names, buffer, input, out, err)?;
+    }
+    Ok(stage)
+}

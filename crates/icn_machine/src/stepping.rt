@@ -1,0 +1,268 @@
+// One instruction of a run.
+ghost use Rattle.std.specs.Prelude.{◌≡◌, ◌≢◌, ◌<◌, false, true, suc, Err, Some, IfErr, IfOk, length, slice_get};
+ghost use Rattle.icn_value.specs.Store.{Outside};
+ghost use Rattle.icn_vars.specs.Outcomes.{IsLiveHalt};
+ghost use Rattle.icn_vars.specs.declared.outcome.Halt.TheVariants.{NoMemory};
+ghost use Rattle.icn_code.specs.declared.instr.Instr.{Instr as InstrSeen};
+ghost use Rattle.icn_frames.specs.Stacks as flat;
+ghost use Rattle.icn_code.specs.Seen.{tables_of};
+ghost use Rattle.icn_run.specs.Stacks.{flat as calls};
+ghost use Rattle.icn_run.specs.Step.{all_names, instruction_at, instrs_of, running, step};
+ghost use Rattle.icn_streams.specs.Handed.{handed};
+ghost use Rattle.icn_control.specs.Machines.{ComesTo, does, stack_seen, store_seen, world_reach};
+ghost use Rattle.icn_control.specs.declared.machine.Stage.TheVariants as Stages;
+ghost use Rattle.icn_machine.specs.Performing.{PerformsOn};
+ghost use Rattle.icn_machine.specs.Stepping.{Advances, EndsWhole, GoesOn, IsDoing, IsReady, is_applied, is_failing, is_whole};
+ghost use Rattle.icn_machine.specs.Steps.{stage_of, staged};
+
+use crate::failing::{fail_through, is_failing as fails_now};
+use crate::fields::field;
+use crate::invoking::{appl, invoke};
+use crate::operations::operate;
+use icn_apply::CodeNames;
+use icn_cells::Stack;
+use icn_code::{Code, Instr};
+use icn_control::{Machine, Stage};
+use icn_convert::Names;
+use icn_frames::{Cell, Frames};
+use icn_host::{Sink, Source};
+use icn_instructions::do_instruction;
+use icn_run_named::{steps_keep_names, steps_keep_sizes};
+use icn_text::Op;
+use icn_value::{Item, Val};
+use icn_vars::Halt;
+use icn_verify::Verified;
+
+/// Where a run stands after an instruction.
+#[derive(Clone, Copy, Debug, PartialEq, Eq)]
+pub enum Stepped {
+    /// The next instruction is due.
+    On,
+    /// The starting call is over, and with it the run.
+    Finished,
+    /// One turn more would be past the bound.
+    AtBound,
+}
+
+/// Rooms that each instruction uses again, whatever they hold: for operands, for values, and for what is read and put.
+#[derive(Drop)]
+pub struct Rooms {
+    pub items: Vec<Item>,
+    pub vals: Vec<Val>,
+    pub buffer: Vec<u8>,
+}
+
+// The instructions of a procedure; of one that is not there, none.
+fn instrs_at(code: &Code, proc: u32) -> &[Instr]
+    ensures { result.now ≡ instrs_of (tables_of code.now) proc }
+{
+    match code.procs.get(proc as usize) {
+        Some(entry) => &entry.instrs,
+        None => &[],
+    }
+}
+
+// The instruction that is due, and the next one is gone to.
+fn take_instr<K: Stack<Cell> + Drop>(frames: &mut Frames<K>, code: &Code) -> Instr
+    requires there { frames.old.flat.place < length (instrs_of (tables_of code.now) (flat.proc frames.old.flat)) }
+    ensures instr { slice_get (instrs_of (tables_of code.now) (flat.proc frames.old.flat)) frames.old.flat.place ≡ Some result }
+    ensures flat { frames.new.flat ≡ flat.go (suc frames.old.flat.place) frames.old.flat }
+{
+    let instrs = instrs_at(code, frames.proc());
+    let place = frames.place();
+    let instr = instrs[place as usize];
+    frames.go(place + 1);
+    instr
+}
+
+// The same on the stack that runs. What a step of the run comes to is what the instruction comes to then.
+fn next_instr<K: Stack<Cell> + Drop>(m: &mut Machine<K>, code: &Code) -> Instr
+    requires ready { IsReady (tables_of code.now) m.old Stages.Runs }
+    ensures instr { instruction_at calls (tables_of code.now) (stack_seen m.old) ≡ Some result }
+    ensures step { (outside : Outside) → step calls (tables_of code.now) (running (stack_seen m.old) (store_seen (tables_of code.now) outside m.old)) ≡ does (tables_of code.now) outside result m.new }
+    ensures doing { IsDoing (tables_of code.now) m.new result }
+    ensures limits { m.new.limits ≡ m.old.limits }
+{
+    take_instr(m.stacks.frames(), code)
+}
+
+// Whether an instruction performs an operation, calls something or takes a field.
+fn is_applied(instr: Instr) -> bool
+    ensures { result ≡ is_applied instr }
+{
+    match instr {
+        Instr::Op(Op::Refresh) => false,
+        Instr::Op(_) => true,
+        Instr::Field(_) => true,
+        Instr::Invoke(_) => true,
+        Instr::Appl => true,
+        _ => false,
+    }
+}
+
+// Performs an operation, calls something or takes a field, as is due. The errors are those of the call.
+fn do_applied<K: Stack<Cell> + Drop, N: Names, I: Source, O: Sink, E: Sink>(
+    m: &mut Machine<K>,
+    code: &Code,
+    instr: Instr,
+    names: &N,
+    rooms: &mut Rooms,
+    input: &mut I,
+    out: &mut O,
+    err: &mut E,
+) -> Result<Stage, Halt>
+    requires applied { is_applied instr ≡ true }
+    requires known { N.known names.now ≡ all_names (tables_of code.now) }
+    requires doing { IsDoing (tables_of code.now) m.old instr }
+    ensures step { PerformsOn (tables_of code.now) (λ outside. does (tables_of code.now) outside instr m.old) m.new (handed (I.left input.old) (I.faults input.old) (O.state out.old) (E.state err.old)) (handed (I.left input.new) (I.faults input.new) (O.state out.new) (E.state err.new)) result }
+    ensures ready { IfOk result (IsReady (tables_of code.now) m.new) }
+    ensures halt { IfErr result (IsLiveHalt (world_reach m.new)) }
+    ensures limits { m.new.limits ≡ m.old.limits }
+{
+    steps_keep_names();
+    steps_keep_sizes();
+    let items = &mut rooms.items;
+    let vals = &mut rooms.vals;
+    let buffer = &mut rooms.buffer;
+    match instr {
+        Instr::Op(op) => operate(m, op, items, names, buffer, input, out, err),
+        Instr::Field(place) => field(m, code, place),
+        Instr::Invoke(count) => invoke(m, code, count, items, vals, names, buffer, input, out, err),
+        Instr::Appl => appl(m, code, items, vals, names, buffer, input, out, err),
+        _ => unreachable!(),
+    }
+}
+
+// Does any other instruction that is due. The errors are those of `do_instruction`.
+fn do_plain<K: Stack<Cell> + Drop>(
+    m: &mut Machine<K>,
+    code: &Code,
+    instr: Instr,
+    rooms: &mut Rooms,
+) -> Result<Stage, Halt>
+    requires applied { is_applied instr ≡ false }
+    requires doing { IsDoing (tables_of code.now) m.old instr }
+    ensures step { (outside : Outside) → ComesTo (tables_of code.now) outside (does (tables_of code.now) outside instr m.old) m.new result }
+    ensures ready { IfOk result (IsReady (tables_of code.now) m.new) }
+    ensures whole { is_whole instr ≡ true → EndsWhole result }
+    ensures halt { IfErr result (IsLiveHalt (world_reach m.new)) }
+    ensures limits { m.new.limits ≡ m.old.limits }
+{
+    steps_keep_names();
+    steps_keep_sizes();
+    do_instruction(m, code, instr, &mut rooms.items, &mut rooms.vals)
+}
+
+// Does the instruction that is due, but for the failing behind it. The errors are those of the instruction.
+fn do_next<K: Stack<Cell> + Drop, N: Names, I: Source, O: Sink, E: Sink>(
+    m: &mut Machine<K>,
+    code: &Code,
+    names: &N,
+    rooms: &mut Rooms,
+    input: &mut I,
+    out: &mut O,
+    err: &mut E,
+) -> Result<Stage, Halt>
+    requires known { N.known names.now ≡ all_names (tables_of code.now) }
+    requires ready { IsReady (tables_of code.now) m.old Stages.Runs }
+    ensures steps { Advances (tables_of code.now) m.old Stages.Runs (handed (I.left input.old) (I.faults input.old) (O.state out.old) (E.state err.old)) m.new (handed (I.left input.new) (I.faults input.new) (O.state out.new) (E.state err.new)) result }
+    ensures ready { IfOk result (IsReady (tables_of code.now) m.new) }
+    ensures whole { (instr : InstrSeen) → instruction_at calls (tables_of code.now) (stack_seen m.old) ≡ Some instr → is_whole instr ≡ true → EndsWhole result }
+    ensures halt { IfErr result (IsLiveHalt (world_reach m.new)) }
+    ensures limits { m.new.limits ≡ m.old.limits }
+{
+    let instr = next_instr(m, code);
+    if is_applied(instr) {
+        return do_applied(m, code, instr, names, rooms, input, out, err);
+    }
+    do_plain(m, code, instr, rooms)
+}
+
+// Where the run stands at a stage at which nothing fails.
+fn stepped_of(stage: Stage) -> Stepped
+    requires { is_failing stage ≡ false }
+    ensures { stage_of result ≡ stage }
+{
+    match stage {
+        Stage::Runs => Stepped::On,
+        Stage::Over => Stepped::Finished,
+        Stage::AtBound => Stepped::AtBound,
+        Stage::Fails => unreachable!(),
+        Stage::HopDue => unreachable!(),
+    }
+}
+
+// Fails until the run stands somewhere. The errors are those of `fail_through`.
+fn fail_to_next<K: Stack<Cell> + Drop, N: Names, I: Source, O: Sink, E: Sink>(
+    m: &mut Machine<K>,
+    from: Stage,
+    code: &Code,
+    names: &N,
+    buffer: &mut Vec<u8>,
+    input: &mut I,
+    out: &mut O,
+    err: &mut E,
+) -> Result<Stepped, Halt>
+    requires known { N.known names.now ≡ all_names (tables_of code.now) }
+    requires ready { IsReady (tables_of code.now) m.old from }
+    ensures steps { GoesOn (tables_of code.now) m.old from (handed (I.left input.old) (I.faults input.old) (O.state out.old) (E.state err.old)) m.new (handed (I.left input.new) (I.faults input.new) (O.state out.new) (E.state err.new)) (staged result) }
+    ensures ready { IfOk result (λ stepped. IsReady (tables_of code.now) m.new (stage_of stepped)) }
+    ensures halt { IfErr result (IsLiveHalt (world_reach m.new)) }
+    ensures limits { m.new.limits ≡ m.old.limits }
+{
+    let stage = fail_through(m, from, names, buffer, input, out, err)?;
+    Ok(stepped_of(stage))
+}
+
+// Does one instruction, by the names of the code.
+fn step_named<K: Stack<Cell> + Drop, N: Names, I: Source, O: Sink, E: Sink>(
+    m: &mut Machine<K>,
+    code: &Code,
+    names: &N,
+    rooms: &mut Rooms,
+    input: &mut I,
+    out: &mut O,
+    err: &mut E,
+) -> Result<Stepped, Halt>
+    requires known { N.known names.now ≡ all_names (tables_of code.now) }
+    requires ready { IsReady (tables_of code.now) m.old Stages.Runs }
+    ensures steps { Advances (tables_of code.now) m.old Stages.Runs (handed (I.left input.old) (I.faults input.old) (O.state out.old) (E.state err.old)) m.new (handed (I.left input.new) (I.faults input.new) (O.state out.new) (E.state err.new)) (staged result) }
+    ensures ready { IfOk result (λ stepped. IsReady (tables_of code.now) m.new (stage_of stepped)) }
+    ensures no_memory { (instr : InstrSeen) → instruction_at calls (tables_of code.now) (stack_seen m.old) ≡ Some instr → is_whole instr ≡ true → result ≢ Err NoMemory }
+    ensures halt { IfErr result (IsLiveHalt (world_reach m.new)) }
+    ensures limits { m.new.limits ≡ m.old.limits }
+{
+    let stage = do_next(m, code, names, rooms, input, out, err)?;
+    if fails_now(stage) {
+        return fail_to_next(m, stage, code, names, &mut rooms.buffer, input, out, err);
+    }
+    Ok(stepped_of(stage))
+}
+
+/// Does one instruction, with all the failing and the hops that follow it, where the machine stands at one. The rooms are used
+/// again, whatever they hold.
+///
+/// # Errors
+///
+/// `Error` where the run is over by a run-time error, and `Ends` where it ends with a status. `ReadFault` where the input failed,
+/// `WriteFault` where an output did, and `NoMemory` where memory ran out: the run is over then. An instruction that pops, unmarks,
+/// sets or goes to a label or asks for `initial` takes no memory.
+pub fn step<K: Stack<Cell> + Drop, I: Source, O: Sink, E: Sink>(
+    m: &mut Machine<K>,
+    code: &Verified,
+    rooms: &mut Rooms,
+    input: &mut I,
+    out: &mut O,
+    err: &mut E,
+) -> Result<Stepped, Halt>
+    requires ready { IsReady (tables_of code.now.code) m.old Stages.Runs }
+    ensures steps { Advances (tables_of code.now.code) m.old Stages.Runs (handed (I.left input.old) (I.faults input.old) (O.state out.old) (E.state err.old)) m.new (handed (I.left input.new) (I.faults input.new) (O.state out.new) (E.state err.new)) (staged result) }
+    ensures ready { IfOk result (λ stepped. IsReady (tables_of code.now.code) m.new (stage_of stepped)) }
+    ensures no_memory { (instr : InstrSeen) → instruction_at calls (tables_of code.now.code) (stack_seen m.old) ≡ Some instr → is_whole instr ≡ true → result ≢ Err NoMemory }
+    ensures halt { IfErr result (IsLiveHalt (world_reach m.new)) }
+    ensures limits { m.new.limits ≡ m.old.limits }
+{
+    let code = code.code();
+    let names = CodeNames::new(code);
+    step_named(m, code, &names, rooms, input, out, err)
+}
