@@ -1,6 +1,6 @@
 -- Each number of a label has one place: of each label, how often it is given a number, stands at its place, or waits for it in an
 -- open loop or case.
-use Rattle.std.proofs.Common.{◌≡◌, ℕ, zero, suc, ◌+◌, List, [], ◌∷◌, ◌++◌, Option, None, Some, refl, sym, ap, ◌∙◌, nat_eq, add-zero, Bool, if◌then◌else◌, arith}
+use Rattle.std.proofs.Common.{◌≡◌, ℕ, false, zero, suc, ◌+◌, List, [], ◌∷◌, ◌++◌, Option, None, Some, refl, sym, ap, ◌∙◌, nat_eq, add-zero, Bool, if◌then◌else◌, arith}
 use Rattle.icn_unit.specs.declared.unit.UnitInstr.{UnitInstr}
 use Rattle.icn_unit.specs.declared.unit.UnitInstr.TheVariants as I
 use Rattle.icn_unit.specs.UnitRules.{place_of}
@@ -305,6 +305,7 @@ sum_within Te Ti Tf Tg Ue Ui Uf Ug a b c h = omega arith
 
 pub balance : Keeps
 balance = record {
+  asks = false;
   Leads = Balanced;
   Inside = λ n d. Unit {0};
   InCase = λ d. Unit {0};
@@ -312,7 +313,7 @@ balance = record {
   none = λ d. record { counts = λ l. add-zero (times l d + given l d.labels) };
   joined = λ d e f ns p q. then_balanced d e f ns p
       (λ l. sym (add-zero (times l f + given l e.labels)) ∙ q.counts l);
-  plain = λ d i p. record { place = p.place };
+  plain = λ d i p o. record { place = p.place };
   fresh = λ d i p. record { place = p.place };
   may_later = λ d e ns i p m. record { place = m.place };
   may_behind = λ d i j m. record { place = m.place };
@@ -335,7 +336,7 @@ balance = record {
         (given l (put (I.Lab n) e).labels) (owed l ns) (one l n) (one l m)
         (p.counts l) (put_times l (I.Lab n) e) (ap (given l) (put_labels (I.Lab n) e));
   };
-  variable = λ d e ns name p. then_balanced d e (put_variable name e) ns p
+  variable = λ d e ns name o p. then_balanced d e (put_variable name e) ns p
       (λ l. ap (λ t. t + given l e.labels) (variable_times l name e)
       ∙ ap (λ n. times l e + given l n) (sym (variable_labels name e)));
   inside_none = λ d. tt;
@@ -374,3 +375,7 @@ balance = record {
 pub is_balanced : (d e : Draft) (ns : List ℕ) → balance.Leads d e ns → Balanced d e ns
 unfolding balance
 is_balanced d e ns p = p
+
+pub balance_asks : balance.asks ≡ false
+unfolding balance
+balance_asks = refl

@@ -1,11 +1,13 @@
 -- What is kept from a draft to one that goes on from it, by rules for what forms are made of, and chains of such steps.
-use Rattle.std.specs.Prelude.{◌≡◌, ℕ, suc, List, [], ◌∷◌, Option, None, Some}
+use Rattle.std.specs.Prelude.{◌≡◌, Bool, true, ℕ, suc, List, [], ◌∷◌, Option, None, Some}
 use Rattle.icn_unit.specs.declared.unit.UnitInstr.{UnitInstr}
 use Rattle.icn_unit.specs.declared.unit.UnitInstr.TheVariants as I
 use Rattle.icn_unit.specs.UnitRules.{label_in, place_of}
 use Rattle.icn_translate.specs.declared.builder.Ways.{Ways}
 use Rattle.icn_translate.specs.Drafts.{Draft, put, next_label, with_label, put_variable, unmentioned, in_loop, outside_loop, innermost, put_next, put_last, in_case, outside_case, put_end}
+use Rattle.icn_unit.specs.UnitOperands.{is_name}
 use Rattle.icn_translate.specs.Translation.{loop_end}
+use Rattle.icn_units.specs.Written.{operand_fits}
 
 -- the place of the name whose variable an instruction pushes
 abbrev pub variable_in : UnitInstr → Option ℕ
@@ -17,6 +19,7 @@ pub record GoesTo (n : ℕ) (i : UnitInstr) : Type 0 where
   pub label : label_in i ≡ Some n
   pub place : place_of i ≡ None
   pub variable : variable_in i ≡ None
+  pub operand : operand_fits i ≡ true
 
 -- an instruction without a label, and of no name
 pub record IsPlain (i : UnitInstr) : Type 0 where
@@ -24,8 +27,14 @@ pub record IsPlain (i : UnitInstr) : Type 0 where
   pub place : place_of i ≡ None
   pub variable : variable_in i ≡ None
 
+-- a test that passes, where it is asked
+abbrev pub Told : Bool → Bool → Type 0
+Told asked test = asked ≡ true → test ≡ true
+
 -- What is kept, and why each step of a form keeps it. Of labels that have a number and no place yet the newest stands first.
 pub record Keeps : Type 1 where
+  -- whether it asks for what the names and the literals of trees keep
+  pub asks : Bool
   pub Leads : Draft → Draft → List ℕ → Type 0
   -- so many loops are open; a case is open; an instruction may stand there
   pub Inside : ℕ → Draft → Type 0
@@ -33,7 +42,7 @@ pub record Keeps : Type 1 where
   pub May : Draft → UnitInstr → Type 0
   pub none : (d : Draft) → Leads d d []
   pub joined : (d e f : Draft) (ns : List ℕ) → Leads d e ns → Leads e f [] → Leads d f ns
-  pub plain : (d : Draft) (i : UnitInstr) → IsPlain i → May d i
+  pub plain : (d : Draft) (i : UnitInstr) → IsPlain i → Told asks (operand_fits i) → May d i
   pub fresh : (d : Draft) (i : UnitInstr) → GoesTo (next_label d) i → May (with_label d) i
   pub may_later : (d e : Draft) (ns : List ℕ) (i : UnitInstr) → Leads d e ns → May d i → May e i
   pub may_behind : (d : Draft) (i j : UnitInstr) → May d i → May (put j d) i
@@ -43,7 +52,8 @@ pub record Keeps : Type 1 where
   pub place : (d e : Draft) (n : ℕ) (ns : List ℕ) → Leads d e (n ∷ ns) → Leads d (put (I.Lab n) e) ns
   pub second_place : (d e : Draft) (m n : ℕ) (ns : List ℕ) → Leads d e (m ∷ n ∷ ns)
       → Leads d (put (I.Lab n) e) (m ∷ ns)
-  pub variable : (d e : Draft) (ns : List ℕ) (name : List ℕ) → Leads d e ns → Leads d (put_variable name e) ns
+  pub variable : (d e : Draft) (ns : List ℕ) (name : List ℕ) → Told asks (is_name name) → Leads d e ns
+      → Leads d (put_variable name e) ns
   pub inside_none : (d : Draft) → Inside 0 d
   pub inside_later : (d e : Draft) (ns : List ℕ) (n : ℕ) → Leads d e ns → Inside n d → Inside n e
   pub inside_loop : (d : Draft) (w : Ways) (n : ℕ) → Inside n d → Inside (suc n) (in_loop w d)
@@ -90,10 +100,10 @@ on {K = K} {step = step} r {d = d} {e = e} {ns = ns} c =
     record { leads = K.joined d e (step e) ns c.leads (r.run e (here c)); inside = c.inside }
 
 pub plainly : {K : Keeps} {n : ℕ} (i : UnitInstr) → label_in i ≡ None → place_of i ≡ None → variable_in i ≡ None
-    → {d e : Draft} {ns : List ℕ} → Chain K n d e ns → Chain K n d (put i e) ns
-plainly {K = K} i l p v {d = d} {e = e} {ns = ns} c =
+    → Told K.asks (operand_fits i) → {d e : Draft} {ns : List ℕ} → Chain K n d e ns → Chain K n d (put i e) ns
+plainly {K = K} i l p v w {d = d} {e = e} {ns = ns} c =
     let plain : IsPlain i = record { label = l; place = p; variable = v } in
-    record { leads = K.instr d e ns i (K.plain e i plain) c.leads; inside = c.inside }
+    record { leads = K.instr d e ns i (K.plain e i plain w) c.leads; inside = c.inside }
 
 pub label : {K : Keeps} {n : ℕ} {d e : Draft} {ns : List ℕ} → Chain K n d e ns
     → Chain K n d (with_label e) (next_label e ∷ ns)

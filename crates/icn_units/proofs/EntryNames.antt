@@ -22,10 +22,10 @@ use Rattle.icn_unit.specs.PlainUnits.{entry_names}
 use Rattle.icn_unit.specs.UnitRules.{names_differ, in_order, rank}
 use Rattle.icn_translate.specs.ProcCodes.{entry_of, texts_of, kind_of, local_entries, local_texts, declared_entries, declared_texts, begun, drafted, undeclared, proc_code}
 use Rattle.icn_units.proofs.Forms.{none_before, none_behind}
-use Rattle.icn_units.proofs.Naming.{once_each, nor_of, is_not, Names, naming, are_named}
+use Rattle.icn_units.proofs.Naming.{once_each, nor_of, is_not, Names, naming, naming_asks, are_named}
 use Rattle.icn_units.proofs.Procedures.{procedure_leads}
 use Rattle.icn_units.proofs.Chains.{variable_in}
-use Rattle.icn_units.proofs.Variables.{Below, AllBelow, Vars, variables, have_vars}
+use Rattle.icn_units.proofs.Variables.{Below, AllBelow, Vars, variables, variables_asks, have_vars}
 use Rattle.icn_units.specs.CodeNames.{variable_is_named, variables_are_named}
 
 -- Names that none of which is declared twice
@@ -213,11 +213,12 @@ module _ (met : Met) (procedure : Procedure) (faultless : procedure_faults met p
       subst (λ (texts : List (List ℕ)). names_differ texts ≡ true) (names_declared procedure)
       (texts_differ none_met (declared_names procedure) once)
 
-  begun_names : (begun procedure).names ≡ declared_texts procedure
+  pub begun_names : (begun procedure).names ≡ declared_texts procedure
   begun_names = once_each [] (declared_texts procedure) declared_once
 
   whole_names : Names (begun procedure) (drafted procedure) []
-  whole_names = are_named (begun procedure) (drafted procedure) [] (procedure_leads naming met procedure faultless)
+  whole_names = are_named (begun procedure) (drafted procedure) []
+      (procedure_leads naming naming_asks met procedure faultless)
 
   -- the names of the code are those of the draft
   pub code_names : entry_names (proc_code procedure).names ≡ (drafted procedure).names
@@ -242,7 +243,7 @@ module _ (met : Met) (procedure : Procedure) (faultless : procedure_faults met p
 
   whole_vars : Vars (begun procedure) (drafted procedure) []
   whole_vars = have_vars (begun procedure) (drafted procedure) []
-      (procedure_leads variables met procedure faultless)
+      (procedure_leads variables variables_asks met procedure faultless)
 
   pub code_variables_named : variables_are_named (proc_code procedure) ≡ true
   code_variables_named =

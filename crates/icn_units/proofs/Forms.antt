@@ -1,5 +1,5 @@
 -- Each form of a tree that breaks no context rule keeps what its steps keep: one line a form, in the order of the translation.
-use Rattle.std.proofs.Common.{◌≡◌, ℕ, suc, Bool, true, false, List, [], ◌∷◌, ◌++◌, length, Option, None, Some, refl, sym, subst, if◌then◌else◌}
+use Rattle.std.proofs.Common.{◌≡◌, ℕ, suc, Bool, true, false, ◌&&◌, List, [], ◌∷◌, ◌++◌, length, Option, None, Some, refl, sym, subst, if◌then◌else◌}
 use Rattle.icn_text.specs.declared.keyword.Keyword.{Keyword as KeywordNamed}
 use Rattle.icn_text.specs.declared.keyword.Keyword.TheVariants as K
 use Rattle.icn_tree.specs.declared.tree.Place.{Place}
@@ -25,7 +25,9 @@ use Rattle.icn_translate.specs.Drafts.{Draft, ◌▹◌, put, next_label, with_l
 use Rattle.icn_translate.specs.Instructions.{literal_instr, known_keyword, keyword_by, keyword_instr, section_op, infix_form, prefix_form}
 use Rattle.icn_translate.specs.Open.{Open, Outermost, Marked, Looped, Each, unmarks_for_break, unmarks_for_next, around}
 use Rattle.icn_translate.specs.Translation.{is_empty, is_nothing, is_no_element, elements, bounded, created, if_mark, unless_empty, either_step, control_part, in_control, in_body, back, loop_end, prefix_by, plain_form, update, augmented_form, case_of, looped_body, translate, operands, arguments, conjunction, conjuncts, compound, creations, other_creations, subscripts, to_step, otherwise, looped_part, suspended_part, guarded, guarded_clause, default_part, default_clause, initially, body}
-use Rattle.icn_units.proofs.Chains.{variable_in, Keeps, Runs, Chain, ◌▸◌, here, on, plainly, label, labelled, placed, second_placed, outer_runs}
+use Rattle.icn_units.specs.Written.{operand_fits, name_fits, literal_fits, tree_fits, maybe_fits, trees_fit, clause_fits, clauses_fit, initial_fits}
+use Rattle.icn_units.proofs.WrittenTrees.{first_of, second_of}
+use Rattle.icn_units.proofs.Chains.{variable_in, Told, Keeps, Runs, Chain, ◌▸◌, here, on, plainly, label, labelled, placed, second_placed, outer_runs}
 
 -- Lists of faults that are empty
 
@@ -129,6 +131,26 @@ known_variable K.Source = refl
 known_variable K.Subject = refl
 known_variable K.Ucase = refl
 
+known_operand : (k : KeywordNamed) → operand_fits (known_keyword k) ≡ true
+known_operand K.Ascii = refl
+known_operand K.Cset = refl
+known_operand K.Current = refl
+known_operand K.Digits = refl
+known_operand K.Errout = refl
+known_operand K.Fail = refl
+known_operand K.Input = refl
+known_operand K.Lcase = refl
+known_operand K.Letters = refl
+known_operand K.Level = refl
+known_operand K.Main = refl
+known_operand K.Null = refl
+known_operand K.Output = refl
+known_operand K.Pos = refl
+known_operand K.Random = refl
+known_operand K.Source = refl
+known_operand K.Subject = refl
+known_operand K.Ucase = refl
+
 keyword_label : (k : Option KeywordNamed) → label_in (keyword_by k) ≡ None
 keyword_label None = refl
 keyword_label (Some k) = known_label k
@@ -141,6 +163,23 @@ keyword_variable : (k : Option KeywordNamed) → variable_in (keyword_by k) ≡ 
 keyword_variable None = refl
 keyword_variable (Some k) = known_variable k
 
+keyword_operand : {asks : Bool} (k : Option KeywordNamed) → Told asks (operand_fits (keyword_by k))
+keyword_operand None h = refl
+keyword_operand (Some k) h = known_operand k
+
+literal_operand : {asks : Bool} (v : Literal) → Told asks (literal_fits v)
+    → Told asks (operand_fits (literal_instr v))
+literal_operand (Literals.Integer n) w = w
+literal_operand (Literals.Text bytes) w = w
+literal_operand (Literals.Cset members) w = w
+
+-- both parts of a test
+pub first_told : {asks : Bool} (a b : Bool) → Told asks (a && b) → Told asks a
+first_told a b w h = first_of a b (w h)
+
+pub second_told : {asks : Bool} (a b : Bool) → Told asks (a && b) → Told asks b
+second_told a b w h = second_of a b (w h)
+
 module _ (S : Keeps) where
   pub from : {n : ℕ} (d : Draft) → S.Inside n d → Chain S n d d []
   from d h = record { leads = S.none d; inside = h }
@@ -151,8 +190,8 @@ module _ (S : Keeps) where
   nothing_runs = record { run = λ d h. S.none d }
 
   put_runs : {n : ℕ} (i : UnitInstr) → label_in i ≡ None → place_of i ≡ None → variable_in i ≡ None
-      → Runs S n (put i)
-  put_runs i l p v = record { run = λ d h. (from d h ▸ plainly i l p v).leads }
+      → Told S.asks (operand_fits i) → Runs S n (put i)
+  put_runs i l p v w = record { run = λ d h. (from d h ▸ plainly i l p v w).leads }
 
   then_runs : {n : ℕ} {s t : Draft → Draft} → Runs S n s → Runs S n t → Runs S n (λ d. t (s d))
   then_runs r q = record { run = λ d h. (from d h ▸ on r ▸ on q).leads }
@@ -171,28 +210,33 @@ module _ (S : Keeps) where
 
   bounded_runs : {n : ℕ} {s : Draft → Draft} → Runs S n s → Runs S n (bounded s)
   bounded_runs r = record {
-    run = λ d h. (from d h ▸ labelled I.Mark (λ l. record { label = refl; place = refl; variable = refl }) ▸ on r
-        ▸ plainly I.Unmark refl refl refl ▸ placed).leads;
+    run = λ d h. (from d h ▸ labelled I.Mark
+        (λ l. record { label = refl; place = refl; variable = refl; operand = refl }) ▸ on r
+        ▸ plainly I.Unmark refl refl refl (λ h. refl) ▸ placed).leads;
   }
 
   created_runs : {n : ℕ} {s : Draft → Draft} → Runs S 0 s → Runs S n (created s)
   created_runs r = record {
-    run = λ d h. (from d h ▸ labelled I.Create (λ l. record { label = refl; place = refl; variable = refl })
-        ▸ labelled I.Mark (λ l. record { label = refl; place = refl; variable = refl }) ▸ on (outer_runs r)
-        ▸ plainly I.Coret refl refl refl
-        ▸ plainly I.Efail refl refl refl ▸ placed
-        ▸ plainly I.Cofail refl refl refl ▸ placed).leads;
+    run = λ d h. (from d h ▸ labelled I.Create
+        (λ l. record { label = refl; place = refl; variable = refl; operand = refl })
+        ▸ labelled I.Mark (λ l. record { label = refl; place = refl; variable = refl; operand = refl })
+        ▸ on (outer_runs r)
+        ▸ plainly I.Coret refl refl refl (λ h. refl)
+        ▸ plainly I.Efail refl refl refl (λ h. refl) ▸ placed
+        ▸ plainly I.Cofail refl refl refl (λ h. refl) ▸ placed).leads;
   }
 
   unmarks_for_break_run : {n : ℕ} (o : Open) → Runs S n (unmarks_for_break o)
   unmarks_for_break_run Outermost = nothing_runs
-  unmarks_for_break_run (Marked o) = then_runs (put_runs I.Unmark refl refl refl) (unmarks_for_break_run o)
+  unmarks_for_break_run (Marked o) = then_runs (put_runs I.Unmark refl refl refl (λ h. refl))
+      (unmarks_for_break_run o)
   unmarks_for_break_run (Looped o) = nothing_runs
-  unmarks_for_break_run (Each o) = put_runs I.Unmark refl refl refl
+  unmarks_for_break_run (Each o) = put_runs I.Unmark refl refl refl (λ h. refl)
 
   unmarks_for_next_run : {n : ℕ} (o : Open) → Runs S n (unmarks_for_next o)
   unmarks_for_next_run Outermost = nothing_runs
-  unmarks_for_next_run (Marked o) = then_runs (put_runs I.Unmark refl refl refl) (unmarks_for_next_run o)
+  unmarks_for_next_run (Marked o) = then_runs (put_runs I.Unmark refl refl refl (λ h. refl))
+      (unmarks_for_next_run o)
   unmarks_for_next_run (Looped o) = nothing_runs
   unmarks_for_next_run (Each o) = nothing_runs
 
@@ -205,13 +249,15 @@ module _ (S : Keeps) where
         let m = next_label d in
         let e = put (I.Lab m) (with_label d) in
         let c : Chain S n d e [] = from d h ▸ label ▸ placed in
-        let inner : Chain S n e (marked (put I.Mark0 e)) [] = from e (here c) ▸ plainly I.Mark0 refl refl refl
+        let inner : Chain S n e (marked (put I.Mark0 e)) [] = from e (here c)
+        ▸ plainly I.Mark0 refl refl refl (λ h. refl)
         ▸ on r in
         let may = S.may_later e _ [] (I.Chfail m) inner.leads
         (S.may_behind (with_label d) (I.Chfail m) (I.Lab m)
-        (S.fresh d (I.Chfail m) (record { label = refl; place = refl; variable = refl }))) in
+        (S.fresh d (I.Chfail m) (record { label = refl; place = refl; variable = refl; operand = refl }))) in
         let all = S.joined d e _ [] c.leads inner.leads in
-        S.instr d _ [] I.Esusp (S.plain _ I.Esusp (record { label = refl; place = refl; variable = refl }))
+        S.instr d _ [] I.Esusp (S.plain _ I.Esusp (record { label = refl; place = refl; variable = refl })
+        (λ h. refl))
         (S.instr d _ [] (I.Chfail m) may all);
   }
 
@@ -219,68 +265,78 @@ module _ (S : Keeps) where
       → Runs S n (prefix_by form operand marked)
   prefix_runs Activation r q = record {
     run =
-        λ d h. (from d h ▸ plainly I.Pnull refl refl refl ▸ on r ▸ plainly I.Coact refl refl refl).leads;
+        λ d h. (from d h ▸ plainly I.Pnull refl refl refl (λ h. refl) ▸ on r
+        ▸ plainly I.Coact refl refl refl (λ h. refl)).leads;
   }
   prefix_runs Repetition {operand = operand} r q = repetition_runs q operand
   prefix_runs (Operation op) r q = record {
     run =
-        λ d h. (from d h ▸ on r ▸ plainly (I.Op op) refl refl refl).leads;
+        λ d h. (from d h ▸ on r ▸ plainly (I.Op op) refl refl refl (λ h. refl)).leads;
   }
 
   plain_runs : {n : ℕ} (form : InfixForm) {a marked b : Draft → Draft} → Runs S n a → Runs S n marked → Runs S n b
       → Runs S n (plain_form form a marked b)
-  plain_runs Both a m b = record { run = λ d h. (from d h ▸ on a ▸ plainly I.Pop refl refl refl ▸ on b).leads }
+  plain_runs Both a m b = record {
+    run = λ d h.
+        (from d h ▸ on a ▸ plainly I.Pop refl refl refl (λ h. refl) ▸ on b).leads;
+  }
   plain_runs Scanning a m b = record {
     run =
-        λ d h. (from d h ▸ on a ▸ plainly I.Bscan refl refl refl ▸ on b ▸ plainly I.Escan refl refl refl).leads;
+        λ d h. (from d h ▸ on a ▸ plainly I.Bscan refl refl refl (λ h. refl) ▸ on b
+        ▸ plainly I.Escan refl refl refl (λ h. refl)).leads;
   }
   plain_runs Either a m b = record {
     run =
-        λ d h. (from d h ▸ labelled I.Mark (λ l. record { label = refl; place = refl; variable = refl }) ▸ on m
-        ▸ plainly I.Esusp refl refl refl
-        ▸ labelled I.Goto (λ l. record { label = refl; place = refl; variable = refl }) ▸ second_placed ▸ on b
+        λ d h. (from d h ▸ labelled I.Mark (λ l. record
+        { label = refl; place = refl; variable = refl; operand = refl }) ▸ on m
+        ▸ plainly I.Esusp refl refl refl (λ h. refl)
+        ▸ labelled I.Goto (λ l. record { label = refl; place = refl; variable = refl; operand = refl })
+        ▸ second_placed ▸ on b
         ▸ placed).leads;
   }
   plain_runs Limiting a m b = record {
     run =
-        λ d h. (from d h ▸ on b ▸ plainly I.Limit refl refl refl ▸ on m ▸ plainly I.Lsusp refl refl refl).leads;
+        λ d h. (from d h ▸ on b ▸ plainly I.Limit refl refl refl (λ h. refl) ▸ on m
+        ▸ plainly I.Lsusp refl refl refl (λ h. refl)).leads;
   }
   plain_runs Activating a m b = record {
     run =
-        λ d h. (from d h ▸ on a ▸ on b ▸ plainly I.Coact refl refl refl).leads;
+        λ d h. (from d h ▸ on a ▸ on b ▸ plainly I.Coact refl refl refl (λ h. refl)).leads;
   }
   plain_runs Spreading a m b = record {
     run =
-        λ d h. (from d h ▸ on a ▸ on b ▸ plainly I.Appl refl refl refl).leads;
+        λ d h. (from d h ▸ on a ▸ on b ▸ plainly I.Appl refl refl refl (λ h. refl)).leads;
   }
   plain_runs (Operating op) a m b = record
-      { run = λ d h. (from d h ▸ on a ▸ on b ▸ plainly (I.Op op) refl refl refl).leads }
+      { run = λ d h. (from d h ▸ on a ▸ on b ▸ plainly (I.Op op) refl refl refl (λ h. refl)).leads }
 
   update_runs : {n : ℕ} (i : UnitInstr) → label_in i ≡ None → place_of i ≡ None → variable_in i ≡ None
+      → Told S.asks (operand_fits i)
       → {a b : Draft → Draft} → Runs S n a
       → Runs S n b → Runs S n (update i a b)
-  update_runs i l p v a b = record {
+  update_runs i l p v w a b = record {
     run = λ d h.
-        (from d h ▸ on a ▸ plainly I.Dup refl refl refl ▸ on b ▸ plainly i l p v
-        ▸ plainly (I.Op O.Assign) refl refl refl).leads;
+        (from d h ▸ on a ▸ plainly I.Dup refl refl refl (λ h. refl) ▸ on b ▸ plainly i l p v w
+        ▸ plainly (I.Op O.Assign) refl refl refl (λ h. refl)).leads;
   }
 
   augmented_runs : {n : ℕ} (form : InfixForm) {a b : Draft → Draft} → Runs S n a → Runs S n b
       → Runs S n (augmented_form form a b)
   augmented_runs Both a b = record {
     run =
-        λ d h. (from d h ▸ on a ▸ on b ▸ plainly (I.Op O.Assign) refl refl refl).leads;
+        λ d h. (from d h ▸ on a ▸ on b ▸ plainly (I.Op O.Assign) refl refl refl (λ h. refl)).leads;
   }
   augmented_runs Scanning a b = record {
     run =
-        λ d h. (from d h ▸ on a ▸ plainly I.Dup refl refl refl ▸ plainly I.Bscan refl refl refl ▸ on b
-        ▸ plainly I.Escan refl refl refl ▸ plainly (I.Op O.Assign) refl refl refl).leads;
+        λ d h. (from d h ▸ on a ▸ plainly I.Dup refl refl refl (λ h. refl)
+        ▸ plainly I.Bscan refl refl refl (λ h. refl) ▸ on b
+        ▸ plainly I.Escan refl refl refl (λ h. refl) ▸ plainly (I.Op O.Assign) refl refl refl (λ h. refl)).leads;
   }
   augmented_runs Either a b = nothing_runs
   augmented_runs Limiting a b = nothing_runs
-  augmented_runs Activating a b = update_runs I.Coact refl refl refl a b
-  augmented_runs Spreading a b = update_runs I.Appl refl refl refl a b
-  augmented_runs (Operating op) a b = update_runs (I.Op op) refl refl refl a b
+  augmented_runs Activating a b = update_runs I.Coact refl refl refl (λ h. refl) a b
+  augmented_runs Spreading a b = update_runs I.Appl refl refl refl (λ h. refl) a b
+  augmented_runs (Operating op) a b = update_runs (I.Op op) refl refl refl (λ h. refl) a b
 
   binary_runs : {n : ℕ} (o : Open) (place : Place) (infix_ : Infix) (a b : Tree) → Runs S n (translate o a)
       → Runs S n (translate (Marked o) a) → Runs S n (translate o b)
@@ -295,7 +351,7 @@ module _ (S : Keeps) where
     run = λ d h.
         let c : Chain S (suc n) d (put_next I.Mark d) [] =
         record { leads = S.next_mark d d [] n h (S.none d); inside = h } in
-        (c ▸ on r ▸ plainly I.Unmark refl refl refl).leads;
+        (c ▸ on r ▸ plainly I.Unmark refl refl refl (λ h. refl)).leads;
   }
 
   -- behind a first label
@@ -310,7 +366,7 @@ module _ (S : Keeps) where
         let f = inner (in_loop unmentioned e) in
         let within = r.run (in_loop unmentioned e) (S.inside_loop e unmentioned n (here c)) in
         let first = S.may_behind (with_label d) (I.Loop m) (I.Lab m)
-        (S.fresh d (I.Loop m) (record { label = refl; place = refl; variable = refl })) in
+        (S.fresh d (I.Loop m) (record { label = refl; place = refl; variable = refl; operand = refl })) in
         S.loop d e f [] (I.Loop m) c.leads within
         (S.may_later (in_loop unmentioned e) f [] (I.Loop m) within (S.may_inside e unmentioned (I.Loop m) first));
   }
@@ -320,24 +376,26 @@ module _ (S : Keeps) where
       → Runs S n (λ d. d ▹ control_part kind control ▹ part ▹ loop_end (back kind (next_label d)))
   kinds_run While c p = loop_runs
       (record {
-        run = λ d h. (from d h ▸ plainly I.Mark0 refl refl refl ▸ on c ▸ plainly I.Unmark refl refl refl
+        run = λ d h. (from d h ▸ plainly I.Mark0 refl refl refl (λ h. refl) ▸ on c
+            ▸ plainly I.Unmark refl refl refl (λ h. refl)
             ▸ on p).leads;
       })
   kinds_run Until c p = loop_runs
       (record {
-        run = λ d h. (from d h ▸ labelled I.Mark (λ l. record { label = refl; place = refl; variable = refl })
-            ▸ on c ▸ plainly I.Unmark refl refl refl
-            ▸ plainly I.Efail refl refl refl ▸ placed ▸ on p).leads;
+        run = λ d h. (from d h ▸ labelled I.Mark
+            (λ l. record { label = refl; place = refl; variable = refl; operand = refl })
+            ▸ on c ▸ plainly I.Unmark refl refl refl (λ h. refl)
+            ▸ plainly I.Efail refl refl refl (λ h. refl) ▸ placed ▸ on p).leads;
       })
   kinds_run {n = n} Every {control = control} {part = part} c p = record {
     run = λ d h.
         let e = in_loop unmentioned d in
         let within : Chain S (suc n) e (part (put I.Pop (control (put I.Mark0 e)))) [] =
-        from e (S.inside_loop d unmentioned n h) ▸ plainly I.Mark0 refl refl refl ▸ on c
-        ▸ plainly I.Pop refl refl refl
+        from e (S.inside_loop d unmentioned n h) ▸ plainly I.Mark0 refl refl refl (λ h. refl) ▸ on c
+        ▸ plainly I.Pop refl refl refl (λ h. refl)
         ▸ on p in
         S.loop d d _ [] I.Efail (S.none d) within.leads
-        (S.plain _ I.Efail (record { label = refl; place = refl; variable = refl }));
+        (S.plain _ I.Efail (record { label = refl; place = refl; variable = refl }) (λ h. refl));
   }
 
   next_runs : {n : ℕ} (o : Open) → Runs S (suc n) (λ d. d ▹ unmarks_for_next o ▹ put_next I.Goto)
@@ -370,7 +428,8 @@ module _ (S : Keeps) where
         let e = in_case None d in
         let i = S.inside_case d None n h in
         let within : Chain S n e (default (put I.Pop (guards e))) [] =
-        record { leads = g.run e i (S.case_begins d None); inside = i } ▸ plainly I.Pop refl refl refl ▸ on r in
+        record { leads = g.run e i (S.case_begins d None); inside = i } ▸ plainly I.Pop refl refl refl (λ h. refl)
+        ▸ on r in
         S.case d d _ [] (S.none d) within.leads;
   }
 
@@ -382,10 +441,10 @@ module _ (S : Keeps) where
         let m = next_label d in
         let c : Chain S n d (b (put I.Pop (put I.Unmark
         (put (I.Op O.Equivalent) (s (put I.Ccase (put (I.Mark m) (with_label d)))))))) (m ∷ []) =
-        from d h ▸ labelled I.Mark (λ l. record { label = refl; place = refl; variable = refl })
-        ▸ plainly I.Ccase refl refl refl ▸ on r
-        ▸ plainly (I.Op O.Equivalent) refl refl refl ▸ plainly I.Unmark refl refl refl
-        ▸ plainly I.Pop refl refl refl ▸ on q in
+        from d h ▸ labelled I.Mark (λ l. record { label = refl; place = refl; variable = refl; operand = refl })
+        ▸ plainly I.Ccase refl refl refl (λ h. refl) ▸ on r
+        ▸ plainly (I.Op O.Equivalent) refl refl refl (λ h. refl) ▸ plainly I.Unmark refl refl refl (λ h. refl)
+        ▸ plainly I.Pop refl refl refl (λ h. refl) ▸ on q in
         S.place d _ m [] (S.end_goto d _ (m ∷ []) (S.case_later d _ (m ∷ []) c.leads w) c.leads);
   }
 
@@ -400,203 +459,239 @@ module _ (S : Keeps) where
   -- Forms
 
   mutual
-    tree_runs : (o : Open) (c : Context) (e : Tree) → faults c e ≡ [] → Runs S (length c.loops) (translate o e)
-    tree_runs o c Empty x = put_runs I.Pnull refl refl refl
-    tree_runs o c (Constant place v) x = put_runs (literal_instr v) (literal_label v) (literal_place v)
-        (literal_variable v)
-    tree_runs o c (Identifier name) x = record { run = λ d h. S.variable d d [] name.text (S.none d) }
-    tree_runs o c (Keyword place name) x = put_runs (keyword_instr name.text) (keyword_label (keyword_of name.text))
+    tree_runs : (o : Open) (c : Context) (e : Tree) → faults c e ≡ [] → Told S.asks (tree_fits e)
+        → Runs S (length c.loops) (translate o e)
+    tree_runs o c Empty x w = put_runs I.Pnull refl refl refl (λ h. refl)
+    tree_runs o c (Constant place v) x w = put_runs (literal_instr v) (literal_label v) (literal_place v)
+        (literal_variable v) (literal_operand v w)
+    tree_runs o c (Identifier name) x w = record { run = λ d h. S.variable d d [] name.text w (S.none d) }
+    tree_runs o c (Keyword place name) x w =
+        put_runs (keyword_instr name.text) (keyword_label (keyword_of name.text))
         (keyword_place (keyword_of name.text)) (keyword_variable (keyword_of name.text))
-    tree_runs o c (Parentheses place es) x = conjunction_runs o c es x
-    tree_runs o c (Listing place es) x = then_runs (arguments_run o c es x)
-        (put_runs (I.Llist (elements es)) refl refl refl)
-    tree_runs o c (Compound place es) x = compound_runs o c es x
-    tree_runs o c (Call place f es) x = then_runs
-        (then_runs (tree_runs o c f (none_before _ _ x)) (arguments_run o c es (none_behind _ _ x)))
-        (put_runs (I.Invoke (elements es)) refl refl refl)
-    tree_runs o c (CoCall place f es) x = then_runs
-        (then_runs (then_runs (tree_runs o c f (none_before _ _ x)) (creations_run es (none_behind _ _ x)))
-        (put_runs (I.Llist (elements es)) refl refl refl)) (put_runs (I.Invoke 1) refl refl refl)
-    tree_runs o c (Subscript place e es) x =
-        then_runs (tree_runs o c e (none_before _ _ x)) (subscripts_run o c es (none_behind _ _ x))
-    tree_runs o c (Section place kind e i j) x =
-        then_runs (then_runs (then_runs (tree_runs o c e (none_before _ _ x))
-        (tree_runs o c i (none_before _ _ (none_behind _ _ x))))
-        (tree_runs o c j (none_behind _ _ (none_behind _ _ x)))) (put_runs (I.Op (section_op kind)) refl refl refl)
-    tree_runs o c (Field place e name) x = then_runs (tree_runs o c e x)
-        (put_runs (I.Field name.text) refl refl refl)
-    tree_runs o c (Prefix place operator e) x =
-        prefix_runs (prefix_form operator) (tree_runs o c e x) (tree_runs (Marked o) c e x)
-    tree_runs o c (Not place e) x = let r = tree_runs (Marked o) c e x in
+        (keyword_operand (keyword_of name.text))
+    tree_runs o c (Parentheses place es) x w = conjunction_runs o c es x w
+    tree_runs o c (Listing place es) x w = then_runs (arguments_run o c es x w)
+        (put_runs (I.Llist (elements es)) refl refl refl (λ h. refl))
+    tree_runs o c (Compound place es) x w = compound_runs o c es x w
+    tree_runs o c (Call place f es) x w = then_runs
+        (then_runs (tree_runs o c f (none_before _ _ x) (first_told _ _ w))
+        (arguments_run o c es (none_behind _ _ x) (second_told _ _ w)))
+        (put_runs (I.Invoke (elements es)) refl refl refl (λ h. refl))
+    tree_runs o c (CoCall place f es) x w = then_runs
+        (then_runs (then_runs (tree_runs o c f (none_before _ _ x) (first_told _ _ w))
+        (creations_run es (none_behind _ _ x) (second_told _ _ w)))
+        (put_runs (I.Llist (elements es)) refl refl refl (λ h. refl)))
+        (put_runs (I.Invoke 1) refl refl refl (λ h. refl))
+    tree_runs o c (Subscript place e es) x w =
+        then_runs (tree_runs o c e (none_before _ _ x) (first_told _ _ w))
+        (subscripts_run o c es (none_behind _ _ x) (second_told _ _ w))
+    tree_runs o c (Section place kind e i j) x w =
+        then_runs (then_runs (then_runs (tree_runs o c e (none_before _ _ x) (first_told _ _ w))
+        (tree_runs o c i (none_before _ _ (none_behind _ _ x)) (first_told _ _ (second_told _ _ w))))
+        (tree_runs o c j (none_behind _ _ (none_behind _ _ x)) (second_told _ _ (second_told _ _ w))))
+        (put_runs (I.Op (section_op kind)) refl refl refl (λ h. refl))
+    tree_runs o c (Field place e name) x w =
+        then_runs (tree_runs o c e x (first_told (tree_fits e) (name_fits name) w))
+        (put_runs (I.Field name.text) refl refl refl (second_told (tree_fits e) (name_fits name) w))
+    tree_runs o c (Prefix place operator e) x w =
+        prefix_runs (prefix_form operator) (tree_runs o c e x w) (tree_runs (Marked o) c e x w)
+    tree_runs o c (Not place e) x w = let r = tree_runs (Marked o) c e x w in
         record {
-          run = λ d h. (from d h ▸ labelled I.Mark (λ l. record { label = refl; place = refl; variable = refl })
-              ▸ on r ▸ plainly I.Unmark refl refl refl ▸ plainly I.Efail refl refl refl ▸ placed
-              ▸ plainly I.Pnull refl refl refl).leads;
+          run = λ d h. (from d h ▸ labelled I.Mark
+              (λ l. record { label = refl; place = refl; variable = refl; operand = refl })
+              ▸ on r ▸ plainly I.Unmark refl refl refl (λ h. refl) ▸ plainly I.Efail refl refl refl (λ h. refl)
+              ▸ placed
+              ▸ plainly I.Pnull refl refl refl (λ h. refl)).leads;
         }
-    tree_runs o c (Binary place infix_ a b) x =
-        binary_runs o place infix_ a b (tree_runs o c a (none_before _ _ x))
-        (tree_runs (Marked o) c a (none_before _ _ x)) (tree_runs o c b (none_behind _ _ x))
-    tree_runs o c (To place a b by) x = then_runs
-        (then_runs (then_runs (tree_runs o c a (none_before _ _ x))
-        (tree_runs o c b (none_before _ _ (none_behind _ _ x))))
-        (to_step_runs o c by (none_behind _ _ (none_behind _ _ x)))) (put_runs (I.Op O.ToBy) refl refl refl)
-    tree_runs o c (If place e a b) x = branches_run o c b (none_behind _ _ (none_behind _ _ x))
-        (tree_runs (Marked o) c e (none_before _ _ x)) (tree_runs o c a (none_before _ _ (none_behind _ _ x)))
-    tree_runs o c (Case place e clauses) x =
-        then_runs (then_runs (then_runs (put_runs I.Mark0 refl refl refl)
-        (tree_runs (Marked o) c e (none_before _ _ x)))
-        (put_runs I.Eret refl refl refl))
-        (case_runs (guarded_run o c false clauses (none_behind _ _ x))
-        (default_part_runs o c false clauses (none_behind _ _ x)))
-    tree_runs o c (Loop place kind e b) x = kinds_run kind
-        (tree_runs (in_control kind o) (looped (next_in_control kind) c) e (none_before _ _ x))
-        (looped_part_runs (Marked (in_body kind o)) c b (none_behind _ _ x))
-    tree_runs o c (Repeat place b) x = loop_runs (looped_runs (tree_runs (Marked (Looped o)) (looped true c) b x))
-    tree_runs o c (Create place e) x = created_runs (tree_runs Outermost created_context e x)
-    tree_runs o c (Next place) x = subst (λ n. Runs S n (translate o (Next place)))
+    tree_runs o c (Binary place infix_ a b) x w =
+        binary_runs o place infix_ a b (tree_runs o c a (none_before _ _ x) (first_told _ _ w))
+        (tree_runs (Marked o) c a (none_before _ _ x) (first_told _ _ w))
+        (tree_runs o c b (none_behind _ _ x) (second_told _ _ w))
+    tree_runs o c (To place a b by) x w = then_runs
+        (then_runs (then_runs (tree_runs o c a (none_before _ _ x) (first_told _ _ w))
+        (tree_runs o c b (none_before _ _ (none_behind _ _ x)) (first_told _ _ (second_told _ _ w))))
+        (to_step_runs o c by (none_behind _ _ (none_behind _ _ x)) (second_told _ _ (second_told _ _ w))))
+        (put_runs (I.Op O.ToBy) refl refl refl (λ h. refl))
+    tree_runs o c (If place e a b) x w = branches_run o c b (none_behind _ _ (none_behind _ _ x))
+        (second_told _ _ (second_told _ _ w))
+        (tree_runs (Marked o) c e (none_before _ _ x) (first_told _ _ w))
+        (tree_runs o c a (none_before _ _ (none_behind _ _ x)) (first_told _ _ (second_told _ _ w)))
+    tree_runs o c (Case place e clauses) x w =
+        then_runs (then_runs (then_runs (put_runs I.Mark0 refl refl refl (λ h. refl))
+        (tree_runs (Marked o) c e (none_before _ _ x) (first_told _ _ w)))
+        (put_runs I.Eret refl refl refl (λ h. refl)))
+        (case_runs (guarded_run o c false clauses (none_behind _ _ x) (second_told _ _ w))
+        (default_part_runs o c false clauses (none_behind _ _ x) (second_told _ _ w)))
+    tree_runs o c (Loop place kind e b) x w = kinds_run kind
+        (tree_runs (in_control kind o) (looped (next_in_control kind) c) e (none_before _ _ x) (first_told _ _ w))
+        (looped_part_runs (Marked (in_body kind o)) c b (none_behind _ _ x) (second_told _ _ w))
+    tree_runs o c (Repeat place b) x w = loop_runs
+        (looped_runs (tree_runs (Marked (Looped o)) (looped true c) b x w))
+    tree_runs o c (Create place e) x w = created_runs (tree_runs Outermost created_context e x w)
+    tree_runs o c (Next place) x w = subst (λ n. Runs S n (translate o (Next place)))
         (sym (next_inside c.in_create c.loops place x)) (next_runs o)
-    tree_runs o c (Fail place) x = put_runs I.Pfail refl refl refl
-    tree_runs o c (Break place e) x = subst (λ n. Runs S n (translate o (Break place e)))
+    tree_runs o c (Fail place) x w = put_runs I.Pfail refl refl refl (λ h. refl)
+    tree_runs o c (Break place e) x w = subst (λ n. Runs S n (translate o (Break place e)))
         (sym (break_inside c.in_create c.loops place (none_before _ _ x)))
-        (break_runs o (tree_runs (around o) (left c) e (none_behind _ _ x)))
-    tree_runs o c (Return place e) x = let r = tree_runs (Marked o) c e (none_behind _ _ x) in
+        (break_runs o (tree_runs (around o) (left c) e (none_behind _ _ x) w))
+    tree_runs o c (Return place e) x w = let r = tree_runs (Marked o) c e (none_behind _ _ x) w in
         record {
-          run = λ d h. (from d h ▸ labelled I.Mark (λ l. record { label = refl; place = refl; variable = refl })
-              ▸ on r ▸ plainly I.Pret refl refl refl ▸ placed ▸ plainly I.Pfail refl refl refl).leads;
+          run = λ d h. (from d h ▸ labelled I.Mark
+              (λ l. record { label = refl; place = refl; variable = refl; operand = refl })
+              ▸ on r ▸ plainly I.Pret refl refl refl (λ h. refl) ▸ placed
+              ▸ plainly I.Pfail refl refl refl (λ h. refl)).leads;
         }
-    tree_runs o c (Suspend place e b) x = then_runs
-        (then_runs (then_runs (then_runs (then_runs (put_runs I.Mark0 refl refl refl)
-        (tree_runs (Marked o) c e (none_before _ _ (none_behind _ _ x))))
-        (put_runs I.Psusp refl refl refl)) (put_runs I.Pop refl refl refl))
-        (suspended_part_runs (Marked (Marked o)) c b (none_behind _ _ (none_behind _ _ x))))
-        (put_runs I.Efail refl refl refl)
+    tree_runs o c (Suspend place e b) x w = then_runs
+        (then_runs (then_runs (then_runs (then_runs (put_runs I.Mark0 refl refl refl (λ h. refl))
+        (tree_runs (Marked o) c e (none_before _ _ (none_behind _ _ x)) (first_told _ _ w)))
+        (put_runs I.Psusp refl refl refl (λ h. refl))) (put_runs I.Pop refl refl refl (λ h. refl)))
+        (suspended_part_runs (Marked (Marked o)) c b (none_behind _ _ (none_behind _ _ x)) (second_told _ _ w)))
+        (put_runs I.Efail refl refl refl (λ h. refl))
 
-    operands_run : (o : Open) (c : Context) (es : Trees) → all_faults c es ≡ []
+    operands_run : (o : Open) (c : Context) (es : Trees) → all_faults c es ≡ [] → Told S.asks (trees_fit es)
         → Runs S (length c.loops) (operands o es)
-    operands_run o c NoTrees x = nothing_runs
-    operands_run o c (More e es) x = then_runs (tree_runs o c e (none_before _ _ x))
-        (operands_run o c es (none_behind _ _ x))
+    operands_run o c NoTrees x w = nothing_runs
+    operands_run o c (More e es) x w = then_runs (tree_runs o c e (none_before _ _ x) (first_told _ _ w))
+        (operands_run o c es (none_behind _ _ x) (second_told _ _ w))
 
-    arguments_run : (o : Open) (c : Context) (es : Trees) → all_faults c es ≡ []
+    arguments_run : (o : Open) (c : Context) (es : Trees) → all_faults c es ≡ [] → Told S.asks (trees_fit es)
         → Runs S (length c.loops) (arguments o es)
-    arguments_run o c NoTrees x = nothing_runs
-    arguments_run o c (More e es) x = if_runs (is_no_element (More e es))
-        (then_runs (tree_runs o c e (none_before _ _ x)) (operands_run o c es (none_behind _ _ x)))
+    arguments_run o c NoTrees x w = nothing_runs
+    arguments_run o c (More e es) x w = if_runs (is_no_element (More e es))
+        (then_runs (tree_runs o c e (none_before _ _ x) (first_told _ _ w))
+        (operands_run o c es (none_behind _ _ x) (second_told _ _ w)))
 
-    conjunction_runs : (o : Open) (c : Context) (es : Trees) → all_faults c es ≡ []
+    conjunction_runs : (o : Open) (c : Context) (es : Trees) → all_faults c es ≡ [] → Told S.asks (trees_fit es)
         → Runs S (length c.loops) (conjunction o es)
-    conjunction_runs o c NoTrees x = nothing_runs
-    conjunction_runs o c (More e es) x = then_runs (tree_runs o c e (none_before _ _ x))
-        (conjuncts_run o c es (none_behind _ _ x))
+    conjunction_runs o c NoTrees x w = nothing_runs
+    conjunction_runs o c (More e es) x w = then_runs (tree_runs o c e (none_before _ _ x) (first_told _ _ w))
+        (conjuncts_run o c es (none_behind _ _ x) (second_told _ _ w))
 
-    conjuncts_run : (o : Open) (c : Context) (es : Trees) → all_faults c es ≡ []
+    conjuncts_run : (o : Open) (c : Context) (es : Trees) → all_faults c es ≡ [] → Told S.asks (trees_fit es)
         → Runs S (length c.loops) (conjuncts o es)
-    conjuncts_run o c NoTrees x = nothing_runs
-    conjuncts_run o c (More e es) x = then_runs
-        (then_runs (put_runs I.Pop refl refl refl) (tree_runs o c e (none_before _ _ x)))
-        (conjuncts_run o c es (none_behind _ _ x))
+    conjuncts_run o c NoTrees x w = nothing_runs
+    conjuncts_run o c (More e es) x w = then_runs
+        (then_runs (put_runs I.Pop refl refl refl (λ h. refl))
+        (tree_runs o c e (none_before _ _ x) (first_told _ _ w)))
+        (conjuncts_run o c es (none_behind _ _ x) (second_told _ _ w))
 
-    compound_runs : (o : Open) (c : Context) (es : Trees) → all_faults c es ≡ []
+    compound_runs : (o : Open) (c : Context) (es : Trees) → all_faults c es ≡ [] → Told S.asks (trees_fit es)
         → Runs S (length c.loops) (compound o es)
-    compound_runs o c NoTrees x = nothing_runs
-    compound_runs o c (More e es) x = then_runs
-        (either_runs (is_nothing es) (tree_runs o c e (none_before _ _ x))
-        (unless_runs e (bounded_runs (tree_runs (Marked o) c e (none_before _ _ x)))))
-        (compound_runs o c es (none_behind _ _ x))
+    compound_runs o c NoTrees x w = nothing_runs
+    compound_runs o c (More e es) x w = then_runs
+        (either_runs (is_nothing es) (tree_runs o c e (none_before _ _ x) (first_told _ _ w))
+        (unless_runs e (bounded_runs (tree_runs (Marked o) c e (none_before _ _ x) (first_told _ _ w)))))
+        (compound_runs o c es (none_behind _ _ x) (second_told _ _ w))
 
-    creations_run : {n : ℕ} (es : Trees) → all_faults created_context es ≡ [] → Runs S n (creations es)
-    creations_run NoTrees x = nothing_runs
-    creations_run (More e es) x = if_runs (is_no_element (More e es))
-        (then_runs (created_runs (tree_runs Outermost created_context e (none_before _ _ x)))
-        (other_creations_run es (none_behind _ _ x)))
+    creations_run : {n : ℕ} (es : Trees) → all_faults created_context es ≡ [] → Told S.asks (trees_fit es)
+        → Runs S n (creations es)
+    creations_run NoTrees x w = nothing_runs
+    creations_run (More e es) x w = if_runs (is_no_element (More e es))
+        (then_runs (created_runs (tree_runs Outermost created_context e (none_before _ _ x) (first_told _ _ w)))
+        (other_creations_run es (none_behind _ _ x) (second_told _ _ w)))
 
-    other_creations_run : {n : ℕ} (es : Trees) → all_faults created_context es ≡ [] → Runs S n (other_creations es)
-    other_creations_run NoTrees x = nothing_runs
-    other_creations_run (More e es) x = then_runs
-        (created_runs (tree_runs Outermost created_context e (none_before _ _ x)))
-        (other_creations_run es (none_behind _ _ x))
+    other_creations_run : {n : ℕ} (es : Trees) → all_faults created_context es ≡ [] → Told S.asks (trees_fit es)
+        → Runs S n (other_creations es)
+    other_creations_run NoTrees x w = nothing_runs
+    other_creations_run (More e es) x w = then_runs
+        (created_runs (tree_runs Outermost created_context e (none_before _ _ x) (first_told _ _ w)))
+        (other_creations_run es (none_behind _ _ x) (second_told _ _ w))
 
-    subscripts_run : (o : Open) (c : Context) (es : Trees) → all_faults c es ≡ []
+    subscripts_run : (o : Open) (c : Context) (es : Trees) → all_faults c es ≡ [] → Told S.asks (trees_fit es)
         → Runs S (length c.loops) (subscripts o es)
-    subscripts_run o c NoTrees x = nothing_runs
-    subscripts_run o c (More e es) x = then_runs
-        (then_runs (tree_runs o c e (none_before _ _ x)) (put_runs (I.Op O.Subscript) refl refl refl))
-        (subscripts_run o c es (none_behind _ _ x))
+    subscripts_run o c NoTrees x w = nothing_runs
+    subscripts_run o c (More e es) x w = then_runs
+        (then_runs (tree_runs o c e (none_before _ _ x) (first_told _ _ w))
+        (put_runs (I.Op O.Subscript) refl refl refl (λ h. refl)))
+        (subscripts_run o c es (none_behind _ _ x) (second_told _ _ w))
 
-    to_step_runs : (o : Open) (c : Context) (by : MaybeTree) → maybe_faults c by ≡ []
+    to_step_runs : (o : Open) (c : Context) (by : MaybeTree) → maybe_faults c by ≡ [] → Told S.asks (maybe_fits by)
         → Runs S (length c.loops) (to_step o by)
-    to_step_runs o c Absent x = put_runs _ refl refl refl
-    to_step_runs o c (Present e) x = tree_runs o c e x
+    to_step_runs o c Absent x w = put_runs _ refl refl refl (λ h. refl)
+    to_step_runs o c (Present e) x w = tree_runs o c e x w
 
-    branches_run : (o : Open) (c : Context) (b : MaybeTree) → maybe_faults c b ≡ []
+    branches_run : (o : Open) (c : Context) (b : MaybeTree) → maybe_faults c b ≡ [] → Told S.asks (maybe_fits b)
         → {condition first : Draft → Draft} → Runs S (length c.loops) condition → Runs S (length c.loops) first
         → Runs S (length c.loops) (λ d. d ▹ if_mark b ▹ condition ▹ put I.Unmark ▹ first
         ▹ otherwise o b (next_label d))
-    branches_run o c Absent x r q = record {
+    branches_run o c Absent x w r q = record {
       run =
-          λ d h. (from d h ▸ plainly I.Mark0 refl refl refl ▸ on r ▸ plainly I.Unmark refl refl refl ▸ on q).leads;
+          λ d h. (from d h ▸ plainly I.Mark0 refl refl refl (λ h. refl) ▸ on r
+          ▸ plainly I.Unmark refl refl refl (λ h. refl) ▸ on q).leads;
     }
-    branches_run o c (Present b) x r q = let p = tree_runs o c b x in
+    branches_run o c (Present b) x w r q = let p = tree_runs o c b x w in
         record {
-          run = λ d h. (from d h ▸ labelled I.Mark (λ l. record { label = refl; place = refl; variable = refl })
+          run = λ d h. (from d h ▸ labelled I.Mark
+              (λ l. record { label = refl; place = refl; variable = refl; operand = refl })
               ▸ on r
-              ▸ plainly I.Unmark refl refl refl ▸ on q
-              ▸ labelled I.Goto (λ l. record { label = refl; place = refl; variable = refl }) ▸ second_placed ▸ on p
+              ▸ plainly I.Unmark refl refl refl (λ h. refl) ▸ on q
+              ▸ labelled I.Goto (λ l. record { label = refl; place = refl; variable = refl; operand = refl })
+              ▸ second_placed ▸ on p
               ▸ placed).leads;
         }
 
     looped_part_runs : (o : Open) (c : Context) (b : MaybeTree) → maybe_faults (looped true c) b ≡ []
+        → Told S.asks (maybe_fits b)
         → Runs S (suc (length c.loops)) (looped_part o b)
-    looped_part_runs o c Absent x = nothing_runs
-    looped_part_runs o c (Present b) x = looped_runs (tree_runs o (looped true c) b x)
+    looped_part_runs o c Absent x w = nothing_runs
+    looped_part_runs o c (Present b) x w = looped_runs (tree_runs o (looped true c) b x w)
 
     suspended_part_runs : (o : Open) (c : Context) (b : MaybeTree) → maybe_faults c b ≡ []
+        → Told S.asks (maybe_fits b)
         → Runs S (length c.loops) (suspended_part o b)
-    suspended_part_runs o c Absent x = record { run = λ d h. (from d h ▸ label ▸ placed).leads }
-    suspended_part_runs o c (Present b) x = bounded_runs (tree_runs o c b x)
+    suspended_part_runs o c Absent x w = record { run = λ d h. (from d h ▸ label ▸ placed).leads }
+    suspended_part_runs o c (Present b) x w = bounded_runs (tree_runs o c b x w)
 
     guarded_run : (o : Open) (c : Context) (has : Bool) (clauses : Clauses) → clauses_faults c has clauses ≡ []
+        → Told S.asks (clauses_fit clauses)
         → CaseRuns (length c.loops) (guarded o clauses)
-    guarded_run o c has NoClauses x = record { run = λ d h w. S.none d }
-    guarded_run o c has (MoreClauses clause clauses) x =
-        cases_then (guarded_clause_runs o c has clause (none_before _ _ x))
-        (guarded_run o c (is_default has clause) clauses (none_behind _ _ x))
+    guarded_run o c has NoClauses x w = record { run = λ d h w. S.none d }
+    guarded_run o c has (MoreClauses clause clauses) x w =
+        cases_then (guarded_clause_runs o c has clause (none_before _ _ x) (first_told _ _ w))
+        (guarded_run o c (is_default has clause) clauses (none_behind _ _ x) (second_told _ _ w))
 
     guarded_clause_runs : (o : Open) (c : Context) (has : Bool) (clause : Clause) → clause_faults c has clause ≡ []
+        → Told S.asks (clause_fits clause)
         → CaseRuns (length c.loops) (guarded_clause o clause)
-    guarded_clause_runs o c has (Default place e) x = record { run = λ d h w. S.none d }
-    guarded_clause_runs o c has (Guarded place s b) x =
-        clause_runs (tree_runs (Marked o) c s (none_before _ _ x)) (tree_runs o c b (none_behind _ _ x))
+    guarded_clause_runs o c has (Default place e) x w = record { run = λ d h w. S.none d }
+    guarded_clause_runs o c has (Guarded place s b) x w =
+        clause_runs (tree_runs (Marked o) c s (none_before _ _ x) (first_told _ _ w))
+        (tree_runs o c b (none_behind _ _ x) (second_told _ _ w))
 
     default_part_runs : (o : Open) (c : Context) (has : Bool) (clauses : Clauses) → clauses_faults c has clauses
-        ≡ [] → Runs S (length c.loops) (default_part o clauses)
-    default_part_runs o c has NoClauses x = put_runs I.Efail refl refl refl
-    default_part_runs o c has (MoreClauses clause clauses) x =
-        default_clause_runs o c has clause (none_before _ _ x)
-        (default_part_runs o c (is_default has clause) clauses (none_behind _ _ x))
+        ≡ []
+        → Told S.asks (clauses_fit clauses) → Runs S (length c.loops) (default_part o clauses)
+    default_part_runs o c has NoClauses x w = put_runs I.Efail refl refl refl (λ h. refl)
+    default_part_runs o c has (MoreClauses clause clauses) x w =
+        default_clause_runs o c has clause (none_before _ _ x) (first_told _ _ w)
+        (default_part_runs o c (is_default has clause) clauses (none_behind _ _ x) (second_told _ _ w))
 
     default_clause_runs : (o : Open) (c : Context) (has : Bool) (clause : Clause) → clause_faults c has clause ≡ []
+        → Told S.asks (clause_fits clause)
         → {later : Draft → Draft} → Runs S (length c.loops) later
         → Runs S (length c.loops) (default_clause o clause later)
-    default_clause_runs o c has (Default place e) x r = tree_runs o c e (none_behind _ _ x)
-    default_clause_runs o c has (Guarded place s b) x r = r
+    default_clause_runs o c has (Default place e) x w r = tree_runs o c e (none_behind _ _ x) w
+    default_clause_runs o c has (Guarded place s b) x w r = r
 
   -- Procedures
 
-  pub initially_runs : (initial : Initial) → initial_faults initial ≡ [] → Runs S 0 (initially initial)
-  initially_runs NoInitial x = nothing_runs
-  initially_runs (Initially place e) x = let r = tree_runs Outermost outermost e x in record {
+  pub initially_runs : (initial : Initial) → initial_faults initial ≡ [] → Told S.asks (initial_fits initial)
+      → Runs S 0 (initially initial)
+  initially_runs NoInitial x w = nothing_runs
+  initially_runs (Initially place e) x w = let r = tree_runs Outermost outermost e x w in record {
     run = λ d h.
         let m = next_label d in
-        let c = from d h ▸ labelled I.Init (λ l. record { label = refl; place = refl; variable = refl }) in
+        let c = from d h ▸ labelled I.Init (λ l. record
+        { label = refl; place = refl; variable = refl; operand = refl }) in
         let may = S.may_behind (with_label d) (I.Mark m) (I.Init m)
-        (S.fresh d (I.Mark m) (record { label = refl; place = refl; variable = refl })) in
+        (S.fresh d (I.Mark m) (record { label = refl; place = refl; variable = refl; operand = refl })) in
         let begun : Chain S 0 d (put (I.Mark m) (put (I.Init m) (with_label d))) (m ∷ []) =
         record { leads = S.instr d _ (m ∷ []) (I.Mark m) may c.leads; inside = h } in
-        (begun ▸ on r ▸ plainly I.Unmark refl refl refl ▸ placed).leads;
+        (begun ▸ on r ▸ plainly I.Unmark refl refl refl (λ h. refl) ▸ placed).leads;
   }
 
-  pub body_runs : (es : Trees) → all_faults outermost es ≡ [] → Runs S 0 (body es)
-  body_runs NoTrees x = nothing_runs
-  body_runs (More e es) x = then_runs (unless_runs e
-      (bounded_runs (tree_runs Outermost outermost e (none_before _ _ x)))) (body_runs es (none_behind _ _ x))
+  pub body_runs : (es : Trees) → all_faults outermost es ≡ [] → Told S.asks (trees_fit es) → Runs S 0 (body es)
+  body_runs NoTrees x w = nothing_runs
+  body_runs (More e es) x w = then_runs (unless_runs e
+      (bounded_runs (tree_runs Outermost outermost e (none_before _ _ x) (first_told _ _ w))))
+      (body_runs es (none_behind _ _ x) (second_told _ _ w))

@@ -8,3 +8,7 @@ pub mod Naming
 pub mod EntryNames
 pub mod FileNames
 pub mod Variables
+pub mod WrittenTrees
+pub mod WrittenFiles
+pub mod OperandTexts
+pub mod CodeTexts

@@ -203,13 +203,14 @@ then_same d e f ns p h = names_then d e f ns [] p (same_names e f [] h)
 
 pub naming : Keeps
 naming = record {
+  asks = false;
   Leads = Names;
   Inside = λ n d. Unit {0};
   InCase = λ d. Unit {0};
   May = λ d i. Unit {0};
   none = λ d. same_names d d [] refl;
   joined = λ d e f ns p q. names_then d e f ns [] p q;
-  plain = λ d i p. tt;
+  plain = λ d i p o. tt;
   fresh = λ d i p. tt;
   may_later = λ d e ns i p m. tt;
   may_behind = λ d i j m. tt;
@@ -221,7 +222,7 @@ naming = record {
       record { rest = q.rest; first = q.first; differ = q.differ };
   second_place = λ d e m n ns p. let q = then_same d e (put (I.Lab n) e) (m ∷ n ∷ ns) p (put_names (I.Lab n) e) in
       record { rest = q.rest; first = q.first; differ = q.differ };
-  variable = λ d e ns name p. names_then d e (put_variable name e) ns [] p (variable_step name e);
+  variable = λ d e ns name o p. names_then d e (put_variable name e) ns [] p (variable_step name e);
   inside_none = λ d. tt;
   inside_later = λ d e ns n p h. tt;
   inside_loop = λ d w n h. tt;
@@ -248,3 +249,7 @@ naming = record {
 pub are_named : (d e : Draft) (ns : List ℕ) → naming.Leads d e ns → Names d e ns
 unfolding naming
 are_named d e ns p = p
+
+pub naming_asks : naming.asks ≡ false
+unfolding naming
+naming_asks = refl

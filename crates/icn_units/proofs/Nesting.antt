@@ -1,5 +1,5 @@
 -- Loops and cases end as they began: as many are open behind a step as before it.
-use Rattle.std.proofs.Common.{◌≡◌, ◌≤◌, ℕ, suc, List, [], ◌∷◌, length, Option, None, Some, refl, ap, ◌∙◌, arith}
+use Rattle.std.proofs.Common.{◌≡◌, ◌≤◌, ℕ, false, suc, List, [], ◌∷◌, length, Option, None, Some, refl, ap, ◌∙◌, arith}
 use Rattle.icn_unit.specs.declared.unit.UnitInstr.{UnitInstr}
 use Rattle.icn_unit.specs.declared.unit.UnitInstr.TheVariants as I
 use Rattle.icn_translate.specs.declared.builder.Ways.{Ways}
@@ -145,13 +145,14 @@ deep_less {n = n} {a = a} {b = b} h g = omega arith
 
 pub nesting : Keeps
 nesting = record {
+  asks = false;
   Leads = Level;
   Inside = Deep;
   InCase = HasCase;
   May = λ d i. Unit {0};
   none = λ d. record { loops = refl; cases = refl };
   joined = λ d e f ns p q. level_then p q;
-  plain = λ d i p. tt;
+  plain = λ d i p o. tt;
   fresh = λ d i p. tt;
   may_later = λ d e ns i p m. tt;
   may_behind = λ d i j m. tt;
@@ -162,7 +163,7 @@ nesting = record {
       record { loops = q.loops ∙ p.loops; cases = q.cases ∙ p.cases };
   second_place = λ d e m n ns p. let q = put_level (I.Lab n) e in
       record { loops = q.loops ∙ p.loops; cases = q.cases ∙ p.cases };
-  variable = λ d e ns name p. level_then p (variable_level name e);
+  variable = λ d e ns name o p. level_then p (variable_level name e);
   inside_none = λ d. record { loops = omega arith };
   inside_later = λ d e ns n p h. record { loops = deep_by p.loops h.loops };
   inside_loop = λ d w n h. record { loops = deep_more (in_loops w d) h.loops };
@@ -182,3 +183,7 @@ nesting = record {
 pub is_level : (d e : Draft) (ns : List ℕ) → nesting.Leads d e ns → Level d e ns
 unfolding nesting
 is_level d e ns p = p
+
+pub nesting_asks : nesting.asks ≡ false
+unfolding nesting
+nesting_asks = refl

@@ -1,5 +1,5 @@
 -- What an instruction goes to, and what open loops and cases wait for, has a number, and there are no fewer numbers later.
-use Rattle.std.proofs.Common.{◌≡◌, ◌≤◌, ◌<◌, ℕ, suc, List, [], ◌∷◌, ◌++◌, Option, None, Some, refl, sym, subst, arith}
+use Rattle.std.proofs.Common.{◌≡◌, ◌≤◌, ◌<◌, ℕ, false, suc, List, [], ◌∷◌, ◌++◌, Option, None, Some, refl, sym, subst, arith}
 use Rattle.icn_unit.specs.declared.unit.UnitInstr.{UnitInstr}
 use Rattle.icn_unit.specs.declared.unit.UnitInstr.TheVariants as I
 use Rattle.icn_unit.specs.UnitRules.{label_in}
@@ -301,13 +301,14 @@ plain_among n k h = subst (λ k. Among n k) (sym h) tt
 
 pub numbers : Keeps
 numbers = record {
+  asks = false;
   Leads = Grows;
   Inside = λ n d. Unit {0};
   InCase = λ d. Unit {0};
   May = MayGo;
   none = λ d. record { more = same d.labels; kept = λ a. a };
   joined = λ d e f ns p q. then_grows d e f ns p q.more q.kept;
-  plain = λ d i p. record { goes = plain_among d.labels (label_in i) p.label };
+  plain = λ d i p o. record { goes = plain_among d.labels (label_in i) p.label };
   fresh = λ d i p. record { goes = goes_among (label_in i) p.label (label_among d) };
   may_later = λ d e ns i p m. record { goes = among_more (label_in i) p.more m.goes };
   may_behind = λ d i j m. record { goes = put_may i j d m.goes };
@@ -324,7 +325,7 @@ numbers = record {
     kept =
         λ a. put_kept (I.Lab n) e tt (p.kept a);
   };
-  variable = λ d e ns name p. then_grows d e (put_variable name e) ns p (variable_more name e)
+  variable = λ d e ns name o p. then_grows d e (put_variable name e) ns p (variable_more name e)
       (variable_kept name e);
   inside_none = λ d. tt;
   inside_later = λ d e ns n p h. tt;
@@ -360,3 +361,7 @@ numbers = record {
 pub has_grown : (d e : Draft) (ns : List ℕ) → numbers.Leads d e ns → Grows d e ns
 unfolding numbers
 has_grown d e ns p = p
+
+pub numbers_asks : numbers.asks ≡ false
+unfolding numbers
+numbers_asks = refl

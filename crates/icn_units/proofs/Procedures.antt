@@ -14,16 +14,17 @@ use Rattle.icn_unit.specs.UnitRules.{label_in, place_of, place_list, placed, has
 use Rattle.icn_translate.specs.declared.builder.Ways.{Ways}
 use Rattle.icn_translate.specs.Drafts.{Draft}
 use Rattle.icn_translate.specs.ProcCodes.{begun, drafted, proc_code}
-use Rattle.icn_units.proofs.Chains.{Keeps, ◌▸◌, on, plainly}
-use Rattle.icn_units.proofs.Forms.{none_before, none_behind, from, initially_runs, body_runs}
-use Rattle.icn_units.proofs.Balance.{bit, one, given, held, places, ways_held, ends_held, times, balance, is_balanced}
-use Rattle.icn_units.proofs.Numbers.{Among, AllAmong, Numbered, numbers, has_grown}
-use Rattle.icn_units.proofs.Nesting.{nesting, is_level}
+use Rattle.icn_units.specs.Written.{name_fits, names_fit, all_locals_fit, initial_fits, trees_fit, procedure_fits}
+use Rattle.icn_units.proofs.Chains.{Told, Keeps, ◌▸◌, on, plainly}
+use Rattle.icn_units.proofs.Forms.{none_before, none_behind, first_told, second_told, from, initially_runs, body_runs}
+use Rattle.icn_units.proofs.Balance.{bit, one, given, held, places, ways_held, ends_held, times, balance, balance_asks, is_balanced}
+use Rattle.icn_units.proofs.Numbers.{Among, AllAmong, Numbered, numbers, numbers_asks, has_grown}
+use Rattle.icn_units.proofs.Nesting.{nesting, nesting_asks, is_level}
 
--- the whole draft of a procedure goes on from the one that it begins with
-pub procedure_leads : (K : Keeps) (met : Met) (procedure : Procedure) → procedure_faults met procedure ≡ []
-    → K.Leads (begun procedure) (drafted procedure) []
-procedure_leads K met procedure x =
+-- The whole draft of a procedure goes on from the one that it begins with.
+pub told_leads : (K : Keeps) (met : Met) (procedure : Procedure) → procedure_faults met procedure ≡ []
+    → Told K.asks (procedure_fits procedure) → K.Leads (begun procedure) (drafted procedure) []
+told_leads K met procedure x w =
     let many = too_many (length (declared_names procedure)) procedure.name in
     let owned = repeated C8 met procedure.name in
     let twice = all_repeated C1 none_met (declared_names procedure) in
@@ -32,10 +33,27 @@ procedure_leads K met procedure x =
     let trees = none_behind twice (first ++ others)
     (none_behind owned (twice ++ (first ++ others))
     (none_behind many (owned ++ (twice ++ (first ++ others))) x)) in
+    let named = name_fits procedure.name in
+    let parameters = names_fit procedure.parameters in
+    let locals = all_locals_fit procedure.locals in
+    let initial = initial_fits procedure.initial in
+    let body = trees_fit procedure.body in
+    let written = second_told locals (initial && body)
+    (second_told parameters (locals && (initial && body))
+    (second_told named (parameters && (locals && (initial && body))) w)) in
     (from K (begun procedure) (K.inside_none (begun procedure))
-    ▸ on (initially_runs K procedure.initial (none_before first others trees))
-    ▸ on (body_runs K procedure.body (none_behind first others trees))
-    ▸ plainly I.Pfail refl refl refl).leads
+    ▸ on (initially_runs K procedure.initial (none_before first others trees) (first_told initial body written))
+    ▸ on (body_runs K procedure.body (none_behind first others trees) (second_told initial body written))
+    ▸ plainly I.Pfail refl refl refl (λ h. refl)).leads
+
+not_told : (asks t : Bool) → asks ≡ false → Told asks t
+not_told asks t e h = absurd (cc)
+
+-- where nothing is asked of names and literals
+pub procedure_leads : (K : Keeps) → K.asks ≡ false → (met : Met) (procedure : Procedure)
+    → procedure_faults met procedure ≡ []
+    → K.Leads (begun procedure) (drafted procedure) []
+procedure_leads K h met procedure x = told_leads K met procedure x (not_told K.asks (procedure_fits procedure) h)
 
 -- Numbers
 
@@ -175,8 +193,8 @@ module _ (met : Met) (procedure : Procedure) (faultless : procedure_faults met p
   places_given l =
       let d = begun procedure in
       let e = drafted procedure in
-      let level = is_level d e [] (procedure_leads nesting met procedure faultless) in
-      let counted = is_balanced d e [] (procedure_leads balance met procedure faultless) in
+      let level = is_level d e [] (procedure_leads nesting nesting_asks met procedure faultless) in
+      let counted = is_balanced d e [] (procedure_leads balance balance_asks met procedure faultless) in
       sum (times l d) (times l e) (places l e.instrs) (given l e.labels) (counted.counts l)
       (begun_times l procedure) (ended_times l e level.loops level.cases)
     where
@@ -193,7 +211,7 @@ module _ (met : Met) (procedure : Procedure) (faultless : procedure_faults met p
   pub are_placed : labels_placed (proc_code procedure).instrs ≡ true
   are_placed =
       let e = drafted procedure in
-      let grown = has_grown (begun procedure) e [] (procedure_leads numbers met procedure faultless) in
+      let grown = has_grown (begun procedure) e [] (procedure_leads numbers numbers_asks met procedure faultless) in
       all_placed e.labels e.instrs e.instrs (λ l h g. is_there l (placed e.instrs)
       (let a = placed_given l in let b = given_once l e.labels h g in omega arith))
       (grown.kept (begun_numbered procedure)).instrs

@@ -184,13 +184,14 @@ variable_vars name d =
 
 pub variables : Keeps
 variables = record {
+  asks = false;
   Leads = Vars;
   Inside = λ n d. Unit {0};
   InCase = λ d. Unit {0};
   May = NoVariable;
   none = λ d. vars_same d d [] refl refl;
   joined = λ d e f ns p q. vars_then d e f ns [] p q;
-  plain = λ d i p. record { none = p.variable };
+  plain = λ d i p o. record { none = p.variable };
   fresh = λ d i p. record { none = p.variable };
   may_later = λ d e ns i p m. record { none = m.none };
   may_behind = λ d i j m. record { none = m.none };
@@ -202,7 +203,7 @@ variables = record {
       record { more = q.more; below = q.below };
   second_place = λ d e m n ns p. let q = vars_then d e (put (I.Lab n) e) (m ∷ n ∷ ns) [] p
       (put_vars (I.Lab n) e refl) in record { more = q.more; below = q.below };
-  variable = λ d e ns name p. vars_then d e (put_variable name e) ns [] p (variable_vars name e);
+  variable = λ d e ns name o p. vars_then d e (put_variable name e) ns [] p (variable_vars name e);
   inside_none = λ d. tt;
   inside_later = λ d e ns n p h. tt;
   inside_loop = λ d w n h. tt;
@@ -231,3 +232,7 @@ variables = record {
 pub have_vars : (d e : Draft) (ns : List ℕ) → variables.Leads d e ns → Vars d e ns
 unfolding variables
 have_vars d e ns p = p
+
+pub variables_asks : variables.asks ≡ false
+unfolding variables
+variables_asks = refl

@@ -1,1 +1,2 @@
 pub mod CodeNames
+pub mod Written

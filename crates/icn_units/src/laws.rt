@@ -1,12 +1,16 @@
 // Laws of the codes of procedures.
 ghost use Rattle.std.specs.Prelude.{◌≡◌, [], true, List};
+ghost use Rattle.std.specs.List.{list_all};
 ghost use Rattle.icn_tree.specs.Trees.{Declaration, Procedure};
 ghost use Rattle.icn_decls.specs.Faults.{context_faults, procedure_faults, Met};
+ghost use Rattle.icn_decls.specs.Spelled.{IsSpelled};
 ghost use Rattle.icn_translate.specs.FileUnits.{proc_codes, unit_decls};
 ghost use Rattle.icn_translate.specs.ProcCodes.{proc_code};
 ghost use Rattle.icn_unit.specs.PlainUnits.{entry_names, owned_names, proc_names};
+ghost use Rattle.icn_unit.specs.UnitOperands.{is_name};
 ghost use Rattle.icn_unit.specs.UnitRules.{in_order, labels_differ, labels_placed, names_differ, placed, same_names};
 ghost use Rattle.icn_units.specs.CodeNames.{variables_are_named};
+ghost use Rattle.icn_units.specs.Written.{file_fits, operand_fits, procedure_fits};
 
 /// In the code of a procedure that breaks no context rule no label has two places, and each label that an instruction goes to
 /// has one.
@@ -34,4 +38,17 @@ pub fn file_names_differ()
     ensures procedures { (file : List Declaration) → context_faults file ≡ [] → names_differ (proc_names (proc_codes file)) ≡ true }
     ensures owners { (file : List Declaration) → context_faults file ≡ [] → names_differ (owned_names (unit_decls file)) ≡ true }
     ensures same { (file : List Declaration) → same_names (proc_codes file) (unit_decls file) ≡ true }
+{}
+
+/// The names of a text that breaks no rule of its tokens are such as a unit has, and its literals are within their bounds.
+pub fn names_and_literals_fit()
+    ensures { (file : List Declaration) → IsSpelled file → file_fits file ≡ true }
+{}
+
+/// Where the names and the literals of a procedure are such, so are those of its code.
+pub fn code_texts_fit()
+    ensures names { (met : Met) (procedure : Procedure) → procedure_faults met procedure ≡ [] → procedure_fits procedure ≡ true
+        → list_all is_name (entry_names (proc_code procedure).names) ≡ true }
+    ensures operands { (met : Met) (procedure : Procedure) → procedure_faults met procedure ≡ [] → procedure_fits procedure ≡ true
+        → list_all operand_fits (proc_code procedure).instrs ≡ true }
 {}

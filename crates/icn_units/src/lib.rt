@@ -3,4 +3,7 @@
 
 mod laws;
 
-pub use laws::{file_names_differ, labels_have_one_place, names_stand_once};
+pub use laws::{
+    code_texts_fit, file_names_differ, labels_have_one_place, names_and_literals_fit,
+    names_stand_once,
+};

@@ -1,0 +1,59 @@
+-- The names and the operands of the code of a procedure, where those of its trees are such as a unit has.
+use Rattle.std.proofs.Common.{◌≡◌, ℕ, true, ◌&&◌, List, [], ◌∷◌, ◌++◌, refl, sym, subst}
+use Rattle.std.specs.List.{flat_map, list_all}
+use Rattle.icn_tree.specs.declared.tree.Name.{Name}
+use Rattle.icn_tree.specs.Trees.{Locals, Procedure}
+use Rattle.icn_decls.specs.Faults.{Met, procedure_faults}
+use Rattle.icn_unit.specs.PlainUnits.{entry_names}
+use Rattle.icn_unit.specs.UnitOperands.{is_name}
+use Rattle.icn_translate.specs.ProcCodes.{texts_of, local_texts, declared_texts, begun, drafted, proc_code}
+use Rattle.icn_units.specs.Written.{operand_fits, name_fits, names_fit, all_locals_fit, initial_fits, trees_fit, procedure_fits}
+use Rattle.icn_units.proofs.WrittenTrees.{both, first_of, second_of}
+use Rattle.icn_units.proofs.Procedures.{told_leads}
+use Rattle.icn_units.proofs.EntryNames.{begun_names, code_names}
+use Rattle.icn_units.proofs.OperandTexts.{Kept, texts, are_kept, told_texts}
+
+texts_fit : (names : List Name) → names_fit names ≡ true → list_all is_name (texts_of names) ≡ true
+texts_fit [] h = refl
+texts_fit (name ∷ names) h = both (first_of (name_fits name) (names_fit names) h)
+    (texts_fit names (second_of (name_fits name) (names_fit names) h))
+
+all_behind : (xs ys : List (List ℕ)) → list_all is_name xs ≡ true → list_all is_name ys ≡ true
+    → list_all is_name (xs ++ ys) ≡ true
+all_behind [] ys h g = g
+all_behind (x ∷ xs) ys h g = both (first_of (is_name x) (list_all is_name xs) h)
+    (all_behind xs ys (second_of (is_name x) (list_all is_name xs) h) g)
+
+locals_fit : (locals : List Locals) → all_locals_fit locals ≡ true → list_all is_name (flat_map local_texts locals)
+    ≡ true
+locals_fit [] h = refl
+locals_fit (l ∷ locals) h =
+    all_behind (local_texts l) (flat_map local_texts locals)
+    (texts_fit l.names (first_of (names_fit l.names) (all_locals_fit locals) h))
+    (locals_fit locals (second_of (names_fit l.names) (all_locals_fit locals) h))
+
+module _ (met : Met) (procedure : Procedure) (faultless : procedure_faults met procedure ≡ [])
+    (written : procedure_fits procedure ≡ true) where
+  declared_fit : list_all is_name (declared_texts procedure) ≡ true
+  declared_fit =
+      let named = name_fits procedure.name in
+      let parameters = names_fit procedure.parameters in
+      let locals = all_locals_fit procedure.locals in
+      let trees = initial_fits procedure.initial && trees_fit procedure.body in
+      let rest = second_of named (parameters && (locals && trees)) written in
+      all_behind (texts_of procedure.parameters) (flat_map local_texts procedure.locals)
+      (texts_fit procedure.parameters (first_of parameters (locals && trees) rest))
+      (locals_fit procedure.locals (first_of locals trees (second_of parameters (locals && trees) rest)))
+
+  kept : Kept (begun procedure) (drafted procedure) []
+  kept = are_kept (begun procedure) (drafted procedure) []
+      (told_leads texts met procedure faultless (told_texts (procedure_fits procedure) written))
+
+  pub code_operands_fit : list_all operand_fits (proc_code procedure).instrs ≡ true
+  code_operands_fit = kept.instrs refl
+
+  pub code_names_fit : list_all is_name (entry_names (proc_code procedure).names) ≡ true
+  code_names_fit = subst (λ (names : List (List ℕ)). list_all is_name names ≡ true)
+      (sym (code_names met procedure faultless))
+      (kept.names (subst (λ (names : List (List ℕ)). list_all is_name names ≡ true)
+      (sym (begun_names met procedure faultless)) declared_fit))
