@@ -2,7 +2,7 @@
 use Rattle.std.specs.Prelude.{ℕ, ◌+◌, ◌*◌, List, length}
 use Rattle.std.specs.List.{sum_by}
 use Rattle.icn_code.specs.declared.instr.Instr.{Instr}
-use Rattle.icn_code.specs.declared.instr.Instr.TheVariants.{Int, Str, Cset, Local, Static, Global, Keywd, Op, Llist, Field, Invoke, Mark, Chfail, Goto, Loop, Init, Create}
+use Rattle.icn_code.specs.declared.instr.Instr.TheVariants.{Int, Str, Cset, Local, Static, Global, Keywd, Op, Llist, Field, Invoke, Mark, Chfail, Goto, Loop, Init, Create, Pnull, Pop, Dup, Appl, Mark0, Unmark, Eret, Esusp, Limit, Lsusp, Efail, Bscan, Escan, Ccase, Psusp, Pret, Pfail, Coact, Coret, Cofail}
 use Rattle.icn_code.specs.Codes.{Proc, RecordType}
 
 -- an instruction: its number, and an operand of two bytes or a label of four
@@ -24,7 +24,26 @@ instr_size (Goto label) = 5
 instr_size (Loop label) = 5
 instr_size (Init label) = 5
 instr_size (Create label) = 5
-instr_size _ = 1
+instr_size Pnull = 1
+instr_size Pop = 1
+instr_size Dup = 1
+instr_size Appl = 1
+instr_size Mark0 = 1
+instr_size Unmark = 1
+instr_size Eret = 1
+instr_size Esusp = 1
+instr_size Limit = 1
+instr_size Lsusp = 1
+instr_size Efail = 1
+instr_size Bscan = 1
+instr_size Escan = 1
+instr_size Ccase = 1
+instr_size Psusp = 1
+instr_size Pret = 1
+instr_size Pfail = 1
+instr_size Coact = 1
+instr_size Coret = 1
+instr_size Cofail = 1
 
 abbrev pub body_size : List Instr → ℕ
 body_size instrs = sum_by instr_size instrs

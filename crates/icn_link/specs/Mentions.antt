@@ -31,27 +31,76 @@ mention_of (Unit.Cset members) = ASet members
 mention_of (Unit.Field name) = AField name
 mention_of (Unit.Llist count) = Operands count
 mention_of (Unit.Invoke count) = Operands count
-mention_of _ = NoMention
+mention_of Unit.Pnull = NoMention
+mention_of (Unit.Var place) = NoMention
+mention_of (Unit.Keywd keyword) = NoMention
+mention_of Unit.Pop = NoMention
+mention_of Unit.Dup = NoMention
+mention_of (Unit.Op op) = NoMention
+mention_of Unit.Appl = NoMention
+mention_of (Unit.Mark label) = NoMention
+mention_of Unit.Mark0 = NoMention
+mention_of Unit.Unmark = NoMention
+mention_of Unit.Eret = NoMention
+mention_of Unit.Esusp = NoMention
+mention_of Unit.Limit = NoMention
+mention_of Unit.Lsusp = NoMention
+mention_of Unit.Efail = NoMention
+mention_of (Unit.Chfail label) = NoMention
+mention_of (Unit.Goto label) = NoMention
+mention_of (Unit.Loop label) = NoMention
+mention_of Unit.Bscan = NoMention
+mention_of Unit.Escan = NoMention
+mention_of Unit.Ccase = NoMention
+mention_of (Unit.Init label) = NoMention
+mention_of Unit.Psusp = NoMention
+mention_of Unit.Pret = NoMention
+mention_of Unit.Pfail = NoMention
+mention_of (Unit.Create label) = NoMention
+mention_of Unit.Coact = NoMention
+mention_of Unit.Coret = NoMention
+mention_of Unit.Cofail = NoMention
+mention_of (Unit.Lab label) = NoMention
 
 abbrev pub integer_in : Mention → List ℤ
 integer_in (AnInteger n) = n ∷ []
-integer_in _ = []
+integer_in NoMention = []
+integer_in (AText bytes) = []
+integer_in (ASet members) = []
+integer_in (AField name) = []
+integer_in (Operands count) = []
 
 abbrev pub text_in : Mention → List (List ℕ)
 text_in (AText bytes) = bytes ∷ []
-text_in _ = []
+text_in NoMention = []
+text_in (AnInteger n) = []
+text_in (ASet members) = []
+text_in (AField name) = []
+text_in (Operands count) = []
 
 abbrev pub set_in : Mention → List (List ℕ)
 set_in (ASet members) = members ∷ []
-set_in _ = []
+set_in NoMention = []
+set_in (AnInteger n) = []
+set_in (AText bytes) = []
+set_in (AField name) = []
+set_in (Operands count) = []
 
 abbrev pub field_in : Mention → List (List ℕ)
 field_in (AField name) = name ∷ []
-field_in _ = []
+field_in NoMention = []
+field_in (AnInteger n) = []
+field_in (AText bytes) = []
+field_in (ASet members) = []
+field_in (Operands count) = []
 
 abbrev pub operands_in : Mention → List ℕ
 operands_in (Operands count) = count ∷ []
-operands_in _ = []
+operands_in NoMention = []
+operands_in (AnInteger n) = []
+operands_in (AText bytes) = []
+operands_in (ASet members) = []
+operands_in (AField name) = []
 
 -- what is mentioned by the instructions of a procedure
 abbrev pub mentioned_in : {A : Type 0} → (Mention → List A) → Proc → List A
