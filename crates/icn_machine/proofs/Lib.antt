@@ -15,3 +15,5 @@ pub mod OperateSteps
 pub mod PerformEvents
 pub mod PerformSteps
 pub mod SetTwice
+pub mod StartLoops
+pub mod StartSteps

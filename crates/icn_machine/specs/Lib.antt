@@ -4,3 +4,4 @@ pub mod Invoking
 pub mod Performing
 pub mod Stepping
 pub mod Steps
+pub mod Starting

@@ -9,6 +9,7 @@ mod giving;
 mod invoking;
 mod operations;
 mod performing;
+mod starting;
 mod stepping;
 
 pub use begun::{Earlier, OwnLocals};
@@ -18,4 +19,5 @@ pub use giving::give_outcome;
 pub use invoking::{appl, call_value, invoke};
 pub use operations::{operate, resume};
 pub use performing::{perform, perform_again};
+pub use starting::start;
 pub use stepping::{Rooms, Stepped, step};
