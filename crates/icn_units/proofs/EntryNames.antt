@@ -6,6 +6,7 @@ use Rattle.std.proofs.Math.Seq.{drop-append_seam}
 use Rattle.std.proofs.lemmas.List.{map-append}
 use Rattle.std.proofs.lemmas.Bool.Decides.{leb_tells}
 use Rattle.std.proofs.lemmas.Slice.Eq.{bytes_eq-Decides}
+use Rattle.icn_tree.specs.declared.rule.Rule.{Rule}
 use Rattle.icn_tree.specs.declared.rule.Rule.TheVariants.{C1, C8}
 use Rattle.icn_tree.specs.declared.tree.Name.{Name}
 use Rattle.icn_tree.specs.declared.tree.LocalKind.{LocalKind}
@@ -43,10 +44,10 @@ met_again met name x h = by (bytes_eq name x)
 pub met_now : (met : Met) (name : List ℕ) → with_name met name name ≡ true
 met_now met name = ap (λ b. if b then true else met name) (same_text name)
 
-not_met : (met : Met) (name : Name) → repeated C1 met name ≡ [] → met name.text ≡ false
-not_met met name h = by (met name.text) h
+not_met : (rule : Rule) (met : Met) (name : Name) → repeated rule met name ≡ [] → met name.text ≡ false
+not_met rule met name h = by (met name.text) h
   where
-    by : (b : Bool) → (if b then fault C1 name.place else []) ≡ [] → b ≡ false
+    by : (b : Bool) → (if b then fault rule name.place else []) ≡ [] → b ≡ false
     by true h = absurd (cc)
     by false h = refl
 
@@ -57,24 +58,26 @@ differs met x y h g = by (bytes_eq x y) refl
     by false e = refl
     by true e = absurd (let same = ap met ((bytes_eq-Decides x y).0 e) in cc)
 
-none_again : (met : Met) (names : List Name) (x : List ℕ) → met x ≡ true → all_repeated C1 met names ≡ []
+none_again : (rule : Rule) (met : Met) (names : List Name) (x : List ℕ) → met x ≡ true → all_repeated rule met names
+    ≡ []
     → list_any (λ y. bytes_eq x y) (texts_of names) ≡ false
-none_again met [] x h g = refl
-none_again met (name ∷ names) x h g =
-    let here = none_before (repeated C1 met name) (all_repeated C1 (with_name met name.text) names) g in
-    let later = none_behind (repeated C1 met name) (all_repeated C1 (with_name met name.text) names) g in
+none_again rule met [] x h g = refl
+none_again rule met (name ∷ names) x h g =
+    let here = none_before (repeated rule met name) (all_repeated rule (with_name met name.text) names) g in
+    let later = none_behind (repeated rule met name) (all_repeated rule (with_name met name.text) names) g in
     nor_of (bytes_eq x name.text) (list_any (λ y. bytes_eq x y) (texts_of names))
-    (differs met x name.text h (not_met met name here))
-    (none_again (with_name met name.text) names x (met_again met name.text x h) later)
+    (differs met x name.text h (not_met rule met name here))
+    (none_again rule (with_name met name.text) names x (met_again met name.text x h) later)
 
-texts_differ : (met : Met) (names : List Name) → all_repeated C1 met names ≡ [] → names_differ (texts_of names)
+pub texts_differ : (rule : Rule) (met : Met) (names : List Name) → all_repeated rule met names ≡ []
+    → names_differ (texts_of names)
     ≡ true
-texts_differ met [] h = refl
-texts_differ met (name ∷ names) h =
-    let later = none_behind (repeated C1 met name) (all_repeated C1 (with_name met name.text) names) h in
+texts_differ rule met [] h = refl
+texts_differ rule met (name ∷ names) h =
+    let later = none_behind (repeated rule met name) (all_repeated rule (with_name met name.text) names) h in
     is_not (list_any (λ y. bytes_eq name.text y) (texts_of names)) (names_differ (texts_of names))
-    (none_again (with_name met name.text) names name.text (met_now met name.text) later)
-    (texts_differ (with_name met name.text) names later)
+    (none_again rule (with_name met name.text) names name.text (met_now met name.text) later)
+    (texts_differ rule (with_name met name.text) names later)
 
 -- The texts of names that are declared
 
@@ -211,7 +214,7 @@ module _ (met : Met) (procedure : Procedure) (faultless : procedure_faults met p
       let once = none_before twice trees (none_behind owned (twice ++ trees)
       (none_behind many (owned ++ (twice ++ trees)) faultless)) in
       subst (λ (texts : List (List ℕ)). names_differ texts ≡ true) (names_declared procedure)
-      (texts_differ none_met (declared_names procedure) once)
+      (texts_differ C1 none_met (declared_names procedure) once)
 
   pub begun_names : (begun procedure).names ≡ declared_texts procedure
   begun_names = once_each [] (declared_texts procedure) declared_once

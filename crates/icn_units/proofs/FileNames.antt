@@ -1,21 +1,23 @@
 -- The names of the procedures and the records of a file: no two are the same, and each procedure has its code and its declaration.
-use Rattle.std.proofs.Common.{◌≡◌, Bool, true, false, not, ◌&&◌, ℕ, List, [], ◌∷◌, ◌++◌, map, refl, sym, ap, ◌∙◌, subst, if◌then◌else◌}
-use Rattle.std.specs.List.{flat_map, list_any}
+use Rattle.std.proofs.Common.{◌≡◌, Bool, true, false, not, ◌&&◌, ℕ, List, [], ◌∷◌, ◌++◌, map, refl, sym, ap, ◌∙◌, subst, if◌then◌else◌, length}
+use Rattle.std.specs.List.{flat_map, list_all, list_any}
 use Rattle.std.specs.Str.{bytes_eq}
 use Rattle.std.proofs.lemmas.Grind.{flat_map-append}
-use Rattle.icn_tree.specs.declared.rule.Rule.TheVariants.{C8}
+use Rattle.icn_tree.specs.declared.rule.Rule.TheVariants.{C6, C8}
 use Rattle.icn_tree.specs.declared.tree.Item.{Item}
 use Rattle.icn_tree.specs.declared.tree.Name.{Name}
 use Rattle.icn_tree.specs.Trees.{Declaration, Global, Link, Invocable, Record, ProcedureOf}
 use Rattle.icn_decls.specs.Contexts.{Fault, fault}
-use Rattle.icn_decls.specs.Faults.{Met, with_name, repeated, names_after, declaration_faults, declarations_faults}
+use Rattle.icn_decls.specs.Faults.{Met, with_name, repeated, names_after, declaration_faults, declarations_faults, none_met, all_repeated, too_many}
 use Rattle.icn_unit.specs.PlainUnits.{Decl, proc_names, owned_name, owned_names, declared_name, declared_names}
 use Rattle.icn_unit.specs.PlainUnits.{Global as GlobalLine, Link as LinkLine}
 use Rattle.icn_unit.specs.UnitRules.{names_differ, same_texts, same_names}
 use Rattle.icn_translate.specs.FileUnits.{proc_codes, item_text, lines_in, unit_decls}
+use Rattle.icn_translate.specs.ProcCodes.{texts_of}
+use Rattle.icn_units.specs.CodeNames.{fields_differ}
 use Rattle.icn_units.proofs.Forms.{none_before, none_behind}
 use Rattle.icn_units.proofs.Naming.{both_of, neither_of, nor_of, is_not, was_not}
-use Rattle.icn_units.proofs.EntryNames.{same_text, met_again, met_now, differs}
+use Rattle.icn_units.proofs.EntryNames.{texts_differ, same_text, met_again, met_now, differs}
 
 -- procedures and records, and procedures alone, by their names
 abbrev owners : List Declaration → List (List ℕ)
@@ -213,3 +215,42 @@ pub unit_procedures_differ : (met : Met) (declarations : List Declaration) → d
 unit_procedures_differ met declarations h =
     subst (λ (names : List (List ℕ)). names_differ names ≡ true) (sym (unit_procedures declarations))
     (fewer_differ declarations (owners_differ met declarations h))
+
+-- The fields of a record differ
+
+all_joined : {A : Type 0} (test : A → Bool) (xs ys : List A) → list_all test xs ≡ true → list_all test ys ≡ true
+    → list_all test (xs ++ ys) ≡ true
+all_joined test [] ys h g = g
+all_joined test (x ∷ xs) ys h g =
+    let parts = both_of (test x) (list_all test xs) h in
+    ap (λ b. b && list_all test (xs ++ ys)) parts.0 ∙ all_joined test xs ys parts.1 g
+
+all_pass : {A B : Type 0} (test : B → Bool) (line : A → B) → ((x : A) → test (line x) ≡ true) → (xs : List A)
+    → list_all test (map line xs) ≡ true
+all_pass test line h [] = refl
+all_pass test line h (x ∷ xs) = ap (λ b. b && list_all test (map line xs)) (h x) ∙ all_pass test line h xs
+
+record_fields : (met : Met) (name : Name) (many : List Fault) (fields : List Name)
+    → many ++ (repeated C8 met name ++ all_repeated C6 none_met fields) ≡ [] → names_differ (texts_of fields) ≡ true
+record_fields met name many fields h =
+    texts_differ C6 none_met fields (none_behind (repeated C8 met name) (all_repeated C6 none_met fields)
+    (none_behind many (repeated C8 met name ++ all_repeated C6 none_met fields) h))
+
+line_fields : (met : Met) (declaration : Declaration) → declaration_faults met declaration ≡ []
+    → list_all fields_differ (lines_in declaration) ≡ true
+line_fields met (Global place names) h =
+    all_pass fields_differ (λ (name : Name). GlobalLine name.text) (λ name. refl) names
+line_fields met (Link place items) h = all_pass fields_differ (λ (item : Item). LinkLine (item_text item))
+    (λ item. refl) items
+line_fields met (Invocable place items) h = refl
+line_fields met (Record place name fields) h =
+    ap (λ b. b && true) (record_fields met name (too_many (length fields) name) fields h)
+line_fields met (ProcedureOf p) h = refl
+
+pub unit_fields_differ : (met : Met) (declarations : List Declaration) → declarations_faults met declarations ≡ []
+    → list_all fields_differ (unit_decls declarations) ≡ true
+unit_fields_differ met [] h = refl
+unit_fields_differ met (declaration ∷ others) h =
+    all_joined fields_differ (lines_in declaration) (unit_decls others)
+    (line_fields met declaration (first_faultless met declaration others h))
+    (unit_fields_differ (names_after met declaration) others (others_faultless met declaration others h))

@@ -1,5 +1,5 @@
 -- The names and the literals of the declarations of a text.
-use Rattle.std.proofs.Common.{◌≡◌, Bool, true, false, List, [], ◌∷◌, length, refl}
+use Rattle.std.proofs.Common.{◌≡◌, ◌≤◌, Bool, true, false, not, ◌||◌, nat_lt, List, [], ◌∷◌, length, refl, arith}
 use Rattle.std.specs.List.{list_all}
 use Rattle.icn_tree.specs.declared.tree.Name.{Name}
 use Rattle.icn_tree.specs.declared.tree.Item.{Item}
@@ -34,10 +34,26 @@ fits_item : (item : Item) → Keeps (SpellsItem item) (item_fits item ≡ true)
 fits_item (Items.Identifier name) = name_keeps name
 fits_item (Items.Text name) = keeps_map (keeps_sign_at name.place _) (λ y. le_test (length name.text) 65535 y.0)
 
-fits_parameters : (names : List Name) (b : Bool) → Keeps (SpellsParameters names b) (names_fit names ≡ true)
-fits_parameters names false = fits_names names
-fits_parameters names true = keeps_map (keeps_then (fits_all identifier name_fits name_keeps names)
-    (keeps_then (keeps_sign _) (keeps_sign _))) (λ y. y.0)
+collects_by : (names : List Name) → 1 ≤ length names → nat_lt 0 (length names) ≡ true
+collects_by names h = le_test 1 (length names) h
+
+some_names : (names : List Name) (here after : List Token) → WithCommas identifier names here after → 1
+    ≤ length names
+some_names [] here after s = absurd s
+some_names (name ∷ names) here after s = omega arith
+
+keeps_some : (names : List Name)
+    → Keeps (WithCommas identifier names) ((names_fit names ≡ true) × (nat_lt 0 (length names) ≡ true))
+keeps_some names = record {
+  gives = λ here after h s. let x = (fits_all identifier name_fits name_keeps names).gives here after h s in
+      ((x.0, collects_by names (some_names names here after s)), x.1);
+}
+
+fits_parameters : (names : List Name) (b : Bool)
+    → Keeps (SpellsParameters names b) ((names_fit names ≡ true) × ((not b || nat_lt 0 (length names)) ≡ true))
+fits_parameters names false = keeps_map (fits_names names) (λ y. (y, refl))
+fits_parameters names true = keeps_map (keeps_then (keeps_some names) (keeps_then (keeps_sign _) (keeps_sign _)))
+    (λ y. y.0)
 
 fits_locals : (locals : List Locals) → Keeps (SpellsLocals locals) (all_locals_fit locals ≡ true)
 fits_locals [] = keeps_map keeps_nothing (λ y. refl)
@@ -74,7 +90,8 @@ fits_declaration (ProcedureOf p) = keeps_map
     (keeps_then (keeps_sign _) (keeps_then (keeps_sign _)
     (keeps_then (fits_locals p.locals) (keeps_then (fits_initial p.initial)
     (keeps_then (fits_body p.body) (keeps_sign _))))))))))
-    (λ y. both y.1.0 (both y.1.1.1.0 (both y.1.1.1.1.1.1.0 (both y.1.1.1.1.1.1.1.0 y.1.1.1.1.1.1.1.1.0))))
+    (λ y. both (both y.1.0 (both y.1.1.1.0.0 (both y.1.1.1.1.1.1.0 (both y.1.1.1.1.1.1.1.0 y.1.1.1.1.1.1.1.1.0))))
+    y.1.1.1.0.1)
 
 pub fits_file : (file : List Declaration) → Keeps (SpellsFile file) (file_fits file ≡ true)
 fits_file [] = keeps_map keeps_nothing (λ y. refl)

@@ -1,5 +1,5 @@
 -- What the names and the literals of a text keep, as a unit asks it of them.
-use Rattle.std.specs.Prelude.{Bool, true, ◌&&◌, nat_le, List, length}
+use Rattle.std.specs.Prelude.{Bool, true, not, ◌&&◌, ◌||◌, nat_le, nat_lt, List, length}
 use Rattle.std.specs.List.{list_all}
 use Rattle.icn_tree.specs.declared.tree.Literal.{Literal}
 use Rattle.icn_tree.specs.declared.tree.Literal.TheVariants.{Integer, Text, Cset}
@@ -86,12 +86,16 @@ procedure_fits procedure = name_fits procedure.name &&
     (names_fit procedure.parameters && (all_locals_fit procedure.locals
     && (initial_fits procedure.initial && trees_fit procedure.body)))
 
+-- the last parameter collects only where there is one
+abbrev pub collects_fits : Procedure → Bool
+collects_fits procedure = not procedure.is_variadic || nat_lt 0 (length procedure.parameters)
+
 abbrev pub declaration_fits : Declaration → Bool
 declaration_fits (Global place names) = names_fit names
 declaration_fits (Link place items) = list_all item_fits items
 declaration_fits (Invocable place items) = true
 declaration_fits (Record place name fields) = name_fits name && names_fit fields
-declaration_fits (ProcedureOf procedure) = procedure_fits procedure
+declaration_fits (ProcedureOf procedure) = procedure_fits procedure && collects_fits procedure
 
 abbrev pub file_fits : List Declaration → Bool
 file_fits file = list_all declaration_fits file

@@ -9,7 +9,7 @@ ghost use Rattle.icn_translate.specs.ProcCodes.{proc_code};
 ghost use Rattle.icn_unit.specs.PlainUnits.{entry_names, owned_names, proc_names};
 ghost use Rattle.icn_unit.specs.UnitOperands.{is_name};
 ghost use Rattle.icn_unit.specs.UnitRules.{in_order, labels_differ, labels_placed, names_differ, placed, same_names};
-ghost use Rattle.icn_units.specs.CodeNames.{variables_are_named};
+ghost use Rattle.icn_units.specs.CodeNames.{fields_differ, variables_are_named};
 ghost use Rattle.icn_units.specs.Written.{file_fits, operand_fits, procedure_fits};
 
 /// In the code of a procedure that breaks no context rule no label has two places, and each label that an instruction goes to
@@ -32,15 +32,17 @@ pub fn names_stand_once()
         → variables_are_named (proc_code procedure) ≡ true }
 {}
 
-/// The procedures and the records of a file that breaks no context rule differ by their names in its unit, and the procedures
-/// are those that the declarations name, in their order.
+/// The procedures and the records of a file that breaks no context rule differ by their names in its unit, so do the fields of a
+/// record, and the procedures are those that the declarations name, in their order.
 pub fn file_names_differ()
     ensures procedures { (file : List Declaration) → context_faults file ≡ [] → names_differ (proc_names (proc_codes file)) ≡ true }
     ensures owners { (file : List Declaration) → context_faults file ≡ [] → names_differ (owned_names (unit_decls file)) ≡ true }
+    ensures fields { (file : List Declaration) → context_faults file ≡ [] → list_all fields_differ (unit_decls file) ≡ true }
     ensures same { (file : List Declaration) → same_names (proc_codes file) (unit_decls file) ≡ true }
 {}
 
-/// The names of a text that breaks no rule of its tokens are such as a unit has, and its literals are within their bounds.
+/// The names of a text that breaks no rule of its tokens are such as a unit has, its literals are within their bounds, and the
+/// last parameter of a procedure collects only where there is one.
 pub fn names_and_literals_fit()
     ensures { (file : List Declaration) → IsSpelled file → file_fits file ≡ true }
 {}
