@@ -166,13 +166,15 @@ quiet_cause tables state n h was (Err Halts.NoMemory) k = uncounted (all_counts 
 -- a step is answered from the state's own outside on
 own_step : {K : Type 0} (tables : Tables) (m : Machine K) (stage : Stage) (n : Machine K) (was : Outside) (state : State Frames Frames) (before after : Handed) (result : Result Stage Halt)
     → IsAt tables was state m stage → before.left ≡ Some was.left
-    → AnswersStep (λ now answer. ComesTo tables now (step flat tables state) n answer) (step flat tables state) was before after result → Leads tables state was before n after result
+    → AnswersStep (λ now answer. ComesTo tables now (step flat tables state) n answer) (step flat tables state) was before after result
+    → Leads tables state was before n after result
 own_step tables m stage n was state before after result at told last =
     let own = at_own tables was state m stage at in record {
       count = 0;
       between = before;
       follows = subst (λ (o : Outside). Follows before before was o) (sym own) (follows_all before was told);
-      last = subst (λ (o : Outside). AnswersStep (λ now answer. ComesTo tables now (step flat tables state) n answer) (step flat tables state) o before after result) (sym own) last;
+      last =
+          subst (λ (o : Outside). AnswersStep (λ now answer. ComesTo tables now (step flat tables state) n answer) (step flat tables state) o before after result) (sym own) last;
     }
 
 -- a step that neither reads nor puts
@@ -180,7 +182,8 @@ pub quiet_step : {K : Type 0} (tables : Tables) (m : Machine K) (stage : Stage) 
     → ((was : Outside) (state : State Frames Frames) → IsAt tables was state m stage → ComesTo tables was (step flat tables state) n result)
     → Advances tables m stage h n h result
 quiet_step tables m stage h n result goes comes = record {
-  answers = λ was state at told. own_step tables m stage n was state h h result at told (quiet_answer tables (step flat tables state) n h was result told (comes was state at));
+  answers =
+      λ was state at told. own_step tables m stage n was state h h result at told (quiet_answer tables (step flat tables state) n h was result told (comes was state at));
   meant = λ was state at. record {
     first = was;
     later = [];
@@ -239,8 +242,10 @@ advances_then tables m stage a n next b k c result goes first second = record {
       record {
         count = suc one.count + two.count;
         between = two.between;
-        follows = subst (λ (s : State Frames Frames). Follows a two.between was (outside_at s)) (sym same) (follows_then (follows_then one.follows one.last.follows) two.follows);
-        last = subst (λ (s : State Frames Frames). AnswersStep (λ now answer. ComesTo tables now (steps flat tables (suc (suc one.count + two.count)) state) k answer) (steps flat tables (suc (suc one.count + two.count)) state) (outside_at s) two.between c result) (sym same)
+        follows =
+            subst (λ (s : State Frames Frames). Follows a two.between was (outside_at s)) (sym same) (follows_then (follows_then one.follows one.last.follows) two.follows);
+        last =
+            subst (λ (s : State Frames Frames). AnswersStep (λ now answer. ComesTo tables now (steps flat tables (suc (suc one.count + two.count)) state) k answer) (steps flat tables (suc (suc one.count + two.count)) state) (outside_at s) two.between c result) (sym same)
             (subst (λ (s : State Frames Frames). AnswersStep (λ now answer. ComesTo tables now s k answer) s (outside_at (steps flat tables two.count there)) two.between c result) (sym all) two.last);
       };
   meant = λ was state at.
@@ -251,7 +256,8 @@ advances_then tables m stage a n next b k c result goes first second = record {
         first = one.first;
         later = one.later ++ two.first ∷ two.later;
         now = two.now;
-        is = subst (λ (s : State Frames Frames). StandsBy tables two.now s k result) (sym (over_then tables (one.first ∷ one.later) (two.first ∷ two.later) state)) two.is;
+        is =
+            subst (λ (s : State Frames Frames). StandsBy tables two.now s k result) (sym (over_then tables (one.first ∷ one.later) (two.first ∷ two.later) state)) two.is;
       };
   caused = fault_then a b c result first.caused second.caused;
 }

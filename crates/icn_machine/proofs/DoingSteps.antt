@@ -106,11 +106,16 @@ module _ {K : Type 0} (m n : Machine K) (f : FlatStack) (moves : Moves m n f) wh
       always = λ outside. subst (λ (s : State Frames Frames). AlwaysOver tables (LacksNothing tables) s)
           (sym (step_does tables (stack_seen m) instr (store_seen tables outside m) instr_here) ∙ step_here outside)
           (always_doing tables (stack_seen m) instr (store_seen tables outside m) instr_here (kept_running tables m ready.kept outside));
-      variables = λ outside. subst (λ (st : Store Frames). HasVariables tables st) (sym (moved_store tables outside)) ((kept_running tables m ready.kept outside).always []).variables;
-      in_range = subst (λ (s : FlatStack). IsInRange tables (held.proc s) instr) (sym now_stack) (instr_in_range tables (held.proc f) f.place instr rules stands);
-      mark = subst (λ (s : Frames). HasCaseMark instr s) (sym moved_stack) (((kept_running tables m ready.kept (outside_of [])).always []).mark instr instr_here);
-      stack_named = subst (λ (s : Frames). StackNamed (all_names tables) s) (sym moved_stack) (record { cells = (kept_running tables m ready.kept (outside_of [])).named.0.cells });
-      store_named = λ outside. subst (λ (st : Store Frames). StoreNamed (all_names tables) st) (sym (moved_store tables outside)) (kept_running tables m ready.kept outside).named.1;
+      variables =
+          λ outside. subst (λ (st : Store Frames). HasVariables tables st) (sym (moved_store tables outside)) ((kept_running tables m ready.kept outside).always []).variables;
+      in_range =
+          subst (λ (s : FlatStack). IsInRange tables (held.proc s) instr) (sym now_stack) (instr_in_range tables (held.proc f) f.place instr rules stands);
+      mark =
+          subst (λ (s : Frames). HasCaseMark instr s) (sym moved_stack) (((kept_running tables m ready.kept (outside_of [])).always []).mark instr instr_here);
+      stack_named =
+          subst (λ (s : Frames). StackNamed (all_names tables) s) (sym moved_stack) (record { cells = (kept_running tables m ready.kept (outside_of [])).named.0.cells });
+      store_named =
+          λ outside. subst (λ (st : Store Frames). StoreNamed (all_names tables) st) (sym (moved_store tables outside)) (kept_running tables m ready.kept outside).named.1;
       fits = λ outside. subst (λ (st : Store Frames). StoreFits tables st) (sym (moved_store tables outside)) (kept_running tables m ready.kept outside).fits;
     }
 

@@ -54,7 +54,8 @@ Lands tables m n stage = (was : Outside) × ((now : Outside) × StandsAt tables 
 pub failed_kept : {K : Type 0} (tables : Tables) → StepsKeepNames → StepsKeepSizes → (m n : Machine K) (stage : Stage)
     → KeepsState tables m Stages.Fails → Lands tables m n stage → IsKeptAt tables n stage
 failed_kept tables names sizes m n stage k l =
-    kept_at tables l.1.0 (failed tables m l.0) n stage l.1.1 (kept_failing tables names sizes (stack_seen m) (store_seen tables l.0 m) (kept_seen tables m k l.0))
+    kept_at tables l.1.0 (failed tables m l.0) n stage l.1.1
+    (kept_failing tables names sizes (stack_seen m) (store_seen tables l.0 m) (kept_seen tables m k l.0))
 
 -- so many turns may be made
 turns_bound : (bounds : Bounds) (limits : Limits) → bounds ≡ limits_of limits → bounds.turns ≡ limits.turns
@@ -83,7 +84,8 @@ failed_further tables m n Stages.Fails b l =
 -- where it neither reads nor puts
 pub failed_quietly : {K : Type 0} (tables : Tables) (m n : Machine K) (h : Handed) (stage : Stage)
     → ((outside : Outside) → StandsAt tables outside (failed tables m outside) n stage) → Advances tables m Stages.Fails h n h (Ok stage)
-failed_quietly tables m n h stage f = quiet_step tables m Stages.Fails h n (Ok stage) refl (λ was state at. subst (λ (s : State Frames Frames). StandsAt tables was (step flat tables s) n stage) (sym at) (f was))
+failed_quietly tables m n h stage f =
+    quiet_step tables m Stages.Fails h n (Ok stage) refl (λ was state at. subst (λ (s : State Frames Frames). StandsAt tables was (step flat tables s) n stage) (sym at) (f was))
 
 pub lands_quietly : {K : Type 0} (tables : Tables) (m n : Machine K) (stage : Stage)
     → ((outside : Outside) → StandsAt tables outside (failed tables m outside) n stage) → Lands tables m n stage

@@ -24,7 +24,8 @@ over_same stuck = refl
 -- what always holds holds after a step over the state's own outside
 pub always_next : (tables : Tables) (P : State Frames Frames → Type 0) (state : State Frames Frames) → AlwaysOver tables P state
     → AlwaysOver tables P (step flat tables state)
-always_next tables P state h outsides = subst (λ (s : State Frames Frames). P (run_over tables outsides (step flat tables s))) (over_same state) (h (outside_at state ∷ outsides))
+always_next tables P state h outsides =
+    subst (λ (s : State Frames Frames). P (run_over tables outsides (step flat tables s))) (over_same state) (h (outside_at state ∷ outsides))
 
 -- a step of failing, and a hop
 pub kept_failing : (tables : Tables) → StepsKeepNames → StepsKeepSizes → (m : Frames) (st : Store Frames) → IsKept tables (failing m st)
@@ -87,7 +88,8 @@ over_twice was now stuck = refl
 always_over : (tables : Tables) (outside : Outside) (state : State Frames Frames) → AlwaysOver tables (LacksNothing tables) state
     → AlwaysOver tables (LacksNothing tables) (over_outside outside state)
 always_over tables outside state h [] = lacks_over tables outside state (h [])
-always_over tables outside state h (next ∷ later) = subst (λ (s : State Frames Frames). LacksNothing tables (run_over tables later (step flat tables s))) (sym (over_twice outside next state)) (h (next ∷ later))
+always_over tables outside state h (next ∷ later) =
+    subst (λ (s : State Frames Frames). LacksNothing tables (run_over tables later (step flat tables s))) (sym (over_twice outside next state)) (h (next ∷ later))
 
 named_over : (names : Names) (outside : Outside) (state : State Frames Frames) → StateNamed names state → StateNamed names (over_outside outside state)
 named_over names outside (running m st) h = (h.0, record { world = h.1.world; coexps = h.1.coexps })

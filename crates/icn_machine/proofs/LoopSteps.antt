@@ -116,7 +116,8 @@ failing_goes Stages.AtBound e = cc
 pub loop_ok : {K : Type 0} (tables : Tables) (m : Machine K) (stage : Stage) (a : Handed) (n : Machine K) (next due : Stage) (b : Handed) (k : Machine K) (c : Handed) (result : Result Stage Halt)
     → next ≡ due → goes_on due ≡ true
     → GoesOn tables m stage a n b (Ok next) → GoesOn tables n due b k c result → GoesOn tables m stage a k c result
-loop_ok tables m stage a n next due b k c result e goes p q = goes_goes tables m stage a n due b k c result goes (subst (λ (s : Stage). GoesOn tables m stage a n b (Ok s)) e p) q
+loop_ok tables m stage a n next due b k c result e goes p q =
+    goes_goes tables m stage a n due b k c result goes (subst (λ (s : Stage). GoesOn tables m stage a n b (Ok s)) e p) q
 
 pub loop_err : {K : Type 0} (tables : Tables) (m : Machine K) (stage : Stage) (a : Handed) (n : Machine K) (next due : Stage) (b : Handed) (k : Machine K) (c : Handed) (halt : Halt) (result : Result Stage Halt)
     → next ≡ due → goes_on due ≡ true

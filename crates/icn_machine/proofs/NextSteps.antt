@@ -49,7 +49,8 @@ instr_within tables all f st d = by_instr (slice_get (instrs_of tables (flat.pro
     by_instr : (o : Option Instr) → slice_get (instrs_of tables (flat.proc (stack_in all f))) f.place ≡ o → f.place < length (instrs_of tables (held.proc f))
     by_instr (Some instr) e =
         subst (λ (p : ℕ). f.place < length (instrs_of tables p)) (proc_read (reading_of all) f) (slice_get_within (instrs_of tables (flat.proc (stack_in all f))) f.place instr e)
-    by_instr None e = absurd (d (ap (λ (o : Option Instr). with_found o (λ instr. instruction flat tables instr (flat.go (suc f.place) (stack_in all f)) st)) e))
+    by_instr None e =
+        absurd (d (ap (λ (o : Option Instr). with_found o (λ instr. instruction flat tables instr (flat.go (suc f.place) (stack_in all f)) st)) e))
 
 pub read_instr : (tables : Tables) (all : Extent) (f : FlatStack) (instr : Instr) → slice_get (instrs_of tables (held.proc f)) f.place ≡ Some instr
     → instruction_at flat tables (stack_in all f) ≡ Some instr
@@ -63,7 +64,8 @@ step_does tables m instr st e = ap (λ (o : Option Instr). with_found o (λ inst
 -- the state is kept over every outside
 pub kept_running : {K : Type 0} (tables : Tables) (m : Machine K) → KeepsState tables m Stages.Runs → (outside : Outside)
     → IsKept tables (running (stack_seen m) (store_seen tables outside m))
-kept_running tables m k outside = kept_over tables outside (running (stack_seen m) (store_seen tables k.0 m)) (subst (λ (s : State Frames Frames). IsKept tables s) k.1.1.0 k.1.1.1)
+kept_running tables m k outside =
+    kept_over tables outside (running (stack_seen m) (store_seen tables k.0 m)) (subst (λ (s : State Frames Frames). IsKept tables s) k.1.1.0 k.1.1.1)
 
 pub never_running : {K : Type 0} (tables : Tables) (m : Machine K) → KeepsState tables m Stages.Runs → (outside : Outside)
     → step flat tables (running (stack_seen m) (store_seen tables outside m)) ≢ stuck
@@ -129,7 +131,8 @@ appl_operands tables m instr e d = take_there (extent m) 2 (stack_of m) _ (doing
 
 pub field_operand : {K : Type 0} (tables : Tables) (m : Machine K) (instr : Instr) (n : ℕ) → instr ≡ Instrs.Field n → IsDoing tables m instr
     → IsSome (held.pop (stack_of m))
-field_operand tables m instr n e d = one_there (stack_of m) (take_there (extent m) 1 (stack_of m) _ (doing_not_stuck tables m instr (Instrs.Field n) e d (outside_of [])))
+field_operand tables m instr n e d =
+    one_there (stack_of m) (take_there (extent m) 1 (stack_of m) _ (doing_not_stuck tables m instr (Instrs.Field n) e d (outside_of [])))
 
 pub names_as : {K : Type 0} (names : Names) (tables : Tables) (m : Machine K) (instr : Instr) → names ≡ all_names tables → IsDoing tables m instr
     → StackNamed names (stack_seen m)
@@ -190,7 +193,8 @@ pub called_ready : {K : Type 0} (names : Names) (tables : Tables) (m n : Machine
     → IfOk result (LandsBy tables (λ o. does tables o j m) n) → OnOk result (IsSound tables n) → IfOk result (HasStack n)
     → LeavesNamed names n.world (stack_of n) result
     → ((outside : Outside) → StoreNamed names (store_seen tables outside m) → OnOk result (StoreNamed names (store_seen tables outside n)))
-    → (FitSizes (field_count tables) (heap_of m.world.heap) → OnOk result (FitSizes (field_count tables) (heap_of n.world.heap))) → IfOk result (IsReady tables n)
+    → (FitSizes (field_count tables) (heap_of m.world.heap) → OnOk result (FitSizes (field_count tables) (heap_of n.world.heap)))
+    → IfOk result (IsReady tables n)
 called_ready names tables m n instr j (Err halt) e i d l sound stack named store sized = tt
 called_ready names tables m n instr j (Ok stage) e i d l sound stack named store sized = record {
   sound = sound;
