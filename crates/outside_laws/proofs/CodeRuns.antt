@@ -1,39 +1,38 @@
--- Every run of a code leaves the outside one that a run comes to, whatever its stacks are made of.
-use Rattle.std.proofs.Common.{◌≡◌, ℕ, zero, suc, Bool, true, false, List, [], ◌∷◌, ◌++◌, length, Option, Some, None, refl, ap, subst}
-use Rattle.std.specs.Prelude.{ℤ, pos, negsuc, ◌-◌, ◌==◌, ◌&&◌, not, nat_lt, nat_le, drop, map, replicate, slice_get, slice_index_or, if◌then◌else◌}
+-- Whatever each put and each reading keeps of the outside, every run of a code keeps, whatever its stacks are made of.
+use Rattle.std.proofs.Common.{◌≡◌, ℕ, zero, suc, Bool, true, false, List, [], ◌∷◌, ◌++◌, length, Option, Some, None, ap, subst}
+use Rattle.std.specs.Prelude.{ℤ, pos, negsuc, ◌-◌, ◌==◌, nat_lt, nat_le, drop, map, replicate, slice_get, slice_index_or, if◌then◌else◌}
 use Rattle.icn_text.specs.declared.op.Op.{Op}
 use Rattle.icn_text.specs.declared.op.Op.TheVariants as Ops
-use Rattle.icn_value.specs.Values.{Value, Null, Integer, Text, Chars, Procedure as ProcedureValue, ARecord, AList, ACoexp, Global, Static, Local, Whole, Part, Item, Val, Var, Errout}
+use Rattle.icn_value.specs.Values.{Value, Null, Integer, Text, Chars, Procedure as ProcedureValue, ARecord, AList, ACoexp, Local, Whole, Part, Item, Val, Var, Errout}
 use Rattle.icn_value.specs.Store.{Outside, list_at, record_at}
 use Rattle.icn_code.specs.declared.instr.Instr.{Instr}
 use Rattle.icn_code.specs.declared.instr.Instr.TheVariants as I
-use Rattle.icn_code.specs.Codes.{Tables, Proc as Procedure, RecordType}
+use Rattle.icn_code.specs.Codes.{Proc as Procedure, RecordType}
 use Rattle.icn_defs.specs.Arities.{arity}
 use Rattle.icn_defs.specs.Applying.{again}
 use Rattle.icn_defs.specs.Conversions.{integer_of}
 use Rattle.icn_defs.specs.Errors.{error_report}
-use Rattle.icn_defs.specs.Interruptions.{IsOutsideOf}
 use Rattle.icn_defs.specs.Keywords.{keyword_item}
 use Rattle.icn_defs.specs.Rows.{Outcome, Fails, Gives, Suspends, Error, Ends}
-use Rattle.icn_defs.specs.Running.{Pair, Ending, Done, Errored, AtBound, bound_report, Launch, Observed, words_row, number_of, after_steps}
+use Rattle.icn_defs.specs.Running.{Pair, Ending, Done, bound_report, Launch, Observed, words_row, number_of, after_steps}
 use Rattle.icn_defs.specs.StepRows.{Operation, Function, apply, value_row, list_row, text_row, record_row, coexpression_row}
-use Rattle.icn_defs.proofs.Interrupting.{put_keeps}
 use Rattle.icn_run.specs.Calls.{Why, Alt, Op as Operating, Scan, Escan, Proc, Dropped, NoMark, Goes, Repeats, Outside as WithoutLabel, Calls}
 use Rattle.icn_run.specs.Step as S
 use Rattle.icn_run.specs.Step.{Program, Status, Fresh, Active, Waiting, Exhausted, Coexp, Store, State, running, failing, hopping, over, stuck, Callee, IsProc, IsRecord, IsFunc, IsNothing}
 use Rattle.outside_laws.specs.Outsides.{LeavesOutside}
+use Rattle.outside_laws.proofs.Lasting.{Lasting}
 use Rattle.outside_laws.proofs.Rows.{operation_leaves, function_leaves, again_leaves, list_leaves, record_leaves, coexpression_leaves, text_leaves, words_leave}
 
-module _ {H M : Type 0} (C : Calls H M) (P : Program) (b : List ℕ) where
+module _ {H M : Type 0} (C : Calls H M) (P : Program) (b : Lasting) where
   abbrev K : Store H → Type 0
-  K st = IsOutsideOf b st.outside
+  K st = b.is st.outside
 
-  -- the outside of a state is one that a run comes to
+  -- it is so of the outside of a state
   abbrev pub G : State H M → Type 0
   G (running m st) = K st
   G (failing m st) = K st
   G (hopping m st) = K st
-  G (over ending outside) = IsOutsideOf b outside
+  G (over ending outside) = b.is outside
   G stuck = Unit {0}
 
   found : {A : Type 0} (o : Option A) (go : A → State H M) → ((x : A) → G (go x)) → G (S.with_found o go)
@@ -48,11 +47,11 @@ module _ {H M : Type 0} (C : Calls H M) (P : Program) (b : List ℕ) where
   -- Ends, turns and rows
 
   errs : (n : ℕ) (v : Option Value) (st : Store H) → K st → G (S.errs n v st)
-  errs n v st k = put_keeps b st.outside Errout (error_report st.names st.world.heap n v) k
+  errs n v st k = b.put st.outside Errout (error_report st.names st.world.heap n v) k
 
   turn_if : (t : Bool) (st : Store H) (go : Store H → State H M) → K st → ((s : Store H) → K s → G (go s)) → G (S.turn_if t st go)
   turn_if true st go k f = f (record st { turns = suc st.turns }) k
-  turn_if false st go k f = put_keeps b st.outside Errout bound_report k
+  turn_if false st go k f = b.put st.outside Errout bound_report k
 
   turn : (st : Store H) (go : Store H → State H M) → K st → ((s : Store H) → K s → G (go s)) → G (S.turn P st go)
   turn st go k f = turn_if (nat_lt st.turns st.world.heap.bounds.turns) st go k f
@@ -65,7 +64,7 @@ module _ {H M : Type 0} (C : Calls H M) (P : Program) (b : List ℕ) where
   valued (Suspends x r s) m st go k f = k
   valued (Ends n s) m st go k f = k
 
-  made : (o : Outcome) (m : M) (st : Store H) (go : Value → M → Store H → State H M) → K st → LeavesOutside b o → ((v : Value) (m : M) (s : Store H) → K s → G (go v m s)) → G (S.made C o m st go)
+  made : (o : Outcome) (m : M) (st : Store H) (go : Value → M → Store H → State H M) → K st → LeavesOutside b.is o → ((v : Value) (m : M) (s : Store H) → K s → G (go v m s)) → G (S.made C o m st go)
   made (Gives (Val v) s) m st go k l f = f v (C.set_locals s.locals m) (S.with_at s st) l
   made (Gives (Var x) s) m st go k l f = k
   made (Error n v s) m st go k l f = errs n v (S.with_at s st) l
@@ -73,7 +72,7 @@ module _ {H M : Type 0} (C : Calls H M) (P : Program) (b : List ℕ) where
   made (Suspends x r s) m st go k l f = k
   made (Ends n s) m st go k l f = k
 
-  outcome : (o : Outcome) (m : M) (st : Store H) → LeavesOutside b o → G (S.outcome C o m st)
+  outcome : (o : Outcome) (m : M) (st : Store H) → LeavesOutside b.is o → G (S.outcome C o m st)
   outcome (Fails s) m st l = l
   outcome (Gives x s) m st l = l
   outcome (Suspends x r s) m st l = l
@@ -353,7 +352,7 @@ module _ {H M : Type 0} (C : Calls H M) (P : Program) (b : List ℕ) where
   step (over ending outside) k = k
   step stuck k = tt
 
-  steps : (n : ℕ) (s : State H M) → G s → G (after_steps (S.step C P) n s)
+  pub steps : (n : ℕ) (s : State H M) → G s → G (after_steps (S.step C P) n s)
   steps zero s k = k
   steps (suc n) s k = steps n (S.step C P s) (step s k)
 
@@ -361,7 +360,7 @@ module _ {H M : Type 0} (C : Calls H M) (P : Program) (b : List ℕ) where
   begun_if true n entry vs m st k = collected entry.collects entry.parameters vs m st (λ parameters m st. running (C.begin n (parameters ++ replicate entry.locals Null) 0 m) st) k (λ vs m st k. k)
   begun_if false n entry vs m st k = errs 301 None st k
 
-  start_of : (lines : List (List ℕ)) (m : M) (st : Store H) (o : Option ℕ) → K st → G (S.start_of C P lines m st o)
+  pub start_of : (lines : List (List ℕ)) (m : M) (st : Store H) (o : Option ℕ) → K st → G (S.start_of C P lines m st o)
   start_of lines m st None k = errs 117 None st k
   start_of lines m st (Some main) k = found (slice_get P.procs main) (λ (entry : Procedure). S.made C (words_row lines (S.here C m st)) m st (λ list m st. S.begun_if C (nat_le 1 st.world.heap.bounds.levels) main entry (list ∷ []) m st))
       (λ entry. made (words_row lines (S.here C m st)) m st (λ list m st. S.begun_if C (nat_le 1 st.world.heap.bounds.levels) main entry (list ∷ []) m st) k (words_leave b lines (S.here C m st) k)
@@ -370,13 +369,13 @@ module _ {H M : Type 0} (C : Calls H M) (P : Program) (b : List ℕ) where
   abbrev record_of : Ending → Outside → Observed
   record_of ending outside = record { ending = ending; outside = outside }
 
-  seen_so : (s : State H M) (seen : Observed) → S.observed s ≡ Some seen → G s → IsOutsideOf b seen.outside
-  seen_so (over ending outside) seen e k = subst (IsOutsideOf b) (let h : record_of ending outside ≡ seen = cc in ap (λ (o : Observed). o.outside) h) k
+  seen_so : (s : State H M) (seen : Observed) → S.observed s ≡ Some seen → G s → b.is seen.outside
+  seen_so (over ending outside) seen e k = subst b.is (let h : record_of ending outside ≡ seen = cc in ap (λ (o : Observed). o.outside) h) k
   seen_so (running m st) seen e k = absurd (cc e)
   seen_so (failing m st) seen e k = absurd (cc e)
   seen_so (hopping m st) seen e k = absurd (cc e)
   seen_so stuck seen e k = absurd (cc e)
 
-  -- what a run comes to after so many steps leaves such an outside
-  pub run_leaves : (m : M) (launch : Launch) (n : ℕ) (seen : Observed) → IsOutsideOf b launch.outside → S.observed (after_steps (S.step C P) n (S.start C m P launch)) ≡ Some seen → IsOutsideOf b seen.outside
+  -- it is so of the outside that a run comes to after so many steps
+  pub run_leaves : (m : M) (launch : Launch) (n : ℕ) (seen : Observed) → b.is launch.outside → S.observed (after_steps (S.step C P) n (S.start C m P launch)) ≡ Some seen → b.is seen.outside
   run_leaves m launch n seen k e = seen_so _ seen e (steps n (S.start C m P launch) (start_of launch.words m (S.first_store P launch) (S.main_of P) k))

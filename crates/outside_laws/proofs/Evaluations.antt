@@ -1,7 +1,6 @@
--- Every evaluation leaves the outside one that a run comes to.
-use Rattle.std.proofs.Common.{◌≡◌, ℕ, zero, suc, Bool, true, false, List, [], ◌∷◌, ◌++◌, length, Option, Some, None, refl, sym, ap, ◌∙◌, subst}
+-- Whatever each put and each reading keeps of the outside, every evaluation keeps.
+use Rattle.std.proofs.Common.{◌≡◌, ℕ, zero, suc, Bool, true, false, List, [], ◌∷◌, ◌++◌, length, Option, Some, None, ap, subst}
 use Rattle.std.specs.Prelude.{ℤ, pos, negsuc, ◌-◌, ◌==◌, nat_lt, nat_le, drop, reverse, slice_get, slice_index_or, codes}
-use Rattle.icn_text.specs.declared.op.Op.{Op}
 use Rattle.icn_text.specs.declared.op.Op.TheVariants as Ops
 use Rattle.icn_text.specs.declared.keyword.Keyword.{Keyword as KeywordName}
 use Rattle.icn_text.specs.declared.keyword.TheConstants.Keyword.{ALL as keywords}
@@ -13,18 +12,16 @@ use Rattle.icn_tree.specs.declared.tree.LoopKind.{LoopKind}
 use Rattle.icn_tree.specs.declared.tree.LoopKind.TheVariants as Loops
 use Rattle.icn_tree.specs.Trees as T
 use Rattle.icn_tree.specs.Trees.{Tree, Trees, MaybeTree, Clauses, Empty, Absent, Present, NoTrees, More, Default, Guarded, NoClauses, MoreClauses, elements_of, Initial, NoInitial, Initially}
-use Rattle.icn_value.specs.Values.{Value, Integer, Text, Procedure, ARecord, AList, ACoexp, Local, Whole, Part, Item, Val, Var}
+use Rattle.icn_value.specs.Values.{Value, Text, Procedure, ARecord, AList, ACoexp, Local, Whole, Part, Item, Val, Var}
 use Rattle.icn_value.specs.Store.{list_at, record_at}
 use Rattle.icn_defs.specs.Rows.{Outcome, Fails, Gives, Suspends, Error, Ends}
 use Rattle.icn_value.specs.Values.{Errout}
 use Rattle.icn_defs.specs.Applying.{again}
 use Rattle.icn_defs.specs.Conversions.{integer_of, place_of as position_of}
-use Rattle.icn_defs.specs.Interruptions.{IsOutsideOf}
 use Rattle.icn_defs.specs.Keywords.{keyword_item}
 use Rattle.icn_defs.specs.Errors.{error_report}
-use Rattle.icn_defs.specs.Running.{Errored, AtBound, bound_report, Launch, Observed, words_row, number_of, after_steps, Observes}
+use Rattle.icn_defs.specs.Running.{Errored, AtBound, bound_report, Launch, Observed, words_row, number_of, after_steps}
 use Rattle.icn_defs.specs.StepRows.{Operation, Function, apply, value_row, list_row, text_row, record_row, coexpression_row}
-use Rattle.icn_defs.proofs.Interrupting.{put_keeps}
 use Rattle.icn_meaning.specs.Program.{Program, Routine, Kind, Callee, IsRoutine, IsKind, IsFunction, IsNothing, callee_of, place_of, routine_names}
 use Rattle.icn_meaning.specs.Contexts.{Form, Operating, Calling, Spreading, Collecting, Taking, Activating, frame_of, activation_of, Works, Nothing, ◌and_then◌, Choices, NoChoice, ◌or_else◌, Work, Args, Then, Cut, Raise, Limit, Count, Scan, Leave, Update, Each, Select, Returning, Suspending, Result, Do, Again, Resume, Restore, Reenter, Back, Exhaust, Action, Go, Give, Pass, Body, Try, Rest, Off, Surroundings, InCall, InScan, InLoop, Status, Fresh, Active, Waiting, AfterResult, Exhausted, Coexpression, Store, State, eval, succeed, fail, hop, over, lost, Ending}
 use Rattle.icn_meaning.specs.Contexts as C
@@ -38,13 +35,14 @@ use Rattle.icn_meaning.specs.Succeed as W
 use Rattle.icn_meaning.specs.Fail as F
 use Rattle.icn_meaning.specs.Meaning as M
 use Rattle.outside_laws.specs.Outsides.{LeavesOutside}
+use Rattle.outside_laws.proofs.Lasting.{Lasting}
 use Rattle.outside_laws.proofs.Rows.{operation_leaves, function_leaves, again_leaves, list_leaves, record_leaves, coexpression_leaves, text_leaves, words_leave}
 
-module _ (b : List ℕ) where
+module _ (b : Lasting) where
   abbrev K : Store → Type 0
-  K st = IsOutsideOf b st.outside
+  K st = b.is st.outside
 
-  -- the outside of a state is one that a run comes to
+  -- it is so of the outside of a state
   abbrev pub G : State → Type 0
   G (eval e s k r st) = K st
   G (succeed x k r st) = K st
@@ -56,7 +54,7 @@ module _ (b : List ℕ) where
   -- Ends, turns and rows
 
   ended : (e : Ending) (text : List ℕ) (st : Store) → K st → G (U.ended e text st)
-  ended e text st k = put_keeps b st.outside Errout text k
+  ended e text st k = b.put st.outside Errout text k
 
   errs : (n : ℕ) (v : Option Value) (r : Choices) (st : Store) → K st → G (U.errs n v r st)
   errs n v r st k = ended (Errored n) (error_report st.names st.world.heap n v) st k
@@ -76,7 +74,7 @@ module _ (b : List ℕ) where
   valued (Suspends x m s) r st go k f = k
   valued (Ends n s) r st go k f = k
 
-  made : (o : Outcome) (a : ℕ) (r : Choices) (st : Store) (go : Value → Store → State) → K st → LeavesOutside b o → ((v : Value) (s : Store) → K s → G (go v s)) → G (U.made o a r st go)
+  made : (o : Outcome) (a : ℕ) (r : Choices) (st : Store) (go : Value → Store → State) → K st → LeavesOutside b.is o → ((v : Value) (s : Store) → K s → G (go v s)) → G (U.made o a r st go)
   made (Gives (Val v) s) a r st go k l f = f v (U.after a s st) l
   made (Gives (Var x) s) a r st go k l f = k
   made (Error n v s) a r st go k l f = errs n v r (U.after a s st) l
@@ -84,7 +82,7 @@ module _ (b : List ℕ) where
   made (Suspends x m s) a r st go k l f = k
   made (Ends n s) a r st go k l f = k
 
-  answer : (o : Outcome) (a : ℕ) (w : Works) (r : Choices) (st : Store) → LeavesOutside b o → G (U.answer o a w r st)
+  answer : (o : Outcome) (a : ℕ) (w : Works) (r : Choices) (st : Store) → LeavesOutside b.is o → G (U.answer o a w r st)
   answer (Fails s) a w r st l = l
   answer (Gives x s) a w r st l = l
   answer (Suspends x m s) a w r st l = l
@@ -456,20 +454,20 @@ module _ (b : List ℕ) where
     main_at (Some n) lines st k = main_in (slice_get p.routines n) n lines st k
     main_at None lines st k = errs 117 None NoChoice st k
 
-    start : (launch : Launch) → IsOutsideOf b launch.outside → G (M.start p launch)
+    start : (launch : Launch) → b.is launch.outside → G (M.start p launch)
     start launch k = main_at (place_of (codes "main") (routine_names p.routines)) launch.words (M.first_store p launch) k
 
     abbrev record_of : Ending → Store → Observed
     record_of ending st = record { ending = ending; outside = st.outside }
 
-    seen_so : (s : State) (seen : Observed) → M.observed s ≡ Some seen → G s → IsOutsideOf b seen.outside
-    seen_so (over ending st) seen e k = subst (IsOutsideOf b) (let h : record_of ending st ≡ seen = cc in ap (λ (o : Observed). o.outside) h) k
+    seen_so : (s : State) (seen : Observed) → M.observed s ≡ Some seen → G s → b.is seen.outside
+    seen_so (over ending st) seen e k = subst b.is (let h : record_of ending st ≡ seen = cc in ap (λ (o : Observed). o.outside) h) k
     seen_so (eval e s w r st) seen f k = absurd (cc f)
     seen_so (succeed x w r st) seen f k = absurd (cc f)
     seen_so (fail r st) seen f k = absurd (cc f)
     seen_so (hop c st) seen f k = absurd (cc f)
     seen_so lost seen f k = absurd (cc f)
 
-    -- what a program means leaves such an outside
-    pub means_leaves : (launch : Launch) (seen : Observed) → IsOutsideOf b launch.outside → M.Means p launch seen → IsOutsideOf b seen.outside
+    -- what a program means leaves it so
+    pub means_leaves : (launch : Launch) (seen : Observed) → b.is launch.outside → M.Means p launch seen → b.is seen.outside
     means_leaves launch seen k m = seen_so _ seen m.is (steps m.count (M.start p launch) (start launch k))

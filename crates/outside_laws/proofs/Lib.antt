@@ -1,3 +1,5 @@
+pub mod Lasting
 pub mod Rows
 pub mod Evaluations
 pub mod CodeRuns
+pub mod Growing

@@ -1,4 +1,4 @@
--- Every row leaves the outside one that a run comes to.
+-- Whatever each put and each reading keeps of the outside, every row keeps.
 use Rattle.std.proofs.Common.{◌≡◌, ℕ, zero, suc, refl, sym, ap, subst, arith, ◌∙◌, Bool, true, false, List, [], ◌∷◌, length, Option, Some, None}
 use Rattle.std.specs.Prelude.{slice_set, drop, take, take_while, not, nat_lt, ◌+◌, ◌==◌, ℤ, pos, negsuc, Result, Ok, Err}
 use Rattle.std.proofs.lemmas.List.{drop_min, length-take}
@@ -23,89 +23,89 @@ use Rattle.icn_defs.specs.Structures.{copy_of, new_set_by, inserts, without_key,
 use Rattle.icn_defs.specs.InputOutput.{Piece, Puts, Selects, pieces, put_on, put_pieces, puts_line, read_row, reads_row, write_row, writes_row, stop_row, newline, last_of}
 use Rattle.icn_defs.specs.Applying.{operation_on, operation_row, function_of, function_row, again}
 use Rattle.icn_defs.specs.Lines.{is_input, next_line, next_bytes, lines_again}
-use Rattle.icn_defs.specs.Interruptions.{IsOutsideOf, asked_of, after_reading}
-use Rattle.icn_defs.proofs.Interrupting.{put_keeps, read_keeps}
+use Rattle.icn_defs.specs.Interruptions.{asked_of}
 use Rattle.icn_defs.specs.Arguments.{file_of, arg, arg_or}
 use Rattle.icn_defs.specs.StepRows.{record_row, coexpression_row, text_row}
 use Rattle.icn_defs.specs.Running.{words_row}
 use Rattle.outside_laws.specs.Outsides.{LeavesOutside}
+use Rattle.outside_laws.proofs.Lasting.{Lasting}
 
--- the setting has an outside that a run comes to
-abbrev pub Keeps : List ℕ → Setting → Type 0
-Keeps b s = IsOutsideOf b s.outside
+-- it is so of the setting's outside
+abbrev pub Keeps : Lasting → Setting → Type 0
+Keeps b s = b.is s.outside
 
--- the row came to such a setting
-pub record KI (b : List ℕ) (o : Outcome) : Type 0 where
-  pub is : LeavesOutside b o
+-- the row came to a setting of which it is so
+pub record KI (b : Lasting) (o : Outcome) : Type 0 where
+  pub is : LeavesOutside b.is o
 
-pub k_error : (b : List ℕ) (n : ℕ) (v : Option Value) (s : Setting) → Keeps b s → KI b (Error n v s)
+pub k_error : (b : Lasting) (n : ℕ) (v : Option Value) (s : Setting) → Keeps b s → KI b (Error n v s)
 k_error b n v s k = record { is = k }
 
-pub k_ends : (b : List ℕ) (n : ℕ) (s : Setting) → Keeps b s → KI b (Ends n s)
+pub k_ends : (b : Lasting) (n : ℕ) (s : Setting) → Keeps b s → KI b (Ends n s)
 k_ends b n s k = record { is = k }
 
-pub k_gives : (b : List ℕ) (i : Item) (s : Setting) → Keeps b s → KI b (Gives i s)
+pub k_gives : (b : Lasting) (i : Item) (s : Setting) → Keeps b s → KI b (Gives i s)
 k_gives b i s k = record { is = k }
 
-pub k_suspends : (b : List ℕ) (i : Item) (r : Residual) (s : Setting) → Keeps b s → KI b (Suspends i r s)
+pub k_suspends : (b : Lasting) (i : Item) (r : Residual) (s : Setting) → Keeps b s → KI b (Suspends i r s)
 k_suspends b i r s k = record { is = k }
 
-pub k_fails : (b : List ℕ) (s : Setting) → Keeps b s → KI b (Fails s)
+pub k_fails : (b : Lasting) (s : Setting) → Keeps b s → KI b (Fails s)
 k_fails b s k = record { is = k }
 
 -- a setting with the same outside
-pub follows : (b : List ℕ) (s a : Setting) → Keeps b a → s.outside ≡ a.outside → Keeps b s
-follows b s a k e = subst (IsOutsideOf b) (sym e) k
+pub follows : (b : Lasting) (s a : Setting) → Keeps b a → s.outside ≡ a.outside → Keeps b s
+follows b s a k e = subst b.is (sym e) k
 
 -- Words
 
-pub k_check : (b : List ℕ) (t : Bool) (n : ℕ) (v : Option Value) (next : Row) (a : Setting) → Keeps b a → KI b (next a) → KI b (check t n v next a)
+pub k_check : (b : Lasting) (t : Bool) (n : ℕ) (v : Option Value) (next : Row) (a : Setting) → Keeps b a → KI b (next a) → KI b (check t n v next a)
 k_check b true n v next a k f = f
 k_check b false n v next a k f = record { is = k }
 
-pub k_present : {A : Type 0} (b : List ℕ) (o : Option A) (n : ℕ) (v : Option Value) (next : A → Row) (a : Setting) → Keeps b a → ((x : A) → KI b (next x a)) → KI b (present o n v next a)
+pub k_present : {A : Type 0} (b : Lasting) (o : Option A) (n : ℕ) (v : Option Value) (next : A → Row) (a : Setting) → Keeps b a → ((x : A) → KI b (next x a)) → KI b (present o n v next a)
 k_present b (Some x) n v next a k f = f x
 k_present b None n v next a k f = record { is = k }
 
-pub k_computed : (b : List ℕ) (o : Result ℤ Arith) (next : ℤ → Row) (a : Setting) → Keeps b a → ((x : ℤ) → KI b (next x a)) → KI b (computed o next a)
+pub k_computed : (b : Lasting) (o : Result ℤ Arith) (next : ℤ → Row) (a : Setting) → Keeps b a → ((x : ℤ) → KI b (next x a)) → KI b (computed o next a)
 k_computed b (Ok x) next a k f = f x
 k_computed b (Err why) next a k f = record { is = k }
 
-pub k_passing : (b : List ℕ) (t : Bool) (next : Row) (a : Setting) → Keeps b a → KI b (next a) → KI b (passing t next a)
+pub k_passing : (b : Lasting) (t : Bool) (next : Row) (a : Setting) → Keeps b a → KI b (next a) → KI b (passing t next a)
 k_passing b true next a k f = f
 k_passing b false next a k f = record { is = k }
 
-pub k_found : {A : Type 0} (b : List ℕ) (o : Option A) (next : A → Row) (a : Setting) → Keeps b a → ((x : A) → KI b (next x a)) → KI b (found o next a)
+pub k_found : {A : Type 0} (b : Lasting) (o : Option A) (next : A → Row) (a : Setting) → Keeps b a → ((x : A) → KI b (next x a)) → KI b (found o next a)
 k_found b (Some x) next a k f = f x
 k_found b None next a k f = record { is = k }
 
-pub k_natural : (b : List ℕ) (n : ℤ) (v : Value) (next : ℕ → Row) (a : Setting) → Keeps b a → ((x : ℕ) → KI b (next x a)) → KI b (natural n v next a)
+pub k_natural : (b : Lasting) (n : ℤ) (v : Value) (next : ℕ → Row) (a : Setting) → Keeps b a → ((x : ℕ) → KI b (next x a)) → KI b (natural n v next a)
 k_natural b (pos n) v next a k f = f n
 k_natural b (negsuc n) v next a k f = record { is = k }
 
 pub ruleset first_words = (k_error, k_ends, k_gives, k_suspends, k_fails, follows, k_check, k_present, k_computed, k_passing, k_found, k_natural)
 
-pub k_made : (b : List ℕ) (o : Option (List ℕ)) (next : Row) (a : Setting) → Keeps b a → ((s : Setting) → Keeps b s → KI b (next s)) → KI b (costs_made o next a)
+pub k_made : (b : Lasting) (o : Option (List ℕ)) (next : Row) (a : Setting) → Keeps b a → ((s : Setting) → Keeps b s → KI b (next s)) → KI b (costs_made o next a)
 k_made b None next a k f = f a k
 k_made b (Some text) next a k f = search (first_words, f)
 
-pub k_unless : (b : List ℕ) (t : Bool) (next : Row) (a : Setting) → Keeps b a → ((s : Setting) → Keeps b s → KI b (next s)) → KI b (costs_unless t next a)
+pub k_unless : (b : Lasting) (t : Bool) (next : Row) (a : Setting) → Keeps b a → ((s : Setting) → Keeps b s → KI b (next s)) → KI b (costs_unless t next a)
 k_unless b true next a k f = f a k
 k_unless b false next a k f = search (first_words, f)
 
-pub k_reads : (b : List ℕ) (x : Variable) (next : Value → Row) (a : Setting) → Keeps b a → ((v : Value) → KI b (next v a)) → KI b (reads x next a)
+pub k_reads : (b : Lasting) (x : Variable) (next : Value → Row) (a : Setting) → Keeps b a → ((v : Value) → KI b (next v a)) → KI b (reads x next a)
 k_reads b (Whole root) next a k f = search (first_words, f)
 k_reads b (Part root place size) next a k f = search (first_words, f)
 
-pub k_value : (b : List ℕ) (x : Item) (next : Value → Row) (a : Setting) → Keeps b a → ((v : Value) → KI b (next v a)) → KI b (the_value x next a)
+pub k_value : (b : Lasting) (x : Item) (next : Value → Row) (a : Setting) → Keeps b a → ((v : Value) → KI b (next v a)) → KI b (the_value x next a)
 k_value b (Val v) next a k f = f v
 k_value b (Var x) next a k f = k_reads b x next a k f
 
-k_values : (b : List ℕ) (xs : List Item) (next : List Value → Row) (a : Setting) → Keeps b a → ((vs : List Value) → KI b (next vs a)) → KI b (the_values xs next a)
+k_values : (b : Lasting) (xs : List Item) (next : List Value → Row) (a : Setting) → Keeps b a → ((vs : List Value) → KI b (next vs a)) → KI b (the_values xs next a)
 k_values b [] next a k f = f []
 k_values b (x ∷ xs) next a k f = k_value b x (λ v. the_values xs (λ vs. next (v ∷ vs))) a k (λ v. k_values b xs (λ vs. next (v ∷ vs)) a k (λ vs. f (v ∷ vs)))
 
-pub k_variable : (b : List ℕ) (x : Item) (next : Variable → Row) (a : Setting) → Keeps b a → ((v : Variable) → KI b (next v a)) → KI b (the_variable x next a)
+pub k_variable : (b : Lasting) (x : Item) (next : Variable → Row) (a : Setting) → Keeps b a → ((v : Variable) → KI b (next v a)) → KI b (the_variable x next a)
 k_variable b (Val v) next a k f = record { is = k }
 k_variable b (Var x) next a k f = f x
 
@@ -113,7 +113,7 @@ pub ruleset words = (first_words, k_made, k_unless, k_reads, k_value, k_variable
 
 -- Assigning
 
-k_keyword : (b : List ℕ) (refused : Row) (word : KeywordVariable) (value : Value) (next : Row) (a : Setting) → Keeps b a → ((s : Setting) → Keeps b s → KI b (refused s)) → ((s : Setting) → Keeps b s → KI b (next s)) → KI b (assigns_keyword refused word value next a)
+k_keyword : (b : Lasting) (refused : Row) (word : KeywordVariable) (value : Value) (next : Row) (a : Setting) → Keeps b a → ((s : Setting) → Keeps b s → KI b (refused s)) → ((s : Setting) → Keeps b s → KI b (next s)) → KI b (assigns_keyword refused word value next a)
 k_keyword b refused Subject value next a k r f = search (words, f)
 k_keyword b refused Position value next a k r f = by_number (integer_of value) refl
   where
@@ -126,16 +126,16 @@ k_keyword b refused Position value next a k r f = by_number (integer_of value) r
     by_number (Some n) e = by_place n e (place_of n (length a.world.subject)) refl
 k_keyword b refused Random value next a k r f = search (words, f)
 
-local_set : (a : Setting) (b : List ℕ) (place : ℕ) (value : Value) → Keeps b a → Keeps b (record a { locals = slice_set a.locals place value })
+local_set : (a : Setting) (b : Lasting) (place : ℕ) (value : Value) → Keeps b a → Keeps b (record a { locals = slice_set a.locals place value })
 local_set a b place value k = k
 
-global_set : (a : Setting) (b : List ℕ) (place : ℕ) (value : Value) → Keeps b a → Keeps b (record a { world = record a.world { globals = slice_set a.world.globals place value } })
+global_set : (a : Setting) (b : Lasting) (place : ℕ) (value : Value) → Keeps b a → Keeps b (record a { world = record a.world { globals = slice_set a.world.globals place value } })
 global_set a b place value k = k
 
-static_set : (a : Setting) (b : List ℕ) (place : ℕ) (value : Value) → Keeps b a → Keeps b (record a { world = record a.world { statics = slice_set a.world.statics place value } })
+static_set : (a : Setting) (b : Lasting) (place : ℕ) (value : Value) → Keeps b a → Keeps b (record a { world = record a.world { statics = slice_set a.world.statics place value } })
 static_set a b place value k = k
 
-k_root : (b : List ℕ) (refused : Row) (root : Root) (value : Value) (next : Row) (a : Setting) → Keeps b a → ((s : Setting) → Keeps b s → KI b (refused s)) → ((s : Setting) → Keeps b s → KI b (next s)) → KI b (assigns_root refused root value next a)
+k_root : (b : Lasting) (refused : Row) (root : Root) (value : Value) (next : Row) (a : Setting) → Keeps b a → ((s : Setting) → Keeps b s → KI b (refused s)) → ((s : Setting) → Keeps b s → KI b (next s)) → KI b (assigns_root refused root value next a)
 k_root b refused (Global place) value next a k r f = f (record a { world = record a.world { globals = slice_set a.world.globals place value } }) (global_set a b place value k)
 k_root b refused (Static place) value next a k r f = f (record a { world = record a.world { statics = slice_set a.world.statics place value } }) (static_set a b place value k)
 k_root b refused (Local place) value next a k r f = f (record a { locals = slice_set a.locals place value }) (local_set a b place value k)
@@ -144,41 +144,41 @@ k_root b refused (Field id place) value next a k r f = search (words, f)
 k_root b refused (Key table key) value next a k r f = search (words, f)
 k_root b refused (Keyword word) value next a k r f = k_keyword b refused word value next a k r f
 
-k_assigns : (b : List ℕ) (refused : Row) (x : Variable) (value : Value) (next : Variable → Row) (a : Setting) → Keeps b a → ((s : Setting) → Keeps b s → KI b (refused s)) → ((v : Variable) (s : Setting) → Keeps b s → KI b (next v s)) → KI b (assigns_or refused x value next a)
+k_assigns : (b : Lasting) (refused : Row) (x : Variable) (value : Value) (next : Variable → Row) (a : Setting) → Keeps b a → ((s : Setting) → Keeps b s → KI b (refused s)) → ((v : Variable) (s : Setting) → Keeps b s → KI b (next v s)) → KI b (assigns_or refused x value next a)
 k_assigns b refused (Whole root) value next a k r f = k_root b refused root value (next (Whole root)) a k r (f (Whole root))
 k_assigns b refused (Part root place size) value next a k r f = search (words, k_root, r, f) depth 12
 
-k_moved : (b : List ℕ) (old new : ℕ) (x : Variable) (next : Variable → Row) (a : Setting) → Keeps b a → ((v : Variable) → KI b (next v a)) → KI b (moved old new x next a)
+k_moved : (b : Lasting) (old new : ℕ) (x : Variable) (next : Variable → Row) (a : Setting) → Keeps b a → ((v : Variable) → KI b (next v a)) → KI b (moved old new x next a)
 k_moved b old new (Whole root) next a k f = f (Whole root)
 k_moved b old new (Part root place size) next a k f = search (words, f)
 
-k_moved_left : (b : List ℕ) (m : Mover) (old new : ℕ) (x : Variable) (next : Variable → Row) (a : Setting) → Keeps b a → ((v : Variable) → KI b (next v a)) → KI b (moved_by_left m old new x next a)
+k_moved_left : (b : Lasting) (m : Mover) (old new : ℕ) (x : Variable) (next : Variable → Row) (a : Setting) → Keeps b a → ((v : Variable) → KI b (next v a)) → KI b (moved_by_left m old new x next a)
 k_moved_left b Neither old new x next a k f = f x
 k_moved_left b Left old new x next a k f = k_moved b old new x next a k f
 k_moved_left b Right old new x next a k f = f x
 
-k_moved_right : (b : List ℕ) (m : Mover) (old new : ℕ) (x : Variable) (next : Variable → Row) (a : Setting) → Keeps b a → ((v : Variable) → KI b (next v a)) → KI b (moved_by_right m old new x next a)
+k_moved_right : (b : Lasting) (m : Mover) (old new : ℕ) (x : Variable) (next : Variable → Row) (a : Setting) → Keeps b a → ((v : Variable) → KI b (next v a)) → KI b (moved_by_right m old new x next a)
 k_moved_right b Neither old new x next a k f = f x
 k_moved_right b Left old new x next a k f = f x
 k_moved_right b Right old new x next a k f = k_moved b old new x next a k f
 
-k_both : (b : List ℕ) (refused : Row) (m : Mover) (x y : Variable) (v w : Value) (next : Variable × Variable → Row) (a : Setting) → Keeps b a → ((s : Setting) → Keeps b s → KI b (refused s)) → ((p : Variable × Variable) (s : Setting) → Keeps b s → KI b (next p s)) → KI b (assigns_both refused m x y v w next a)
+k_both : (b : Lasting) (refused : Row) (m : Mover) (x y : Variable) (v w : Value) (next : Variable × Variable → Row) (a : Setting) → Keeps b a → ((s : Setting) → Keeps b s → KI b (refused s)) → ((p : Variable × Variable) (s : Setting) → Keeps b s → KI b (next p s)) → KI b (assigns_both refused m x y v w next a)
 k_both b refused m x y v w next a k r f = search (k_assigns, k_moved_left, k_moved_right, r, f)
 
 -- Reading and writing
 
 -- a reading at the end of the input takes nothing
-at_end : (b : List ℕ) (asked : Asked) (o : Outside) → nat_lt 0 (length o.left) ≡ false → IsOutsideOf b o → IsOutsideOf b (with_reading asked o)
-at_end b asked o e k = subst (IsOutsideOf b) (ap (λ l. record (with_reading asked o) { left = l }) (nothing o.left e)) (read_keeps b o asked k)
+at_end : (b : Lasting) (asked : Asked) (o : Outside) → nat_lt 0 (length o.left) ≡ false → b.is o → b.is (with_reading asked o)
+at_end b asked o e k = subst b.is (ap (λ l. record (with_reading asked o) { left = l }) (nothing o.left e)) (b.read o asked k)
   where
     nothing : (left : List ℕ) → nat_lt 0 (length left) ≡ false → drop (asked_of asked left) left ≡ left
     nothing [] e = drop-nil (asked_of asked [])
     nothing (x ∷ left) e = let le = ltb-false 0 (suc (length left)) e in absurd (omega arith)
 
-k_cost : (b : List ℕ) (n : ℕ) (next : Row) (a : Setting) → Keeps b a → ((s : Setting) → Keeps b s → KI b (next s)) → KI b (costs_bytes n next a)
+k_cost : (b : Lasting) (n : ℕ) (next : Row) (a : Setting) → Keeps b a → ((s : Setting) → Keeps b s → KI b (next s)) → KI b (costs_bytes n next a)
 k_cost b n next a k f = search (first_words, f)
 
-pub k_line : (b : List ℕ) (next : List ℕ → Row) (a : Setting) → Keeps b a → ((line : List ℕ) (s : Setting) → Keeps b s → KI b (next line s)) → KI b (next_line next a)
+pub k_line : (b : Lasting) (next : List ℕ → Row) (a : Setting) → Keeps b a → ((line : List ℕ) (s : Setting) → Keeps b s → KI b (next line s)) → KI b (next_line next a)
 k_line b next a k f = by_test (nat_lt 0 (length a.outside.left)) refl
   where
     line : List ℕ
@@ -189,9 +189,9 @@ k_line b next a k f = by_test (nat_lt 0 (length a.outside.left)) refl
 
     by_test : (t : Bool) → nat_lt 0 (length a.outside.left) ≡ t → KI b (next_line next a)
     by_test false e = rw e (k_fails b read (at_end b ALine a.outside e k))
-    by_test true e = rw e (k_cost b (length line) (next line) (having_left (drop (length line + 1) a.outside.left) read) (read_keeps b a.outside ALine k) (f line))
+    by_test true e = rw e (k_cost b (length line) (next line) (having_left (drop (length line + 1) a.outside.left) read) (b.read a.outside ALine k) (f line))
 
-pub k_bytes : (b : List ℕ) (count : ℕ) (next : List ℕ → Row) (a : Setting) → Keeps b a → ((bytes : List ℕ) (s : Setting) → Keeps b s → KI b (next bytes s)) → KI b (next_bytes count next a)
+pub k_bytes : (b : Lasting) (count : ℕ) (next : List ℕ → Row) (a : Setting) → Keeps b a → ((bytes : List ℕ) (s : Setting) → Keeps b s → KI b (next bytes s)) → KI b (next_bytes count next a)
 k_bytes b count next a k f = by_test (nat_lt 0 (length bytes)) refl
   where
     bytes : List ℕ
@@ -210,36 +210,36 @@ k_bytes b count next a k f = by_test (nat_lt 0 (length bytes)) refl
         no_bytes n e = let le = ltb-false 0 n e in omega arith
 
     by_test : (t : Bool) → nat_lt 0 (length bytes) ≡ t → KI b (next_bytes count next a)
-    by_test false e = rw e (k_fails b read (subst (IsOutsideOf b) (ap (λ l. record (with_reading (SomeBytes count) a.outside) { left = l }) (taken ∙ none_taken e)) (read_keeps b a.outside (SomeBytes count) k)))
+    by_test false e = rw e (k_fails b read (subst b.is (ap (λ l. record (with_reading (SomeBytes count) a.outside) { left = l }) (taken ∙ none_taken e)) (b.read a.outside (SomeBytes count) k)))
     by_test true e = rw e (k_cost b (length bytes) (next bytes) (having_left (drop (length bytes) a.outside.left) read)
-        (subst (IsOutsideOf b) (ap (λ l. record (with_reading (SomeBytes count) a.outside) { left = l }) taken) (read_keeps b a.outside (SomeBytes count) k)) (f bytes))
+        (subst b.is (ap (λ l. record (with_reading (SomeBytes count) a.outside) { left = l }) taken) (b.read a.outside (SomeBytes count) k)) (f bytes))
 
-put_all : (b between : List ℕ) (is_first : Bool) (ps : List Piece) (file : File) (o : Outside) → IsOutsideOf b o → IsOutsideOf b (put_pieces between is_first ps file o).1
+put_all : (b : Lasting) (between : List ℕ) (is_first : Bool) (ps : List Piece) (file : File) (o : Outside) → b.is o → b.is (put_pieces between is_first ps file o).1
 put_all b between is_first [] file o k = k
-put_all b between is_first (Puts text ∷ ps) file o k = put_all b between false ps file (put_on file text o) (put_keeps b o file text k)
-put_all b between is_first (Selects other ∷ ps) file o k = put_all b between false ps other (put_on file _ o) (put_keeps b o file _ k)
+put_all b between is_first (Puts text ∷ ps) file o k = put_all b between false ps file (put_on file text o) (b.put o file text k)
+put_all b between is_first (Selects other ∷ ps) file o k = put_all b between false ps other (put_on file _ o) (b.put o file _ k)
 
-pub k_puts : (b line_end : List ℕ) (file : File) (ps : List Piece) (next : Row) (a : Setting) → Keeps b a → ((s : Setting) → Keeps b s → KI b (next s)) → KI b (puts_line line_end file ps next a)
-k_puts b line_end file ps next a k f = f _ (put_keeps b _ _ line_end (put_all b line_end true ps file a.outside k))
+pub k_puts : (b : Lasting) (line_end : List ℕ) (file : File) (ps : List Piece) (next : Row) (a : Setting) → Keeps b a → ((s : Setting) → Keeps b s → KI b (next s)) → KI b (puts_line line_end file ps next a)
+k_puts b line_end file ps next a k f = f _ (b.put _ _ line_end (put_all b line_end true ps file a.outside k))
 
-k_lines_again : (b : List ℕ) (a : Setting) → Keeps b a → KI b (lines_again a)
+k_lines_again : (b : Lasting) (a : Setting) → Keeps b a → KI b (lines_again a)
 k_lines_again b a k = k_line b (λ line. suspends (Val (Text line)) InputLines) a k (λ line s k. k_suspends b (Val (Text line)) InputLines s k)
 
 -- Rows by what they take
 
-k_count : (b : List ℕ) (last step : ℤ) (o : Option ℤ) (a : Setting) → Keeps b a → KI b (count_from last step o a)
+k_count : (b : Lasting) (last step : ℤ) (o : Option ℤ) (a : Setting) → Keeps b a → KI b (count_from last step o a)
 k_count b last step None a k = record { is = k }
 k_count b last step (Some n) a k = search words
 
-k_sets : (b : List ℕ) (f : List Value → List Value → List Value) (g : Bool → Bool → Bool) (v w : Value) (o : Option (ℕ × ℕ)) (a : Setting) → Keeps b a → KI b (sets_or_csets f g v w o a)
+k_sets : (b : Lasting) (f : List Value → List Value → List Value) (g : Bool → Bool → Bool) (v w : Value) (o : Option (ℕ × ℕ)) (a : Setting) → Keeps b a → KI b (sets_or_csets f g v w o a)
 k_sets b f g v w (Some ids) a k = search (words)
 k_sets b f g v w None a k = search words
 
-k_text_elements : (b : List ℕ) (o : Option Variable) (v : Value) (text : List ℕ) (a : Setting) → Keeps b a → KI b (text_elements o v text a)
+k_text_elements : (b : Lasting) (o : Option Variable) (v : Value) (text : List ℕ) (a : Setting) → Keeps b a → KI b (text_elements o v text a)
 k_text_elements b (Some x) v text a k = search words
 k_text_elements b None v text a k = search words
 
-k_elements : (b : List ℕ) (x : Item) (v : Value) (g : Group) (a : Setting) → Keeps b a → KI b (elements_of x v g a)
+k_elements : (b : Lasting) (x : Item) (v : Value) (g : Group) (a : Setting) → Keeps b a → KI b (elements_of x v g a)
 k_elements b x v (Textual text) a k = search (k_text_elements, words) depth 12
 k_elements b x v (Listed id) a k = search words depth 12
 k_elements b x v (Collected id) a k = search words depth 12
@@ -249,7 +249,7 @@ k_elements b x v (Filed file) a k = k_check b (is_input file) 212 (Some (Std fil
 k_elements b x v (Activated id) a k = search words depth 12
 k_elements b x v Single a k = search words depth 12
 
-k_random_of : (b : List ℕ) (x : Item) (v : Value) (g : Group) (a : Setting) → Keeps b a → KI b (random_of x v g a)
+k_random_of : (b : Lasting) (x : Item) (v : Value) (g : Group) (a : Setting) → Keeps b a → KI b (random_of x v g a)
 k_random_of b x v (Textual text) a k = search (words) depth 12
 k_random_of b x v (Listed id) a k = search (words) depth 12
 k_random_of b x v (Collected id) a k = search (words) depth 12
@@ -259,15 +259,15 @@ k_random_of b x v (Filed file) a k = search (words) depth 12
 k_random_of b x v (Activated id) a k = search (words) depth 12
 k_random_of b x v Single a k = search (words) depth 12
 
-k_random_number : (b : List ℕ) (v : Value) (n : ℤ) (a : Setting) → Keeps b a → KI b (random_number v n a)
+k_random_number : (b : Lasting) (v : Value) (n : ℤ) (a : Setting) → Keeps b a → KI b (random_number v n a)
 k_random_number b v (pos n) a k = search (words)
 k_random_number b v (negsuc n) a k = record { is = k }
 
-k_random_by : (b : List ℕ) (x : Item) (v : Value) (o : Option ℤ) (a : Setting) → Keeps b a → KI b (random_by x v o a)
+k_random_by : (b : Lasting) (x : Item) (v : Value) (o : Option ℤ) (a : Setting) → Keeps b a → KI b (random_by x v o a)
 k_random_by b x v (Some n) a k = k_random_number b v n a k
 k_random_by b x v None a k = search k_random_of
 
-k_subscript : (b : List ℕ) (x : Item) (v : Value) (w : Value) (g : Group) (a : Setting) → Keeps b a → KI b (subscript_of x v w g a)
+k_subscript : (b : Lasting) (x : Item) (v : Value) (w : Value) (g : Group) (a : Setting) → Keeps b a → KI b (subscript_of x v w g a)
 k_subscript b x v w (Textual text) a k = search (words) depth 12
 k_subscript b x v w (Listed id) a k = search (words) depth 12
 k_subscript b x v w (Collected id) a k = search (words) depth 12
@@ -277,7 +277,7 @@ k_subscript b x v w (Filed file) a k = search (words) depth 12
 k_subscript b x v w (Activated id) a k = search (words) depth 12
 k_subscript b x v w Single a k = search (words) depth 12
 
-k_section : (b : List ℕ) (f : ℤ → ℤ → Result ℤ Arith) (x : Item) (v : Value) (u : Value) (w : Value) (g : Group) (a : Setting) → Keeps b a → KI b (section_of f x v u w g a)
+k_section : (b : Lasting) (f : ℤ → ℤ → Result ℤ Arith) (x : Item) (v : Value) (u : Value) (w : Value) (g : Group) (a : Setting) → Keeps b a → KI b (section_of f x v u w g a)
 k_section b f x v u w (Textual text) a k = search (words) depth 12
 k_section b f x v u w (Listed id) a k = search (words) depth 12
 k_section b f x v u w (Collected id) a k = search (words) depth 12
@@ -287,7 +287,7 @@ k_section b f x v u w (Filed file) a k = search (words) depth 12
 k_section b f x v u w (Activated id) a k = search (words) depth 12
 k_section b f x v u w Single a k = search (words) depth 12
 
-k_copy : (b : List ℕ) (v : Value) (g : Group) (a : Setting) → Keeps b a → KI b (copy_of v g a)
+k_copy : (b : Lasting) (v : Value) (g : Group) (a : Setting) → Keeps b a → KI b (copy_of v g a)
 k_copy b v (Textual text) a k = search (words) depth 12
 k_copy b v (Listed id) a k = search (words) depth 12
 k_copy b v (Collected id) a k = search (words) depth 12
@@ -297,29 +297,29 @@ k_copy b v (Filed file) a k = search (words) depth 12
 k_copy b v (Activated id) a k = search (words) depth 12
 k_copy b v Single a k = search (words) depth 12
 
-k_new_set : (b : List ℕ) (v : Value) (o : Option ℕ) (a : Setting) → Keeps b a → KI b (new_set_by v o a)
+k_new_set : (b : Lasting) (v : Value) (o : Option ℕ) (a : Setting) → Keeps b a → KI b (new_set_by v o a)
 k_new_set b v (Some id) a k = search (words)
 k_new_set b v None a k = search (words)
 
-k_inserts : (b : List ℕ) (c : Keeper) (x y : Value) (next : Row) (a : Setting) → Keeps b a → ((s : Setting) → Keeps b s → KI b (next s)) → KI b (inserts c x y next a)
+k_inserts : (b : Lasting) (c : Keeper) (x y : Value) (next : Row) (a : Setting) → Keeps b a → ((s : Setting) → Keeps b s → KI b (next s)) → KI b (inserts c x y next a)
 k_inserts b (SetKeeper id) x y next a k f = search (words, f)
 k_inserts b (TableKeeper id) x y next a k f = search (words, f)
 
-k_without : (b : List ℕ) (a : Setting) (c : Keeper) (x : Value) → Keeps b a → Keeps b (having_heap (without_key c x) a)
+k_without : (b : Lasting) (a : Setting) (c : Keeper) (x : Value) → Keeps b a → Keeps b (having_heap (without_key c x) a)
 k_without b a c x k = k
 
-k_pairs : (b : List ℕ) (xs : List (Value × Value)) (next : List Value → Row) (a : Setting) → Keeps b a → ((vs : List Value) (s : Setting) → Keeps b s → KI b (next vs s)) → KI b (pair_lists xs next a)
+k_pairs : (b : Lasting) (xs : List (Value × Value)) (next : List Value → Row) (a : Setting) → Keeps b a → ((vs : List Value) (s : Setting) → Keeps b s → KI b (next vs s)) → KI b (pair_lists xs next a)
 k_pairs b [] next a k f = f [] a k
 k_pairs b (x ∷ xs) next a k f = search (words, k_pairs b xs, f)
 
-k_table_sorted : (b : List ℕ) (names : Names) (h : Heap) (xs : List (Value × Value)) (n : ℤ) (v : Value) (a : Setting) → Keeps b a → KI b (table_sorted names h xs n v a)
+k_table_sorted : (b : Lasting) (names : Names) (h : Heap) (xs : List (Value × Value)) (n : ℤ) (v : Value) (a : Setting) → Keeps b a → KI b (table_sorted names h xs n v a)
 k_table_sorted b names h xs (pos (suc zero)) v a k = search (words, k_pairs)
 k_table_sorted b names h xs (pos (suc (suc zero))) v a k = search (words, k_pairs)
 k_table_sorted b names h xs (pos (suc (suc (suc zero)))) v a k = search (words)
 k_table_sorted b names h xs (pos (suc (suc (suc (suc zero))))) v a k = search (words)
 k_table_sorted b names h xs n v a k = record { is = k }
 
-k_sorted : (b : List ℕ) (names : Names) (v : Value) (n : ℤ) (w : Value) (g : Group) (a : Setting) → Keeps b a → KI b (sorted_of names v n w g a)
+k_sorted : (b : Lasting) (names : Names) (v : Value) (n : ℤ) (w : Value) (g : Group) (a : Setting) → Keeps b a → KI b (sorted_of names v n w g a)
 k_sorted b names v n w (Textual text) a k = search words depth 12
 k_sorted b names v n w (Listed id) a k = search words depth 12
 k_sorted b names v n w (Collected id) a k = search words depth 12
@@ -329,11 +329,11 @@ k_sorted b names v n w (Filed file) a k = search words depth 12
 k_sorted b names v n w (Activated id) a k = search words depth 12
 k_sorted b names v n w Single a k = search words depth 12
 
-k_pieces : (b : List ℕ) (vs : List Value) (next : List Piece → Row) (a : Setting) → Keeps b a → ((ps : List Piece) → KI b (next ps a)) → KI b (pieces vs next a)
+k_pieces : (b : Lasting) (vs : List Value) (next : List Piece → Row) (a : Setting) → Keeps b a → ((ps : List Piece) → KI b (next ps a)) → KI b (pieces vs next a)
 k_pieces b [] next a k f = f []
 k_pieces b (v ∷ vs) next a k f = search (words, k_pieces b vs, f)
 
-k_read : (b : List ℕ) (vs : List Value) (a : Setting) → Keeps b a → KI b (read_row vs a)
+k_read : (b : Lasting) (vs : List Value) (a : Setting) → Keeps b a → KI b (read_row vs a)
 k_read b vs a k =
     let v = arg_or (Std Input) vs 0 in
     let next : Row = next_line (λ line. gives_value (Text line)) in
@@ -341,7 +341,7 @@ k_read b vs a k =
     k_check b (is_input from) 212 (Some (arg vs 0)) next a k
     (k_line b (λ line. gives_value (Text line)) a k (λ line s k. k_gives b (Val (Text line)) s k)))
 
-k_reads_row : (b : List ℕ) (vs : List Value) (a : Setting) → Keeps b a → KI b (reads_row vs a)
+k_reads_row : (b : Lasting) (vs : List Value) (a : Setting) → Keeps b a → KI b (reads_row vs a)
 k_reads_row b vs a k =
     let v = arg_or (Std Input) vs 0 in
     let w = arg_or (Integer (pos 1)) vs 1 in
@@ -355,20 +355,20 @@ k_reads_row b vs a k =
     (k_check b (is_input from) 212 (Some (arg vs 0)) (next count) a k
     (k_bytes b count (λ bytes. gives_value (Text bytes)) a k (λ bytes s k. k_gives b (Val (Text bytes)) s k))))))
 
-k_write : (b : List ℕ) (vs : List Value) (a : Setting) → Keeps b a → KI b (write_row vs a)
+k_write : (b : Lasting) (vs : List Value) (a : Setting) → Keeps b a → KI b (write_row vs a)
 k_write b vs a k = k_pieces b vs (λ ps. puts_line newline Output ps (gives_value (last_of vs))) a k (λ ps. k_puts b newline Output ps (gives_value (last_of vs)) a k (λ s k. k_gives b (Val (last_of vs)) s k))
 
-k_writes : (b : List ℕ) (vs : List Value) (a : Setting) → Keeps b a → KI b (writes_row vs a)
+k_writes : (b : Lasting) (vs : List Value) (a : Setting) → Keeps b a → KI b (writes_row vs a)
 k_writes b vs a k = k_pieces b vs (λ ps. puts_line [] Output ps (gives_value (last_of vs))) a k (λ ps. k_puts b [] Output ps (gives_value (last_of vs)) a k (λ s k. k_gives b (Val (last_of vs)) s k))
 
-k_stop : (b : List ℕ) (vs : List Value) (a : Setting) → Keeps b a → KI b (stop_row vs a)
+k_stop : (b : Lasting) (vs : List Value) (a : Setting) → Keeps b a → KI b (stop_row vs a)
 k_stop b vs a k = k_pieces b vs (λ ps. puts_line newline Errout ps (ends 1)) a k (λ ps. k_puts b newline Errout ps (ends 1) a k (λ s k. k_ends b 1 s k))
 
 -- All rows
 
 ruleset rows = (words, k_assigns, k_both, k_count, k_sets, k_elements, k_random_by, k_subscript, k_section, k_copy, k_new_set, k_inserts, k_without, k_sorted, k_pieces)
 
-k_operation : (b : List ℕ) (op : Op) (x y z : Item) (a : Setting) → Keeps b a → KI b (operation_on op x y z a)
+k_operation : (b : Lasting) (op : Op) (x y z : Item) (a : Setting) → Keeps b a → KI b (operation_on op x y z a)
 k_operation b Ops.IsNull x y z a k = search rows depth 16
 k_operation b Ops.IsNotNull x y z a k = search rows depth 16
 k_operation b Ops.Dereference x y z a k = search rows depth 16
@@ -415,7 +415,7 @@ k_operation b Ops.SectionPlus x y z a k = search rows depth 16
 k_operation b Ops.SectionMinus x y z a k = search rows depth 16
 k_operation b Ops.ToBy x y z a k = search rows depth 16
 
-k_function : (b : List ℕ) (names : Names) (f : Func) (vs : List Value) (a : Setting) → Keeps b a → KI b (function_of names f vs a)
+k_function : (b : Lasting) (names : Names) (f : Func) (vs : List Value) (a : Setting) → Keeps b a → KI b (function_of names f vs a)
 k_function b names Funcs.Abs vs a k = search rows depth 16
 k_function b names Funcs.Any vs a k = search rows depth 16
 k_function b names Funcs.Bal vs a k = search rows depth 16
@@ -468,7 +468,7 @@ k_function b names Funcs.Upto vs a k = search rows depth 16
 k_function b names Funcs.Write vs a k = k_write b vs a k
 k_function b names Funcs.Writes vs a k = k_writes b vs a k
 
-k_again : (b : List ℕ) (r : Residual) (a : Setting) → Keeps b a → KI b (again r a)
+k_again : (b : Lasting) (r : Residual) (a : Setting) → Keeps b a → KI b (again r a)
 k_again b (TextBytes text place) a k = search rows depth 16
 k_again b (VariableBytes x place) a k = search rows depth 16
 k_again b (ListItems id place) a k = search rows depth 16
@@ -487,27 +487,27 @@ k_again b (Found text1 text place last) a k = search rows depth 16
 k_again b (Among bytes text place last) a k = search rows depth 16
 
 -- the rows that steps are made with
-pub record_leaves : (b : List ℕ) (kind : ℕ) (vs : List Value) (a : Setting) → Keeps b a → LeavesOutside b (record_row kind vs a)
+pub record_leaves : (b : Lasting) (kind : ℕ) (vs : List Value) (a : Setting) → Keeps b a → LeavesOutside b.is (record_row kind vs a)
 record_leaves b kind vs a k = let done : KI b (record_row kind vs a) = search words in done.is
 
-pub coexpression_leaves : (b : List ℕ) (locals : ℕ) (a : Setting) → Keeps b a → LeavesOutside b (coexpression_row locals a)
+pub coexpression_leaves : (b : Lasting) (locals : ℕ) (a : Setting) → Keeps b a → LeavesOutside b.is (coexpression_row locals a)
 coexpression_leaves b locals a k = let done : KI b (coexpression_row locals a) = search words in done.is
 
-pub text_leaves : (b : List ℕ) (v : Value) (a : Setting) → Keeps b a → LeavesOutside b (text_row v a)
+pub text_leaves : (b : Lasting) (v : Value) (a : Setting) → Keeps b a → LeavesOutside b.is (text_row v a)
 text_leaves b v a k = let done : KI b (text_row v a) = search words in done.is
 
-pub words_leave : (b : List ℕ) (lines : List (List ℕ)) (a : Setting) → Keeps b a → LeavesOutside b (words_row lines a)
+pub words_leave : (b : Lasting) (lines : List (List ℕ)) (a : Setting) → Keeps b a → LeavesOutside b.is (words_row lines a)
 words_leave b lines a k = let done : KI b (words_row lines a) = search words in done.is
 
--- an operation, a function and what is resumed leave such an outside
-pub operation_leaves : (b : List ℕ) (op : Op) (xs : List Item) (a : Setting) → IsOutsideOf b a.outside → LeavesOutside b (operation_row op xs a)
+-- an operation, a function and what is resumed leave it so
+pub operation_leaves : (b : Lasting) (op : Op) (xs : List Item) (a : Setting) → b.is a.outside → LeavesOutside b.is (operation_row op xs a)
 operation_leaves b op xs a k = (k_operation b op _ _ _ a k).is
 
-pub function_leaves : (b : List ℕ) (names : Names) (f : Func) (xs : List Item) (a : Setting) → IsOutsideOf b a.outside → LeavesOutside b (function_row names f xs a)
+pub function_leaves : (b : Lasting) (names : Names) (f : Func) (xs : List Item) (a : Setting) → b.is a.outside → LeavesOutside b.is (function_row names f xs a)
 function_leaves b names f xs a k = (k_values b xs (function_of names f) a k (λ vs. k_function b names f vs a k)).is
 
-pub again_leaves : (b : List ℕ) (r : Residual) (a : Setting) → IsOutsideOf b a.outside → LeavesOutside b (again r a)
+pub again_leaves : (b : Lasting) (r : Residual) (a : Setting) → b.is a.outside → LeavesOutside b.is (again r a)
 again_leaves b r a k = (k_again b r a k).is
 
-pub list_leaves : (b : List ℕ) (vs : List Value) (a : Setting) → IsOutsideOf b a.outside → LeavesOutside b (gives_list vs a)
+pub list_leaves : (b : Lasting) (vs : List Value) (a : Setting) → b.is a.outside → LeavesOutside b.is (gives_list vs a)
 list_leaves b vs a k = let done : KI b (gives_list vs a) = search words in done.is

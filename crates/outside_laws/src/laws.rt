@@ -1,4 +1,4 @@
-// What rows leave of the outside.
+// What rows and runs leave of the outside.
 ghost use Rattle.std.specs.Prelude.{ℕ, Bool, List};
 ghost use Rattle.icn_text.specs.declared.func.Func.{Func};
 ghost use Rattle.icn_text.specs.declared.op.Op.{Op};
@@ -8,19 +8,21 @@ ghost use Rattle.icn_value.specs.Values.{Item};
 ghost use Rattle.icn_defs.specs.Applying.{again, function_row, operation_row};
 ghost use Rattle.icn_defs.specs.Interruptions.{Breaks, BreaksReading, IsOutsideOf, Streams};
 ghost use Rattle.icn_defs.specs.Rows.{Residual};
-ghost use Rattle.icn_defs.specs.Running.{Launch, Observed, launch_of};
+ghost use Rattle.icn_defs.specs.Running.{Launch, Observed, after_steps, launch_of};
 ghost use Rattle.icn_code.specs.Codes.{Tables};
 ghost use Rattle.icn_run.specs.FlatStep as Flat;
 ghost use Rattle.icn_run.specs.LinkedStep as Linked;
+ghost use Rattle.icn_run.specs.Stacks.{Frames};
+ghost use Rattle.icn_run.specs.Step.{State};
 ghost use Rattle.icn_meaning.specs.Meaning.{Means};
 ghost use Rattle.icn_meaning.specs.Program.{Program};
-ghost use Rattle.outside_laws.specs.Outsides.{LeavesOutside};
+ghost use Rattle.outside_laws.specs.Outsides.{Extends, HasOutside, LeavesOutside, StateExtends};
 
 /// Where the outside is one that a run with this input comes to, each operation, function and resumption leaves such a one, whatever it comes to.
 pub fn rows_leave()
-    ensures operations { (input : List ℕ) (op : Op) (items : List Item) (at : Setting) → IsOutsideOf input at.outside → LeavesOutside input (operation_row op items at) }
-    ensures functions { (input : List ℕ) (names : Names) (func : Func) (items : List Item) (at : Setting) → IsOutsideOf input at.outside → LeavesOutside input (function_row names func items at) }
-    ensures resumed { (input : List ℕ) (residual : Residual) (at : Setting) → IsOutsideOf input at.outside → LeavesOutside input (again residual at) }
+    ensures operations { (input : List ℕ) (op : Op) (items : List Item) (at : Setting) → IsOutsideOf input at.outside → LeavesOutside (IsOutsideOf input) (operation_row op items at) }
+    ensures functions { (input : List ℕ) (names : Names) (func : Func) (items : List Item) (at : Setting) → IsOutsideOf input at.outside → LeavesOutside (IsOutsideOf input) (function_row names func items at) }
+    ensures resumed { (input : List ℕ) (residual : Residual) (at : Setting) → IsOutsideOf input at.outside → LeavesOutside (IsOutsideOf input) (again residual at) }
 {}
 
 /// What a program means, and what the run of any code comes to, on flat stacks and on linked marks, leaves such an outside: what is left is a rest of
@@ -30,6 +32,20 @@ pub fn runs_leave()
     ensures meant { (input : List ℕ) (program : Program) (launch : Launch) (seen : Observed) → IsOutsideOf input launch.outside → Means program launch seen → IsOutsideOf input seen.outside }
     ensures on_stacks { (input : List ℕ) (tables : Tables) (launch : Launch) (seen : Observed) → IsOutsideOf input launch.outside → Flat.Runs tables launch seen → IsOutsideOf input seen.outside }
     ensures on_marks { (input : List ℕ) (repeats : ℕ → ℕ → Bool) (tables : Tables) (launch : Launch) (seen : Observed) → IsOutsideOf input launch.outside → Linked.Runs repeats tables launch seen → IsOutsideOf input seen.outside }
+{}
+
+/// The outside only grows: by each operation, function and resumption; from the launch to each state of a run on flat stacks, and from any such state to
+/// each later one, with the report of an error or of the bound in it; and by the whole run, as a program means it and of any code, on flat stacks and on
+/// linked marks.
+pub fn outsides_grow()
+    ensures operations { (op : Op) (items : List Item) (at : Setting) → LeavesOutside (Extends at.outside) (operation_row op items at) }
+    ensures functions { (names : Names) (func : Func) (items : List Item) (at : Setting) → LeavesOutside (Extends at.outside) (function_row names func items at) }
+    ensures resumed { (residual : Residual) (at : Setting) → LeavesOutside (Extends at.outside) (again residual at) }
+    ensures reached { (tables : Tables) (launch : Launch) (n : ℕ) → HasOutside (Extends launch.outside) (after_steps (Flat.step tables) n (Flat.start tables launch)) }
+    ensures steps { (tables : Tables) (state : State Frames Frames) (n : ℕ) → StateExtends state (after_steps (Flat.step tables) n state) }
+    ensures meant { (program : Program) (launch : Launch) (seen : Observed) → Means program launch seen → Extends launch.outside seen.outside }
+    ensures on_stacks { (tables : Tables) (launch : Launch) (seen : Observed) → Flat.Runs tables launch seen → Extends launch.outside seen.outside }
+    ensures on_marks { (repeats : ℕ → ℕ → Bool) (tables : Tables) (launch : Launch) (seen : Observed) → Linked.Runs repeats tables launch seen → Extends launch.outside seen.outside }
 {}
 
 /// A program's run that a failed reading broke off left a first part of what it puts and takes, as every run that was broken off.

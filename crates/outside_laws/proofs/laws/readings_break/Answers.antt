@@ -1,14 +1,15 @@
 use Rattle.icn_defs.specs.Running.{launch_of}
 use Rattle.icn_defs.proofs.Interrupting.{outside_begins, reading_breaks}
 use Rattle.icn_run.specs.Stacks.{flat, empty}
+use Rattle.outside_laws.proofs.Lasting.{of_input}
 use Rattle.outside_laws.proofs.Evaluations.{means_leaves}
 use Rattle.outside_laws.proofs.CodeRuns.{run_leaves}
 use Rattle.outside_laws.proofs.laws.readings_break.Goals as goal
 
 pub returns-clause-meant : goal.returns-clause-meant
 returns-clause-meant c = λ program words bounds input seen before after m x.
-    reading_breaks input seen before after (means_leaves input program (launch_of words bounds input) seen (outside_begins input) m) x
+    reading_breaks input seen before after (means_leaves (of_input input) program (launch_of words bounds input) seen (outside_begins input) m) x
 
 pub returns-clause-on_stacks : goal.returns-clause-on_stacks
 returns-clause-on_stacks c = λ tables words bounds input seen before after r x.
-    reading_breaks input seen before after (run_leaves flat tables input empty (launch_of words bounds input) r.count seen (outside_begins input) r.is) x
+    reading_breaks input seen before after (run_leaves flat tables (of_input input) empty (launch_of words bounds input) r.count seen (outside_begins input) r.is) x
