@@ -47,4 +47,4 @@ pub data Falls (tables : Tables) (bound : ℕ) (before after : State Frames Fram
 abbrev pub EachStepFalls : Tables → Launch → Type 0
 EachStepFalls tables launch = (outsides : List Outside) (outside : Outside)
     → Falls tables launch.bounds.turns (over_outside outside (run_over tables outsides (Flat.start tables launch)))
-      (step flat tables (over_outside outside (run_over tables outsides (Flat.start tables launch))))
+    (step flat tables (over_outside outside (run_over tables outsides (Flat.start tables launch))))
