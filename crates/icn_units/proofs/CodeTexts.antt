@@ -13,7 +13,7 @@ use Rattle.icn_units.proofs.Procedures.{told_leads}
 use Rattle.icn_units.proofs.EntryNames.{begun_names, code_names}
 use Rattle.icn_units.proofs.OperandTexts.{Kept, texts, are_kept, told_texts}
 
-texts_fit : (names : List Name) → names_fit names ≡ true → list_all is_name (texts_of names) ≡ true
+pub texts_fit : (names : List Name) → names_fit names ≡ true → list_all is_name (texts_of names) ≡ true
 texts_fit [] h = refl
 texts_fit (name ∷ names) h = both (first_of (name_fits name) (names_fit names) h)
     (texts_fit names (second_of (name_fits name) (names_fit names) h))

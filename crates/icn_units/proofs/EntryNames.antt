@@ -87,7 +87,7 @@ local_names [] = refl
 local_names (l ∷ locals) = map-append (λ (name : Name). name.text) l.names
     (flat_map (λ (l : Locals). l.names) locals) ∙ ap (λ texts. local_texts l ++ texts) (local_names locals)
 
-names_declared : (procedure : Procedure) → texts_of (declared_names procedure) ≡ declared_texts procedure
+pub names_declared : (procedure : Procedure) → texts_of (declared_names procedure) ≡ declared_texts procedure
 names_declared procedure =
     map-append (λ (name : Name). name.text) procedure.parameters
     (flat_map (λ (l : Locals). l.names) procedure.locals)
@@ -105,7 +105,7 @@ locals_named (l ∷ locals) =
     ∙ ap (λ texts. texts ++ entry_names (flat_map local_entries locals)) (entries_named (kind_of l.kind) l.names)
     ∙ ap (λ texts. local_texts l ++ texts) (locals_named locals)
 
-declared_named : (procedure : Procedure) → entry_names (declared_entries procedure) ≡ declared_texts procedure
+pub declared_named : (procedure : Procedure) → entry_names (declared_entries procedure) ≡ declared_texts procedure
 declared_named procedure =
     map-append (λ (entry : UnitName). entry.name)
     (map (λ (name : Name). entry_of Parameter name.text) procedure.parameters)
@@ -186,7 +186,7 @@ procedure_order procedure texts =
 
 -- Variables
 
-names_length : (entries : List UnitName) → length (entry_names entries) ≡ length entries
+pub names_length : (entries : List UnitName) → length (entry_names entries) ≡ length entries
 names_length [] = refl
 names_length (entry ∷ entries) = ap suc (names_length entries)
 

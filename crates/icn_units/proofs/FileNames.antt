@@ -126,11 +126,11 @@ record_new met name many fields h = not_owned met name
 
 module _ (met : Met) (declaration : Declaration) (others : List Declaration)
     (h : declarations_faults met (declaration ∷ others) ≡ []) where
-  first_faultless : declaration_faults met declaration ≡ []
+  pub first_faultless : declaration_faults met declaration ≡ []
   first_faultless = none_before (declaration_faults met declaration)
       (declarations_faults (names_after met declaration) others) h
 
-  others_faultless : declarations_faults (names_after met declaration) others ≡ []
+  pub others_faultless : declarations_faults (names_after met declaration) others ≡ []
   others_faultless = none_behind (declaration_faults met declaration)
       (declarations_faults (names_after met declaration) others) h
 

@@ -12,3 +12,4 @@ pub mod WrittenTrees
 pub mod WrittenFiles
 pub mod OperandTexts
 pub mod CodeTexts
+pub mod RulesKept

@@ -1,2 +1,3 @@
 pub mod CodeNames
 pub mod Written
+pub mod TypeBounds

@@ -8,8 +8,9 @@ ghost use Rattle.icn_translate.specs.FileUnits.{proc_codes, unit_decls};
 ghost use Rattle.icn_translate.specs.ProcCodes.{proc_code};
 ghost use Rattle.icn_unit.specs.PlainUnits.{entry_names, owned_names, proc_names};
 ghost use Rattle.icn_unit.specs.UnitOperands.{is_name};
-ghost use Rattle.icn_unit.specs.UnitRules.{in_order, labels_differ, labels_placed, names_differ, placed, same_names};
+ghost use Rattle.icn_unit.specs.UnitRules.{in_order, labels_differ, labels_placed, keeps_rules, names_differ, placed, same_names};
 ghost use Rattle.icn_units.specs.CodeNames.{fields_differ, variables_are_named};
+ghost use Rattle.icn_units.specs.TypeBounds.{bytes_fit, numbers_fit};
 ghost use Rattle.icn_units.specs.Written.{file_fits, operand_fits, procedure_fits};
 
 /// In the code of a procedure that breaks no context rule no label has two places, and each label that an instruction goes to
@@ -53,4 +54,11 @@ pub fn code_texts_fit()
         → list_all is_name (entry_names (proc_code procedure).names) ≡ true }
     ensures operands { (met : Met) (procedure : Procedure) → procedure_faults met procedure ≡ [] → procedure_fits procedure ≡ true
         → list_all operand_fits (proc_code procedure).instrs ≡ true }
+{}
+
+/// The unit of a text that breaks no rule keeps the rules of units, where the numbers of its instructions have 32 bits and the
+/// bytes of its strings are bytes.
+pub fn units_keep_rules()
+    ensures { (file : List Declaration) → IsSpelled file → context_faults file ≡ [] → list_all numbers_fit (proc_codes file) ≡ true
+        → list_all bytes_fit (unit_decls file) ≡ true → keeps_rules (proc_codes file) (unit_decls file) ≡ true }
 {}

@@ -1,0 +1,30 @@
+-- What the types of instructions and declarations say of their numbers and their bytes.
+use Rattle.std.specs.Prelude.{Bool, true}
+use Rattle.std.specs.List.{list_all}
+use Rattle.icn_unit.specs.declared.unit.UnitInstr.{UnitInstr}
+use Rattle.icn_unit.specs.declared.unit.UnitInstr.TheVariants as I
+use Rattle.icn_unit.specs.PlainUnits.{Proc, Decl, Global, Procedure, Link, Record}
+use Rattle.icn_unit.specs.UnitRules.{is_byte, is_number}
+
+abbrev pub number_fits : UnitInstr → Bool
+number_fits (I.Str bytes) = list_all is_byte bytes
+number_fits (I.Var k) = is_number k
+number_fits (I.Llist n) = is_number n
+number_fits (I.Invoke n) = is_number n
+number_fits (I.Mark label) = is_number label
+number_fits (I.Chfail label) = is_number label
+number_fits (I.Goto label) = is_number label
+number_fits (I.Loop label) = is_number label
+number_fits (I.Init label) = is_number label
+number_fits (I.Create label) = is_number label
+number_fits (I.Lab label) = is_number label
+number_fits _ = true
+
+abbrev pub numbers_fit : Proc → Bool
+numbers_fit proc = list_all number_fits proc.instrs
+
+abbrev pub bytes_fit : Decl → Bool
+bytes_fit (Global name) = true
+bytes_fit (Procedure name) = true
+bytes_fit (Link text) = list_all is_byte text
+bytes_fit (Record name fields) = true
