@@ -1,0 +1,115 @@
+// The values of a call's words.
+ghost use Rattle.std.specs.Prelude.{OnOk};
+ghost use Rattle.icn_heap.specs.Extents.{Extent, IsLive, value_in};
+ghost use Rattle.icn_heap.specs.Heaps.{extent_of};
+ghost use Rattle.icn_value.specs.Store.{Names as NamesData};
+ghost use Rattle.icn_named.specs.Named.{ValueNamed};
+ghost use Rattle.apply_tests.specs.Ready.{IsReady};
+
+use crate::slots::Slots;
+use crate::worlds::{add_value, no_words, value_at};
+use icn_convert::Names;
+use icn_text::read_integer;
+use icn_value::{Cset, File, Val};
+use icn_vars::World;
+use std::alloc::AllocError;
+
+// Makes the values of a call's words the statics.
+pub fn take_words<N: Names>(
+    w: &mut World,
+    l: &Slots,
+    names: &N,
+    words: &str,
+) -> Result<(), AllocError>
+    requires { IsReady (N.known names.now) w.old l.now.vals.items }
+    ensures { OnOk result (IsReady (N.known names.now) w.new l.now.vals.items) }
+{
+    no_words(w, l, names);
+    for word in words.split(' ') {
+        add_word(w, l, names, word.as_bytes())?;
+    }
+    Ok(())
+}
+
+fn add_word<N: Names>(w: &mut World, l: &Slots, names: &N, word: &[u8]) -> Result<(), AllocError>
+    requires { IsReady (N.known names.now) w.old l.now.vals.items }
+    ensures { OnOk result (IsReady (N.known names.now) w.new l.now.vals.items) }
+{
+    match word.split_first() {
+        Some((b'"', rest)) => add_text(w, l, names, rest),
+        Some((b'$', rest)) => {
+            let val = earlier(w, l, names, rest);
+            add_value(w, l, names, val)
+        }
+        _ => add_value(w, l, names, plain(word)),
+    }
+}
+
+// Adds the text of these bytes.
+#[tactic(auto, using(icn_vars::proofs::Growing::grows))]
+fn add_text<N: Names>(w: &mut World, l: &Slots, names: &N, bytes: &[u8]) -> Result<(), AllocError>
+    requires { IsReady (N.known names.now) w.old l.now.vals.items }
+    ensures { OnOk result (IsReady (N.known names.now) w.new l.now.vals.items) }
+{
+    let span = w.heap.hold(bytes)?;
+    add_value(w, l, names, Val::Text(span))
+}
+
+// What an earlier call gave, by its number.
+fn earlier<N: Names>(w: &World, _l: &Slots, _names: &N, digits: &[u8]) -> Val
+    requires { IsReady (N.known _names.now) w.now _l.now.vals.items }
+    ensures live { IsLive (extent_of w.now.heap) result }
+    ensures named { ValueNamed (N.known _names.now) (value_in (extent_of w.now.heap) result) }
+{
+    let place = read_integer(digits).unwrap_or(0).unsigned_abs();
+    value_at(&w.globals, place as usize)
+}
+
+// The value of a word that is neither a text nor an earlier value.
+fn plain(word: &[u8]) -> Val
+    ensures live { (all : Extent) → IsLive all result }
+    ensures named { (names : NamesData) (all : Extent) → ValueNamed names (value_in all result) }
+{
+    if word == b"&input".as_slice() {
+        return Val::Std(File::Input);
+    }
+    if word == b"&output".as_slice() {
+        return Val::Std(File::Output);
+    }
+    if word == b"&errout".as_slice() {
+        return Val::Std(File::Errout);
+    }
+    match word.split_first() {
+        Some((b'\'', rest)) => Val::Chars(members(rest)),
+        Some((b'^', rest)) => procedure(rest),
+        _ => match read_integer(word) {
+            Ok(n) => Val::Integer(n),
+            Err(_) => Val::Null,
+        },
+    }
+}
+
+// The procedure value of a number that each program has, or null.
+fn procedure(digits: &[u8]) -> Val
+    ensures live { (all : Extent) → IsLive all result }
+    ensures named { (names : NamesData) (all : Extent) → ValueNamed names (value_in all result) }
+{
+    match read_integer(digits) {
+        Ok(n) => {
+            if 0 <= n && n < 51 {
+                Val::Proc(n as u32)
+            } else {
+                Val::Null
+            }
+        }
+        Err(_) => Val::Null,
+    }
+}
+
+fn members(bytes: &[u8]) -> Cset {
+    let mut cset = Cset::empty();
+    for byte in bytes {
+        cset = cset.with(*byte);
+    }
+    cset
+}
