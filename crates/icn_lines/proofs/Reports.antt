@@ -1,23 +1,23 @@
 -- How the line of an answer stands on the error output.
-use Rattle.std.proofs.Common.{◌≡◌, ◌⊎◌, inl, inr, ℕ, List, Option, true, false, refl, sym, ◌∙◌}
+use Rattle.std.proofs.Common.{◌≡◌, ◌⊎◌, inl, inr, ℕ, List, Option, IfSome, true, false, take, refl, sym, ◌∙◌, subst}
 use Rattle.icn_host.specs.Sinks.{Gains, SinkState}
 use Rattle.icn_host.proofs.SinkSteps.{gains_nothing}
 use Rattle.icn_host.specs.declared.fault.Fault.TheVariants.{Failed, NoMemory as Wants}
 use Rattle.icn_report.proofs.Putting.{leads_of, puts_nothing}
 use Rattle.icn_report.specs.Puts.{Puts, all, Leads}
+use Rattle.icn_defs.specs.Running.{Observed}
+use Rattle.icn_streams.specs.Handed.{Handed}
 use Rattle.icn_run.specs.declared.ending.Ending.{Ending}
-use Rattle.icn_run.specs.Reports.{report_of}
-use Rattle.icn_engine.specs.declared.answer.Answer.{Answer}
-use Rattle.icn_engine.specs.declared.answer.Answer.TheVariants.{Wrote, Ran, Refused, Command, Missing, BadImage, FileFault, ReadFault, WriteFault, NoMemory}
-use Rattle.icn_engine.specs.declared.fault.RunFault.{RunFault}
-use Rattle.icn_engine.specs.declared.fault.RunFault.TheVariants as Runs
-use Rattle.icn_engine.specs.Answers.{IsFault, is_fault}
-use Rattle.icn_engine.specs.Runs.{Leaves}
-use Rattle.icn_run.specs.CodeRun.{Run}
-use Rattle.icn_lines.specs.Faulting.{of_run, LeavesBy}
-use Rattle.icn_lines.specs.Lines.{fault_line, line_of, put_by}
+use Rattle.icn_running.specs.declared.fault.RunFault.{RunFault}
+use Rattle.icn_running.specs.declared.fault.RunFault.TheVariants as Runs
+use Rattle.icn_running.specs.Runs.{LeavesBy}
+use Rattle.icn_lines.specs.declared.answer.Answer.{Answer}
+use Rattle.icn_lines.specs.declared.answer.Answer.TheVariants.{Wrote, Ran, Refused, Command, Missing, BadImage, FileFault, ReadFault, WriteFault, NoMemory}
+use Rattle.icn_lines.specs.Answers.{IsFault, is_fault}
+use Rattle.icn_lines.specs.Faulting.{of_run}
+use Rattle.icn_lines.specs.Lines.{fault_line, line_of}
 use Rattle.icn_lines.specs.Refusing.{PutsOwn, Refuses, put, own, write_fault, want}
-use Rattle.icn_lines.specs.Reporting.{Reports, put as put_whole, own as put_own}
+use Rattle.icn_lines.specs.Reporting.{LineStands, PutsSome, ReportStands, Reports, put as put_whole, own as put_own, broke}
 
 -- Answers that are faults, and that are none
 
@@ -42,48 +42,66 @@ pub puts_own : (before after : SinkState) (answer : Answer) → PutsOwn answer b
 puts_own before after FileFault puts = puts
 puts_own before after ReadFault puts = puts
 puts_own before after NoMemory puts = puts
-puts_own before after _ same = rw same (all (puts_nothing before))
+puts_own before after WriteFault same = rw same (all (puts_nothing before))
+puts_own before after Wrote same = rw same (all (puts_nothing before))
+puts_own before after (Ran ending) same = rw same (all (puts_nothing before))
+puts_own before after (Refused file line rule) same = rw same (all (puts_nothing before))
+puts_own before after (Command kind) same = rw same (all (puts_nothing before))
+puts_own before after (Missing other) same = rw same (all (puts_nothing before))
+puts_own before after (BadImage rule) same = rw same (all (puts_nothing before))
 
--- an answer that no program ran for has put its line alone
-pub line_alone : (usage name : List ℕ) (answer : Answer) → ((ending : Ending) → answer ≡ Ran ending → ⊥) → put_by usage name answer ≡ line_of usage name answer
-line_alone usage name Wrote ran = refl
-line_alone usage name (Ran ending) ran = absurd (ran ending refl)
-line_alone usage name (Refused file line rule) ran = refl
-line_alone usage name (Command kind) ran = refl
-line_alone usage name (Missing other) ran = refl
-line_alone usage name (BadImage rule) ran = refl
-line_alone usage name FileFault ran = refl
-line_alone usage name ReadFault ran = refl
-line_alone usage name WriteFault ran = refl
-line_alone usage name NoMemory ran = refl
+-- the line of an answer that no program ran for stands where it was put
+pub line_stands : {usage name : List ℕ} {left : Option (List ℕ)} {before after : SinkState} (answer : Answer) → (IsFault answer → ⊥)
+    → ((ending : Ending) → answer ≡ Ran ending → ⊥) → Gains before.held after.held (line_of usage name answer) → LineStands usage name left answer before after
+line_stands Wrote n ran gains = gains
+line_stands (Ran ending) n ran gains = absurd (ran ending refl)
+line_stands (Refused file line rule) n ran gains = gains
+line_stands (Command kind) n ran gains = gains
+line_stands (Missing other) n ran gains = gains
+line_stands (BadImage rule) n ran gains = gains
+line_stands FileFault n ran gains = absurd (n refl)
+line_stands ReadFault n ran gains = absurd (n refl)
+line_stands WriteFault n ran gains = absurd (n refl)
+line_stands NoMemory n ran gains = absurd (n refl)
 
--- nothing but a line was put
-pub reports_of : {usage name : List ℕ} {answer given : Answer} {before after : SinkState} → put_by usage name answer ≡ line_of usage name answer → Refuses usage name answer before after given → Reports usage name before after given
-reports_of e (put n whole) = put_whole n (rw e whole.gains)
-reports_of {answer = answer} {before = before} e (own f puts) = put_own f Wrote wrote_no_fault before (inl refl) (puts_own _ _ answer puts)
-reports_of {answer = answer} {after = after} e (write_fault n stops) = put_own refl answer n after (rw e (leads_of _ _ _ Failed stops)) (all (puts_nothing after))
-reports_of {answer = answer} e (want n between leads puts) = put_own refl answer n between (rw e (leads_of _ _ _ Wants leads)) puts
+-- nothing but the line of an answer that no program ran for was put
+pub reports_of : {usage name : List ℕ} {left : Option (List ℕ)} {answer given : Answer} {before after : SinkState}
+    → ((ending : Ending) → answer ≡ Ran ending → ⊥) → Refuses usage name answer before after given → Reports usage name left before after given
+reports_of {answer = answer} ran (put n whole) = put_whole n (line_stands answer n ran whole.gains)
+reports_of {answer = answer} {before = before} ran (own f puts) = put_own f Wrote wrote_no_fault before (inl refl) (puts_own _ _ answer puts)
+reports_of {answer = answer} {after = after} ran (write_fault n stops) = put_own refl answer n after (leads_of _ _ _ Failed stops) (all (puts_nothing after))
+reports_of {answer = answer} ran (want n between leads puts) = put_own refl answer n between (leads_of _ _ _ Wants leads) puts
 
-pub ran_reports : {usage name : List ℕ} {before after : SinkState} (ending : Ending) → Gains before.held after.held (report_of ending) → Reports usage name before after (Ran ending)
-ran_reports ending gains = put_whole (ran_no_fault ending) gains
+-- a run that ended
+pub ran_reports : {usage name : List ℕ} {left : Option (List ℕ)} {before after : SinkState} (ending : Ending) → ReportStands left ending before after
+    → Reports usage name left before after (Ran ending)
+ran_reports ending stands = put_whole (ran_no_fault ending) stands
 
 -- an image was written, and nothing was put
-pub wrote_reports : (usage name : List ℕ) (sunk : SinkState) → Reports usage name sunk sunk Wrote
-wrote_reports usage name sunk = put_whole wrote_no_fault (gains_nothing sunk.held)
+pub wrote_reports : (usage name : List ℕ) (left : Option (List ℕ)) (sunk : SinkState) → Reports usage name left sunk sunk Wrote
+wrote_reports usage name left sunk = put_whole wrote_no_fault (gains_nothing sunk.held)
 
 -- a fault's own line alone
-pub own_reports : {usage name : List ℕ} {before after : SinkState} (fault : Answer) → IsFault fault → PutsOwn fault before after → Reports usage name before after fault
+pub own_reports : {usage name : List ℕ} {left : Option (List ℕ)} {before after : SinkState} (fault : Answer) → IsFault fault → PutsOwn fault before after
+    → Reports usage name left before after fault
 own_reports {before = before} fault is puts = put_own is Wrote wrote_no_fault before (inl refl) (puts_own _ _ fault puts)
 
-pub fault_reports : {usage name : List ℕ} {before between after : SinkState} (fault : RunFault) → (ending : Ending) × Leads before between (report_of ending) → PutsOwn (of_run fault) between after → Reports usage name before after (of_run fault)
-fault_reports {between = between} fault leads puts = put_own (is_run_fault fault) (Ran leads.0) (ran_no_fault leads.0) between leads.1 (puts_own _ _ (of_run fault) puts)
+-- what a run put that was broken off
+pub broken_puts : (fault : RunFault) (input : List ℕ) (seen : Observed) (before after : Handed) → LeavesBy fault input seen before after
+    → PutsSome before.errors after.errors
+broken_puts Runs.ReadFault input seen before after leaves = record { own = take leaves.reading.errors seen.outside.errors; gains = leaves.errors }
+broken_puts Runs.WriteFault input seen before after leaves =
+    record { own = take leaves.errors.count seen.outside.errors; gains = record { appends = leaves.errors.appends } }
+broken_puts Runs.NoMemory input seen before after leaves =
+    record { own = take leaves.errors.count seen.outside.errors; gains = record { appends = leaves.errors.appends } }
 
-pub line_of_reports : {usage name : List ℕ} {before after : SinkState} {answer : Answer} → Reports usage name before after answer → IsFault answer ⊎ Gains before.held after.held (put_by usage name answer)
-line_of_reports (put_whole n gains) = inr gains
+-- a run that was broken off, with the fault's own line behind
+pub fault_reports : {usage name : List ℕ} {left : Option (List ℕ)} {before between after : SinkState} (fault : RunFault) → IfSome left (λ _. PutsSome before between)
+    → PutsOwn (of_run fault) between after → Reports usage name left before after (of_run fault)
+fault_reports {between = between} fault some puts = broke fault refl between some (puts_own _ _ (of_run fault) puts)
+
+pub line_of_reports : {usage name : List ℕ} {left : Option (List ℕ)} {before after : SinkState} {answer : Answer} → Reports usage name left before after answer
+    → IsFault answer ⊎ LineStands usage name left answer before after
+line_of_reports (put_whole n stands) = inr stands
 line_of_reports (put_own f other n between leads puts) = inl f
-
--- what the fault of a run leaves, by its answer
-pub leaves_by : (fault : RunFault) (run : Run) (left' out out' err err' : Option (List ℕ)) → Leaves fault run left' out out' err err' → LeavesBy (of_run fault) run left' out out' err err'
-leaves_by Runs.ReadFault run left' out out' err err' leaves = leaves
-leaves_by Runs.WriteFault run left' out out' err err' leaves = leaves
-leaves_by Runs.NoMemory run left' out out' err err' leaves = leaves
+line_of_reports (broke fault e between some puts) = inl (subst IsFault (sym e) (is_run_fault fault))

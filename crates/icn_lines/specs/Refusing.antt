@@ -3,9 +3,9 @@ use Rattle.std.specs.Prelude.{◌≡◌, ℕ, List}
 use Rattle.icn_host.specs.declared.fault.Fault.TheVariants as Faults
 use Rattle.icn_host.specs.Sinks.{SinkState}
 use Rattle.icn_report.specs.Puts.{BreaksOff, LeadsBy, Puts, PutsAll}
-use Rattle.icn_engine.specs.declared.answer.Answer.{Answer}
-use Rattle.icn_engine.specs.declared.answer.Answer.TheVariants.{Wrote, Ran, Refused, Command, Missing, BadImage, FileFault, ReadFault, WriteFault, NoMemory}
-use Rattle.icn_engine.specs.Answers.{IsFault}
+use Rattle.icn_lines.specs.declared.answer.Answer.{Answer}
+use Rattle.icn_lines.specs.declared.answer.Answer.TheVariants.{Wrote, Ran, Refused, Command, Missing, BadImage, FileFault, ReadFault, WriteFault, NoMemory}
+use Rattle.icn_lines.specs.Answers.{IsFault}
 use Rattle.icn_lines.specs.Lines.{fault_line, line_of}
 
 -- a fault's own line was put, as far as the error output took it; an answer that has none put nothing

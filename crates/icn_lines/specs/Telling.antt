@@ -1,14 +1,17 @@
 -- What the objects that a program is handed tell of what they hold.
-use Rattle.std.specs.Prelude.{ℕ, List, Option}
+use Rattle.std.specs.Prelude.{Option}
 use Rattle.icn_host.specs.FileMaps.{FileMap}
 use Rattle.icn_host.specs.Sinks.{SinkState}
+use Rattle.icn_streams.specs.Handed.{Handed}
 
--- the files, the input left, the output and the error output so far
+-- the files; and the input and both outputs, with their counts
 pub record Told : Type 0 where
   pub files : Option FileMap
-  pub left : Option (List ℕ)
-  pub output : Option (List ℕ)
-  pub errors : SinkState
+  pub streams : Handed
 
-abbrev pub told : Option FileMap → Option (List ℕ) → Option (List ℕ) → SinkState → Told
-told files left output errors = record { files = files; left = left; output = output; errors = errors }
+abbrev pub told : Option FileMap → Handed → Told
+told files streams = record { files = files; streams = streams }
+
+-- the same where less stands on the error output
+abbrev pub with_errors : SinkState → Handed → Handed
+with_errors errors streams = record streams { errors = errors }

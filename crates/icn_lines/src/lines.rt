@@ -1,9 +1,9 @@
 // The lines of answers.
 ghost use Rattle.std.specs.Prelude.{◌≡◌, [], IfOk};
-ghost use Rattle.icn_engine.specs.declared.answer.Answer.TheVariants.{BadImage, Missing, Refused};
+ghost use Rattle.icn_lines.specs.declared.answer.Answer.TheVariants.{BadImage, Missing, Refused};
 ghost use Rattle.icn_lines.specs.Lines.{line_of, rule_code};
 
-use icn_engine::Answer;
+use crate::answer::Answer;
 use icn_text::decimal;
 use icn_tree::{Bytes, Rule};
 use std::alloc::{AllocError, Global};

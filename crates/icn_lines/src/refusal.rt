@@ -1,12 +1,12 @@
 // The line of an answer that no program ran for.
 ghost use Rattle.std.specs.Prelude.{◌≡◌, ◌≤◌, OnOk, IfErr};
 ghost use Rattle.icn_report.specs.Puts.{LeadsBy, PutsAll};
-ghost use Rattle.icn_engine.specs.Answers.{IsFault};
+ghost use Rattle.icn_lines.specs.Answers.{IsFault};
 ghost use Rattle.icn_lines.specs.Lines.{line_of};
 ghost use Rattle.icn_lines.specs.Refusing.{PutsOwn, Refuses};
 
 use crate::lines::{FILE_FAULT, NO_MEMORY, READ_FAULT, line_of};
-use icn_engine::Answer;
+use crate::answer::Answer;
 use icn_host::{Fault, Sink};
 use icn_report::{put_line, try_put};
 use std::alloc::Global;

@@ -2,7 +2,8 @@
 ghost use Rattle.std.specs.Prelude.{◌≡◌};
 ghost use Rattle.icn_lines.specs.Faulting.{of_run};
 
-use icn_engine::{Answer, RunFault};
+use crate::answer::Answer;
+use icn_running::RunFault;
 
 /// The answer where a run could not go on. It takes no memory.
 pub fn answer_of(fault: RunFault) -> Answer

@@ -1,0 +1,50 @@
+-- The status of each answer, and which answers are faults.
+use Rattle.std.specs.Prelude.{ℕ, Bool, true, false, IsTrue, ⊤}
+use Rattle.icn_run.specs.declared.ending.Ending.TheVariants.{Done, Exit, Errored, AtBound}
+use Rattle.icn_lines.specs.declared.answer.Answer.{Answer}
+use Rattle.icn_lines.specs.declared.answer.Answer.TheVariants.{Wrote, Ran, Refused, Command, Missing, BadImage, FileFault, ReadFault, WriteFault, NoMemory}
+
+-- the status that the program ends with
+abbrev pub status_of : Answer → ℕ
+status_of Wrote = 0
+status_of (Ran Done) = 0
+status_of (Ran (Exit status)) = status
+status_of (Ran (Errored number)) = 1
+status_of (Ran AtBound) = 3
+status_of (Refused file line rule) = 2
+status_of (Command kind) = 2
+status_of (Missing name) = 2
+status_of (BadImage rule) = 2
+status_of FileFault = 2
+status_of ReadFault = 2
+status_of WriteFault = 2
+status_of NoMemory = 5
+
+-- an answer that says what failed outside, in place of what the words and the files ask for
+abbrev pub is_fault : Answer → Bool
+is_fault Wrote = false
+is_fault (Ran ending) = false
+is_fault (Refused file line rule) = false
+is_fault (Command kind) = false
+is_fault (Missing name) = false
+is_fault (BadImage rule) = false
+is_fault FileFault = true
+is_fault ReadFault = true
+is_fault WriteFault = true
+is_fault NoMemory = true
+
+abbrev pub IsFault : Answer → Type 0
+IsFault answer = IsTrue (is_fault answer)
+
+-- an answer after which the files, the input and the output are as they were
+abbrev pub IsRefusal : Answer → Type 0
+IsRefusal Wrote = ⊥
+IsRefusal (Ran ending) = ⊥
+IsRefusal (Refused file line rule) = ⊤
+IsRefusal (Command kind) = ⊤
+IsRefusal (Missing name) = ⊤
+IsRefusal (BadImage rule) = ⊤
+IsRefusal FileFault = ⊥
+IsRefusal ReadFault = ⊥
+IsRefusal WriteFault = ⊥
+IsRefusal NoMemory = ⊥
