@@ -1,0 +1,6 @@
+//! What the linker makes of the translation of a file, and the code that the first law speaks of.
+#![tactic(auto)]
+
+mod laws;
+
+pub use laws::translated_units_join;
