@@ -20,7 +20,9 @@ test:
 	.ci/run
 
 install: all
-	install -d $(PREFIX)/bin && install $(PROGRAMS:%=bin/%) $(PREFIX)/bin
+	install -d $(PREFIX)/bin $(PREFIX)/share/man/man1
+	install $(PROGRAMS:%=bin/%) $(PREFIX)/bin
+	install -m 644 $(PROGRAMS:%=man/%.1) $(PREFIX)/share/man/man1
 
 run: all
 	@bin/icont $(FILE) -x
