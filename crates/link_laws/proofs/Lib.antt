@@ -1,0 +1,3 @@
+pub mod FirstsOnce
+pub mod Mentioning
+pub mod NameEntries

@@ -1,0 +1,477 @@
+-- The names of a procedure's code, in their order, against those of the procedure by their kinds.
+use Rattle.std.proofs.Common.{◌≡◌, ℕ, zero, suc, ◌+◌, Bool, true, false, not, ◌&&◌, ◌||◌, List, [], ◌∷◌, ◌++◌, length, map, drop, filter, cond, Option, None, Some, refl, sym, ap, ◌∙◌, subst, append_assoc, append-nil, if◌then◌else◌, arith}
+use Rattle.std.specs.Prelude.{slice_get}
+use Rattle.std.specs.List.{flat_map, list_any, position_or_len}
+use Rattle.std.specs.Str.{bytes_eq}
+use Rattle.std.proofs.Math.Seq.{drop-append_seam}
+use Rattle.std.proofs.lemmas.List.{map-append}
+use Rattle.std.proofs.lemmas.List.Elements.{filter-append}
+use Rattle.std.proofs.lemmas.List.Folds.{list_any-append}
+use Rattle.std.proofs.lemmas.List.Sums.{length-filter}
+use Rattle.std.proofs.lemmas.Slice.Eq.{bytes_eq-Decides}
+use Rattle.icn_tree.specs.declared.tree.Name.{Name}
+use Rattle.icn_tree.specs.declared.tree.Place.{Place}
+use Rattle.icn_tree.specs.declared.tree.LocalKind.{LocalKind}
+use Rattle.icn_tree.specs.declared.tree.LocalKind.TheVariants as Kept
+use Rattle.icn_tree.specs.Trees.{Locals, Procedure}
+use Rattle.icn_code.specs.declared.instr.Instr.{Instr}
+use Rattle.icn_code.specs.declared.instr.Instr.TheVariants as Instrs
+use Rattle.icn_decls.specs.Faults.{Met, procedure_faults}
+use Rattle.icn_unit.specs.declared.unit.NameKind.{NameKind}
+use Rattle.icn_unit.specs.declared.unit.NameKind.TheVariants as Kinds
+use Rattle.icn_unit.specs.declared.unit.UnitName.{UnitName}
+use Rattle.icn_unit.specs.PlainUnits.{entry_names, is_parameter, params_in}
+use Rattle.icn_unit.specs.UnitRules.{names_differ}
+use Rattle.icn_link.specs.declared.variable.Variable.{Variable}
+use Rattle.icn_link.specs.declared.variable.Variable.TheVariants.{Local, Static, Global}
+use Rattle.icn_link.specs.Gathering.{text_place}
+use Rattle.icn_link.specs.Joined.{is_among, variable_of, variable_instr, locals_behind, statics_behind, variables, variable_at, is_local, is_static, locals_in, statics_in}
+use Rattle.icn_meaning.specs.Program.{place_of, later, texts, locals_among, statics_among, own_names, undeclared_names, without, names_in_initial, names_in_all}
+use Rattle.icn_simulation.specs.Joined.{variable_by}
+use Rattle.icn_simulation.specs.Mentions.{firsts}
+use Rattle.icn_simulation.proofs.Formed.{FormedInitial, FormedAll}
+use Rattle.icn_translate.specs.ProcCodes.{entry_of, texts_of, kind_of, local_entries, local_texts, declared_entries, declared_texts, begun, drafted, undeclared, proc_code}
+use Rattle.icn_units.proofs.EntryNames.{begun_names, code_names, code_names_differ, names_length}
+use Rattle.icn_units.proofs.Naming.{both_of, neither_of, was_not}
+use Rattle.link_laws.proofs.FirstsOnce.{filter_by, firsts_kept, names_all, added_firsts, without_kept}
+use Rattle.link_laws.proofs.Mentioning.{code_adds}
+
+-- The names that are locals, and those that are statics, where these are the globals.
+abbrev pub local_names : List (List ℕ) → List UnitName → List (List ℕ)
+local_names globals entries = entry_names (filter (λ entry. is_local (variable_of globals entry)) entries)
+
+abbrev pub static_names : List (List ℕ) → List UnitName → List (List ℕ)
+static_names globals entries = entry_names (filter (λ entry. is_static (variable_of globals entry)) entries)
+
+pub locals_counted : (globals : List (List ℕ)) (entries : List UnitName)
+    → locals_in globals entries ≡ length (local_names globals entries)
+locals_counted globals entries = sym (length-filter (λ entry. is_local (variable_of globals entry)) entries)
+    ∙ sym (names_length (filter (λ entry. is_local (variable_of globals entry)) entries))
+
+pub statics_counted : (globals : List (List ℕ)) (entries : List UnitName)
+    → statics_in globals entries ≡ length (static_names globals entries)
+statics_counted globals entries = sym (length-filter (λ entry. is_static (variable_of globals entry)) entries)
+    ∙ sym (names_length (filter (λ entry. is_static (variable_of globals entry)) entries))
+
+-- The instruction of each name
+
+-- a number behind so many others
+abbrev shifted : ℕ → Option ℕ → Option ℕ
+shifted n None = None
+shifted n (Some k) = Some (n + k)
+
+unshifted : (o : Option ℕ) → shifted 0 o ≡ o
+unshifted None = refl
+unshifted (Some k) = ap (λ n. Some n) (omega arith)
+
+shifted_later : (n : ℕ) (o : Option ℕ) → shifted n (later o) ≡ shifted (suc n) o
+shifted_later n None = refl
+shifted_later n (Some k) = ap (λ n. Some n) (omega arith)
+
+shifted_first : (n : ℕ) → shifted n (Some zero) ≡ Some n
+shifted_first n = ap (λ n. Some n) (omega arith)
+
+place_first : (name x : List ℕ) (xs : List (List ℕ)) → bytes_eq name x ≡ true → place_of name (x ∷ xs) ≡ Some zero
+place_first name x xs h = ap (λ b. if b then Some zero else later (place_of name xs)) h
+
+place_later : (name x : List ℕ) (xs : List (List ℕ)) → bytes_eq name x ≡ false → place_of name (x ∷ xs) ≡ later (place_of name xs)
+place_later name x xs h = ap (λ b. if b then Some zero else later (place_of name xs)) h
+
+-- a name that none of the entries has
+not_placed : (name : List ℕ) (test : UnitName → Bool) (entries : List UnitName)
+    → list_any (bytes_eq name) (entry_names entries) ≡ false → place_of name (entry_names (filter test entries)) ≡ None
+not_placed name test [] h = refl
+not_placed name test (entry ∷ entries) h =
+    let none = neither_of (bytes_eq name entry.name) (list_any (bytes_eq name) (entry_names entries)) h in
+    kept (test entry) none.0 (not_placed name test entries none.1)
+  where
+    kept : (b : Bool) → bytes_eq name entry.name ≡ false → place_of name (entry_names (filter test entries)) ≡ None
+        → place_of name (entry_names (cond b (entry ∷ filter test entries) (filter test entries))) ≡ None
+    kept true e n = place_later name entry.name (entry_names (filter test entries)) e ∙ ap later n
+    kept false e n = n
+
+-- a name that is among some has its place there
+placed_by : (name x : List ℕ) (xs : List (List ℕ)) (b : Bool) → bytes_eq name x ≡ b
+    → (list_any (bytes_eq name) xs ≡ true → place_of name xs ≡ Some (text_place xs name))
+    → list_any (bytes_eq name) (x ∷ xs) ≡ true → place_of name (x ∷ xs) ≡ Some (text_place (x ∷ xs) name)
+placed_by name x xs true e h a = place_first name x xs e ∙ rw e (ap (λ n. Some n) (omega arith))
+placed_by name x xs false e h a = place_later name x xs e
+    ∙ ap later (h (ap (λ b. b || list_any (bytes_eq name) xs) (sym e) ∙ a)) ∙ rw e (ap (λ n. Some n) (omega arith))
+
+placed : (name : List ℕ) (xs : List (List ℕ)) → list_any (bytes_eq name) xs ≡ true → place_of name xs ≡ Some (text_place xs name)
+placed name [] h = absurd (cc)
+placed name (x ∷ xs) h = placed_by name x xs (bytes_eq name x) refl (placed name xs) h
+
+-- what a variable is with the entries behind it
+abbrev with_head : Bool → List ℕ → List (List ℕ) → List (List ℕ)
+with_head true name names = name ∷ names
+with_head false name names = names
+
+headed : (test : UnitName → Bool) (entry : UnitName) (entries : List UnitName) (b : Bool)
+    → entry_names (cond b (entry ∷ filter test entries) (filter test entries))
+    ≡ with_head b entry.name (entry_names (filter test entries))
+headed test entry entries true = refl
+headed test entry entries false = refl
+
+global_placed : (globals : List (List ℕ)) (entry : UnitName) (kind : NameKind) → entry.kind ≡ kind
+    → variable_of globals entry ≡ Global → list_any (bytes_eq entry.name) globals ≡ true
+global_placed globals entry Kinds.Parameter e h = absurd (let g = ap (λ k. by_kind k) (sym e) ∙ h in cc)
+  where
+    by_kind : NameKind → Variable
+    by_kind k = variable_of globals (record { kind = k; name = entry.name })
+global_placed globals entry Kinds.Local e h = absurd (let g = ap (λ k. by_kind k) (sym e) ∙ h in cc)
+  where
+    by_kind : NameKind → Variable
+    by_kind k = variable_of globals (record { kind = k; name = entry.name })
+global_placed globals entry Kinds.Static e h = absurd (let g = ap (λ k. by_kind k) (sym e) ∙ h in cc)
+  where
+    by_kind : NameKind → Variable
+    by_kind k = variable_of globals (record { kind = k; name = entry.name })
+global_placed globals entry Kinds.Undeclared e h = by (is_among globals entry.name) refl (ap (λ k. by_kind k) (sym e) ∙ h)
+  where
+    by_kind : NameKind → Variable
+    by_kind k = variable_of globals (record { kind = k; name = entry.name })
+    by : (b : Bool) → is_among globals entry.name ≡ b → (if b then Global else Local) ≡ Global → is_among globals entry.name ≡ true
+    by true g i = g
+    by false g i = absurd (cc)
+
+-- the first entry has the name
+first_variable : (globals : List (List ℕ)) (name : List ℕ) (locals statics : ℕ) (text : List ℕ) (ls ss : List (List ℕ)) (v : Variable)
+    → bytes_eq name text ≡ true → (v ≡ Global → list_any (bytes_eq text) globals ≡ true) → place_of name ls ≡ None → place_of name ss ≡ None
+    → variable_instr v locals statics (text_place globals text)
+    ≡ variable_by (shifted locals (place_of name (with_head (is_local v) text ls)))
+    (shifted statics (place_of name (with_head (is_static v) text ss))) (place_of name globals)
+first_variable globals name locals statics text ls ss Local e g l s =
+    sym (ap (λ o. variable_by o (shifted statics (place_of name ss)) (place_of name globals))
+    (ap (shifted locals) (place_first name text ls e) ∙ shifted_first locals))
+first_variable globals name locals statics text ls ss Static e g l s =
+    sym (ap (λ o. variable_by (shifted locals o) (shifted statics (place_of name (text ∷ ss))) (place_of name globals)) l
+    ∙ ap (λ o. variable_by None o (place_of name globals)) (ap (shifted statics) (place_first name text ss e) ∙ shifted_first statics))
+first_variable globals name locals statics text ls ss Global e g l s =
+    let same : text ≡ name = sym ((bytes_eq-Decides name text).0 e) in
+    let there : list_any (bytes_eq name) globals ≡ true = ap (λ t. list_any (bytes_eq t) globals) (sym same) ∙ g refl in
+    ap (λ t. Instrs.Global (text_place globals t)) same
+    ∙ sym (ap (λ o. variable_by (shifted locals o) (shifted statics (place_of name ss)) (place_of name globals)) l
+    ∙ ap (λ o. variable_by None (shifted statics o) (place_of name globals)) s
+    ∙ ap (λ o. variable_by None None o) (placed name globals there))
+
+-- a later entry has it
+later_variable : (name : List ℕ) (locals statics : ℕ) (text : List ℕ) (ls ss : List (List ℕ)) (global : Option ℕ) (v : Variable) → bytes_eq name text ≡ false
+    → variable_by (shifted (locals_behind v locals) (place_of name ls)) (shifted (statics_behind v statics) (place_of name ss)) global
+    ≡ variable_by (shifted locals (place_of name (with_head (is_local v) text ls)))
+    (shifted statics (place_of name (with_head (is_static v) text ss))) global
+later_variable name locals statics text ls ss global Local e =
+    sym (ap (λ o. variable_by o (shifted statics (place_of name ss)) global)
+    (ap (shifted locals) (place_later name text ls e) ∙ shifted_later locals (place_of name ls)))
+later_variable name locals statics text ls ss global Static e =
+    sym (ap (λ o. variable_by (shifted locals (place_of name ls)) o global)
+    (ap (shifted statics) (place_later name text ss e) ∙ shifted_later statics (place_of name ss)))
+later_variable name locals statics text ls ss global Global e = refl
+
+-- what the code has for a name, where so many locals and statics were before
+abbrev Stands : List (List ℕ) → List ℕ → List UnitName → ℕ → ℕ → Type 0
+Stands globals name entries locals statics =
+    variable_at (variables globals locals statics entries) (position_or_len (bytes_eq name) (entry_names entries))
+    ≡ variable_by (shifted locals (place_of name (local_names globals entries)))
+    (shifted statics (place_of name (static_names globals entries))) (place_of name globals)
+
+at_first : (globals : List (List ℕ)) (name : List ℕ) (entry : UnitName) (entries : List UnitName) (locals statics : ℕ) (b : Bool)
+    → bytes_eq name entry.name ≡ b → list_any (bytes_eq name) (entry_names (entry ∷ entries)) ≡ true
+    → names_differ (entry_names (entry ∷ entries)) ≡ true
+    → ((l s : ℕ) → list_any (bytes_eq name) (entry_names entries) ≡ true → names_differ (entry_names entries) ≡ true → Stands globals name entries l s)
+    → Stands globals name (entry ∷ entries) locals statics
+at_first globals name entry entries locals statics true e a d next =
+    let v = variable_of globals entry in
+    let later = variables globals (locals_behind v locals) (statics_behind v statics) entries in
+    let same : entry.name ≡ name = sym ((bytes_eq-Decides name entry.name).0 e) in
+    let none : list_any (bytes_eq name) (entry_names entries) ≡ false =
+    ap (λ t. list_any (bytes_eq t) (entry_names entries)) (sym same)
+    ∙ was_not (list_any (bytes_eq entry.name) (entry_names entries))
+    (both_of (not (list_any (bytes_eq entry.name) (entry_names entries))) (names_differ (entry_names entries)) d).0 in
+    let first : position_or_len (bytes_eq name) (entry_names (entry ∷ entries)) ≡ 0 = rw e refl in
+    ap (variable_at (variables globals locals statics (entry ∷ entries))) first
+    ∙ first_variable globals name locals statics entry.name (local_names globals entries) (static_names globals entries) v e
+    (global_placed globals entry entry.kind refl)
+    (not_placed name (λ x. is_local (variable_of globals x)) entries none)
+    (not_placed name (λ x. is_static (variable_of globals x)) entries none)
+    ∙ sym (ap (λ l. variable_by (shifted locals (place_of name l)) (shifted statics (place_of name (static_names globals (entry ∷ entries)))) (place_of name globals))
+    (headed (λ x. is_local (variable_of globals x)) entry entries (is_local v))
+    ∙ ap (λ l. variable_by (shifted locals (place_of name (with_head (is_local v) entry.name (local_names globals entries)))) (shifted statics (place_of name l)) (place_of name globals))
+    (headed (λ x. is_static (variable_of globals x)) entry entries (is_static v)))
+at_first globals name entry entries locals statics false e a d next =
+    let v = variable_of globals entry in
+    let among : list_any (bytes_eq name) (entry_names entries) ≡ true =
+    ap (λ b. b || list_any (bytes_eq name) (entry_names entries)) (sym e) ∙ a in
+    let k = position_or_len (bytes_eq name) (entry_names entries) in
+    let behind : position_or_len (bytes_eq name) (entry_names (entry ∷ entries)) ≡ suc k = rw e (omega arith) in
+    ap (variable_at (variables globals locals statics (entry ∷ entries))) behind
+    ∙ next (locals_behind v locals) (statics_behind v statics) among
+    (both_of (not (list_any (bytes_eq entry.name) (entry_names entries))) (names_differ (entry_names entries)) d).1
+    ∙ later_variable name locals statics entry.name (local_names globals entries) (static_names globals entries) (place_of name globals) v e
+    ∙ sym (ap (λ l. variable_by (shifted locals (place_of name l)) (shifted statics (place_of name (static_names globals (entry ∷ entries)))) (place_of name globals))
+    (headed (λ x. is_local (variable_of globals x)) entry entries (is_local v))
+    ∙ ap (λ l. variable_by (shifted locals (place_of name (with_head (is_local v) entry.name (local_names globals entries)))) (shifted statics (place_of name l)) (place_of name globals))
+    (headed (λ x. is_static (variable_of globals x)) entry entries (is_static v)))
+
+stands : (globals : List (List ℕ)) (name : List ℕ) (entries : List UnitName) (locals statics : ℕ)
+    → list_any (bytes_eq name) (entry_names entries) ≡ true → names_differ (entry_names entries) ≡ true → Stands globals name entries locals statics
+stands globals name [] locals statics h d = absurd (cc)
+stands globals name (entry ∷ entries) locals statics h d =
+    at_first globals name entry entries locals statics (bytes_eq name entry.name) refl h d (λ l s. stands globals name entries l s)
+
+-- The names by their kinds
+
+pub texts_same : (names : List Name) → texts_of names ≡ texts names
+texts_same [] = refl
+texts_same (name ∷ names) = ap (λ rest. name.text ∷ rest) (texts_same names)
+
+-- names of one kind, all of which pass a test or none
+all_pass : (test : UnitName → Bool) (kind : NameKind) (names : List Name) → ((text : List ℕ) → test (entry_of kind text) ≡ true)
+    → entry_names (filter test (map (λ (name : Name). entry_of kind name.text) names)) ≡ texts names
+all_pass test kind [] h = refl
+all_pass test kind (name ∷ names) h =
+    let rest = filter test (map (λ (name : Name). entry_of kind name.text) names) in
+    ap (λ b. entry_names (cond b (entry_of kind name.text ∷ rest) rest)) (h name.text)
+    ∙ ap (λ texts. name.text ∷ texts) (all_pass test kind names h)
+
+none_pass : (test : UnitName → Bool) (kind : NameKind) (names : List Name) → ((text : List ℕ) → test (entry_of kind text) ≡ false)
+    → entry_names (filter test (map (λ (name : Name). entry_of kind name.text) names)) ≡ []
+none_pass test kind [] h = refl
+none_pass test kind (name ∷ names) h =
+    let rest = filter test (map (λ (name : Name). entry_of kind name.text) names) in
+    ap (λ b. entry_names (cond b (entry_of kind name.text ∷ rest) rest)) (h name.text) ∙ none_pass test kind names h
+
+others_pass : (test : UnitName → Bool) (of : List ℕ → Bool) (names : List (List ℕ)) → ((text : List ℕ) → test (entry_of Kinds.Undeclared text) ≡ of text)
+    → entry_names (filter test (map (entry_of Kinds.Undeclared) names)) ≡ filter of names
+others_pass test of [] h = refl
+others_pass test of (text ∷ names) h =
+    by (test (entry_of Kinds.Undeclared text)) (others_pass test of names h) ∙ ap (λ b. cond b (text ∷ filter of names) (filter of names)) (h text)
+  where
+    by : (b : Bool) → entry_names (filter test (map (entry_of Kinds.Undeclared) names)) ≡ filter of names
+        → entry_names (cond b (entry_of Kinds.Undeclared text ∷ filter test (map (entry_of Kinds.Undeclared) names))
+        (filter test (map (entry_of Kinds.Undeclared) names))) ≡ cond b (text ∷ filter of names) (filter of names)
+    by true e = ap (λ l. text ∷ l) e
+    by false e = e
+
+named_append : (test : UnitName → Bool) (xs ys : List UnitName)
+    → entry_names (filter test (xs ++ ys)) ≡ entry_names (filter test xs) ++ entry_names (filter test ys)
+named_append test xs ys = ap entry_names (filter-append test xs ys)
+    ∙ map-append (λ (entry : UnitName). entry.name) (filter test xs) (filter test ys)
+
+local_test : (globals : List (List ℕ)) (text : List ℕ) → is_local (variable_of globals (entry_of Kinds.Undeclared text)) ≡ not (list_any (bytes_eq text) globals)
+local_test globals text = by (is_among globals text)
+  where
+    by : (b : Bool) → is_local (if b then Global else Local) ≡ not b
+    by true = refl
+    by false = refl
+
+static_test : (globals : List (List ℕ)) (text : List ℕ) → is_static (variable_of globals (entry_of Kinds.Undeclared text)) ≡ false
+static_test globals text = by (is_among globals text)
+  where
+    by : (b : Bool) → is_static (if b then Global else Local) ≡ false
+    by true = refl
+    by false = refl
+
+none_of : (names : List (List ℕ)) → filter (λ x. false) names ≡ []
+none_of [] = refl
+none_of (name ∷ names) = none_of names
+
+-- the locals and statics that are declared
+locals_step : (globals : List (List ℕ)) (place : Place) (kind : LocalKind) (names : List Name) (others : List Locals)
+    → entry_names (filter (λ x. is_local (variable_of globals x)) (flat_map local_entries others)) ≡ locals_among others
+    → entry_names (filter (λ x. is_local (variable_of globals x)) (flat_map local_entries (record { place = place; kind = kind; names = names } ∷ others)))
+    ≡ locals_among (record { place = place; kind = kind; names = names } ∷ others)
+locals_step globals place Kept.Local names others h =
+    named_append (λ x. is_local (variable_of globals x)) (map (λ (name : Name). entry_of Kinds.Local name.text) names) (flat_map local_entries others)
+    ∙ ap (λ l. l ++ entry_names (filter (λ x. is_local (variable_of globals x)) (flat_map local_entries others)))
+    (all_pass (λ x. is_local (variable_of globals x)) Kinds.Local names (λ text. refl)) ∙ ap (λ l. texts names ++ l) h
+locals_step globals place Kept.Static names others h =
+    named_append (λ x. is_local (variable_of globals x)) (map (λ (name : Name). entry_of Kinds.Static name.text) names) (flat_map local_entries others)
+    ∙ ap (λ l. l ++ entry_names (filter (λ x. is_local (variable_of globals x)) (flat_map local_entries others)))
+    (none_pass (λ x. is_local (variable_of globals x)) Kinds.Static names (λ text. refl)) ∙ h
+
+declared_locals : (globals : List (List ℕ)) (locals : List Locals)
+    → entry_names (filter (λ x. is_local (variable_of globals x)) (flat_map local_entries locals)) ≡ locals_among locals
+declared_locals globals [] = refl
+declared_locals globals (l ∷ others) = locals_step globals l.place l.kind l.names others (declared_locals globals others)
+
+statics_step : (globals : List (List ℕ)) (place : Place) (kind : LocalKind) (names : List Name) (others : List Locals)
+    → entry_names (filter (λ x. is_static (variable_of globals x)) (flat_map local_entries others)) ≡ statics_among others
+    → entry_names (filter (λ x. is_static (variable_of globals x)) (flat_map local_entries (record { place = place; kind = kind; names = names } ∷ others)))
+    ≡ statics_among (record { place = place; kind = kind; names = names } ∷ others)
+statics_step globals place Kept.Local names others h =
+    named_append (λ x. is_static (variable_of globals x)) (map (λ (name : Name). entry_of Kinds.Local name.text) names) (flat_map local_entries others)
+    ∙ ap (λ l. l ++ entry_names (filter (λ x. is_static (variable_of globals x)) (flat_map local_entries others)))
+    (none_pass (λ x. is_static (variable_of globals x)) Kinds.Local names (λ text. refl)) ∙ h
+statics_step globals place Kept.Static names others h =
+    named_append (λ x. is_static (variable_of globals x)) (map (λ (name : Name). entry_of Kinds.Static name.text) names) (flat_map local_entries others)
+    ∙ ap (λ l. l ++ entry_names (filter (λ x. is_static (variable_of globals x)) (flat_map local_entries others)))
+    (all_pass (λ x. is_static (variable_of globals x)) Kinds.Static names (λ text. refl)) ∙ ap (λ l. texts names ++ l) h
+
+declared_statics : (globals : List (List ℕ)) (locals : List Locals)
+    → entry_names (filter (λ x. is_static (variable_of globals x)) (flat_map local_entries locals)) ≡ statics_among locals
+declared_statics globals [] = refl
+declared_statics globals (l ∷ others) = statics_step globals l.place l.kind l.names others (declared_statics globals others)
+
+-- what is declared, as one list or as two
+or_first : (a b c : Bool) → (a || (b || c)) ≡ ((a || b) || c)
+or_first true b c = refl
+or_first false b c = refl
+
+or_second : (a b c : Bool) → (a || (b || c)) ≡ (b || (a || c))
+or_second true true c = refl
+or_second true false c = refl
+or_second false b c = refl
+
+kinds_step : (test : List ℕ → Bool) (place : Place) (kind : LocalKind) (names : List Name) (others : List Locals)
+    → list_any test (flat_map local_texts others) ≡ (list_any test (locals_among others) || list_any test (statics_among others))
+    → list_any test (flat_map local_texts (record { place = place; kind = kind; names = names } ∷ others))
+    ≡ (list_any test (locals_among (record { place = place; kind = kind; names = names } ∷ others))
+    || list_any test (statics_among (record { place = place; kind = kind; names = names } ∷ others)))
+kinds_step test place Kept.Local names others h =
+    list_any-append test (texts_of names) (flat_map local_texts others)
+    ∙ ap (λ l. list_any test l || list_any test (flat_map local_texts others)) (texts_same names)
+    ∙ ap (λ b. list_any test (texts names) || b) h
+    ∙ or_first (list_any test (texts names)) (list_any test (locals_among others)) (list_any test (statics_among others))
+    ∙ ap (λ b. b || list_any test (statics_among others)) (sym (list_any-append test (texts names) (locals_among others)))
+kinds_step test place Kept.Static names others h =
+    list_any-append test (texts_of names) (flat_map local_texts others)
+    ∙ ap (λ l. list_any test l || list_any test (flat_map local_texts others)) (texts_same names)
+    ∙ ap (λ b. list_any test (texts names) || b) h
+    ∙ or_second (list_any test (texts names)) (list_any test (locals_among others)) (list_any test (statics_among others))
+    ∙ ap (λ b. list_any test (locals_among others) || b) (sym (list_any-append test (texts names) (statics_among others)))
+
+kinds_any : (test : List ℕ → Bool) (locals : List Locals)
+    → list_any test (flat_map local_texts locals) ≡ (list_any test (locals_among locals) || list_any test (statics_among locals))
+kinds_any test [] = refl
+kinds_any test (l ∷ others) = kinds_step test l.place l.kind l.names others (kinds_any test others)
+
+declared_any : (procedure : Procedure) (test : List ℕ → Bool)
+    → list_any test (declared_texts procedure) ≡ list_any test (own_names procedure ++ statics_among procedure.locals)
+declared_any procedure test =
+    list_any-append test (texts_of procedure.parameters) (flat_map local_texts procedure.locals)
+    ∙ ap (λ l. list_any test l || list_any test (flat_map local_texts procedure.locals)) (texts_same procedure.parameters)
+    ∙ ap (λ b. list_any test (texts procedure.parameters) || b) (kinds_any test procedure.locals)
+    ∙ or_first (list_any test (texts procedure.parameters)) (list_any test (locals_among procedure.locals)) (list_any test (statics_among procedure.locals))
+    ∙ ap (λ b. b || list_any test (statics_among procedure.locals))
+    (sym (list_any-append test (texts procedure.parameters) (locals_among procedure.locals)))
+    ∙ sym (list_any-append test (own_names procedure) (statics_among procedure.locals))
+
+-- parameters
+kind_counted : (kind : NameKind) (names : List Name) (b : Bool) → is_parameter kind ≡ b
+    → filter (λ (x : UnitName). is_parameter x.kind) (map (λ (name : Name). entry_of kind name.text) names)
+    ≡ cond b (map (λ (name : Name). entry_of kind name.text) names) []
+kind_counted kind [] true e = refl
+kind_counted kind [] false e = refl
+kind_counted kind (name ∷ names) true e =
+    let rest = filter (λ (x : UnitName). is_parameter x.kind) (map (λ (name : Name). entry_of kind name.text) names) in
+    ap (λ b. cond b (entry_of kind name.text ∷ rest) rest) e
+    ∙ ap (λ l. entry_of kind name.text ∷ l) (kind_counted kind names true e)
+kind_counted kind (name ∷ names) false e =
+    let rest = filter (λ (x : UnitName). is_parameter x.kind) (map (λ (name : Name). entry_of kind name.text) names) in
+    ap (λ b. cond b (entry_of kind name.text ∷ rest) rest) e ∙ kind_counted kind names false e
+
+kind_declared : (kind : LocalKind) → is_parameter (kind_of kind) ≡ false
+kind_declared Kept.Local = refl
+kind_declared Kept.Static = refl
+
+no_parameter : (locals : List Locals) → filter (λ (x : UnitName). is_parameter x.kind) (flat_map local_entries locals) ≡ []
+no_parameter [] = refl
+no_parameter (l ∷ locals) = filter-append (λ (x : UnitName). is_parameter x.kind) (local_entries l) (flat_map local_entries locals)
+    ∙ ap (λ xs. xs ++ filter (λ (x : UnitName). is_parameter x.kind) (flat_map local_entries locals))
+    (kind_counted (kind_of l.kind) l.names false (kind_declared l.kind)) ∙ no_parameter locals
+
+none_undeclared : (names : List (List ℕ)) → filter (λ (x : UnitName). is_parameter x.kind) (map (entry_of Kinds.Undeclared) names) ≡ []
+none_undeclared [] = refl
+none_undeclared (text ∷ names) = none_undeclared names
+
+map_length : (kind : NameKind) (names : List Name) → length (map (λ (name : Name). entry_of kind name.text) names) ≡ length names
+map_length kind [] = refl
+map_length kind (name ∷ names) = ap suc (map_length kind names)
+
+pub parameters_counted : (procedure : Procedure) → params_in (proc_code procedure).names ≡ length procedure.parameters
+parameters_counted procedure =
+    let test : UnitName → Bool = λ x. is_parameter x.kind in
+    let parameters = map (λ (name : Name). entry_of Kinds.Parameter name.text) procedure.parameters in
+    let locals = flat_map local_entries procedure.locals in
+    let others = map (entry_of Kinds.Undeclared) (undeclared procedure) in
+    sym (length-filter test (proc_code procedure).names)
+    ∙ ap length (filter-append test (parameters ++ locals) others
+    ∙ ap (λ xs. xs ++ filter test others) (filter-append test parameters locals
+    ∙ ap (λ xs. xs ++ filter test locals) (kind_counted Kinds.Parameter procedure.parameters true refl)
+    ∙ ap (λ xs. parameters ++ xs) (no_parameter procedure.locals) ∙ append-nil parameters)
+    ∙ ap (λ xs. parameters ++ xs) (none_undeclared (undeclared procedure)) ∙ append-nil parameters)
+    ∙ map_length Kinds.Parameter procedure.parameters
+
+-- A procedure
+
+-- what the tree of a procedure has, that breaks no rule
+pub record IsFit (procedure : Procedure) : Type 0 where
+  pub met : Met
+  pub faultless : procedure_faults met procedure ≡ []
+  pub initial : FormedInitial procedure.initial
+  pub body : FormedAll procedure.body
+
+abbrev pub uses : Procedure → List (List ℕ)
+uses procedure = names_in_initial procedure.initial ++ names_in_all procedure.body
+
+-- the undeclared names are those that are used and not declared, each once
+pub undeclared_same : (procedure : Procedure) → IsFit procedure → undeclared procedure ≡ undeclared_names procedure
+undeclared_same procedure h =
+    let B = (begun procedure).names in
+    let K = own_names procedure ++ statics_among procedure.locals in
+    let new : List (List ℕ) = filter (λ y. not (list_any (bytes_eq y) B)) (firsts bytes_eq (uses procedure)) in
+    let all : (drafted procedure).names ≡ B ++ new =
+    (code_adds procedure.initial procedure.body h.initial h.body (begun procedure)).names ∙ names_all B (uses procedure) in
+    let same : (y : List ℕ) → list_any (bytes_eq y) B ≡ list_any (bytes_eq y) K =
+    λ y. ap (list_any (bytes_eq y)) (begun_names h.met procedure h.faultless) ∙ declared_any procedure (bytes_eq y) in
+    ap (drop (length B)) all ∙ drop-append_seam B new
+    ∙ filter_by (λ y. not (list_any (bytes_eq y) B)) (λ y. not (list_any (bytes_eq y) K)) (λ y. ap not (same y)) (firsts bytes_eq (uses procedure))
+    ∙ sym (firsts_kept bytes_eq bytes_eq-Decides (λ y. not (list_any (bytes_eq y) K)) (uses procedure))
+    ∙ ap (firsts bytes_eq) (sym (without_kept K (uses procedure)))
+    ∙ sym (added_firsts (without K (uses procedure)))
+
+pub locals_same : (globals : List (List ℕ)) (procedure : Procedure) → IsFit procedure
+    → local_names globals (proc_code procedure).names ≡ own_names procedure ++ without globals (undeclared_names procedure)
+locals_same globals procedure h =
+    let test : UnitName → Bool = λ x. is_local (variable_of globals x) in
+    let parameters = map (λ (name : Name). entry_of Kinds.Parameter name.text) procedure.parameters in
+    let locals = flat_map local_entries procedure.locals in
+    let others = map (entry_of Kinds.Undeclared) (undeclared procedure) in
+    named_append test (parameters ++ locals) others
+    ∙ ap (λ l. l ++ entry_names (filter test others)) (named_append test parameters locals
+    ∙ ap (λ l. l ++ entry_names (filter test locals)) (all_pass test Kinds.Parameter procedure.parameters (λ text. refl))
+    ∙ ap (λ l. texts procedure.parameters ++ l) (declared_locals globals procedure.locals))
+    ∙ ap (λ l. own_names procedure ++ l) (others_pass test (λ y. not (list_any (bytes_eq y) globals)) (undeclared procedure) (local_test globals)
+    ∙ sym (without_kept globals (undeclared procedure)) ∙ ap (without globals) (undeclared_same procedure h))
+
+pub statics_same : (globals : List (List ℕ)) (procedure : Procedure)
+    → static_names globals (proc_code procedure).names ≡ statics_among procedure.locals
+statics_same globals procedure =
+    let test : UnitName → Bool = λ x. is_static (variable_of globals x) in
+    let parameters = map (λ (name : Name). entry_of Kinds.Parameter name.text) procedure.parameters in
+    let locals = flat_map local_entries procedure.locals in
+    let others = map (entry_of Kinds.Undeclared) (undeclared procedure) in
+    named_append test (parameters ++ locals) others
+    ∙ ap (λ l. l ++ entry_names (filter test others)) (named_append test parameters locals
+    ∙ ap (λ l. l ++ entry_names (filter test locals)) (none_pass test Kinds.Parameter procedure.parameters (λ text. refl))
+    ∙ declared_statics globals procedure.locals)
+    ∙ ap (λ l. statics_among procedure.locals ++ l) (others_pass test (λ y. false) (undeclared procedure) (static_test globals)
+    ∙ none_of (undeclared procedure)) ∙ append-nil (statics_among procedure.locals)
+
+-- the instruction of a name of the code is that of the name's place among locals, statics and globals
+pub variable_same : (globals : List (List ℕ)) (procedure : Procedure) (h : IsFit procedure) (name : List ℕ)
+    → list_any (bytes_eq name) (drafted procedure).names ≡ true
+    → variable_at (variables globals 0 0 (proc_code procedure).names) (position_or_len (bytes_eq name) (drafted procedure).names)
+    ≡ variable_by (place_of name (own_names procedure ++ without globals (undeclared_names procedure)))
+    (place_of name (statics_among procedure.locals)) (place_of name globals)
+variable_same globals procedure h name among =
+    let entries = (proc_code procedure).names in
+    let same : entry_names entries ≡ (drafted procedure).names = code_names h.met procedure h.faultless in
+    let there : list_any (bytes_eq name) (entry_names entries) ≡ true = ap (list_any (bytes_eq name)) same ∙ among in
+    ap (λ l. variable_at (variables globals 0 0 entries) (position_or_len (bytes_eq name) l)) (sym same)
+    ∙ stands globals name entries 0 0 there (code_names_differ h.met procedure h.faultless)
+    ∙ ap (λ o. variable_by o (shifted 0 (place_of name (static_names globals entries))) (place_of name globals))
+    (unshifted (place_of name (local_names globals entries)) ∙ ap (place_of name) (locals_same globals procedure h))
+    ∙ ap (λ o. variable_by (place_of name (own_names procedure ++ without globals (undeclared_names procedure))) o (place_of name globals))
+    (unshifted (place_of name (static_names globals entries)) ∙ ap (place_of name) (statics_same globals procedure))
