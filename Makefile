@@ -12,7 +12,7 @@ FIRST_iconx = data/hi
 
 bin/%: crates.txt examples/hello.icn $(SOURCES)
 	@mkdir -p bin
-	@echo "proving and building $* (the first time takes long; bin/$*.log)"
+	@echo "proving and building $* (the first time takes a long time; bin/$*.log)"
 	@cd crates/$* && rt run -- $(FIRST_$*) > ../../bin/$*.log 2>&1 || { tail -20 ../../bin/$*.log; exit 1; }
 	@cp crates/$*/out/$* $@
 
