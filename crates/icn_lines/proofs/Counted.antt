@@ -1,5 +1,5 @@
 -- Which counts rose, by the answer.
-use Rattle.std.proofs.Common.{◌≡◌, ◌⊎◌, inl, inr, ℕ, ◌≤◌, List, Option, Result, Ok, Err, IsErrOf, refl, sym, ap, subst, ◌∙◌, arith}
+use Rattle.std.proofs.Common.{◌≡◌, ◌⊎◌, inl, inr, ℕ, ◌≤◌, List, Option, Result, Ok, Err, IsErrOf, refl, ap, subst, arith}
 use Rattle.icn_host.specs.Counts.{CountsOnce, HasCause, Rose, one_more}
 use Rattle.icn_host.specs.Sinks.{SinkState}
 use Rattle.icn_report.specs.Puts.{RunsShort}
@@ -15,7 +15,6 @@ use Rattle.icn_lines.specs.Answers.{IsFault}
 use Rattle.icn_lines.specs.Causes.{EndsAtFirst, IsFirstFaultOf, OutsideState, RunEndsAtFirst, outside}
 use Rattle.icn_lines.specs.Faulting.{of_run}
 use Rattle.icn_lines.specs.Refusing.{PutsOwn, Refuses, put, own, write_fault, want}
-use Rattle.icn_lines.specs.Telling.{with_errors}
 use Rattle.icn_lines.proofs.Reports.{no_fault}
 
 -- an answer that is no fault puts no line of its own
@@ -152,16 +151,16 @@ own_counts {left = left} {left'} {input} {out} {before} answer w r puts =
 pub ran_counts : {before after : Handed} (ending : Ending) → RunEnds {A = Ending} (Ok ending) before after → RunEndsAtFirst (Ran ending) before after
 ran_counts {after = after} ending kept = record { between = after.errors; first = kept; own_line = refl }
 
-broken_first : (before after : Handed) (fault : RunFault) → RunEnds {A = Ending} (Err fault) before after → IsFirstFaultOf (of_run fault) before after
+-- which counts rose where a run was broken off
+pub broken_first : (before after : Handed) (fault : RunFault) → RunEnds {A = Ending} (Err fault) before after → IsFirstFaultOf (of_run fault) before after
 broken_first before after Runs.ReadFault fails = fails
 broken_first before after Runs.WriteFault fails = fails
 broken_first before after Runs.NoMemory wants = wants
 
 -- a run that was broken off, with the fault's own line behind
-pub broken_counts : {before between after : Handed} (fault : RunFault) → RunEnds {A = Ending} (Err fault) before between → PutsOwn (of_run fault) between.errors after.errors
-    → with_errors between.errors after ≡ between → RunEndsAtFirst (of_run fault) before after
-broken_counts {before = before} {between} fault ends puts same =
-    record { between = between.errors; first = rw same (broken_first before between fault ends); own_line = puts }
+pub broken_counts : {before : Handed} {left : Option (List ℕ)} {input : ℕ} {out : SinkState} (between after : SinkState) (fault : RunFault) → RunEnds {A = Ending} (Err fault) before (handed left input out between)
+    → PutsOwn (of_run fault) between after → RunEndsAtFirst (of_run fault) before (handed left input out after)
+broken_counts {before = before} between after fault ends puts = record { between = between; first = broken_first before _ fault ends; own_line = puts }
 
 -- Where no count of faults rose
 

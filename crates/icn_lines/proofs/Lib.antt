@@ -1,2 +1,4 @@
 pub mod Reports
 pub mod Counted
+pub mod Ended
+pub mod Rising

@@ -4,7 +4,7 @@ use Rattle.icn_host.specs.Sinks.{Gains, SinkState}
 use Rattle.icn_host.proofs.SinkSteps.{gains_nothing}
 use Rattle.icn_host.specs.declared.fault.Fault.TheVariants.{Failed, NoMemory as Wants}
 use Rattle.icn_report.proofs.Putting.{leads_of, puts_nothing}
-use Rattle.icn_report.specs.Puts.{Puts, all, Leads}
+use Rattle.icn_report.specs.Puts.{Puts, all}
 use Rattle.icn_defs.specs.Running.{Observed}
 use Rattle.icn_streams.specs.Handed.{Handed}
 use Rattle.icn_run.specs.declared.ending.Ending.{Ending}
@@ -51,23 +51,23 @@ puts_own before after (Missing other) same = rw same (all (puts_nothing before))
 puts_own before after (BadImage rule) same = rw same (all (puts_nothing before))
 
 -- the line of an answer that no program ran for stands where it was put
-pub line_stands : {usage name : List ℕ} {left : Option (List ℕ)} {before after : SinkState} (answer : Answer) → (IsFault answer → ⊥)
+pub line_stands : (usage name : List ℕ) (left : Option (List ℕ)) (before after : SinkState) (answer : Answer) → (IsFault answer → ⊥)
     → ((ending : Ending) → answer ≡ Ran ending → ⊥) → Gains before.held after.held (line_of usage name answer) → LineStands usage name left answer before after
-line_stands Wrote n ran gains = gains
-line_stands (Ran ending) n ran gains = absurd (ran ending refl)
-line_stands (Refused file line rule) n ran gains = gains
-line_stands (Command kind) n ran gains = gains
-line_stands (Missing other) n ran gains = gains
-line_stands (BadImage rule) n ran gains = gains
-line_stands FileFault n ran gains = absurd (n refl)
-line_stands ReadFault n ran gains = absurd (n refl)
-line_stands WriteFault n ran gains = absurd (n refl)
-line_stands NoMemory n ran gains = absurd (n refl)
+line_stands usage name left before after Wrote n ran gains = gains
+line_stands usage name left before after (Ran ending) n ran gains = absurd (ran ending refl)
+line_stands usage name left before after (Refused file line rule) n ran gains = gains
+line_stands usage name left before after (Command kind) n ran gains = gains
+line_stands usage name left before after (Missing other) n ran gains = gains
+line_stands usage name left before after (BadImage rule) n ran gains = gains
+line_stands usage name left before after FileFault n ran gains = absurd (n refl)
+line_stands usage name left before after ReadFault n ran gains = absurd (n refl)
+line_stands usage name left before after WriteFault n ran gains = absurd (n refl)
+line_stands usage name left before after NoMemory n ran gains = absurd (n refl)
 
 -- nothing but the line of an answer that no program ran for was put
 pub reports_of : {usage name : List ℕ} {left : Option (List ℕ)} {answer given : Answer} {before after : SinkState}
     → ((ending : Ending) → answer ≡ Ran ending → ⊥) → Refuses usage name answer before after given → Reports usage name left before after given
-reports_of {answer = answer} ran (put n whole) = put_whole n (line_stands answer n ran whole.gains)
+reports_of {answer = answer} ran (put n whole) = put_whole n (line_stands _ _ _ _ _ answer n ran whole.gains)
 reports_of {answer = answer} {before = before} ran (own f puts) = put_own f Wrote wrote_no_fault before (inl refl) (puts_own _ _ answer puts)
 reports_of {answer = answer} {after = after} ran (write_fault n stops) = put_own refl answer n after (leads_of _ _ _ Failed stops) (all (puts_nothing after))
 reports_of {answer = answer} ran (want n between leads puts) = put_own refl answer n between (leads_of _ _ _ Wants leads) puts
@@ -96,9 +96,9 @@ broken_puts Runs.NoMemory input seen before after leaves =
     record { own = take leaves.errors.count seen.outside.errors; gains = record { appends = leaves.errors.appends } }
 
 -- a run that was broken off, with the fault's own line behind
-pub fault_reports : {usage name : List ℕ} {left : Option (List ℕ)} {before between after : SinkState} (fault : RunFault) → IfSome left (λ _. PutsSome before between)
+pub fault_reports : {usage name : List ℕ} {left : Option (List ℕ)} (before between after : SinkState) (fault : RunFault) → IfSome left (λ _. PutsSome before between)
     → PutsOwn (of_run fault) between after → Reports usage name left before after (of_run fault)
-fault_reports {between = between} fault some puts = broke fault refl between some (puts_own _ _ (of_run fault) puts)
+fault_reports before between after fault some puts = broke fault refl between some (puts_own _ _ (of_run fault) puts)
 
 pub line_of_reports : {usage name : List ℕ} {left : Option (List ℕ)} {before after : SinkState} {answer : Answer} → Reports usage name left before after answer
     → IsFault answer ⊎ LineStands usage name left answer before after

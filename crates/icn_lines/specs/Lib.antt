@@ -6,3 +6,4 @@ pub mod Reporting
 pub mod Faulting
 pub mod Telling
 pub mod Causes
+pub mod Falling

@@ -5,8 +5,8 @@ ghost use Rattle.icn_lines.specs.Answers.{IsFault};
 ghost use Rattle.icn_lines.specs.Lines.{line_of};
 ghost use Rattle.icn_lines.specs.Refusing.{PutsOwn, Refuses};
 
-use crate::lines::{FILE_FAULT, NO_MEMORY, READ_FAULT, line_of};
 use crate::answer::Answer;
+use crate::lines::{FILE_FAULT, NO_MEMORY, READ_FAULT, line_of};
 use icn_host::{Fault, Sink};
 use icn_report::{put_line, try_put};
 use std::alloc::Global;

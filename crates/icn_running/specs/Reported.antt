@@ -1,5 +1,5 @@
 -- How a run ends, and what is put on the error output then.
-use Rattle.std.specs.Prelude.{◌≡◌, ℕ, List, [], ◌++◌, Option, Some, Result, Ok, Err}
+use Rattle.std.specs.Prelude.{◌≡◌, ℕ, List, [], ◌++◌, Option, Result, Ok, Err}
 use Rattle.std.specs.Option.{option_map}
 use Rattle.icn_host.specs.Sinks.{Gains, SinkState}
 use Rattle.icn_value.specs.Store.{Heap, Names}

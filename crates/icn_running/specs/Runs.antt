@@ -15,7 +15,8 @@ streams_of handed = record { left = handed.left; output = handed.output.held; er
 
 -- The run of a code ends so, and the streams have gained what it puts, with what it leaves of the input.
 abbrev pub RunsTo : Tables → Launch → Ending → Handed → Handed → Type 0
-RunsTo tables launch ending before after = (seen : Observed) × ((seen.ending ≡ ending) × (Runs tables launch seen × Ends seen (streams_of before) (streams_of after)))
+RunsTo tables launch ending before after =
+    (seen : Observed) × ((seen.ending ≡ ending) × (Runs tables launch seen × Ends seen (streams_of before) (streams_of after)))
 
 -- what a fault leaves of a run that was begun with this input
 abbrev pub LeavesBy : RunFault → List ℕ → Observed → Handed → Handed → Type 0

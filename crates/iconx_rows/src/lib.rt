@@ -31,6 +31,76 @@ mod tests {
         0x00, 0x12, 0x07, 0x01, 0x00, 0x02, 0x01, 0x00, 0x01, 0x0e, 0x02, 0x00, 0x21,
     ];
 
+    // The image of `every write(2 * (1 to 3))` and `write(p(4))`, where `p(n)` returns `n - 1`, by hand.
+    const PLAIN: [u8; 181] = [
+        0x49, 0x63, 0x6e, 0x39, 0x69, 0x6d, 0x67, 0x01, 0x03, 0x00, 0x04, 0x00, 0x6d, 0x61, 0x69,
+        0x6e, 0x05, 0x00, 0x77, 0x72, 0x69, 0x74, 0x65, 0x01, 0x00, 0x70, 0x00, 0x00, 0x04, 0x00,
+        0x02, 0x00, 0x00, 0x00, 0x00, 0x00, 0x00, 0x00, 0x01, 0x00, 0x00, 0x00, 0x00, 0x00, 0x00,
+        0x00, 0x03, 0x00, 0x00, 0x00, 0x00, 0x00, 0x00, 0x00, 0x04, 0x00, 0x00, 0x00, 0x00, 0x00,
+        0x00, 0x00, 0x00, 0x00, 0x00, 0x00, 0x03, 0x00, 0x00, 0x00, 0x01, 0x00, 0x00, 0x01, 0x00,
+        0x03, 0x32, 0x00, 0x02, 0x00, 0x01, 0x01, 0x00, 0x02, 0x00, 0x00, 0x00, 0x00, 0x00, 0x00,
+        0x00, 0x00, 0x00, 0x00, 0x14, 0x00, 0x00, 0x00, 0x02, 0x00, 0x01, 0x00, 0x00, 0x00, 0x00,
+        0x00, 0x00, 0x06, 0x00, 0x00, 0x00, 0x10, 0x0c, 0x00, 0x00, 0x00, 0x11, 0x07, 0x01, 0x00,
+        0x02, 0x00, 0x00, 0x02, 0x01, 0x00, 0x02, 0x02, 0x00, 0x02, 0x01, 0x00, 0x0b, 0x2d, 0x00,
+        0x0b, 0x0e, 0x00, 0x0e, 0x01, 0x00, 0x09, 0x17, 0x10, 0x13, 0x00, 0x00, 0x00, 0x07, 0x01,
+        0x00, 0x07, 0x02, 0x00, 0x02, 0x03, 0x00, 0x0e, 0x01, 0x00, 0x0e, 0x01, 0x00, 0x12, 0x21,
+        0x10, 0x05, 0x00, 0x00, 0x00, 0x05, 0x00, 0x00, 0x02, 0x01, 0x00, 0x0b, 0x0d, 0x00, 0x20,
+        0x21,
+    ];
+
+    // The image of `repeat {}`, by hand.
+    const FOREVER: [u8; 65] = [
+        0x49, 0x63, 0x6e, 0x39, 0x69, 0x6d, 0x67, 0x01, 0x01, 0x00, 0x04, 0x00, 0x6d, 0x61, 0x69,
+        0x6e, 0x00, 0x00, 0x00, 0x00, 0x00, 0x00, 0x00, 0x00, 0x01, 0x00, 0x00, 0x00, 0x01, 0x00,
+        0x00, 0x01, 0x00, 0x00, 0x00, 0x00, 0x00, 0x00, 0x00, 0x00, 0x00, 0x00, 0x07, 0x00, 0x00,
+        0x00, 0x10, 0x06, 0x00, 0x00, 0x00, 0x10, 0x04, 0x00, 0x00, 0x00, 0x01, 0x12, 0x1a, 0x01,
+        0x00, 0x00, 0x00, 0x12, 0x21,
+    ];
+
+    // The image of `write(9223372036854775807 + 1)`, by hand.
+    const OVER: [u8; 96] = [
+        0x49, 0x63, 0x6e, 0x39, 0x69, 0x6d, 0x67, 0x01, 0x02, 0x00, 0x04, 0x00, 0x6d, 0x61, 0x69,
+        0x6e, 0x05, 0x00, 0x77, 0x72, 0x69, 0x74, 0x65, 0x00, 0x00, 0x02, 0x00, 0xff, 0xff, 0xff,
+        0xff, 0xff, 0xff, 0xff, 0x7f, 0x01, 0x00, 0x00, 0x00, 0x00, 0x00, 0x00, 0x00, 0x00, 0x00,
+        0x00, 0x00, 0x02, 0x00, 0x00, 0x00, 0x01, 0x00, 0x00, 0x01, 0x00, 0x03, 0x32, 0x00, 0x01,
+        0x00, 0x00, 0x00, 0x00, 0x00, 0x00, 0x00, 0x00, 0x00, 0x00, 0x08, 0x00, 0x00, 0x00, 0x10,
+        0x07, 0x00, 0x00, 0x00, 0x07, 0x01, 0x00, 0x02, 0x00, 0x00, 0x02, 0x01, 0x00, 0x0b, 0x0c,
+        0x00, 0x0e, 0x01, 0x00, 0x12, 0x21,
+    ];
+
+    // The image of `exit(7)`, by hand.
+    const LEAVE: [u8; 81] = [
+        0x49, 0x63, 0x6e, 0x39, 0x69, 0x6d, 0x67, 0x01, 0x02, 0x00, 0x04, 0x00, 0x6d, 0x61, 0x69,
+        0x6e, 0x04, 0x00, 0x65, 0x78, 0x69, 0x74, 0x00, 0x00, 0x01, 0x00, 0x07, 0x00, 0x00, 0x00,
+        0x00, 0x00, 0x00, 0x00, 0x00, 0x00, 0x00, 0x00, 0x02, 0x00, 0x00, 0x00, 0x01, 0x00, 0x00,
+        0x01, 0x00, 0x03, 0x09, 0x00, 0x01, 0x00, 0x00, 0x00, 0x00, 0x00, 0x00, 0x00, 0x00, 0x00,
+        0x00, 0x06, 0x00, 0x00, 0x00, 0x10, 0x05, 0x00, 0x00, 0x00, 0x07, 0x01, 0x00, 0x02, 0x00,
+        0x00, 0x0e, 0x01, 0x00, 0x12, 0x21,
+    ];
+
+    // The image of `write(&errout, "e")` and `write("a" + 1)`, by hand.
+    const WRONG: [u8; 112] = [
+        0x49, 0x63, 0x6e, 0x39, 0x69, 0x6d, 0x67, 0x01, 0x04, 0x00, 0x04, 0x00, 0x6d, 0x61, 0x69,
+        0x6e, 0x05, 0x00, 0x77, 0x72, 0x69, 0x74, 0x65, 0x01, 0x00, 0x65, 0x01, 0x00, 0x61, 0x00,
+        0x00, 0x01, 0x00, 0x01, 0x00, 0x00, 0x00, 0x00, 0x00, 0x00, 0x00, 0x00, 0x00, 0x00, 0x00,
+        0x02, 0x00, 0x00, 0x00, 0x01, 0x00, 0x00, 0x01, 0x00, 0x03, 0x32, 0x00, 0x01, 0x00, 0x00,
+        0x00, 0x00, 0x00, 0x00, 0x00, 0x00, 0x00, 0x00, 0x0e, 0x00, 0x00, 0x00, 0x10, 0x06, 0x00,
+        0x00, 0x00, 0x07, 0x01, 0x00, 0x08, 0x05, 0x00, 0x03, 0x02, 0x00, 0x0e, 0x02, 0x00, 0x12,
+        0x10, 0x0d, 0x00, 0x00, 0x00, 0x07, 0x01, 0x00, 0x03, 0x03, 0x00, 0x02, 0x00, 0x00, 0x0b,
+        0x0c, 0x00, 0x0e, 0x01, 0x00, 0x12, 0x21,
+    ];
+
+    // The image of `while write(read())`, by hand.
+    const ECHO: [u8; 94] = [
+        0x49, 0x63, 0x6e, 0x39, 0x69, 0x6d, 0x67, 0x01, 0x03, 0x00, 0x04, 0x00, 0x6d, 0x61, 0x69,
+        0x6e, 0x05, 0x00, 0x77, 0x72, 0x69, 0x74, 0x65, 0x04, 0x00, 0x72, 0x65, 0x61, 0x64, 0x00,
+        0x00, 0x00, 0x00, 0x00, 0x00, 0x00, 0x00, 0x03, 0x00, 0x00, 0x00, 0x01, 0x00, 0x00, 0x01,
+        0x00, 0x03, 0x32, 0x00, 0x02, 0x00, 0x03, 0x23, 0x00, 0x01, 0x00, 0x00, 0x00, 0x00, 0x00,
+        0x00, 0x00, 0x00, 0x00, 0x00, 0x09, 0x00, 0x00, 0x00, 0x10, 0x08, 0x00, 0x00, 0x00, 0x11,
+        0x07, 0x01, 0x00, 0x07, 0x02, 0x00, 0x0e, 0x00, 0x00, 0x0e, 0x01, 0x00, 0x12, 0x1a, 0x01,
+        0x00, 0x00, 0x00, 0x21,
+    ];
+
     // The image of no tables.
     const EMPTY: [u8; 22] = [
         0x49, 0x63, 0x6e, 0x39, 0x69, 0x6d, 0x67, 0x01, 0, 0, 0, 0, 0, 0, 0, 0, 0, 0, 0, 0, 0, 0,
@@ -53,8 +123,8 @@ mod tests {
     const NO_CELLS: &str = "Run-time error 307\ninadequate space in block region\n";
 
     // `hi` is the first image, `calls` the second, `cut` lacks the last byte of `hi`, `more` has a byte behind its end, `two` calls with two arguments,
-    // `none` has no global `main`, `pop` has an instruction that is not built.
-    const ROWS: [Row; 46] = [
+    // `none` has no global `main`, `fails` fails at its end.
+    const ROWS: [Row; 51] = [
         Row {
             words: &["hi"],
             answer: "Done",
@@ -304,11 +374,11 @@ mod tests {
             errors: "Run-time error 117\nmissing main procedure\n",
         },
         Row {
-            words: &["pop"],
-            answer: "BadImage(S4)",
-            status: 2,
-            output: "",
-            errors: "pop: bad image, S4\n",
+            words: &["fails"],
+            answer: "Done",
+            status: 0,
+            output: "hi\n",
+            errors: "",
         },
         Row {
             words: &["calls"],
@@ -380,6 +450,43 @@ mod tests {
             output: "",
             errors: "open: bad image, V5\n",
         },
+        // programs
+        Row {
+            words: &["plain"],
+            answer: "Done",
+            status: 0,
+            output: "2\n4\n6\n3\n",
+            errors: "",
+        },
+        Row {
+            words: &["-n", "10", "forever"],
+            answer: "AtBound",
+            status: 3,
+            output: "",
+            errors: "turn bound reached\n",
+        },
+        Row {
+            words: &["over"],
+            answer: "203",
+            status: 1,
+            output: "",
+            errors: "Run-time error 203\ninteger overflow\n",
+        },
+        Row {
+            words: &["leave"],
+            answer: "Exit",
+            status: 7,
+            output: "",
+            errors: "",
+        },
+        // the report stands behind what the program put there
+        Row {
+            words: &["wrong"],
+            answer: "102",
+            status: 1,
+            output: "",
+            errors: "e\nRun-time error 102\nnumeric expected\noffending value: \"a\"\n",
+        },
     ];
 
     // The images beside `hi`.
@@ -417,9 +524,15 @@ mod tests {
         open[71] = 1;
         held.insert(String::from_str(alloc, "open")?, open.to_vec(alloc)?)?;
         // `efail` in place of `pfail`
-        let mut pop = HI;
-        pop[71] = 0x17;
-        held.insert(String::from_str(alloc, "pop")?, pop.to_vec(alloc)?)?;
+        let mut fails = HI;
+        fails[71] = 0x17;
+        held.insert(String::from_str(alloc, "fails")?, fails.to_vec(alloc)?)?;
+        held.insert(String::from_str(alloc, "plain")?, PLAIN.to_vec(alloc)?)?;
+        held.insert(String::from_str(alloc, "forever")?, FOREVER.to_vec(alloc)?)?;
+        held.insert(String::from_str(alloc, "over")?, OVER.to_vec(alloc)?)?;
+        held.insert(String::from_str(alloc, "leave")?, LEAVE.to_vec(alloc)?)?;
+        held.insert(String::from_str(alloc, "wrong")?, WRONG.to_vec(alloc)?)?;
+        held.insert(String::from_str(alloc, "echo")?, ECHO.to_vec(alloc)?)?;
         Ok(held)
     }
 
@@ -427,7 +540,10 @@ mod tests {
         match answer {
             Answer::Ran(Ending::Done) => "Done",
             Answer::Ran(Ending::AtBound) => "AtBound",
+            Answer::Ran(Ending::Exit(_)) => "Exit",
+            Answer::Ran(Ending::Errored(102)) => "102",
             Answer::Ran(Ending::Errored(117)) => "117",
+            Answer::Ran(Ending::Errored(203)) => "203",
             Answer::Ran(Ending::Errored(306)) => "306",
             Answer::Ran(Ending::Errored(307)) => "307",
             Answer::Command(2) => "Command(2)",
@@ -442,8 +558,8 @@ mod tests {
             Answer::BadImage(Rule::I2) => "BadImage(I2)",
             Answer::BadImage(Rule::I5) => "BadImage(I5)",
             Answer::BadImage(Rule::V1) => "BadImage(V1)",
-            Answer::BadImage(Rule::S4) => "BadImage(S4)",
             Answer::FileFault => "FileFault",
+            Answer::ReadFault => "ReadFault",
             Answer::WriteFault => "WriteFault",
             Answer::NoMemory => "NoMemory",
             _ => "another",
@@ -474,15 +590,16 @@ mod tests {
             assert_eq!(rt; out.content(), row.output.as_bytes());
             assert_eq!(rt; err.content(), row.errors.as_bytes());
             assert_eq!(rt; input.content(), b"input\n".as_slice());
-            assert_eq!(rt; files.content().len(), 12);
+            assert_eq!(rt; files.content().len(), 18);
         }
         Ok(())
     }
 
-    // Calls of which one fails: the files, the output and the error output, by the number of the call.
+    // Calls of which one fails: the files, the input, the output and the error output, by the number of the call.
     struct Failing {
         words: &'static [&'static str],
         files: &'static [u64],
+        input: &'static [u64],
         output: &'static [u64],
         errors: &'static [u64],
         answer: &'static str,
@@ -490,11 +607,44 @@ mod tests {
         said: &'static str,
     }
 
-    const FAULTS: [Failing; 8] = [
+    const FAULTS: [Failing; 11] = [
+        // the second reading fails, behind the line of the first
+        Failing {
+            words: &["echo"],
+            files: &[],
+            input: &[1],
+            output: &[],
+            errors: &[],
+            answer: "ReadFault",
+            put: "one\n",
+            said: "read fault\n",
+        },
+        Failing {
+            words: &["echo"],
+            files: &[],
+            input: &[],
+            output: &[],
+            errors: &[],
+            answer: "Done",
+            put: "one\ntwo\n",
+            said: "",
+        },
+        // the report fails behind what the program put there
+        Failing {
+            words: &["wrong"],
+            files: &[],
+            input: &[],
+            output: &[],
+            errors: &[1],
+            answer: "WriteFault",
+            put: "",
+            said: "e\n",
+        },
         // the second call fails, behind the line of the first
         Failing {
             words: &["calls"],
             files: &[],
+            input: &[],
             output: &[1],
             errors: &[],
             answer: "WriteFault",
@@ -505,6 +655,7 @@ mod tests {
         Failing {
             words: &["-n", "1", "calls"],
             files: &[],
+            input: &[],
             output: &[],
             errors: &[0],
             answer: "WriteFault",
@@ -514,6 +665,7 @@ mod tests {
         Failing {
             words: &["hi"],
             files: &[0],
+            input: &[],
             output: &[],
             errors: &[],
             answer: "FileFault",
@@ -523,6 +675,7 @@ mod tests {
         Failing {
             words: &["hi"],
             files: &[],
+            input: &[],
             output: &[0],
             errors: &[],
             answer: "WriteFault",
@@ -532,6 +685,7 @@ mod tests {
         Failing {
             words: &["-n", "0", "hi"],
             files: &[],
+            input: &[],
             output: &[],
             errors: &[0],
             answer: "WriteFault",
@@ -541,6 +695,7 @@ mod tests {
         Failing {
             words: &["cut"],
             files: &[],
+            input: &[],
             output: &[],
             errors: &[0],
             answer: "WriteFault",
@@ -550,6 +705,7 @@ mod tests {
         Failing {
             words: &["-q"],
             files: &[],
+            input: &[],
             output: &[],
             errors: &[0],
             answer: "WriteFault",
@@ -559,6 +715,7 @@ mod tests {
         Failing {
             words: &["hi"],
             files: &[0],
+            input: &[],
             output: &[],
             errors: &[0],
             answer: "FileFault",
@@ -573,7 +730,10 @@ mod tests {
         for fault in &FAULTS {
             let words = words_of(alloc, fault.words)?;
             let mut files = MemFiles::new(alloc, images(alloc)?, fault.files.to_vec(alloc)?);
-            let mut input = MemSource::new(Vec::new(alloc), Vec::new(alloc));
+            let mut input = MemSource::new(
+                b"one\ntwo\n".to_vec(alloc)?,
+                fault.input.to_vec(alloc)?,
+            );
             let mut out = MemSink::new(Vec::new(alloc), fault.output.to_vec(alloc)?);
             let mut err = MemSink::new(Vec::new(alloc), fault.errors.to_vec(alloc)?);
             let answer = iconx_main(alloc, &words, &mut files, &mut input, &mut out, &mut err);

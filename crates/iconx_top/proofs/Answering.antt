@@ -5,8 +5,8 @@ use Rattle.icn_host.specs.Sinks.{SinkState}
 use Rattle.icn_value.specs.Limited.{Bounds}
 use Rattle.icn_code.specs.Seen.{tables_of}
 use Rattle.icn_verify.specs.declared.verified.Verified.{Verified}
-use Rattle.icn_engine.specs.declared.answer.Answer.{Answer}
-use Rattle.icn_engine.specs.declared.answer.Answer.TheVariants.{Ran, Missing, BadImage, FileFault, ReadFault, WriteFault, NoMemory}
+use Rattle.icn_lines.specs.declared.answer.Answer.{Answer}
+use Rattle.icn_lines.specs.declared.answer.Answer.TheVariants.{Ran, Missing, BadImage, FileFault, ReadFault, WriteFault, NoMemory}
 use Rattle.iconx_top.specs.Answered.{IsAnswered, fault, missing, bad, ran}
 use Rattle.icn_lines.specs.Faulting.{IsOfRun}
 use Rattle.iconx_top.specs.Loading.{IsLoaded}

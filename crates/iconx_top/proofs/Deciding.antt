@@ -1,5 +1,5 @@
 -- Words, files and input ask for at most one job.
-use Rattle.std.proofs.Common.{◌≡◌, ℕ, ◌≤◌, ◌<◌, List, [], length, true, false, Bool, None, Some, Result, Ok, Err, refl, sym, ap, ◌∙◌, arith}
+use Rattle.std.proofs.Common.{◌≡◌, ℕ, ◌≤◌, ◌<◌, List, [], length, true, false, Bool, None, Some, Result, Ok, Err, refl, sym, ap, subst, ◌∙◌, arith}
 use Rattle.std.proofs.lemmas.Option.{none-some, same_Some}
 use Rattle.icn_host.specs.FileMaps.{FileMap}
 use Rattle.icn_tree.specs.declared.rule.Rule.{Rule}
@@ -8,12 +8,12 @@ use Rattle.icn_code.specs.Codes.{Tables}
 use Rattle.icn_image.specs.Reading.{image_read}
 use Rattle.icn_verify.specs.Faults.{IsFirstFault, IsVerified}
 use Rattle.icn_verify.specs.Laws.{HaveOneFault, HaveNoFault}
-use Rattle.icn_run.specs.Built.{is_built}
-use Rattle.icn_run.specs.CodeRun.{Run, Observed, Observes}
-use Rattle.icn_run.proofs.Runs.{one_observation}
-use Rattle.icn_engine.specs.Answers.{IsFault}
-use Rattle.icn_engine.specs.declared.answer.Answer.TheVariants.{Command, Missing, BadImage}
-use Rattle.iconx_top.specs.Images.{IsJudged, too_long, broken, unverified, unbuilt, runs}
+use Rattle.icn_defs.specs.Running.{Launch, Observed}
+use Rattle.icn_run.specs.FlatStep.{Runs}
+use Rattle.icn_run.proofs.Observing.{flat_once}
+use Rattle.icn_lines.specs.Answers.{IsFault}
+use Rattle.icn_lines.specs.declared.answer.Answer.TheVariants.{Command, Missing, BadImage}
+use Rattle.iconx_top.specs.Images.{IsJudged, too_long, broken, unverified, runs}
 use Rattle.iconx_top.specs.Job.{Job, IsJob, IsRun, wrong_words, missing, bad, ran, refusal, observation}
 use Rattle.iconx_top.specs.Words.{Reading, Asks, Faulty, asked}
 
@@ -52,35 +52,23 @@ module _ (one : HaveOneFault) (none : HaveNoFault) (bytes : List ℕ) where
   no_fault : (s t : Tables) (rule : Rule) (k p : ℕ) → image_read bytes ≡ Ok s → image_read bytes ≡ Ok t → IsFirstFault s.procs rule k p → IsVerified t → ⊥
   no_fault s t rule k p e f x y = let same : s ≡ t = same_read s t e f in none t.procs rule k p y (rw same at x)
 
-  both_built : (s t : Tables) → image_read bytes ≡ Ok s → image_read bytes ≡ Ok t → is_built s ≡ true → is_built t ≡ false → ⊥
-  both_built s t e f x y = let same : s ≡ t = same_read s t e f in true_false (is_built t) (rw same at x) y
-
   pub judged_once : (a b : Judged) → IsJudged bytes a → IsJudged bytes b → a ≡ b
   judged_once _ _ (too_long l) (too_long m) = refl
   judged_once _ b (too_long l) (broken _ s _) = absurd (long_short (length bytes) l s)
   judged_once _ b (too_long l) (unverified _ _ _ _ s _ _) = absurd (long_short (length bytes) l s)
-  judged_once _ b (too_long l) (unbuilt _ s _ _ _) = absurd (long_short (length bytes) l s)
-  judged_once _ b (too_long l) (runs _ s _ _ _) = absurd (long_short (length bytes) l s)
+  judged_once _ b (too_long l) (runs _ s _ _) = absurd (long_short (length bytes) l s)
   judged_once a _ (broken _ s _) (too_long l) = absurd (long_short (length bytes) l s)
   judged_once a _ (unverified _ _ _ _ s _ _) (too_long l) = absurd (long_short (length bytes) l s)
-  judged_once a _ (unbuilt _ s _ _ _) (too_long l) = absurd (long_short (length bytes) l s)
-  judged_once a _ (runs _ s _ _ _) (too_long l) = absurd (long_short (length bytes) l s)
+  judged_once a _ (runs _ s _ _) (too_long l) = absurd (long_short (length bytes) l s)
   judged_once _ _ (broken r _ e) (broken q _ f) = ap (λ rule. Err rule) (same_err r q (sym e ∙ f))
   judged_once _ b (broken r _ e) (unverified t _ _ _ _ f _) = absurd (read_broken t r f e)
-  judged_once _ b (broken r _ e) (unbuilt t _ f _ _) = absurd (read_broken t r f e)
-  judged_once _ b (broken r _ e) (runs t _ f _ _) = absurd (read_broken t r f e)
+  judged_once _ b (broken r _ e) (runs t _ f _) = absurd (read_broken t r f e)
   judged_once a _ (unverified t _ _ _ _ f _) (broken r _ e) = absurd (read_broken t r f e)
-  judged_once a _ (unbuilt t _ f _ _) (broken r _ e) = absurd (read_broken t r f e)
-  judged_once a _ (runs t _ f _ _) (broken r _ e) = absurd (read_broken t r f e)
+  judged_once a _ (runs t _ f _) (broken r _ e) = absurd (read_broken t r f e)
   judged_once _ _ (unverified s r k p _ e x) (unverified t q k' p' _ f y) = ap (λ rule. Err rule) (same_fault s t r q k p k' p' e f x y)
-  judged_once _ b (unverified s r k p _ e x) (unbuilt t _ f y _) = absurd (no_fault s t r k p e f x y)
-  judged_once _ b (unverified s r k p _ e x) (runs t _ f y _) = absurd (no_fault s t r k p e f x y)
-  judged_once a _ (unbuilt t _ f y _) (unverified s r k p _ e x) = absurd (no_fault s t r k p e f x y)
-  judged_once a _ (runs t _ f y _) (unverified s r k p _ e x) = absurd (no_fault s t r k p e f x y)
-  judged_once _ _ (unbuilt _ _ _ _ _) (unbuilt _ _ _ _ _) = refl
-  judged_once _ b (unbuilt s _ e _ x) (runs t _ f _ y) = absurd (both_built t s f e y x)
-  judged_once a _ (runs t _ f _ y) (unbuilt s _ e _ x) = absurd (both_built t s f e y x)
-  judged_once _ _ (runs s _ e _ _) (runs t _ f _ _) = ap (λ tables. Ok tables) (same_read s t e f)
+  judged_once _ b (unverified s r k p _ e x) (runs t _ f y) = absurd (no_fault s t r k p e f x y)
+  judged_once a _ (runs t _ f y) (unverified s r k p _ e x) = absurd (no_fault s t r k p e f x y)
+  judged_once _ _ (runs s _ e _) (runs t _ f _) = ap (λ tables. Ok tables) (same_read s t e f)
 
 -- What words ask for
 
@@ -119,10 +107,12 @@ same_kind : (k j : ℕ) (reading : Reading) → reading ≡ Faulty k → reading
 unfolding kind_asked
 same_kind k j reading e f = ap kind_asked (sym e ∙ f)
 
-same_run : (s t : Run) → s.tables ≡ t.tables → s.words ≡ t.words → s.bounds ≡ t.bounds → s.left ≡ t.left → s ≡ t
-same_run s t e f g h =
-    ap (λ x. record s { tables = x }) e ∙ (ap (λ x. record s { tables = t.tables; words = x }) f
-    ∙ (ap (λ x. record s { tables = t.tables; words = t.words; bounds = x }) g ∙ ap (λ x. record t { left = x }) h))
+same_launch : (s t : Launch) → s.words ≡ t.words → s.bounds ≡ t.bounds → s.outside ≡ t.outside → s ≡ t
+same_launch s t e f g =
+    ap (λ x. record s { words = x }) e ∙ (ap (λ x. record s { words = t.words; bounds = x }) f ∙ ap (λ x. record t { outside = x }) g)
+
+seen_once : (s t : Tables) (a b : Launch) (x y : Observed) → s ≡ t → a ≡ b → Runs s a x → Runs t b y → x ≡ y
+seen_once s t a b x y tables launched p q = flat_once t b x y (subst (λ l. Runs t l x) launched (subst (λ u. Runs u a x) tables p)) q
 
 same_bytes : (held : FileMap) (n m x y : List ℕ) → n ≡ m → held n ≡ Some x → held m ≡ Some y → x ≡ y
 same_bytes held n m x y same e f = same_Some x y (sym e ∙ (ap held same ∙ f))
@@ -134,53 +124,56 @@ module _ (one : HaveOneFault) (none : HaveNoFault) where
   judged_same : (x y : List ℕ) (a b : Judged) → x ≡ y → IsJudged x a → IsJudged y b → a ≡ b
   judged_same x y a b same p q = judged_once one none y a b (rw same at p) q
 
-  run_once : (words : List (List ℕ)) (held : FileMap) (left : List ℕ) (s t : Run) → IsRun words held left s → IsRun words held left t → s ≡ t
-  run_once words held left s t x y =
-      let named : x.name ≡ y.name = same_name s.bounds t.bounds x.name y.name s.words t.words (asked words) x.asks y.asks in
-      let bytes : x.bytes ≡ y.bytes = same_bytes held x.name y.name x.bytes y.bytes named x.there y.there in
-      let judged : ◌≡◌ {A = Judged} (Ok s.tables) (Ok t.tables) = judged_same x.bytes y.bytes (Ok s.tables) (Ok t.tables) bytes x.judged y.judged in
-      same_run s t (same_ok s.tables t.tables judged) (same_arguments s.bounds t.bounds x.name y.name s.words t.words (asked words) x.asks y.asks)
-      (same_bounds s.bounds t.bounds x.name y.name s.words t.words (asked words) x.asks y.asks) (x.input ∙ sym y.input)
+  module _ (words : List (List ℕ)) (held : FileMap) (left : List ℕ) where
+    same_tables : (s t : Tables) (a b : Launch) → IsRun words held left s a → IsRun words held left t b → s ≡ t
+    same_tables s t a b x y =
+        let named : x.name ≡ y.name = same_name a.bounds b.bounds x.name y.name a.words b.words (asked words) x.asks y.asks in
+        let bytes : x.bytes ≡ y.bytes = same_bytes held x.name y.name x.bytes y.bytes named x.there y.there in
+        same_ok s t (judged_same x.bytes y.bytes (Ok s) (Ok t) bytes x.judged y.judged)
 
-  observed_once : (words : List (List ℕ)) (held : FileMap) (left : List ℕ) (s t : Run) (a b : Observed) → IsRun words held left s → IsRun words held left t → Observes s a → Observes t b → a ≡ b
-  observed_once words held left s t a b x y p q = let same : s ≡ t = run_once words held left s t x y in one_observation t a b (rw same at p) q
+    launched_once : (s t : Tables) (a b : Launch) → IsRun words held left s a → IsRun words held left t b → a ≡ b
+    launched_once s t a b x y = same_launch a b (same_arguments a.bounds b.bounds x.name y.name a.words b.words (asked words) x.asks y.asks)
+        (same_bounds a.bounds b.bounds x.name y.name a.words b.words (asked words) x.asks y.asks) (x.input ∙ sym y.input)
 
-  -- an image that is refused is not run
-  refused_run : (words : List (List ℕ)) (held : FileMap) (left : List ℕ) (bounds : Bounds) (name bytes : List ℕ) (arguments : List (List ℕ)) (rule : Rule) (run : Run)
-      → asked words ≡ Asks bounds name arguments → held name ≡ Some bytes → IsJudged bytes (Err rule) → IsRun words held left run → ⊥
-  refused_run words held left bounds name bytes arguments rule run e f is x =
-      let named : name ≡ x.name = same_name bounds run.bounds name x.name arguments run.words (asked words) e x.asks in
-      ok_err run.tables rule (judged_same x.bytes bytes (Ok run.tables) (Err rule) (sym (same_bytes held name x.name bytes x.bytes named f x.there)) x.judged is)
+    observed_once : (s t : Tables) (a b : Launch) (p q : Observed) → IsRun words held left s a → IsRun words held left t b → Runs s a p → Runs t b q → p ≡ q
+    observed_once s t a b p q x y = seen_once s t a b p q (same_tables s t a b x y) (launched_once s t a b x y)
 
-  missing_run : (words : List (List ℕ)) (held : FileMap) (left : List ℕ) (bounds : Bounds) (name : List ℕ) (arguments : List (List ℕ)) (run : Run)
-      → asked words ≡ Asks bounds name arguments → held name ≡ None → IsRun words held left run → ⊥
-  missing_run words held left bounds name arguments run e f x =
-      some_none held x.name name x.bytes (same_name run.bounds bounds x.name name run.words arguments (asked words) x.asks e) x.there f
+    -- an image that is refused is not run
+    refused_run : (bounds : Bounds) (name bytes : List ℕ) (arguments : List (List ℕ)) (rule : Rule) (tables : Tables) (launch : Launch)
+        → asked words ≡ Asks bounds name arguments → held name ≡ Some bytes → IsJudged bytes (Err rule) → IsRun words held left tables launch → ⊥
+    refused_run bounds name bytes arguments rule tables launch e f is x =
+        let named : name ≡ x.name = same_name bounds launch.bounds name x.name arguments launch.words (asked words) e x.asks in
+        ok_err tables rule (judged_same x.bytes bytes (Ok tables) (Err rule) (sym (same_bytes held name x.name bytes x.bytes named f x.there)) x.judged is)
+
+    missing_run : (bounds : Bounds) (name : List ℕ) (arguments : List (List ℕ)) (tables : Tables) (launch : Launch)
+        → asked words ≡ Asks bounds name arguments → held name ≡ None → IsRun words held left tables launch → ⊥
+    missing_run bounds name arguments tables launch e f x =
+        some_none held x.name name x.bytes (same_name launch.bounds bounds x.name name launch.words arguments (asked words) x.asks e) x.there f
 
   pub one_job : (words : List (List ℕ)) (files : FileMap) (left : List ℕ) (a b : Job) → IsJob words files left a → IsJob words files left b → a ≡ b
   one_job words files left _ _ (wrong_words k e) (wrong_words j f) = ap (λ n. refusal files left [] (Command n)) (same_kind k j (asked words) e f)
   one_job words files left _ b (wrong_words k e) (missing c n x f _) = absurd (asks_faulty c n x k (asked words) f e)
   one_job words files left _ b (wrong_words k e) (bad c n _ x _ f _ _) = absurd (asks_faulty c n x k (asked words) f e)
-  one_job words files left _ b (wrong_words k e) (ran run _ is _) = absurd (asks_faulty run.bounds is.name run.words k (asked words) is.asks e)
+  one_job words files left _ b (wrong_words k e) (ran _ launch _ is _) = absurd (asks_faulty launch.bounds is.name launch.words k (asked words) is.asks e)
   one_job words files left a _ (missing c n x f _) (wrong_words k e) = absurd (asks_faulty c n x k (asked words) f e)
   one_job words files left a _ (bad c n _ x _ f _ _) (wrong_words k e) = absurd (asks_faulty c n x k (asked words) f e)
-  one_job words files left a _ (ran run _ is _) (wrong_words k e) = absurd (asks_faulty run.bounds is.name run.words k (asked words) is.asks e)
+  one_job words files left a _ (ran _ launch _ is _) (wrong_words k e) = absurd (asks_faulty launch.bounds is.name launch.words k (asked words) is.asks e)
   one_job words files left _ _ (missing b n x e _) (missing c m y f _) = ap (λ name. refusal files left name (Missing name)) (same_name b c n m x y (asked words) e f)
   one_job words files left _ d (missing b n x e h) (bad c m z y _ f g _) = absurd (some_none files m n z (same_name c b m n y x (asked words) f e) g h)
   one_job words files left d _ (bad c m z y _ f g _) (missing b n x e h) = absurd (some_none files m n z (same_name c b m n y x (asked words) f e) g h)
-  one_job words files left _ d (missing b n x e h) (ran run _ is _) = absurd (missing_run words files left b n x run e h is)
-  one_job words files left d _ (ran run _ is _) (missing b n x e h) = absurd (missing_run words files left b n x run e h is)
+  one_job words files left _ d (missing b n x e h) (ran t launch _ is _) = absurd (missing_run words files left b n x t launch e h is)
+  one_job words files left d _ (ran t launch _ is _) (missing b n x e h) = absurd (missing_run words files left b n x t launch e h is)
   one_job words files left _ _ (bad b n u x r e g p) (bad c m v y q f h s) =
       let named : n ≡ m = same_name b c n m x y (asked words) e f in
       let rules : r ≡ q = same_err r q (judged_same u v (Err r) (Err q) (same_bytes files n m u v named g h) p s) in
       ap (λ name. refusal files left name (BadImage r)) named ∙ ap (λ rule. refusal files left m (BadImage rule)) rules
-  one_job words files left _ d (bad b n u x r e g p) (ran run _ is _) = absurd (refused_run words files left b n u x r run e g p is)
-  one_job words files left d _ (ran run _ is _) (bad b n u x r e g p) = absurd (refused_run words files left b n u x r run e g p is)
-  one_job words files left _ _ (ran s a x p) (ran t b y q) = ap (λ observed. observation files observed) (observed_once words files left s t a b x y p q)
+  one_job words files left _ d (bad b n u x r e g p) (ran t launch _ is _) = absurd (refused_run words files left b n u x r t launch e g p is)
+  one_job words files left d _ (ran t launch _ is _) (bad b n u x r e g p) = absurd (refused_run words files left b n u x r t launch e g p is)
+  one_job words files left _ _ (ran s a v x p) (ran t b w y q) = ap (λ observed. observation files observed) (observed_once words files left s t a b v w x y p q)
 
 -- no job answers a fault
 pub no_fault_asked : (words : List (List ℕ)) (files : FileMap) (left : List ℕ) (job : Job) → IsJob words files left job → IsFault job.answer → ⊥
 no_fault_asked words files left _ (wrong_words k e) f = true_false true refl (sym f)
 no_fault_asked words files left _ (missing b n x e h) f = true_false true refl (sym f)
 no_fault_asked words files left _ (bad b n u x r e g p) f = true_false true refl (sym f)
-no_fault_asked words files left _ (ran run observed is p) f = true_false true refl (sym f)
+no_fault_asked words files left _ (ran tables launch observed is p) f = true_false true refl (sym f)

@@ -1,21 +1,22 @@
--- Words, files and input ask for a job: bytes are read or break a rule, code is sound or broken, and each run of built code ends.
-use Rattle.std.proofs.Common.{◌≡◌, ℕ, ◌+◌, ◌≤◌, ◌<◌, ◌⊎◌, inl, inr, All, List, [], length, Bool, true, false, Option, None, Some, Result, Ok, Err, refl, arith}
+-- Words, files and input ask for a job: bytes are read or break a rule, code is sound or broken, and each run of sound code ends.
+use Rattle.std.proofs.Common.{◌≡◌, ℕ, ◌≤◌, ◌<◌, ◌⊎◌, inl, inr, All, List, [], length, true, Option, None, Some, Result, Ok, Err, refl}
 use Rattle.std.proofs.lemmas.Bool.{cases_lt}
 use Rattle.icn_host.specs.FileMaps.{FileMap}
 use Rattle.icn_tree.specs.declared.rule.Rule.{Rule}
-use Rattle.icn_tree.specs.declared.rule.Rule.TheVariants.{I6, S4}
+use Rattle.icn_tree.specs.declared.rule.Rule.TheVariants.{I6}
 use Rattle.icn_value.specs.Limited.{Bounds}
 use Rattle.icn_code.specs.Codes.{Tables}
 use Rattle.icn_code.specs.Rules.{keeps_rules}
 use Rattle.icn_image.specs.Reading.{image_read}
 use Rattle.icn_image.specs.Spelling.{image_of}
-use Rattle.icn_verify.specs.Faults.{IsFirstFault, IsVerified}
-use Rattle.icn_verify.specs.Given.{HaveShapes}
-use Rattle.icn_verify.specs.Laws.{IsSoundOrBroken, AreSoundOrBroken, GiveShapes}
-use Rattle.icn_run.specs.Built.{is_built}
-use Rattle.icn_run.specs.CodeRun.{Run, Observed, Observes, EndsOrSticks, IsNeverStuck}
-use Rattle.icn_engine.specs.declared.answer.Answer.TheVariants.{Command, Missing, BadImage}
-use Rattle.iconx_top.specs.Images.{IsJudged, too_long, broken, unverified, unbuilt, runs}
+use Rattle.icn_verify.specs.Faults.{IsVerified}
+use Rattle.icn_verify.specs.Laws.{IsSoundOrBroken, AreSoundOrBroken}
+use Rattle.icn_value.specs.Store.{outside_of}
+use Rattle.icn_defs.specs.Running.{Launch, Observed}
+use Rattle.icn_run.specs.FlatStep.{Runs}
+use Rattle.icn_run_safe.specs.Ended.{AreOver}
+use Rattle.icn_lines.specs.declared.answer.Answer.TheVariants.{Command, Missing, BadImage}
+use Rattle.iconx_top.specs.Images.{IsJudged, too_long, broken, unverified, runs}
 use Rattle.iconx_top.specs.Job.{Job, IsJob, IsRun, HoldBytes, wrong_words, missing, bad, ran, refusal, observation}
 use Rattle.iconx_top.specs.Words.{Reading, Asks, Faulty, asked}
 
@@ -23,23 +24,16 @@ use Rattle.iconx_top.specs.Words.{Reading, Asks, Faulty, asked}
 record Laws : Type 0 where
   spelled : (bytes : List ℕ) (tables : Tables) → All (λ byte. byte < 256) bytes → image_read bytes ≡ Ok tables → (keeps_rules tables ≡ true) × (bytes ≡ image_of tables)
   judged : AreSoundOrBroken
-  shapes : GiveShapes
-  ends : (run : Run) → EndsOrSticks run
-  free : (run : Run) → keeps_rules run.tables ≡ true → is_built run.tables ≡ true → HaveShapes run.tables → IsNeverStuck run
+  ends : (tables : Tables) → keeps_rules tables ≡ true → IsVerified tables → AreOver tables
 
 -- what bytes come to, with what the run of a code needs
 data Judges (bytes : List ℕ) : Type 0 where
   refuses : (rule : Rule) → IsJudged bytes (Err rule) → Judges bytes
-  runs_as : (tables : Tables) → IsJudged bytes (Ok tables) → keeps_rules tables ≡ true → is_built tables ≡ true → IsVerified tables → Judges bytes
+  runs_as : (tables : Tables) → IsJudged bytes (Ok tables) → keeps_rules tables ≡ true → IsVerified tables → Judges bytes
 
 module _ (laws : Laws) where
-  built_or_not : (bytes : List ℕ) (tables : Tables) → length bytes ≤ 1073741824 → image_read bytes ≡ Ok tables → keeps_rules tables ≡ true → IsVerified tables
-      → (test : Bool) → is_built tables ≡ test → Judges bytes
-  built_or_not bytes tables few read kept sound true is = runs_as tables (runs tables few read sound is) kept is sound
-  built_or_not bytes tables few read kept sound false is = refuses S4 (unbuilt tables few read sound is)
-
   sound_or_not : (bytes : List ℕ) (tables : Tables) → length bytes ≤ 1073741824 → image_read bytes ≡ Ok tables → keeps_rules tables ≡ true → IsSoundOrBroken tables.procs → Judges bytes
-  sound_or_not bytes tables few read kept (inl sound) = built_or_not bytes tables few read kept sound (is_built tables) refl
+  sound_or_not bytes tables few read kept (inl sound) = runs_as tables (runs tables few read sound) kept sound
   sound_or_not bytes tables few read kept (inr fault) = refuses fault.0 (unverified tables fault.0 fault.1 fault.2 few read fault.3)
 
   read_or_not : (bytes : List ℕ) → All (λ byte. byte < 256) bytes → length bytes ≤ 1073741824 → (found : Result Tables Rule) → image_read bytes ≡ found → Judges bytes
@@ -55,21 +49,16 @@ module _ (laws : Laws) where
   judges : (bytes : List ℕ) → All (λ byte. byte < 256) bytes → Judges bytes
   judges bytes all = short_or_not bytes all (cases_lt 1073741824 (length bytes))
 
-  -- a run that never lacks anything ends
-  ended : (run : Run) → IsNeverStuck run → EndsOrSticks run → (observed : Observed) × Observes run observed
-  ended run free (inl seen) = seen
-  ended run free (inr stuck) = absurd (free stuck.0 stuck.1)
-
   module _ (words : List (List ℕ)) (files : FileMap) (left : List ℕ) (hold : HoldBytes files) where
-    observed_job : (run : Run) → IsRun words files left run → (observed : Observed) × Observes run observed → (job : Job) × IsJob words files left job
-    observed_job run is seen = (observation files seen.0, ran run seen.0 is seen.1)
+    observed_job : (tables : Tables) (launch : Launch) → IsRun words files left tables launch → (seen : Observed) × Runs tables launch seen → (job : Job) × IsJob words files left job
+    observed_job tables launch is seen = (observation files seen.0, ran tables launch seen.0 is seen.1)
 
     judged_job : (bounds : Bounds) (name bytes : List ℕ) (arguments : List (List ℕ)) → asked words ≡ Asks bounds name arguments → files name ≡ Some bytes → Judges bytes → (job : Job) × IsJob words files left job
     judged_job bounds name bytes arguments asks there (refuses rule is) = (refusal files left name (BadImage rule), bad bounds name bytes arguments rule asks there is)
-    judged_job bounds name bytes arguments asks there (runs_as tables is kept built sound) =
-        let run : Run = record { tables = tables; words = arguments; bounds = bounds; left = left } in
-        let named : IsRun words files left run = record { name = name; bytes = bytes; asks = asks; there = there; judged = is; input = refl } in
-        observed_job run named (ended run (laws.free run kept built (laws.shapes tables kept sound)) (laws.ends run))
+    judged_job bounds name bytes arguments asks there (runs_as tables is kept sound) =
+        let launch : Launch = record { words = arguments; bounds = bounds; outside = outside_of left } in
+        let named : IsRun words files left tables launch = record { name = name; bytes = bytes; asks = asks; there = there; judged = is; input = refl } in
+        observed_job tables launch named ((laws.ends tables kept sound).flat launch)
 
     named_job : (bounds : Bounds) (name : List ℕ) (arguments : List (List ℕ)) → asked words ≡ Asks bounds name arguments → (found : Option (List ℕ)) → files name ≡ found → (job : Job) × IsJob words files left job
     named_job bounds name arguments asks None there = (refusal files left name (Missing name), missing bounds name arguments asks there)
@@ -83,7 +72,6 @@ module _ (laws : Laws) where
     some_job = asked_job (asked words) refl
 
 pub a_job : ((bytes : List ℕ) (tables : Tables) → All (λ byte. byte < 256) bytes → image_read bytes ≡ Ok tables → (keeps_rules tables ≡ true) × (bytes ≡ image_of tables))
-    → AreSoundOrBroken → GiveShapes → ((run : Run) → EndsOrSticks run)
-    → ((run : Run) → keeps_rules run.tables ≡ true → is_built run.tables ≡ true → HaveShapes run.tables → IsNeverStuck run)
+    → AreSoundOrBroken → ((tables : Tables) → keeps_rules tables ≡ true → IsVerified tables → AreOver tables)
     → (words : List (List ℕ)) (files : FileMap) (left : List ℕ) → HoldBytes files → (job : Job) × IsJob words files left job
-a_job spelled judged shapes ends free words files left hold = some_job (record { spelled = spelled; judged = judged; shapes = shapes; ends = ends; free = free }) words files left hold
+a_job spelled judged ends words files left hold = some_job (record { spelled = spelled; judged = judged; ends = ends }) words files left hold

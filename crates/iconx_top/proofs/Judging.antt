@@ -1,5 +1,5 @@
 -- What bytes that were read come to.
-use Rattle.std.proofs.Common.{◌≡◌, inl, inr, ℕ, ◌≤◌, ◌<◌, List, [], length, Option, None, Some, IfSome, IfErr, IsErrOf, Result, Ok, Err, refl, sym, ap, ◌∙◌, arith}
+use Rattle.std.proofs.Common.{◌≡◌, ℕ, ◌≤◌, ◌<◌, List, [], length, Option, None, Some, IfSome, IfErr, IsErrOf, Result, Ok, Err, refl, sym, ap, ◌∙◌, arith}
 use Rattle.std.proofs.lemmas.List.{length-take, take_all}
 use Rattle.icn_host.specs.FileMaps.{FileMap, Reads}
 use Rattle.icn_tree.specs.declared.rule.Rule.TheVariants.{I6}
@@ -9,9 +9,9 @@ use Rattle.icn_image.specs.Readers.{Fails}
 use Rattle.icn_image.specs.declared.fault.ImageFault.{ImageFault}
 use Rattle.icn_image.specs.declared.fault.ImageFault.TheVariants.{Broken, NoMemory as WantsMemory}
 use Rattle.icn_verify.specs.declared.verified.Verified.{Verified}
-use Rattle.icn_engine.specs.declared.answer.Answer.{Answer}
-use Rattle.icn_engine.specs.declared.answer.Answer.TheVariants.{Missing, BadImage, FileFault, NoMemory}
-use Rattle.iconx_top.specs.Images.{IsJudged, too_long, broken, unverified, unbuilt, runs}
+use Rattle.icn_lines.specs.declared.answer.Answer.{Answer}
+use Rattle.icn_lines.specs.declared.answer.Answer.TheVariants.{Missing, BadImage, FileFault, NoMemory}
+use Rattle.iconx_top.specs.Images.{IsJudged, too_long, broken, unverified, runs}
 use Rattle.iconx_top.specs.Loading.{IsChecked, IsJudgement, IsLoaded, IsOfImage, IsOfLoading, IsErrOfAbsence, Takes, of_image}
 
 pub too_many : (bytes all : List ℕ) → 1073741824 < length bytes → Takes bytes all → IsJudged all (Err I6)
@@ -24,9 +24,8 @@ whole : (bytes all : List ℕ) → length bytes ≤ 1073741824 → Takes bytes a
 whole bytes all within t = let few : length all ≤ 1073741825 = omega (arith, short bytes all within t) in t ∙ take_all 1073741825 all few
 
 checked_judged : (all : List ℕ) (tables : Tables) (result : Result Verified Answer) → length all ≤ 1073741824 → image_read all ≡ Ok tables → IsChecked tables result → IsJudgement all result
-checked_judged all tables (Ok verified) few read is = rw is.0 (runs tables few read is.1.0 is.1.1)
-checked_judged all tables (Err (BadImage rule)) few read (inl is) = unverified tables rule is.0 is.1.0 few read is.1.1
-checked_judged all tables (Err (BadImage rule)) few read (inr is) = rw is.0 (unbuilt tables few read is.1.0 is.1.1)
+checked_judged all tables (Ok verified) few read is = rw is.0 (runs tables few read is.1)
+checked_judged all tables (Err (BadImage rule)) few read is = unverified tables rule is.0 is.1.0 few read is.1.1
 checked_judged all tables (Err NoMemory) few read is = tt
 checked_judged all tables (Err _) few read is = is
 

@@ -5,9 +5,9 @@ use Rattle.icn_tree.specs.declared.rule.Rule.{Rule}
 use Rattle.icn_value.specs.Limited.{Bounds}
 use Rattle.icn_code.specs.Codes.{Tables}
 use Rattle.icn_run.specs.declared.ending.Ending.{Ending}
-use Rattle.icn_engine.specs.declared.answer.Answer.{Answer}
-use Rattle.icn_engine.specs.declared.answer.Answer.TheVariants.{Ran, Command, Missing, BadImage}
-use Rattle.icn_engine.specs.Answers.{IsFault}
+use Rattle.icn_lines.specs.declared.answer.Answer.{Answer}
+use Rattle.icn_lines.specs.declared.answer.Answer.TheVariants.{Ran, Command, Missing, BadImage}
+use Rattle.icn_lines.specs.Answers.{IsFault}
 use Rattle.iconx_top.specs.Images.{IsJudged}
 use Rattle.iconx_top.specs.Words.{Asks, Faulty, asked}
 
@@ -15,8 +15,9 @@ use Rattle.iconx_top.specs.Words.{Asks, Faulty, asked}
 pub data IsAnswered (words : List (List ℕ)) (files : FileMap) : Answer → Type 0 where
   fault : (answer : Answer) → IsFault answer → IsAnswered words files answer
   wrong_words : (kind : ℕ) → asked words ≡ Faulty kind → IsAnswered words files (Command kind)
-  missing : (bounds : Bounds) (name : List ℕ) (arguments : List (List ℕ)) → asked words ≡ Asks bounds name arguments → files name ≡ None → IsAnswered words files (Missing name)
-  bad : (bounds : Bounds) (name bytes : List ℕ) (arguments : List (List ℕ)) (rule : Rule) → asked words ≡ Asks bounds name arguments → files name ≡ Some bytes → IsJudged bytes (Err rule)
-      → IsAnswered words files (BadImage rule)
-  ran : (bounds : Bounds) (name bytes : List ℕ) (arguments : List (List ℕ)) (tables : Tables) (ending : Ending) → asked words ≡ Asks bounds name arguments → files name ≡ Some bytes → IsJudged bytes (Ok tables)
-      → IsAnswered words files (Ran ending)
+  missing : (bounds : Bounds) (name : List ℕ) (arguments : List (List ℕ)) → asked words ≡ Asks bounds name arguments → files name ≡ None
+      → IsAnswered words files (Missing name)
+  bad : (bounds : Bounds) (name bytes : List ℕ) (arguments : List (List ℕ)) (rule : Rule) → asked words ≡ Asks bounds name arguments
+      → files name ≡ Some bytes → IsJudged bytes (Err rule) → IsAnswered words files (BadImage rule)
+  ran : (bounds : Bounds) (name bytes : List ℕ) (arguments : List (List ℕ)) (tables : Tables) (ending : Ending)
+      → asked words ≡ Asks bounds name arguments → files name ≡ Some bytes → IsJudged bytes (Ok tables) → IsAnswered words files (Ran ending)

@@ -1,8 +1,8 @@
 -- Which answers say that the words are faulty.
 use Rattle.std.specs.Prelude.{◌≡◌, ◌⊎◌}
-use Rattle.icn_engine.specs.declared.answer.Answer.{Answer}
-use Rattle.icn_engine.specs.declared.answer.Answer.TheVariants.{Command}
-use Rattle.icn_engine.specs.Answers.{IsFault}
+use Rattle.icn_lines.specs.declared.answer.Answer.{Answer}
+use Rattle.icn_lines.specs.declared.answer.Answer.TheVariants.{Command}
+use Rattle.icn_lines.specs.Answers.{IsFault}
 use Rattle.iconx_top.specs.Words.{Reading, Asks, Faulty}
 
 abbrev pub IsCommand : Answer → Type 0

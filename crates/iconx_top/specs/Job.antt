@@ -3,11 +3,15 @@ use Rattle.std.specs.Prelude.{◌≡◌, ◌<◌, ℕ, All, List, [], None, Some
 use Rattle.icn_host.specs.FileMaps.{FileMap}
 use Rattle.icn_tree.specs.declared.rule.Rule.{Rule}
 use Rattle.icn_value.specs.Limited.{Bounds}
-use Rattle.icn_run.specs.CodeRun.{Run, Observed, Observes}
-use Rattle.icn_engine.specs.declared.answer.Answer.{Answer}
-use Rattle.icn_engine.specs.declared.answer.Answer.TheVariants.{Ran, Command, Missing, BadImage}
-use Rattle.iconx_top.specs.Images.{IsJudged}
+use Rattle.icn_value.specs.Store.{outside_of}
+use Rattle.icn_defs.specs.Running.{Launch, Observed}
+use Rattle.icn_code.specs.Codes.{Tables}
+use Rattle.icn_run.specs.FlatStep.{Runs}
+use Rattle.icn_lines.specs.declared.answer.Answer.{Answer}
+use Rattle.icn_lines.specs.declared.answer.Answer.TheVariants.{Ran, Command, Missing, BadImage}
+use Rattle.icn_lines.specs.Endings.{ending_held}
 use Rattle.icn_lines.specs.Lines.{line_of}
+use Rattle.iconx_top.specs.Images.{IsJudged}
 use Rattle.iconx_top.specs.Usage.{usage}
 use Rattle.iconx_top.specs.Words.{Asks, Faulty, asked}
 
@@ -25,24 +29,32 @@ refusal files left name answer = record { answer = answer; files = files; left =
 
 -- a run was observed
 abbrev pub observation : FileMap → Observed → Job
-observation files observed = record { answer = Ran observed.ending; files = files; left = observed.outside.left; output = observed.outside.output; errors = observed.outside.errors }
+observation files observed = record {
+  answer = Ran (ending_held observed.ending);
+  files = files;
+  left = observed.outside.left;
+  output = observed.outside.output;
+  errors = observed.outside.errors;
+}
 
--- the run of the image that the words name
-pub record IsRun (words : List (List ℕ)) (files : FileMap) (left : List ℕ) (run : Run) : Type 0 where
+-- the code of the image that the words name, and what its run is begun with
+pub record IsRun (words : List (List ℕ)) (files : FileMap) (left : List ℕ) (tables : Tables) (launch : Launch) : Type 0 where
   pub name : List ℕ
   pub bytes : List ℕ
-  pub asks : asked words ≡ Asks run.bounds name run.words
+  pub asks : asked words ≡ Asks launch.bounds name launch.words
   pub there : files name ≡ Some bytes
-  pub judged : IsJudged bytes (Ok run.tables)
-  pub input : run.left ≡ left
+  pub judged : IsJudged bytes (Ok tables)
+  pub input : launch.outside ≡ outside_of left
 
 -- what the words, the files and the input ask for
 pub data IsJob (words : List (List ℕ)) (files : FileMap) (left : List ℕ) : Job → Type 0 where
   wrong_words : (kind : ℕ) → asked words ≡ Faulty kind → IsJob words files left (refusal files left [] (Command kind))
-  missing : (bounds : Bounds) (name : List ℕ) (arguments : List (List ℕ)) → asked words ≡ Asks bounds name arguments → files name ≡ None → IsJob words files left (refusal files left name (Missing name))
-  bad : (bounds : Bounds) (name bytes : List ℕ) (arguments : List (List ℕ)) (rule : Rule) → asked words ≡ Asks bounds name arguments → files name ≡ Some bytes → IsJudged bytes (Err rule)
-      → IsJob words files left (refusal files left name (BadImage rule))
-  ran : (run : Run) (observed : Observed) → IsRun words files left run → Observes run observed → IsJob words files left (observation files observed)
+  missing : (bounds : Bounds) (name : List ℕ) (arguments : List (List ℕ)) → asked words ≡ Asks bounds name arguments → files name ≡ None
+      → IsJob words files left (refusal files left name (Missing name))
+  bad : (bounds : Bounds) (name bytes : List ℕ) (arguments : List (List ℕ)) (rule : Rule) → asked words ≡ Asks bounds name arguments
+      → files name ≡ Some bytes → IsJudged bytes (Err rule) → IsJob words files left (refusal files left name (BadImage rule))
+  ran : (tables : Tables) (launch : Launch) (observed : Observed) → IsRun words files left tables launch → Runs tables launch observed
+      → IsJob words files left (observation files observed)
 
 -- the files hold bytes
 abbrev pub HoldBytes : FileMap → Type 0

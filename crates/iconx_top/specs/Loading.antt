@@ -1,16 +1,14 @@
 -- How the code tells what it reads.
-use Rattle.std.specs.Prelude.{◌≡◌, ◌⊎◌, ℕ, true, false, List, take, Option, None, Some, Result, Ok, Err}
+use Rattle.std.specs.Prelude.{◌≡◌, ℕ, List, take, Option, None, Some, Result, Ok, Err}
 use Rattle.icn_tree.specs.declared.rule.Rule.{Rule}
-use Rattle.icn_tree.specs.declared.rule.Rule.TheVariants.{S4}
 use Rattle.icn_code.specs.Codes.{Tables}
 use Rattle.icn_code.specs.Seen.{tables_of}
-use Rattle.icn_run.specs.Built.{is_built}
 use Rattle.icn_image.specs.declared.fault.ImageFault.{ImageFault}
 use Rattle.icn_image.specs.declared.fault.ImageFault.TheVariants.{Broken, NoMemory as WantsMemory}
 use Rattle.icn_verify.specs.Faults.{IsFirstFault, IsVerified}
 use Rattle.icn_verify.specs.declared.verified.Verified.{Verified}
-use Rattle.icn_engine.specs.declared.answer.Answer.{Answer}
-use Rattle.icn_engine.specs.declared.answer.Answer.TheVariants.{Missing, BadImage, FileFault, NoMemory}
+use Rattle.icn_lines.specs.declared.answer.Answer.{Answer}
+use Rattle.icn_lines.specs.declared.answer.Answer.TheVariants.{Missing, BadImage, FileFault, NoMemory}
 use Rattle.iconx_top.specs.Images.{IsJudged}
 
 -- the first bytes of a text, up to one more than an image may have
@@ -19,11 +17,11 @@ Takes bytes all = bytes ≡ take 1073741825 all
 
 -- a code is refused by this rule
 abbrev pub IsRefused : Tables → Rule → Type 0
-IsRefused tables rule = ((number : ℕ) × ((place : ℕ) × IsFirstFault tables.procs rule number place)) ⊎ ((rule ≡ S4) × (IsVerified tables × (is_built tables ≡ false)))
+IsRefused tables rule = (number : ℕ) × ((place : ℕ) × IsFirstFault tables.procs rule number place)
 
--- a code is verified and built, or is refused, or memory was wanting
+-- a code is verified, or is refused, or memory was wanting
 abbrev pub IsChecked : Tables → Result Verified Answer → Type 0
-IsChecked tables (Ok verified) = (tables_of verified.code ≡ tables) × (IsVerified tables × (is_built tables ≡ true))
+IsChecked tables (Ok verified) = (tables_of verified.code ≡ tables) × IsVerified tables
 IsChecked tables (Err (BadImage rule)) = IsRefused tables rule
 IsChecked tables (Err NoMemory) = Unit {0}
 IsChecked tables (Err answer) = ⊥

@@ -1,12 +1,11 @@
 // Laws of the job.
 ghost use Rattle.std.specs.Prelude.{◌≡◌, ℕ, List};
 ghost use Rattle.icn_host.specs.FileMaps.{FileMap};
-ghost use Rattle.icn_engine.specs.Answers.{IsFault};
+ghost use Rattle.icn_lines.specs.Answers.{IsFault};
 ghost use Rattle.iconx_top.specs.Job.{HoldBytes, IsJob, Job};
 
-use icn_engine::never_stuck;
 use icn_image::one_spelling;
-use icn_run::runs_end;
+use icn_run_safe::runs_end;
 use icn_verify::one_fault;
 
 /// The words, the files and the input ask for a job, where the files hold bytes, and for one alone, which answers no fault.
@@ -18,5 +17,4 @@ pub fn one_job()
     one_spelling();
     one_fault();
     runs_end();
-    never_stuck();
 }

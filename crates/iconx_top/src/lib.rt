@@ -7,6 +7,7 @@ mod number;
 mod top;
 mod words;
 
-pub use icn_engine::{Answer, Ending};
+pub use icn_lines::Answer;
+pub use icn_run::Ending;
 pub use laws::one_job;
 pub use top::iconx_main;

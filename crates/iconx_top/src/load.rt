@@ -1,14 +1,13 @@
 // The image that is to run.
-ghost use Rattle.std.specs.Prelude.{◌≡◌, ◌⊎◌, ℕ, List, Some, None, IfSome, IfOk, IfErr, IsErrOf, true};
+ghost use Rattle.std.specs.Prelude.{◌≡◌, ◌⊎◌, ℕ, List, Some, None, IfSome, IfErr, IsErrOf};
 ghost use Rattle.icn_host.specs.Counts.{CountsOnce, HasCause};
 ghost use Rattle.icn_code.specs.Seen.{tables_of};
-ghost use Rattle.icn_run.specs.Built.{is_built};
 ghost use Rattle.iconx_top.specs.Loading.{IsChecked, IsErrOfAbsence, IsJudgement, IsLoaded, IsOfImage, IsOfLoading, Takes, of_image};
 
 use icn_code::Code;
-use icn_engine::{Answer, built};
 use icn_host::{Files, Look};
 use icn_image::{ImageFault, read_image};
+use icn_lines::Answer;
 use icn_tree::{Bytes, Rule};
 use icn_verify::{Verified, VerifyFault, verify};
 use std::alloc::Global;
@@ -16,10 +15,9 @@ use std::alloc::Global;
 // The greatest length of an image.
 const LONGEST: u64 = 1073741824;
 
-/// The code of the image of this name, or the answer where it has none that runs.
+/// The code of the image of this name, or the answer where there is none.
 pub fn load<F: Files>(alloc: Global, name: &str, files: &mut F) -> Result<Verified, Answer>
     ensures loaded { IfSome (F.held files.old) (λ held. IsLoaded (held name.now) name.now result) }
-    ensures built { IfOk result (λ verified. is_built (tables_of verified.code) ≡ true) }
     ensures others { IfErr result IsOfLoading }
     ensures files { F.held files.new ≡ F.held files.old }
     ensures file_fault { CountsOnce (F.faults files.old) (F.faults files.new) (IsErrOf result Answer.FileFault) }
@@ -47,7 +45,6 @@ fn missing(alloc: Global, name: &str) -> Answer
 // What the first bytes of an image come to: all of them, or one more than an image may have.
 fn judge(alloc: Global, bytes: &[u8]) -> Result<Verified, Answer>
     ensures judged { (all : List ℕ) → Takes bytes.now all → IsJudgement all result }
-    ensures built { IfOk result (λ verified. is_built (tables_of verified.code) ≡ true) }
     ensures others { IfErr result IsOfImage }
 {
     if bytes.len() as u64 > LONGEST {
@@ -69,15 +66,13 @@ fn fault_answer(fault: ImageFault) -> Answer
     }
 }
 
-// The code, where it is verified and built.
+// The code, where it is verified.
 fn verified(alloc: Global, code: Code) -> Result<Verified, Answer>
     ensures checked { IsChecked (tables_of code) result }
-    ensures built { IfOk result (λ verified. is_built (tables_of verified.code) ≡ true) }
     ensures others { IfErr result IsOfImage }
 {
     match verify(alloc, code) {
-        Ok(verified) if built(verified.code()) => Ok(verified),
-        Ok(_) => Err(Answer::BadImage(Rule::S4)),
+        Ok(verified) => Ok(verified),
         Err(VerifyFault::V { rule, .. }) => Err(Answer::BadImage(rule)),
         Err(VerifyFault::NoMemory) => Err(Answer::NoMemory),
     }

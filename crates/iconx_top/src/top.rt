@@ -1,29 +1,28 @@
 // The top call.
-ghost use Rattle.std.specs.Prelude.{◌≡◌, ◌≢◌, ◌⊎◌, ◌≤◌, ℕ, List, Option, [], Ok, Some, map, string_bytes, IfSome, IsErrOf, true};
+ghost use Rattle.std.specs.Prelude.{◌≡◌, ◌⊎◌, ℕ, List, Option, Ok, Some, map, string_bytes, IfSome};
 ghost use Rattle.icn_host.specs.Counts.{Rose};
 ghost use Rattle.icn_host.specs.FileMaps.{FileMap};
-ghost use Rattle.icn_host.specs.Sinks.{Gains};
-ghost use Rattle.icn_code.specs.Seen.{tables_of};
-ghost use Rattle.icn_run.specs.Built.{is_built};
-ghost use Rattle.icn_engine.specs.Answers.{IsFault, IsRefusal};
+ghost use Rattle.icn_streams.specs.Handed.{handed};
+ghost use Rattle.icn_lines.specs.Answers.{IsFault, IsRefusal};
 ghost use Rattle.iconx_top.specs.Answered.{IsAnswered};
 ghost use Rattle.iconx_top.specs.Asking.{asking};
 ghost use Rattle.iconx_top.specs.Commanded.{IsCommand, IsCommanded};
 ghost use Rattle.icn_lines.specs.Causes.{EndsAtFirst, RunEndsAtFirst, outside};
 ghost use Rattle.icn_lines.specs.Faulting.{IsOfRun};
-ghost use Rattle.icn_lines.specs.Lines.{put_by};
 ghost use Rattle.iconx_top.specs.Loading.{IsAbsence, IsLoaded};
 ghost use Rattle.icn_lines.specs.Telling.{told};
 ghost use Rattle.iconx_top.specs.Outcomes.{Outcome};
-ghost use Rattle.icn_lines.specs.Reporting.{Reports};
+ghost use Rattle.icn_lines.specs.Reporting.{LineStands, Reports};
 ghost use Rattle.iconx_top.specs.Usage.{usage};
 ghost use Rattle.iconx_top.specs.Words.{asked as read, image_name};
 
 use crate::load::load;
 use crate::words::{RunAsked, asked};
-use icn_engine::{Answer, run};
+use icn_cells::VecStack;
+use icn_frames::Cell;
 use icn_host::{Files, Sink, Source};
-use icn_lines::{answer_of, own_line, refuse};
+use icn_lines::{Answer, answer_of, own_line, refuse};
+use icn_running::run;
 use icn_verify::Verified;
 use std::alloc::Global;
 
@@ -42,20 +41,22 @@ pub fn iconx_main<F: Files, I: Source, O: Sink, E: Sink>(
 ) -> Answer
     // Where the files and the input tell their content, the job was done, or a fault is answered and leaves a part of it.
     ensures outcome { IfSome (F.held files.old) (λ held. IfSome (I.left input.old) (λ left. Outcome (map string_bytes words.now) held left result
-        (told (F.held files.old) (I.left input.old) (O.state out.old).held (E.state err.old))
-        (told (F.held files.new) (I.left input.new) (O.state out.new).held (E.state err.new)))) }
+        (told (F.held files.old) (handed (I.left input.old) (I.faults input.old) (O.state out.old) (E.state err.old)))
+        (told (F.held files.new) (handed (I.left input.new) (I.faults input.new) (O.state out.new) (E.state err.new))))) }
     // Where no count of faults rose, no fault is answered but want of memory.
     ensures faultless { ¬ Rose (F.faults files.old) (F.faults files.new) → ¬ Rose (I.faults input.old) (I.faults input.new)
         → ¬ Rose (O.state out.old).faults (O.state out.new).faults → ¬ Rose (E.state err.old).faults (E.state err.new).faults
         → IsFault result → result ≡ Answer.NoMemory }
 
-    // Every other answer's line was put, whatever the files and the input tell.
-    ensures line { IsFault result ⊎ Gains (E.state err.old).held (E.state err.new).held (put_by usage (image_name (read (map string_bytes words.now))) result) }
+    // Every other answer's line was put, whatever the files and the input tell; a run's report, behind what the program itself put,
+    // where the input tells its content.
+    ensures line { IsFault result ⊎ LineStands usage (image_name (read (map string_bytes words.now))) (I.left input.old) result
+        (E.state err.old) (E.state err.new) }
 
-    // A fault's own line was put too, behind what was put of another answer's line: less than the whole of it is there only where
-    // the error output's count of faults, or of its wants of memory, rose in that put.
+    // A fault's own line was put too, behind what was put of another answer's line or by the program: less than the whole of it is
+    // there only where the error output's count of faults, or of its wants of memory, rose in that put.
     ensures fault_line { Reports usage (image_name (read (map string_bytes words.now)))
-        (E.state err.old) (E.state err.new) result }
+        (I.left input.old) (E.state err.old) (E.state err.new) result }
 
     // Where the files tell their content, the answer is the one that the words and the files ask for, or a fault.
     ensures answered { IfSome (F.held files.old) (λ held. IsAnswered (map string_bytes words.now) held result) }
@@ -68,11 +69,11 @@ pub fn iconx_main<F: Files, I: Source, O: Sink, E: Sink>(
     ensures unread { IsRefusal result → I.left input.new ≡ I.left input.old }
     ensures files { F.held files.new ≡ F.held files.old }
 
-    // The first fault ends the call: its object's count rose once, and no other count of faults did but at the put of the fault's
-    // own line. An absence is answered only where that count rose.
+    // The first fault ends the call: its object's count rose once, and no other count did but at the put of the fault's own line. An
+    // absence is answered only where that count rose.
     ensures causes { EndsAtFirst result (IsAbsence result)
-        (outside (F.faults files.old) (F.absences files.old) (I.faults input.old) (O.state out.old) (E.state err.old))
-        (outside (F.faults files.new) (F.absences files.new) (I.faults input.new) (O.state out.new) (E.state err.new)) }
+        (outside (F.faults files.old) (F.absences files.old) (handed (I.left input.old) (I.faults input.old) (O.state out.old) (E.state err.old)))
+        (outside (F.faults files.new) (F.absences files.new) (handed (I.left input.new) (I.faults input.new) (O.state out.new) (E.state err.new))) }
 {
     match asked(words) {
         Ok(asked) => image_answer(alloc, asked, files, input, out, err),
@@ -89,18 +90,19 @@ fn image_answer<F: Files, I: Source, O: Sink, E: Sink>(
     out: &mut O,
     err: &mut E,
 ) -> Answer
-    ensures outcome { (words : List (List ℕ)) → read words ≡ asking run.entry → IfSome (F.held files.old) (λ held. IfSome (I.left input.old) (λ left. Outcome words held left result
-        (told (F.held files.old) (I.left input.old) (O.state out.old).held (E.state err.old))
-        (told (F.held files.new) (I.left input.new) (O.state out.new).held (E.state err.new)))) }
-    ensures reported { Reports usage run.entry.image.now (E.state err.old) (E.state err.new) result }
+    ensures outcome { (words : List (List ℕ)) → read words ≡ asking run.entry
+        → IfSome (F.held files.old) (λ held. IfSome (I.left input.old) (λ left. Outcome words held left result
+        (told (F.held files.old) (handed (I.left input.old) (I.faults input.old) (O.state out.old) (E.state err.old)))
+        (told (F.held files.new) (handed (I.left input.new) (I.faults input.new) (O.state out.new) (E.state err.new))))) }
+    ensures reported { Reports usage run.entry.image.now (I.left input.old) (E.state err.old) (E.state err.new) result }
     ensures answered { (words : List (List ℕ)) → read words ≡ asking run.entry → IfSome (F.held files.old) (λ held. IsAnswered words held result) }
     ensures command { IsCommand result → ⊥ }
     ensures refused { IsRefusal result → (O.state out.new).held ≡ (O.state out.old).held }
     ensures unread { IsRefusal result → I.left input.new ≡ I.left input.old }
     ensures files { F.held files.new ≡ F.held files.old }
     ensures causes { EndsAtFirst result (IsAbsence result)
-        (outside (F.faults files.old) (F.absences files.old) (I.faults input.old) (O.state out.old) (E.state err.old))
-        (outside (F.faults files.new) (F.absences files.new) (I.faults input.new) (O.state out.new) (E.state err.new)) }
+        (outside (F.faults files.old) (F.absences files.old) (handed (I.left input.old) (I.faults input.old) (O.state out.old) (E.state err.old)))
+        (outside (F.faults files.new) (F.absences files.new) (handed (I.left input.new) (I.faults input.new) (O.state out.new) (E.state err.new))) }
 {
     match load(alloc, run.image, files) {
         Ok(verified) => run_answer(alloc, &verified, run, input, out, err),
@@ -117,17 +119,26 @@ fn run_answer<I: Source, O: Sink, E: Sink>(
     out: &mut O,
     err: &mut E,
 ) -> Answer
-    requires built { is_built (tables_of code.now.code) ≡ true }
-    ensures outcome { (words : List (List ℕ)) (held : FileMap) (told_files : Option FileMap) → read words ≡ asking asked.entry → IsLoaded (held asked.entry.image.now) asked.entry.image.now (Ok code.now) → told_files ≡ Some held
+    ensures outcome { (words : List (List ℕ)) (held : FileMap) (told_files : Option FileMap) → read words ≡ asking asked.entry
+        → IsLoaded (held asked.entry.image.now) asked.entry.image.now (Ok code.now) → told_files ≡ Some held
         → IfSome (I.left input.old) (λ left. Outcome words held left result
-        (told told_files (I.left input.old) (O.state out.old).held (E.state err.old))
-        (told told_files (I.left input.new) (O.state out.new).held (E.state err.new))) }
-    ensures reported { (name : List ℕ) → Reports usage name (E.state err.old) (E.state err.new) result }
+        (told told_files (handed (I.left input.old) (I.faults input.old) (O.state out.old) (E.state err.old)))
+        (told told_files (handed (I.left input.new) (I.faults input.new) (O.state out.new) (E.state err.new)))) }
+    ensures reported { (name : List ℕ) → Reports usage name (I.left input.old) (E.state err.old) (E.state err.new) result }
     ensures others { IsOfRun result }
-    ensures causes { RunEndsAtFirst result (I.faults input.old) (I.faults input.new) (O.state out.old) (O.state out.new)
-        (E.state err.old) (E.state err.new) }
+    ensures causes { RunEndsAtFirst result
+        (handed (I.left input.old) (I.faults input.old) (O.state out.old) (E.state err.old))
+        (handed (I.left input.new) (I.faults input.new) (O.state out.new) (E.state err.new)) }
 {
-    match run(alloc, code, asked.arguments, asked.limits, input, out, err) {
+    match run::<VecStack<Cell>, I, O, E>(
+        alloc,
+        code,
+        asked.arguments,
+        asked.limits,
+        input,
+        out,
+        err,
+    ) {
         Ok(ending) => Answer::Ran(ending),
         Err(fault) => {
             let answer = answer_of(fault);

@@ -1,9 +1,9 @@
 use Rattle.std.proofs.Common.{[], refl, sym, inr}
-use Rattle.icn_engine.specs.declared.answer.Answer.TheVariants.{Command}
+use Rattle.icn_lines.specs.declared.answer.Answer.TheVariants.{Command}
 use Rattle.iconx_top.specs.Job.{wrong_words}
 use Rattle.iconx_top.specs.Answered.{wrong_words as by_words}
 use Rattle.iconx_top.proofs.Answering.{answer_put}
-use Rattle.iconx_top.proofs.Refused.{command_ends, if_some, refused}
+use Rattle.iconx_top.proofs.Refused.{command_ends, command_unrun, if_some, refused}
 use Rattle.icn_lines.proofs.Counted.{faultless_of}
 use Rattle.icn_lines.proofs.Reports.{line_of_reports, reports_of}
 use Rattle.iconx_top.proofs.Reported.{asked_reports}
@@ -12,7 +12,7 @@ use Rattle.iconx_top.proofs.top.iconx_main.Goals as goal
 pub returns-in-Err-clause-outcome : goal.returns-in-Err-clause-outcome
 returns-in-Err-clause-outcome g c =
     if_some (g.F.Files.held c.args.files.now) _ (λ held e. if_some (g.I.Source.left c.args.input.now) _ (λ left d.
-    refused [] (Command c.in-Err.kind) c.refuse.result _ _ _ _ _ _ (inr (wrong_words c.in-Err.kind (sym c.in-Err.ensures))) refl e d c.refuse.ensures.line))
+    refused [] (Command c.in-Err.kind) c.refuse.result _ _ _ _ _ _ _ (inr (wrong_words c.in-Err.kind (sym c.in-Err.ensures))) refl e d c.refuse.ensures.line))
 
 pub returns-in-Ok-clause-line : goal.returns-in-Ok-clause-line
 returns-in-Ok-clause-line g c = line_of_reports (asked_reports _ _ c.in-Ok.ensures c.image_answer.ensures.reported)
@@ -21,20 +21,20 @@ pub returns-in-Ok-clause-fault_line : goal.returns-in-Ok-clause-fault_line
 returns-in-Ok-clause-fault_line g c = asked_reports _ _ c.in-Ok.ensures c.image_answer.ensures.reported
 
 pub returns-in-Err-clause-line : goal.returns-in-Err-clause-line
-returns-in-Err-clause-line g c = line_of_reports (asked_reports _ _ c.in-Err.ensures (reports_of refl c.refuse.ensures.line))
+returns-in-Err-clause-line g c = line_of_reports (asked_reports _ _ c.in-Err.ensures (reports_of (command_unrun c.in-Err.kind) c.refuse.ensures.line))
 
 pub returns-in-Err-clause-fault_line : goal.returns-in-Err-clause-fault_line
-returns-in-Err-clause-fault_line g c = asked_reports _ _ c.in-Err.ensures (reports_of refl c.refuse.ensures.line)
+returns-in-Err-clause-fault_line g c = asked_reports _ _ c.in-Err.ensures (reports_of (command_unrun c.in-Err.kind) c.refuse.ensures.line)
 
 pub returns-in-Err-clause-answered : goal.returns-in-Err-clause-answered
 returns-in-Err-clause-answered g c =
     if_some (g.F.Files.held c.args.files.now) _ (λ held e. answer_put (Command c.in-Err.kind) c.refuse.result (by_words c.in-Err.kind (sym c.in-Err.ensures)) c.refuse.ensures.line)
 
 pub returns-in-Err-clause-causes : goal.returns-in-Err-clause-causes
-returns-in-Err-clause-causes g c = command_ends c.in-Err.kind c.refuse.result c.refuse.ensures.line c.refuse.ensures.faults c.refuse.ensures.wants
+returns-in-Err-clause-causes g c = command_ends c.in-Err.kind c.refuse.result c.refuse.ensures.line
 
 pub returns-in-Err-clause-faultless : goal.returns-in-Err-clause-faultless
-returns-in-Err-clause-faultless g c = faultless_of c.refuse.result (command_ends {absences = 0} {out = g.O.Sink.state c.args.out.now} c.in-Err.kind c.refuse.result c.refuse.ensures.line c.refuse.ensures.faults c.refuse.ensures.wants)
+returns-in-Err-clause-faultless g c = faultless_of c.refuse.result (command_ends {absences = 0} {left = g.I.Source.left c.args.input.now} {out = g.O.Sink.state c.args.out.now} c.in-Err.kind c.refuse.result c.refuse.ensures.line)
 
 pub returns-in-Ok-clause-faultless : goal.returns-in-Ok-clause-faultless
 returns-in-Ok-clause-faultless g c = faultless_of c.image_answer.result c.image_answer.ensures.causes

@@ -3,16 +3,16 @@ use Rattle.std.specs.Prelude.{string_bytes}
 use Rattle.icn_value.specs.Limited.{limits_of}
 use Rattle.iconx_top.proofs.Answering.{answer_put, load_answered, run_answered}
 use Rattle.iconx_top.proofs.Refused.{absence_of, asked_load, at_some, held_as, if_some, load_no_read, load_no_write, refused, run_no_absence, run_no_file}
-use Rattle.icn_engine.specs.declared.answer.Answer.TheVariants.{FileFault}
+use Rattle.icn_lines.specs.declared.answer.Answer.TheVariants.{FileFault}
 use Rattle.icn_lines.proofs.Counted.{err_counts, refused_ends}
 use Rattle.icn_lines.proofs.Reports.{reports_of}
-use Rattle.iconx_top.proofs.Reported.{line_put}
+use Rattle.iconx_top.proofs.Reported.{load_unrun}
 use Rattle.iconx_top.proofs.top.image_answer.Goals as goal
 
 pub returns-in-Err-clause-outcome : goal.returns-in-Err-clause-outcome
 returns-in-Err-clause-outcome g c words asks =
     if_some (g.F.Files.held c.args.files.now) _ (λ held e. if_some (g.I.Source.left c.args.input.now) _ (λ left d.
-    refused c.args.run.image.now c.in-Err.answer c.refuse.result _ _ _ _ _ _
+    refused c.args.run.image.now c.in-Err.answer c.refuse.result _ _ _ _ _ _ _
     (asked_load (limits_of c.args.run.limits) c.args.run.image.now (map string_bytes c.args.run.arguments.now) c.in-Err.answer asks (at_some _ (g.F.Files.held c.args.files.now) held e c.in-Err.ensures.loaded)) c.in-Err.ensures.files e d c.refuse.ensures.line))
 
 pub returns-in-Ok-clause-outcome : goal.returns-in-Ok-clause-outcome
@@ -23,7 +23,7 @@ returns-in-Ok-clause-outcome g c words asks =
     (c.run_answer.ensures.outcome words held (g.F.Files.held c.args.files.now) asks (at_some _ (g.F.Files.held c.args.files.now) held e c.in-Ok.ensures.loaded) e))))
 
 pub returns-in-Err-clause-reported : goal.returns-in-Err-clause-reported
-returns-in-Err-clause-reported g c = reports_of (line_put _ c.in-Err.answer c.in-Err.ensures.others) c.refuse.ensures.line
+returns-in-Err-clause-reported g c = reports_of (load_unrun c.in-Err.answer c.in-Err.ensures.others) c.refuse.ensures.line
 
 pub returns-in-Ok-clause-reported : goal.returns-in-Ok-clause-reported
 returns-in-Ok-clause-reported g c = c.run_answer.ensures.reported c.args.run.image.now
@@ -52,4 +52,4 @@ returns-in-Ok-clause-causes g c = record {
 pub returns-in-Err-clause-causes : goal.returns-in-Err-clause-causes
 returns-in-Err-clause-causes g c =
     refused_ends c.in-Err.answer c.refuse.result (load_no_write c.in-Err.answer c.in-Err.ensures.others) (load_no_read c.in-Err.answer c.in-Err.ensures.others)
-    (err_counts c.in-Err.answer FileFault c.in-Err.ensures.file_fault) c.in-Err.ensures.absence (absence_of c.in-Err.answer c.refuse.result c.refuse.ensures.line) c.refuse.ensures.line c.refuse.ensures.faults c.refuse.ensures.wants
+    (err_counts c.in-Err.answer FileFault c.in-Err.ensures.file_fault) c.in-Err.ensures.absence (absence_of c.in-Err.answer c.refuse.result c.refuse.ensures.line) c.refuse.ensures.line
