@@ -1,3 +1,5 @@
 pub mod FirstsOnce
 pub mod Mentioning
 pub mod NameEntries
+pub mod SetBits
+pub mod FileTables
