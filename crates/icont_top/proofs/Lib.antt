@@ -1,6 +1,7 @@
-mod Building
+mod Composed
 mod ContextRules
 mod Deciding
+mod GivenLines
 mod Made
 mod Matching
 mod Named

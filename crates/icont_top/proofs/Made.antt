@@ -1,67 +1,48 @@
 -- What is made of a file.
-use Rattle.std.proofs.Common.{◌≡◌, ◌⊎◌, inl, inr, ℕ, ◌<◌, ◌≤◌, Bool, true, false, ◌||◌, List, length, IfErr, IsErrOf, Result, Ok, Err, refl, sym, ap, ◌∙◌, arith, true≢false}
-use Rattle.std.specs.Prelude.{nat_lt}
-use Rattle.std.proofs.lemmas.Bool.Decides.{nat_tests}
+use Rattle.std.proofs.Common.{◌≡◌, ◌⊎◌, inl, inr, ℕ, List, [], ◌∷◌, IfErr, IsErrOf, Option, None, Some, Result, Ok, Err, refl, sym, ap, ◌∙◌}
+use Rattle.std.specs.Option.{option_and_then}
 use Rattle.icn_host.specs.FileMaps.{FileMap}
 use Rattle.icn_tree.specs.declared.rule.Rule.{Rule}
-use Rattle.icn_tree.specs.declared.rule.Rule.TheVariants.{K3, P6}
+use Rattle.icn_tree.specs.declared.rule.Rule.TheVariants.{P6}
 use Rattle.icn_tree.specs.declared.tree.Place.{Place}
+use Rattle.icn_tree.specs.Trees.{Declaration}
 use Rattle.icn_code.specs.Codes.{Tables}
 use Rattle.icn_code.specs.Seen.{tables_of}
-use Rattle.icn_code.specs.declared.code.Code.{Code}
-use Rattle.icn_form.specs.declared.tree.Program.{Program}
 use Rattle.icn_image.specs.Spelling.{image_of}
-use Rattle.icn_codegen.specs.Linked.{linked}
-use Rattle.icn_codegen.specs.Sizes.{is_too_large}
-use Rattle.icn_engine.specs.declared.answer.Answer.{Answer}
-use Rattle.icn_engine.specs.declared.answer.Answer.TheVariants.{Refused, FileFault, NoMemory}
-use Rattle.icn_engine.specs.Answers.{IsFault}
+use Rattle.icn_link.specs.declared.fault.LinkFault.{LinkFault}
+use Rattle.icn_link.specs.declared.fault.LinkFault.TheVariants.{NoMemory as WantsMemory}
+use Rattle.icn_link.specs.LinkFaults.{first_fault, IsFault as IsLinkFault}
+use Rattle.icn_simulation.specs.Law.{IsLinked}
+use Rattle.icn_lines.specs.declared.answer.Answer.{Answer}
+use Rattle.icn_lines.specs.declared.answer.Answer.TheVariants.{Refused, FileFault, NoMemory}
+use Rattle.icn_lines.specs.Answers.{IsFault}
 use Rattle.icont_top.specs.declared.making.Made.{Made}
-use Rattle.icont_top.specs.Loading.{IsLoaded, Makes, MakesTokens}
-use Rattle.icont_top.specs.Programs.{IsProgram}
+use Rattle.icont_top.specs.Linking.{image, linked, rule_of, units_of}
+use Rattle.icont_top.specs.Loading.{IsLoaded, IsMade, Makes, MakesTokens, RefusesLink}
 use Rattle.icont_top.specs.Sources.{Scan, refused_at, source_read, IsErrOfAbsence, IsOfRead, IsOfTokens, IsTreeRule}
-use Rattle.icont_top.specs.Translating.{Become, is_program, ComesTo, no_tokens, refused, too_large, translated, image}
+use Rattle.icont_top.specs.Translating.{Become, ComesTo, no_tokens, refused, not_linked, translated}
 use Rattle.icont_top.specs.Words.{base_of}
 
--- Images
+-- Linking
 
-or_right : (a b : Bool) → b ≡ true → (a || b) ≡ true
-or_right true b h = refl
-or_right false b h = h
+-- the code and the image of a program that was linked
+pub made_of : (base : List ℕ) (file : List Declaration) (made : Made) (tables : Tables) → tables ≡ linked base file → tables_of made.code.code ≡ tables → made.image.items ≡ image_of tables
+    → first_fault (units_of base file) ≡ None → IsLinked (file ∷ []) (linked base file) → IsMade base file made
+made_of base file made tables t code bytes fits joins = record { code = code ∙ t; bytes = bytes ∙ ap image_of t; fits = fits; joins = joins }
 
-neither : (a b : Bool) → a ≡ false → b ≡ false → (a || b) ≡ false
-neither true b h k = absurd (true≢false h)
-neither false b h k = k
-
--- an image that is too long
-pub long_image : (base : List ℕ) (tables : Tables) (bytes : List ℕ) (program : Program) (answer : Answer) → tables ≡ linked program → bytes ≡ image_of tables → 1073741824 < length bytes
-    → (answer ≡ Refused base 0 K3) ⊎ (answer ≡ NoMemory) → Makes base program (Err answer)
-long_image base tables bytes program answer t b long (inr e) = inl e
-long_image base tables bytes program answer t b long (inl e) =
-    let same : bytes ≡ image program = b ∙ ap image_of t in
-    let test : nat_lt 1073741824 (length bytes) ≡ true = grind (arith, nat_tests) in
-    inr (e, or_right (is_too_large program) (nat_lt 1073741824 (length (image program))) (rw same at test))
-
-pub made_of : (base : List ℕ) (made : Made) (code : Code) (program : Program) → made.code.code ≡ code → made.image.items ≡ image_of (tables_of code) → tables_of code ≡ linked program → is_too_large program ≡ false → length made.image.items ≤ 1073741824
-    → Makes base program (Ok made)
-made_of base made code program c b t small within =
-    let same : made.image.items ≡ image program = b ∙ ap image_of t in
-    let test : nat_lt 1073741824 (length made.image.items) ≡ false = grind (arith, nat_tests) in
-    record { code = ap tables_of c ∙ t; bytes = same; fits = neither (is_too_large program) (nat_lt 1073741824 (length (image program))) small (rw same at test) }
-
-pub large_program : (base : List ℕ) (program : Program) (answer : Answer) → is_too_large program ≡ true → (answer ≡ Refused base 0 K3) ⊎ (answer ≡ NoMemory) → Makes base program (Err answer)
-large_program base program answer large (inr e) = inl e
-large_program base program answer large (inl e) = inr (e, or_left (is_too_large program) _ large) where
-  or_left : (a b : Bool) → a ≡ true → (a || b) ≡ true
-  or_left true b h = refl
-  or_left false b h = absurd (true≢false (sym h))
+pub refuses_link : (base : List ℕ) (file : List Declaration) (fault : LinkFault) (answer : Answer) → IsLinkFault (first_fault (units_of base file)) fault
+    → (answer ≡ NoMemory) ⊎ ((rule : Rule) × ((answer ≡ Refused base 0 rule) × (rule_of fault ≡ Some rule))) → RefusesLink base file answer
+refuses_link base file fault answer is (inl e) = inl e
+refuses_link base file fault answer (inl want) (inr broken) = absurd (no_rule broken.0 (sym (ap rule_of want) ∙ broken.1.1)) where
+  no_rule : (rule : Rule) → ◌≡◌ {A = Option Rule} None (Some rule) → ⊥
+  no_rule rule e = cc
+refuses_link base file fault answer (inr first) (inr broken) = inr (broken.0, (broken.1.0, ap (option_and_then rule_of) first ∙ broken.1.1))
 
 -- Tokens
 
-pub tokens_made : (base : List ℕ) (scan : Scan) (program : Program) (result : Result Made Answer) → IsProgram scan.tokens program → Makes base program result → MakesTokens base scan result
-tokens_made base scan program (Ok made) is makes = (program, is_program program is, makes)
-tokens_made base scan program (Err answer) is (inl e) = inl e
-tokens_made base scan program (Err answer) is (inr large) = inr (inr (program, is_program program is, large.0, large.1))
+pub tokens_made : (base : List ℕ) (scan : Scan) (file : List Declaration) (result : Result Made Answer) → Become scan.tokens (Ok file) → Makes base file result → MakesTokens base scan result
+tokens_made base scan file (Ok made) is makes = (file, (is, makes))
+tokens_made base scan file (Err answer) is refuses = inr (inr (file, (is, refuses)))
 
 pub tokens_refused : (base : List ℕ) (scan : Scan) (rule : Rule) (place : Place) (answer : Answer) → Become scan.tokens (Err (rule, place)) → (answer ≡ refused_at scan.names rule place) ⊎ (answer ≡ NoMemory) → MakesTokens base scan (Err answer)
 tokens_refused base scan rule place answer x (inr e) = inl e
@@ -76,10 +57,13 @@ comes_as : {files : FileMap} {name : List ℕ} (answer other : Answer) → answe
 comes_as answer other e is = rw e is
 
 pub file_made : (files : FileMap) (name : List ℕ) (scan : Scan) (result : Result Made Answer) → source_read files name ≡ Ok scan → MakesTokens (base_of name) scan result → IsLoaded files name result
-file_made files name scan (Ok made) e makes = (makes.0, translated scan makes.0 e makes.1 makes.2.fits, makes.2)
+file_made files name scan (Ok made) e makes = (makes.0, (translated scan makes.0 e makes.1.0 makes.1.1.fits, makes.1.1))
 file_made files name scan (Err answer) e (inl same) = inl (fault_as answer NoMemory same refl)
 file_made files name scan (Err answer) e (inr (inl told)) = inr (comes_as answer (refused_at scan.names told.0 told.1.0) told.1.1.1 (refused scan told.0 told.1.0 e told.1.1.0))
-file_made files name scan (Err answer) e (inr (inr large)) = inr (comes_as answer (Refused (base_of name) 0 K3) large.2 (too_large scan large.0 e large.1 large.3))
+file_made files name scan (Err answer) e (inr (inr refuses)) = of_link refuses.1.1 where
+  of_link : RefusesLink (base_of name) refuses.0 answer → IsFault answer ⊎ ComesTo files name (Err answer)
+  of_link (inl same) = inl (fault_as answer NoMemory same refl)
+  of_link (inr broken) = inr (comes_as answer (Refused (base_of name) 0 broken.0) broken.1.0 (not_linked scan refuses.0 broken.0 e refuses.1.0 broken.1.1))
 
 pub file_read : (files : FileMap) (name : List ℕ) (answer : Answer) → IsFault answer ⊎ (source_read files name ≡ Err answer) → let result : Result Made Answer = Err answer in IsLoaded files name result
 file_read files name answer (inl fault) = inl fault

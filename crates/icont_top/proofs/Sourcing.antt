@@ -1,7 +1,7 @@
 -- What is read of a named file.
 use Rattle.std.proofs.Common.{◌≡◌, ◌⊎◌, inl, inr, ℕ, ◌≤◌, true, false, List, Result, Ok, Err, refl, sym, ap, subst, ◌∙◌, arith}
 use Rattle.icn_tree.specs.declared.rule.Rule.{Rule}
-use Rattle.icn_tree.specs.declared.rule.Rule.TheVariants.{P6, K3}
+use Rattle.icn_tree.specs.declared.rule.Rule.TheVariants.{P6}
 use Rattle.icn_host.specs.FileMaps.{FileMap}
 use Rattle.icn_tree.specs.declared.lines.SourceLine.{SourceLine}
 use Rattle.icn_tree.specs.declared.token.Token.{Token}
@@ -15,14 +15,15 @@ use Rattle.icn_prep.specs.declared.fault.PrepFault.TheVariants as Prep
 use Rattle.icn_prep.specs.Answers.{IsTextFault}
 use Rattle.icn_prep.specs.SourceLines.{Source, source_lines}
 use Rattle.icn_prep.proofs.Faults.{fault_of_text}
-use Rattle.icn_form.specs.declared.tree.Program.{Program}
-use Rattle.icn_engine.specs.declared.answer.Answer.{Answer}
-use Rattle.icn_engine.specs.declared.answer.Answer.TheVariants.{Refused, Command, FileFault, NoMemory}
-use Rattle.icn_engine.specs.Answers.{IsFault}
+use Rattle.icn_tree.specs.Trees.{Declaration}
+use Rattle.icn_lines.specs.declared.answer.Answer.{Answer}
+use Rattle.icn_lines.specs.declared.answer.Answer.TheVariants.{Refused, Command, FileFault, NoMemory}
+use Rattle.icn_lines.specs.Answers.{IsFault}
+use Rattle.icn_lines.specs.Endings.{ending_held}
 use Rattle.icn_lines.proofs.Reports.{ran_no_fault, wrote_no_fault}
 use Rattle.icont_top.specs.Job.{Job, IsJob, wrong_words, refuses, writes, runs}
 use Rattle.icont_top.specs.Sources.{name_at, refused_at, tokens_read, fault_answer, lines_read, IsAbsence}
-use Rattle.icont_top.specs.Translating.{ComesTo, no_tokens, refused, too_large, translated}
+use Rattle.icont_top.specs.Translating.{ComesTo, no_tokens, refused, not_linked, translated}
 use Rattle.icont_top.specs.Words.{base_of}
 use Rattle.icont_top.proofs.Matching.{same_Err, ok-err}
 
@@ -68,16 +69,16 @@ of_lines : (files : FileMap) (name : List ℕ) (read : Result Source PrepFault) 
 of_lines files name (Ok source) answer is e fault = of_scan source.names (tokens_of source.lines) answer e fault
 of_lines files name (Err wrong) answer is e fault = text_answer name wrong (fault_of_text files name wrong is) (rw (sym (same_Err (fault_answer name wrong) answer e)) at fault)
 
-not_refusal : (name : List ℕ) (line : ℕ) (rule : Rule) (answer : Answer) → ◌≡◌ {A = Result Program Answer} (Err (Refused name line rule)) (Err answer) → IsFault answer → ⊥
+not_refusal : (name : List ℕ) (line : ℕ) (rule : Rule) (answer : Answer) → ◌≡◌ {A = Result (List Declaration) Answer} (Err (Refused name line rule)) (Err answer) → IsFault answer → ⊥
 not_refusal name line rule answer same fault = no_refusal (subst IsFault (sym (same_Err (Refused name line rule) answer same)) fault) where
   no_refusal : IsFault (Refused name line rule) → ⊥
   no_refusal is = let both : false ≡ true = is in cc
 
-of_file : {files : FileMap} {name : List ℕ} (found : Result Program Answer) → ComesTo files name found → (answer : Answer) → found ≡ Err answer → IsFault answer → ⊥
+of_file : {files : FileMap} {name : List ℕ} (found : Result (List Declaration) Answer) → ComesTo files name found → (answer : Answer) → found ≡ Err answer → IsFault answer → ⊥
 of_file {files} {name} _ (no_tokens given e) answer same fault = of_lines files name (source_lines files name) answer refl (e ∙ ap (λ a. Err a) (same_Err given answer same)) fault
 of_file _ (refused scan rule place e x) answer same fault = not_refusal (name_at scan.names place.file) place.line rule answer same fault
-of_file {name = name} _ (too_large scan program e x n) answer same fault = not_refusal (base_of name) 0 K3 answer same fault
-of_file _ (translated scan program e x n) answer same fault = ok-err program answer same
+of_file {name = name} _ (not_linked scan file rule e x b) answer same fault = not_refusal (base_of name) 0 rule answer same fault
+of_file _ (translated scan file e x n) answer same fault = ok-err file answer same
 
 -- no file comes to a fault
 pub no_file_fault : {files : FileMap} {name : List ℕ} (answer : Answer) → ComesTo files name (Err answer) → IsFault answer → ⊥
@@ -88,5 +89,5 @@ no_fault words files left _ (wrong_words e) fault = no_command fault where
   no_command : IsFault (Command 1) → ⊥
   no_command is = let both : false ≡ true = is in cc
 no_fault words files left _ (refuses name run answer e x) fault = no_file_fault answer x fault
-no_fault words files left _ (writes name program e x) fault = wrote_no_fault fault
-no_fault words files left _ (runs name arguments program observed e x h) fault = ran_no_fault observed.ending fault
+no_fault words files left _ (writes name file e x) fault = wrote_no_fault fault
+no_fault words files left _ (runs name arguments file seen e x h) fault = ran_no_fault (ending_held seen.ending) fault

@@ -2,7 +2,8 @@
 use Rattle.std.proofs.Common.{◌≡◌, ◌⊎◌, inl, inr, ℕ, List, [], Option, Some, Result, Err, refl, sym, ap, subst, ◌∙◌}
 use Rattle.std.proofs.lemmas.Option.{none-some, same_Some}
 use Rattle.icn_tree.specs.declared.rule.Rule.{Rule}
-use Rattle.icn_tree.specs.declared.rule.Rule.TheVariants.{S4, K3}
+use Rattle.icn_tree.specs.declared.rule.Rule.TheVariants.{S4}
+use Rattle.icn_tree.specs.declared.rule.Rule.TheVariants as Rules
 use Rattle.icn_tree.specs.declared.token.Token.{Token}
 use Rattle.icn_tree.specs.declared.tree.Place.{Place}
 use Rattle.icn_tree.specs.Trees.{Declaration}
@@ -14,16 +15,15 @@ use Rattle.icn_decls.specs.declared.fault.ContextFault.{ContextFault}
 use Rattle.icn_decls.specs.declared.fault.ContextFault.TheVariants as Context
 use Rattle.icn_decls.specs.Faults.{context_faults}
 use Rattle.icn_decls.specs.Views.{Checks}
-use Rattle.icn_form.specs.declared.tree.Program.{Program}
-use Rattle.icn_engine.specs.declared.answer.Answer.{Answer}
-use Rattle.icn_engine.specs.declared.answer.Answer.TheVariants.{Refused, NoMemory}
-use Rattle.icont_top.specs.declared.unbuilt.Unbuilt.{Unbuilt}
-use Rattle.icont_top.specs.declared.unbuilt.Unbuilt.TheVariants as Form
-use Rattle.icont_top.specs.Built.{program_of}
-use Rattle.icont_top.specs.Faults.{of_parse, of_context, of_unbuilt}
+use Rattle.icn_lines.specs.declared.answer.Answer.{Answer}
+use Rattle.icn_lines.specs.declared.answer.Answer.TheVariants.{Refused, NoMemory}
+use Rattle.icn_link.specs.declared.fault.LinkFault.{LinkFault}
+use Rattle.icn_link.specs.declared.fault.LinkFault.TheVariants.{K1, K2, K3, NoMemory as LinkNoMemory}
+use Rattle.icont_top.specs.Faults.{of_parse, of_context}
+use Rattle.icont_top.specs.Linking.{rule_of}
 use Rattle.icont_top.specs.Sources.{refused_at, IsTreeRule, IsOfTokens}
-use Rattle.icont_top.specs.Stages.{Builds, Stops}
-use Rattle.icont_top.specs.Translating.{Become, not_parsed, out_of_context, not_built, is_program}
+use Rattle.icont_top.specs.Stages.{Stops}
+use Rattle.icont_top.specs.Translating.{Become, not_parsed, out_of_context, not_alone, is_program}
 use Rattle.icont_top.proofs.ContextRules.{context_rules}
 use Rattle.icont_top.proofs.Matching.{same_Err, ok-err}
 
@@ -34,10 +34,6 @@ parse_stops tokens Parse.NoMemory b = tt
 pub context_stops : (tokens : List Token) (file : List Declaration) (fault : ContextFault) → IsOutcome tokens (IsTree file) → Checks (context_faults file) (Err fault) → Stops tokens (of_context fault)
 context_stops tokens file (Context.Broken rule f line) is e = out_of_context file (record { rule = rule; place = record { line = line; file = f } }) is (sym e)
 context_stops tokens file Context.NoMemory is e = tt
-
-pub forms_stop : (tokens : List Token) (file : List Declaration) (unbuilt : Unbuilt) → IsOutcome tokens (IsTree file) → context_faults file ≡ [] → Builds (program_of file) (Err unbuilt) → Stops tokens (of_unbuilt unbuilt)
-forms_stop tokens file (Form.At place) is e b = not_built file place is e b
-forms_stop tokens file Form.NoMemory is e b = tt
 
 -- the rules that refuse tokens
 
@@ -51,18 +47,26 @@ parse_rules (Faulty (UnknownKeyword p)) rule place e = rule_is _ rule _ place e 
 parse_rules (Faulty (NotInProfile p)) rule place e = rule_is _ rule _ place e tt
 parse_rules (IsTree file) rule place e = absurd (none-some (rule, place) e)
 
-found_rules : {tokens : List Token} (found : Result Program (Rule × Place)) → Become tokens found → (rule : Rule) (place : Place) → found ≡ Err (rule, place) → IsTreeRule rule
+found_rules : {tokens : List Token} (found : Result (List Declaration) (Rule × Place)) → Become tokens found → (rule : Rule) (place : Place) → found ≡ Err (rule, place) → IsTreeRule rule
 found_rules _ (not_parsed outcome r p is e) rule place same = parse_rules outcome rule place (e ∙ ap (λ broken. Some broken) (same_Err (r, p) (rule, place) same))
 found_rules _ (out_of_context file fault is e) rule place same =
     subst IsTreeRule (ap (λ (broken : Rule × Place). broken.0) (same_Err (fault.rule, fault.place) (rule, place) same)) (context_rules file fault e)
-found_rules _ (not_built file p is e b) rule place same = subst IsTreeRule (ap (λ (broken : Rule × Place). broken.0) (same_Err (S4, p) (rule, place) same)) tt
-found_rules _ (is_program program is) rule place same = absurd (ok-err program (rule, place) same)
+found_rules _ (not_alone file p is e l) rule place same = subst IsTreeRule (ap (λ (broken : Rule × Place). broken.0) (same_Err (S4, p) (rule, place) same)) tt
+found_rules _ (is_program file is e l) rule place same = absurd (ok-err file (rule, place) same)
 
 -- a refusal, or want of memory
 pub refused_rules : (names : List (List ℕ)) (tokens : List Token) (rule : Rule) (place : Place) (answer : Answer) → Become tokens (Err (rule, place)) → (answer ≡ refused_at names rule place) ⊎ (answer ≡ NoMemory) → IsOfTokens answer
 refused_rules names tokens rule place answer are (inl e) = rw e (found_rules (Err (rule, place)) are rule place refl)
 refused_rules names tokens rule place answer are (inr e) = rw e tt
 
-pub too_large_rules : (base : List ℕ) (answer : Answer) → (answer ≡ Refused base 0 K3) ⊎ (answer ≡ NoMemory) → IsOfTokens answer
-too_large_rules base answer (inl e) = rw e tt
-too_large_rules base answer (inr e) = rw e tt
+-- the rules of linking
+
+link_rule : (fault : LinkFault) (rule : Rule) → rule_of fault ≡ Some rule → IsTreeRule rule
+link_rule (K1 unit name first second) rule e = subst IsTreeRule (same_Some Rules.K1 rule e) tt
+link_rule (K2 unit name) rule e = subst IsTreeRule (same_Some Rules.K2 rule e) tt
+link_rule (K3 count) rule e = subst IsTreeRule (same_Some Rules.K3 rule e) tt
+link_rule LinkNoMemory rule e = absurd (none-some rule e)
+
+pub link_rules : (base : List ℕ) (fault : LinkFault) (answer : Answer) → (answer ≡ NoMemory) ⊎ ((rule : Rule) × ((answer ≡ Refused base 0 rule) × (rule_of fault ≡ Some rule))) → IsOfTokens answer
+link_rules base fault answer (inl e) = rw e tt
+link_rules base fault answer (inr broken) = rw broken.1.0 (link_rule fault broken.0 broken.1.1)

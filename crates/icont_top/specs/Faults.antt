@@ -1,11 +1,8 @@
 -- The faults of the stages behind the tokens, as one.
-use Rattle.icn_tree.specs.declared.rule.Rule.TheVariants.{S4}
 use Rattle.icn_parse.specs.declared.fault.ParseFault.{ParseFault}
 use Rattle.icn_parse.specs.declared.fault.ParseFault.TheVariants as Parse
 use Rattle.icn_decls.specs.declared.fault.ContextFault.{ContextFault}
 use Rattle.icn_decls.specs.declared.fault.ContextFault.TheVariants as Context
-use Rattle.icont_top.specs.declared.unbuilt.Unbuilt.{Unbuilt}
-use Rattle.icont_top.specs.declared.unbuilt.Unbuilt.TheVariants as Built
 use Rattle.icont_top.specs.declared.program_fault.ProgramFault.{ProgramFault}
 use Rattle.icont_top.specs.declared.program_fault.ProgramFault.TheVariants.{Broken, NoMemory}
 
@@ -16,8 +13,3 @@ of_parse Parse.NoMemory = NoMemory
 abbrev pub of_context : ContextFault → ProgramFault
 of_context (Context.Broken rule file line) = Broken rule (record { line = line; file = file })
 of_context Context.NoMemory = NoMemory
-
--- a form that is not built breaks S4
-abbrev pub of_unbuilt : Unbuilt → ProgramFault
-of_unbuilt (Built.At place) = Broken S4 place
-of_unbuilt Built.NoMemory = NoMemory

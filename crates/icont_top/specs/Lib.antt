@@ -1,9 +1,8 @@
 pub mod Words
 pub mod Usage
-pub mod Built
-pub mod Programs
 pub mod Faults
 pub mod Sources
+pub mod Linking
 pub mod Translating
 pub mod Stages
 pub mod Loading

@@ -1,22 +1,26 @@
 -- What a call comes to, where the objects tell their content.
-use Rattle.std.specs.Prelude.{◌≡◌, ◌⊎◌, ◌≤◌, ℕ, List, Option, None, Some, Ok, length, true}
+use Rattle.std.specs.Prelude.{◌≡◌, ◌⊎◌, ◌≤◌, ℕ, List, [], ◌∷◌, Option, None, Some, Ok, Err, length}
 use Rattle.icn_host.specs.FileMaps.{FileMap, Sets, SetsPart}
 use Rattle.icn_host.specs.Sinks.{Gains, SinkState}
 use Rattle.icn_report.specs.Puts.{Stops, Puts}
+use Rattle.icn_tree.specs.Trees.{Declaration}
 use Rattle.icn_code.specs.Codes.{Tables}
+use Rattle.icn_defs.specs.Running.{Observed}
 use Rattle.icn_image.specs.Reading.{image_read}
 use Rattle.icn_verify.specs.Faults.{IsVerified}
-use Rattle.icn_run.specs.Built.{is_built}
-use Rattle.icn_form.specs.declared.tree.Program.{Program}
-use Rattle.icn_meaning.specs.Breaking.{Breaks, StandsReading}
-use Rattle.icn_meaning.specs.WriteMeaning.{Evaluation}
-use Rattle.icn_engine.specs.declared.answer.Answer.{Answer}
-use Rattle.icn_engine.specs.declared.answer.Answer.TheVariants.{Wrote, Ran, ReadFault}
-use Rattle.icn_engine.specs.Answers.{IsFault}
+use Rattle.icn_simulation.specs.Law.{FilesMean}
+use Rattle.icn_streams.specs.Handed.{Handed}
+use Rattle.icn_run.specs.declared.ending.Ending.{Ending}
+use Rattle.icn_running.specs.declared.fault.RunFault.{RunFault}
+use Rattle.icn_running.specs.Runs.{EndsAtFirst, LeavesBy}
+use Rattle.icn_lines.specs.declared.answer.Answer.{Answer}
+use Rattle.icn_lines.specs.declared.answer.Answer.TheVariants.{Wrote, Ran}
+use Rattle.icn_lines.specs.Answers.{IsFault}
+use Rattle.icn_lines.specs.Faulting.{of_run}
 use Rattle.icn_lines.specs.Lines.{fault_line}
-use Rattle.icn_lines.specs.Telling.{Told}
-use Rattle.icn_codegen.specs.Laws.{RunsAs}
-use Rattle.icont_top.specs.Job.{Written, Job, IsJob, evaluation, image_file}
+use Rattle.icn_lines.specs.Telling.{Told, with_errors}
+use Rattle.icont_top.specs.Job.{Written, Job, IsJob, image_file, launched}
+use Rattle.icont_top.specs.Linking.{RunsAs}
 use Rattle.icont_top.specs.Translating.{ComesTo}
 use Rattle.icont_top.specs.Words.{Asks, asked, base_of}
 
@@ -29,37 +33,39 @@ WithWritten before after (Some written) = Sets before after written.name written
 pub record Completes (job : Job) (answer : Answer) (before after : Told) : Type 0 where
   pub answered : answer ≡ job.answer
   pub files : WithWritten before.files after.files job.written
-  pub left : after.left ≡ Some job.left
-  pub output : Gains before.output after.output job.output
-  pub errors : Gains before.errors.held after.errors.held job.errors
+  pub left : after.streams.left ≡ Some job.left
+  pub output : Gains before.streams.output.held after.streams.output.held job.output
+  pub errors : Gains before.streams.errors.held after.streams.errors.held job.errors
 
 -- the words name a file that is a program, and ask for a run with these arguments, or for none
-pub record IsAsked (words : List (List ℕ)) (files : FileMap) (name : List ℕ) (run : Option (List (List ℕ))) (program : Program) : Type 0 where
+pub record IsAsked (words : List (List ℕ)) (files : FileMap) (name : List ℕ) (run : Option (List (List ℕ))) (file : List Declaration) : Type 0 where
   pub asks : asked words ≡ Asks name run
-  pub is : ComesTo files name (Ok program)
+  pub is : ComesTo files name (Ok file)
 
 -- the line of a job that writes no file was not begun, or a part of it was put
 abbrev pub Begins : (Job → Type 0) → SinkState → SinkState → Type 0
 Begins IsJobOf before between = (between ≡ before) ⊎ ((job : Job) × IsJobOf job × (job.written ≡ None) × Stops before between job.errors)
 
--- what an answer that is a fault leaves of an evaluation: a failed reading leaves what was put, and any other some first part of what
--- comes next
-abbrev pub LeavesBy : Answer → Evaluation → Option (List ℕ) → Option (List ℕ) → Option (List ℕ) → Option (List ℕ) → Option (List ℕ) → Type 0
-LeavesBy ReadFault evaluation left' out out' err err' = StandsReading evaluation left' out out' err err'
-LeavesBy answer evaluation left' out out' err err' = Breaks evaluation left' out out' err err'
+-- What a fault leaves of a program that is run with this input: all is said of what is observed of it, as each program comes to an end.
+pub record MeaningBrokenOff (file : List Declaration) (arguments : List (List ℕ)) (left : List ℕ) (fault : RunFault) (before after : Handed) : Type 0 where
+  pub seen : Observed
+  pub means : FilesMean (file ∷ []) (launched arguments left) seen
+  pub leaves : LeavesBy fault left seen before after
 
 -- What a fault leaves, with its own line behind, as far as the error output took it. Nothing was done but that a refusal's line may be
 -- begun; or the image could not be written whole, so that its name holds nothing, what it held or a first part of the image; or the
--- image was written, and the evaluation stood somewhere: of what its next step puts some first part was put, and nothing where it
--- could not read.
+-- image was written, and the program was broken off as it ran.
 pub data Faults (words : List (List ℕ)) (files : FileMap) (left : List ℕ) (answer : Answer) (before after : Told) : Type 0 where
-  idle : (between : SinkState) → after.files ≡ before.files → after.left ≡ before.left → after.output ≡ before.output → Begins (IsJob words files left) before.errors between → Puts between after.errors (fault_line answer)
-      → Faults words files left answer before after
-  torn : (name : List ℕ) (run : Option (List (List ℕ))) (program : Program) → IsAsked words files name run program → SetsPart before.files after.files (image_file name program).name (image_file name program).bytes
-      → after.left ≡ before.left → after.output ≡ before.output → Puts before.errors after.errors (fault_line answer) → Faults words files left answer before after
-  broke : (name : List ℕ) (arguments : List (List ℕ)) (program : Program) (between : SinkState) → IsAsked words files name (Some arguments) program → Sets before.files after.files (image_file name program).name (image_file name program).bytes
-      → before.errors.faults ≤ between.faults → before.errors.wants ≤ between.wants → LeavesBy answer (evaluation program arguments left) after.left before.output after.output before.errors.held between.held → Puts between after.errors (fault_line answer)
-      → Faults words files left answer before after
+  idle : (between : SinkState) → after.files ≡ before.files → after.streams.left ≡ before.streams.left → after.streams.output.held ≡ before.streams.output.held
+      → Begins (IsJob words files left) before.streams.errors between → Puts between after.streams.errors (fault_line answer) → Faults words files left answer before after
+  torn : (name : List ℕ) (run : Option (List (List ℕ))) (file : List Declaration) → IsAsked words files name run file
+      → SetsPart before.files after.files (image_file name file).name (image_file name file).bytes → after.streams.left ≡ before.streams.left
+      → after.streams.output.held ≡ before.streams.output.held → Puts before.streams.errors after.streams.errors (fault_line answer) → Faults words files left answer before after
+  broke : (name : List ℕ) (arguments : List (List ℕ)) (file : List Declaration) (fault : RunFault) (between : SinkState) → IsAsked words files name (Some arguments) file
+      → Sets before.files after.files (image_file name file).name (image_file name file).bytes → answer ≡ of_run fault
+      → EndsAtFirst {A = Ending} (Err fault) before.streams (with_errors between after.streams)
+      → MeaningBrokenOff file arguments left fault before.streams (with_errors between after.streams)
+      → Puts between after.streams.errors (fault_line answer) → Faults words files left answer before after
 
 -- the job was done, or a fault is answered
 pub data Outcome (words : List (List ℕ)) (files : FileMap) (left : List ℕ) (answer : Answer) (before after : Told) : Type 0 where
@@ -72,22 +78,21 @@ HasWritten Wrote = Unit {0}
 HasWritten (Ran ending) = Unit {0}
 HasWritten answer = ⊥
 
--- These bytes are the image of a code that `iconx` reads, verifies and runs, and its run means, with all words, limits and inputs, what
--- the program means.
-pub record IsImage (program : Program) (bytes : List ℕ) : Type 0 where
+-- These bytes are the image of a code that `iconx` reads and verifies, and its run means, with all words, limits and inputs, what the
+-- file means.
+pub record IsImage (file : List Declaration) (bytes : List ℕ) : Type 0 where
   pub tables : Tables
   pub within : length bytes ≤ 1073741824
   pub read : image_read bytes ≡ Ok tables
   pub verified : IsVerified tables
-  pub built : is_built tables ≡ true
-  pub runs : RunsAs program tables
+  pub runs : RunsAs file tables
 
 -- the words name a file that is a program, and its base name holds the program's image now
 pub record HoldsImage (words : List (List ℕ)) (files : FileMap) (after : Option FileMap) : Type 0 where
   pub name : List ℕ
   pub run : Option (List (List ℕ))
-  pub program : Program
-  pub is : IsAsked words files name run program
+  pub file : List Declaration
+  pub is : IsAsked words files name run file
   pub bytes : List ℕ
   pub there : (held : FileMap) × (after ≡ Some held) × (held (base_of name) ≡ Some bytes)
-  pub image : IsImage program bytes
+  pub image : IsImage file bytes

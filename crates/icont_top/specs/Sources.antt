@@ -2,7 +2,7 @@
 use Rattle.std.specs.Prelude.{◌≡◌, ◌⊎◌, ℕ, List, [], slice_index_or, Result, Ok, Err}
 use Rattle.icn_host.specs.FileMaps.{FileMap}
 use Rattle.icn_tree.specs.declared.rule.Rule.{Rule}
-use Rattle.icn_tree.specs.declared.rule.Rule.TheVariants.{P6, S1, S2, S3, S4, C1, C2, C3, C4, C5, C6, C7, C8, K3}
+use Rattle.icn_tree.specs.declared.rule.Rule.TheVariants.{P6, S1, S2, S3, S4, C1, C2, C3, C4, C5, C6, C7, C8, K1, K2, K3}
 use Rattle.icn_tree.specs.declared.token.Token.{Token}
 use Rattle.icn_tree.specs.declared.tree.Place.{Place}
 use Rattle.icn_tree.specs.Tokens.{Outcome, Scanned, Fault, tokens_of}
@@ -10,9 +10,9 @@ use Rattle.icn_prep.specs.declared.fault.PrepFault.{PrepFault}
 use Rattle.icn_prep.specs.declared.fault.PrepFault.TheVariants as Prep
 use Rattle.icn_prep.specs.SourceLines.{Source, source_lines}
 use Rattle.icont_top.specs.declared.source.SourceTokens.{SourceTokens}
-use Rattle.icn_engine.specs.declared.answer.Answer.{Answer}
-use Rattle.icn_engine.specs.declared.answer.Answer.TheVariants.{Refused, Missing, FileFault, NoMemory}
-use Rattle.icn_engine.specs.Answers.{IsFault}
+use Rattle.icn_lines.specs.declared.answer.Answer.{Answer}
+use Rattle.icn_lines.specs.declared.answer.Answer.TheVariants.{Refused, Missing, FileFault, NoMemory}
+use Rattle.icn_lines.specs.Answers.{IsFault}
 
 -- the name of a file by its place, as the lines have it
 abbrev pub name_at : List (List ℕ) → ℕ → List ℕ
@@ -73,7 +73,7 @@ IsOfRead FileFault = Unit {0}
 IsOfRead NoMemory = Unit {0}
 IsOfRead _ = ⊥
 
--- a rule of trees or of contexts, or that a program is too large
+-- a rule of trees, of contexts or of linking
 abbrev pub IsTreeRule : Rule → Type 0
 IsTreeRule S1 = Unit {0}
 IsTreeRule S2 = Unit {0}
@@ -87,6 +87,8 @@ IsTreeRule C5 = Unit {0}
 IsTreeRule C6 = Unit {0}
 IsTreeRule C7 = Unit {0}
 IsTreeRule C8 = Unit {0}
+IsTreeRule K1 = Unit {0}
+IsTreeRule K2 = Unit {0}
 IsTreeRule K3 = Unit {0}
 IsTreeRule _ = ⊥
 

@@ -1,8 +1,7 @@
 // Why tokens are no program.
 ghost use Rattle.std.specs.Prelude.{◌≡◌};
-ghost use Rattle.icont_top.specs.Faults.{of_parse, of_context, of_unbuilt};
+ghost use Rattle.icont_top.specs.Faults.{of_parse, of_context};
 
-use crate::unbuilt::Unbuilt;
 use icn_decls::ContextFault;
 use icn_parse::ParseFault;
 use icn_tree::{Place, Rule};
@@ -40,20 +39,6 @@ impl From<ContextFault> for ProgramFault {
                 place: Place { line, file },
             },
             ContextFault::NoMemory => ProgramFault::NoMemory,
-        }
-    }
-}
-
-impl From<Unbuilt> for ProgramFault {
-    ghost from_gives = { λ unbuilt made. made ≡ of_unbuilt unbuilt };
-
-    fn from(unbuilt: Unbuilt) -> Self {
-        match unbuilt {
-            Unbuilt::At(place) => ProgramFault::Broken {
-                rule: Rule::S4,
-                place,
-            },
-            Unbuilt::NoMemory => ProgramFault::NoMemory,
         }
     }
 }

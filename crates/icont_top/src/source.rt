@@ -3,10 +3,10 @@ ghost use Rattle.std.specs.Prelude.{◌≡◌, ◌⊎◌, IfSome, IfOk, IfErr, I
 ghost use Rattle.icn_host.specs.Counts.{CountsOnce, HasCause};
 ghost use Rattle.icn_tree.specs.Tokens.{tokens_of};
 ghost use Rattle.icn_decls.specs.Spelled.{AreScanned};
-ghost use Rattle.icn_engine.specs.declared.answer.Answer.TheVariants.{Missing};
+ghost use Rattle.icn_lines.specs.declared.answer.Answer.TheVariants.{Missing};
 ghost use Rattle.icont_top.specs.Sources.{name_at, refused_at, tokens_read, fault_answer, source_read, IsRead, IsErrOfAbsence, IsOfRead};
 
-use icn_engine::Answer;
+use icn_lines::Answer;
 use icn_host::Files;
 use icn_lex::{LexFault, tokens};
 use icn_prep::{PrepFault, preprocess};

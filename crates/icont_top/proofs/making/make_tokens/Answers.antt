@@ -1,15 +1,16 @@
 use Rattle.std.proofs.Common.{◌≡◌, ◌⊎◌, subst, Err}
-use Rattle.icont_top.specs.Programs.{IsProgram}
+use Rattle.icn_tree.specs.TreeOf.{declarations_of}
+use Rattle.icont_top.specs.Stages.{IsProgram}
 use Rattle.icont_top.specs.Sources.{refused_at, scan_of}
 use Rattle.icont_top.specs.Translating.{Become}
-use Rattle.icn_engine.specs.declared.answer.Answer.TheVariants.{NoMemory}
+use Rattle.icn_lines.specs.declared.answer.Answer.TheVariants.{NoMemory}
 use Rattle.icont_top.proofs.Made.{tokens_made, tokens_refused}
 use Rattle.icont_top.proofs.Staging.{refused_rules}
 use Rattle.icont_top.proofs.making.make_tokens.Goals as goal
 
 pub returns-in-Ok-clause-made : goal.returns-in-Ok-clause-made
 returns-in-Ok-clause-made c =
-    tokens_made c.args.base.now (scan_of c.args.source.now) c.in-Ok.program c.make_program.result (subst (λ tokens. IsProgram tokens c.in-Ok.program) c.deref.ensures.value c.in-Ok.ensures) c.make_program.ensures.made
+    tokens_made c.args.base.now (scan_of c.args.source.now) (declarations_of c.in-Ok.file.text) c.make_program.result (subst (λ tokens. IsProgram tokens c.in-Ok.file) c.deref.ensures.value c.in-Ok.ensures) c.make_program.ensures.made
 
 pub returns-in-Err-Broken-clause-made : goal.returns-in-Err-Broken-clause-made
 returns-in-Err-Broken-clause-made c =

@@ -1,31 +1,32 @@
-use Rattle.std.proofs.Common.{map}
+use Rattle.std.proofs.Common.{map, refl}
 use Rattle.std.specs.Prelude.{string_bytes}
 use Rattle.icn_code.specs.Seen.{tables_of}
 use Rattle.icn_lines.proofs.Counted.{broken_counts, ran_counts}
-use Rattle.icn_lines.proofs.Reports.{fault_reports, is_run_fault, leaves_by, ran_reports}
+use Rattle.icn_lines.proofs.Reports.{broken_puts, fault_reports, ran_reports}
 use Rattle.icont_top.proofs.Topmost.{at_some, if_some, run_broken, run_ended}
 use Rattle.icont_top.proofs.top.run_answer.Goals as goal
 
 pub returns-in-Ok-clause-ran : goal.returns-in-Ok-clause-ran
 returns-in-Ok-clause-ran g c =
     if_some (g.I.Source.left c.args.input.now) _ (λ left d.
-    run_ended (tables_of c.args.code.now.code) (map string_bytes c.args.words.now) left _ c.in-Ok.ending c.standard.ensures (at_some _ (g.I.Source.left c.args.input.now) left d c.in-Ok.ensures.ok))
+    run_ended (tables_of c.args.code.now.code) (map string_bytes c.args.words.now) left _ c.in-Ok.ending c.standard.ensures (c.in-Ok.ensures.ends left d))
 
 pub returns-in-Err-clause-ran : goal.returns-in-Err-clause-ran
 returns-in-Err-clause-ran g c =
     if_some (g.I.Source.left c.args.input.now) _ (λ left d.
-    rw c.answer_of-answer.ensures (run_broken _ (tables_of c.args.code.now.code) (map string_bytes c.args.words.now) left _ _ c.standard.ensures (is_run_fault c.in-Err.fault) c.in-Err.ensures.first_fault.error_faults c.in-Err.ensures.first_fault.error_wants
-    (leaves_by c.in-Err.fault _ _ _ _ _ _ (at_some _ (g.I.Source.left c.args.input.now) left d c.in-Err.ensures.err)) (rw c.answer_of-answer.ensures at c.own_line.ensures.puts)))
+    rw c.answer_of-answer.ensures (run_broken (tables_of c.args.code.now.code) (map string_bytes c.args.words.now) left _ c.in-Err.fault _ _ _ c.standard.ensures c.in-Err.ensures.first_fault
+    (c.in-Err.ensures.breaks left d) (rw c.answer_of-answer.ensures at c.own_line.ensures.puts) refl))
+
+pub returns-in-Ok-clause-reported : goal.returns-in-Ok-clause-reported
+returns-in-Ok-clause-reported g c = ran_reports c.in-Ok.ending (if_some (g.I.Source.left c.args.input.now) _ (λ left d. c.in-Ok.ensures.reported left d))
 
 pub returns-in-Err-clause-reported : goal.returns-in-Err-clause-reported
-returns-in-Err-clause-reported g c = rw c.answer_of-answer.ensures (fault_reports c.in-Err.fault c.in-Err.ensures.error_line (rw c.answer_of-answer.ensures at c.own_line.ensures.puts))
+returns-in-Err-clause-reported g c = rw c.answer_of-answer.ensures (fault_reports c.in-Err.fault
+    (if_some (g.I.Source.left c.args.input.now) _ (λ left d. let off = c.in-Err.ensures.breaks left d in broken_puts c.in-Err.fault _ off.0 _ _ off.1.1)) (rw c.answer_of-answer.ensures at c.own_line.ensures.puts))
 
 pub returns-in-Ok-clause-causes : goal.returns-in-Ok-clause-causes
 returns-in-Ok-clause-causes g c = ran_counts c.in-Ok.ending c.in-Ok.ensures.first_fault
 
 pub returns-in-Err-clause-causes : goal.returns-in-Err-clause-causes
 returns-in-Err-clause-causes g c =
-    rw c.answer_of-answer.ensures (broken_counts c.in-Err.fault c.in-Err.ensures.first_fault (rw c.answer_of-answer.ensures at c.own_line.ensures.puts) c.own_line.ensures.faults c.own_line.ensures.wants)
-
-pub returns-in-Ok-clause-reported : goal.returns-in-Ok-clause-reported
-returns-in-Ok-clause-reported g c = ran_reports c.in-Ok.ending c.in-Ok.ensures.reported.gains
+    rw c.answer_of-answer.ensures (broken_counts c.in-Err.fault c.in-Err.ensures.first_fault (rw c.answer_of-answer.ensures at c.own_line.ensures.puts) refl)

@@ -1,0 +1,147 @@
+-- From a file that breaks no rule to its code: it is the joined code of the file, its image is within the bound, and it is verified.
+use Rattle.std.proofs.Common.{◌≡◌, ◌⊎◌, ℕ, zero, suc, ◌≤◌, Bool, true, false, cond, List, [], ◌∷◌, ◌++◌, nat_lt, length, IfSome, Option, None, Some, Result, Ok, Err, refl, sym, ap, subst, ◌∙◌, arith}
+use Rattle.std.specs.Prelude.{All}
+use Rattle.std.specs.Option.{option_map, option_or}
+use Rattle.std.proofs.lemmas.Bool.Decides.{nat_tests}
+use Rattle.std.proofs.lemmas.Option.{none-some, same_Some}
+use Rattle.icn_host.specs.FileMaps.{FileMap}
+use Rattle.icn_tree.specs.declared.lines.SourceLine.{SourceLine}
+use Rattle.icn_tree.specs.declared.rule.Rule.{Rule}
+use Rattle.icn_tree.specs.declared.token.Token.{Token}
+use Rattle.icn_tree.specs.declared.tree.Place.{Place}
+use Rattle.icn_tree.specs.SourceTexts.{joined_len}
+use Rattle.icn_tree.specs.Tokens.{Outcome, Scanned, Fault, tokens_of}
+use Rattle.icn_tree.specs.Trees.{Declaration}
+use Rattle.icn_parse.specs.Outcomes.{IsTree, IsOutcome}
+use Rattle.icn_decls.specs.Faults.{context_faults}
+use Rattle.icn_decls.specs.Spelled.{AreScanned, IsSpelled}
+use Rattle.icn_prep.specs.declared.fault.PrepFault.{PrepFault}
+use Rattle.icn_prep.specs.SourceLines.{Source, source_lines}
+use Rattle.icn_unit.specs.PlainUnits.{Proc, Decl, UnitRead}
+use Rattle.icn_code.specs.Codes.{Tables}
+use Rattle.icn_code.specs.Rules.{keeps_rules}
+use Rattle.icn_defs.specs.Running.{Launch, Observed}
+use Rattle.icn_image.specs.Spelling.{image_of}
+use Rattle.icn_link.specs.declared.fault.LinkFault.{LinkFault}
+use Rattle.icn_link.specs.declared.fault.LinkFault.TheVariants.{NoMemory}
+use Rattle.icn_link.specs.Joined.{joined, joined_of}
+use Rattle.icn_link.specs.LinkFaults.{Owner, count_fault, first_fault, missing_fault, missing_from, over, owner_named, repeat_of, repeated_from, too_large_of}
+use Rattle.icn_simulation.specs.Faultless.{IsFaultless}
+use Rattle.icn_simulation.specs.Joined.{Joined}
+use Rattle.icn_simulation.specs.Law.{IsLinked, FilesMean}
+use Rattle.icn_lines.specs.declared.answer.Answer.{Answer}
+use Rattle.icont_top.specs.Linking.{linked, units_of}
+use Rattle.icont_top.specs.Sources.{Scan, source_read, lines_read, tokens_read}
+use Rattle.icont_top.specs.Translating.{Become, not_parsed, out_of_context, not_alone, is_program, ComesTo, no_tokens, refused, not_linked, translated}
+use Rattle.icont_top.proofs.GivenLines.{lines_within}
+use Rattle.icont_top.proofs.Matching.{same_Ok, ok-err}
+use Rattle.icont_top.proofs.Sourcing.{are_scanned}
+
+-- Tokens
+
+scanned_in : (names : List (List ℕ)) (lines : List SourceLine) (outcome : Outcome) → joined_len lines ≤ 16777216 → tokens_of lines ≡ outcome → (scan : Scan) → tokens_read names outcome ≡ Ok scan → AreScanned scan.tokens
+scanned_in names lines (Scanned tokens) within is scan e = subst (λ (s : Scan). AreScanned s.tokens) (same_Ok (record { names = names; tokens = tokens }) scan e) (are_scanned lines tokens within is)
+scanned_in names lines (Fault rule file line) within is scan e = absurd (ok-err scan _ (sym e))
+
+scanned_of : (files : FileMap) (name : List ℕ) (read : Result Source PrepFault) → source_lines files name ≡ read → (scan : Scan) → lines_read name read ≡ Ok scan → AreScanned scan.tokens
+scanned_of files name (Ok source) is scan e = scanned_in source.names source.lines (tokens_of source.lines) (lines_within files name source is) refl scan e
+scanned_of files name (Err fault) is scan e = absurd (ok-err scan _ (sym e))
+
+-- the tokens of a named file are as the scanner gives them
+pub scanned : (files : FileMap) (name : List ℕ) (scan : Scan) → source_read files name ≡ Ok scan → AreScanned scan.tokens
+scanned files name scan e = scanned_of files name (source_lines files name) refl scan e
+
+-- Files that break no rule
+
+pub faultless_tree : (tokens : List Token) (file : List Declaration) → AreScanned tokens → IsOutcome tokens (IsTree file) → context_faults file ≡ [] → IsFaultless file
+faultless_tree tokens file scanned is e =
+    let spelled : IsSpelled file = record { tokens = tokens; scanned = scanned; tree = is } in record { spelled = ∣ spelled ∣₁; context = e }
+
+faultless_tokens : {tokens : List Token} (found : Result (List Declaration) (Rule × Place)) → Become tokens found → AreScanned tokens → (file : List Declaration) → found ≡ Ok file → IsFaultless file
+faultless_tokens _ (not_parsed outcome rule place is e) scanned file same = absurd (ok-err file (rule, place) (sym same))
+faultless_tokens _ (out_of_context tree fault is e) scanned file same = absurd (ok-err file (fault.rule, fault.place) (sym same))
+faultless_tokens _ (not_alone tree place is e l) scanned file same = absurd (ok-err file _ (sym same))
+faultless_tokens {tokens} _ (is_program tree is e l) scanned file same = subst IsFaultless (same_Ok tree file same) (faultless_tree tokens tree scanned is e)
+
+faultless_found : {files : FileMap} {name : List ℕ} (found : Result (List Declaration) Answer) → ComesTo files name found → (file : List Declaration) → found ≡ Ok file → IsFaultless file
+faultless_found _ (no_tokens answer e) file same = absurd (ok-err file answer (sym same))
+faultless_found _ (refused scan rule place e x) file same = absurd (ok-err file _ (sym same))
+faultless_found _ (not_linked scan tree rule e x b) file same = absurd (ok-err file _ (sym same))
+faultless_found {files} {name} _ (translated scan tree e x n) file same = faultless_tokens (Ok tree) x (scanned files name scan e) file (ap (λ t. Ok t) (same_Ok tree file same))
+
+-- what a named file comes to breaks no rule
+pub faultless_file : {files : FileMap} {name : List ℕ} {file : List Declaration} → ComesTo files name (Ok file) → IsFaultless file
+faultless_file {file = file} comes = faultless_found (Ok file) comes file refl
+
+-- Faults of linking
+
+abbrev IsNoWant : Option LinkFault → Type 0
+IsNoWant fault = IfSome fault (λ f. f ≡ NoMemory → ⊥)
+
+or_none : (a b : Option LinkFault) → IsNoWant a → IsNoWant b → IsNoWant (option_or a b)
+or_none None b h k = k
+or_none (Some fault) b h k = h
+
+mapped : {A : Type 0} (f : A → LinkFault) (o : Option A) → ((x : A) → f x ≡ NoMemory → ⊥) → IsNoWant (option_map f o)
+mapped f None h = tt
+mapped f (Some x) h = h x
+
+missing_none : (names : List (List ℕ)) (place : ℕ) (units : List UnitRead) → IsNoWant (missing_from names place units)
+missing_none names place [] = tt
+missing_none names place (unit ∷ units) = or_none _ _ (mapped (missing_fault place) _ (λ x e. cc)) (missing_none names (suc place) units)
+
+repeated_none : (before owners : List Owner) → IsNoWant (repeated_from before owners)
+repeated_none before [] = tt
+repeated_none before (next ∷ others) = or_none _ _ (mapped (repeat_of next) (owner_named next.name before) (λ x e. cc)) (repeated_none (before ++ next ∷ []) others)
+
+over_none : (most : ℕ) (counts : List ℕ) → IsNoWant (over most counts)
+over_none most counts = mapped count_fault _ (λ n e. cc)
+
+large_none : (decls : List Decl) (procs : List Proc) → IsNoWant (too_large_of decls procs)
+large_none decls procs = or_none _ _ (over_none _ _) (or_none _ _ (over_none _ _) (or_none _ _ (over_none _ _) (or_none _ _ (over_none _ _)
+    (or_none _ _ (over_none _ _) (or_none _ _ (over_none _ _) (over_none _ _))))))
+
+first_none : (units : List UnitRead) → IsNoWant (first_fault units)
+first_none units = or_none _ _ (missing_none _ 0 units) (or_none _ _ (repeated_none [] _) (large_none _ _))
+
+-- no unit has a fault that is want of memory
+pub faults_are_rules : {A : Type 0} (units : List UnitRead) → first_fault units ≡ Some NoMemory → A
+faults_are_rules units e = absurd (rw e at (first_none units) refl)
+
+-- Images
+
+right_none : (a b : Option LinkFault) → option_or a b ≡ None → b ≡ None
+right_none None b e = e
+right_none (Some fault) b e = absurd (none-some fault (sym e))
+
+within_count : (most count : ℕ) → over most (count ∷ []) ≡ None → count ≤ most
+within_count most count e = by_test (nat_lt most count) refl where
+  by_test : (test : Bool) → nat_lt most count ≡ test → count ≤ most
+  by_test true t = absurd (none-some (count_fault count) (sym e ∙ ap (λ test. option_map count_fault (cond test (Some count) None)) t))
+  by_test false t = grind (arith, nat_tests)
+
+image_counted : (decls : List Decl) (procs : List Proc) → too_large_of decls procs ≡ None → over 1073741824 (length (image_of (joined_of decls procs)) ∷ []) ≡ None
+image_counted decls procs e = right_none _ _ (right_none _ _ (right_none _ _ (right_none _ _ (right_none _ _ (right_none _ _ e)))))
+
+-- where the linker finds no fault, the image is within the bound
+pub image_within : (units : List UnitRead) → first_fault units ≡ None → length (image_of (joined units)) ≤ 1073741824
+image_within units e = within_count 1073741824 (length (image_of (joined units))) (image_counted _ _ (right_none _ _ (right_none _ _ e)))
+
+-- Code
+
+all_one : (file : List Declaration) → IsFaultless file → All IsFaultless (file ∷ [])
+all_one file h zero d l = h
+all_one file h (suc i) d l = absurd (omega (arith, l))
+
+-- each file that breaks no rule has the joined code of its unit
+abbrev pub UnitsJoin : Type 0
+UnitsJoin = (name : List ℕ) (file : List Declaration) → IsFaultless file → Joined (file ∷ []) (joined (units_of name file))
+
+pub linked_file : UnitsJoin → (base : List ℕ) (file : List Declaration) → IsFaultless file → IsLinked (file ∷ []) (linked base file)
+linked_file joins base file h = record { faultless = all_one file h; code = joins base file h }
+
+abbrev pub ProgramsMean : Type 0
+ProgramsMean = (files : List (List Declaration)) (tables : Tables) (launch : Launch) → IsLinked files tables → keeps_rules tables ≡ true → (seen : Observed) × FilesMean files launch seen
+
+pub file_means : UnitsJoin → ProgramsMean → (base : List ℕ) (file : List Declaration) (launch : Launch) → IsFaultless file → keeps_rules (linked base file) ≡ true → (seen : Observed) × FilesMean (file ∷ []) launch seen
+file_means joins means base file launch h rules = means (file ∷ []) (linked base file) launch (linked_file joins base file h) rules
