@@ -1,23 +1,24 @@
 -- How the line of an answer stands on the error output.
-use Rattle.std.proofs.Common.{◌≡◌, ◌⊎◌, inl, inr, ℕ, List, Option, IfSome, true, false, take, refl, sym, ◌∙◌, subst}
+use Rattle.std.proofs.Common.{◌≡◌, ◌⊎◌, inl, inr, ℕ, List, Option, IfSome, Err, true, false, take, refl, sym, ◌∙◌, subst}
 use Rattle.icn_host.specs.Sinks.{Gains, SinkState}
 use Rattle.icn_host.proofs.SinkSteps.{gains_nothing}
 use Rattle.icn_host.specs.declared.fault.Fault.TheVariants.{Failed, NoMemory as Wants}
 use Rattle.icn_report.proofs.Putting.{leads_of, puts_nothing}
 use Rattle.icn_report.specs.Puts.{Puts, all}
 use Rattle.icn_defs.specs.Running.{Observed}
-use Rattle.icn_streams.specs.Handed.{Handed}
+use Rattle.icn_streams.specs.Handed.{Handed, WantsMemory, uncounted, output_wants, errors_want}
+use Rattle.icn_machine.specs.Stepping.{OutputFails, output_fails, errors_fail}
 use Rattle.icn_run.specs.declared.ending.Ending.{Ending}
 use Rattle.icn_running.specs.declared.fault.RunFault.{RunFault}
 use Rattle.icn_running.specs.declared.fault.RunFault.TheVariants as Runs
-use Rattle.icn_running.specs.Runs.{LeavesBy}
+use Rattle.icn_running.specs.Runs.{EndsAtFirst as RunEnds, LeavesBy}
 use Rattle.icn_lines.specs.declared.answer.Answer.{Answer}
 use Rattle.icn_lines.specs.declared.answer.Answer.TheVariants.{Wrote, Ran, Refused, Command, Missing, BadImage, FileFault, ReadFault, WriteFault, NoMemory}
 use Rattle.icn_lines.specs.Answers.{IsFault, is_fault}
 use Rattle.icn_lines.specs.Faulting.{of_run}
 use Rattle.icn_lines.specs.Lines.{fault_line, line_of}
 use Rattle.icn_lines.specs.Refusing.{PutsOwn, Refuses, put, own, write_fault, want}
-use Rattle.icn_lines.specs.Reporting.{LineStands, PutsSome, ReportStands, Reports, put as put_whole, own as put_own, broke}
+use Rattle.icn_lines.specs.Reporting.{CountsFault, LineStands, PutsSome, ReportStands, Reports, put as put_whole, own as put_own, broke}
 
 -- Answers that are faults, and that are none
 
@@ -95,13 +96,29 @@ broken_puts Runs.WriteFault input seen before after leaves =
 broken_puts Runs.NoMemory input seen before after leaves =
     record { own = take leaves.errors.count seen.outside.errors; gains = record { appends = leaves.errors.appends } }
 
+-- the counts of the error output, where a run ended at its first fault
+output_counts : (before after : Handed) → OutputFails before after → CountsFault Runs.WriteFault before.errors after.errors
+output_counts before after (output_fails input out err) = inl err
+output_counts before after (errors_fail input out err) = inr err
+
+memory_counts : (before after : Handed) → WantsMemory before after → CountsFault Runs.NoMemory before.errors after.errors
+memory_counts before after (uncounted same) = inl same.errors
+memory_counts before after (output_wants input out err) = inl err
+memory_counts before after (errors_want input out err) = inr err
+
+fault_counts : (before after : Handed) (fault : RunFault) → RunEnds {A = Ending} (Err fault) before after → CountsFault fault before.errors after.errors
+fault_counts before after Runs.ReadFault fails = fails.errors
+fault_counts before after Runs.WriteFault fails = output_counts before after fails
+fault_counts before after Runs.NoMemory wants = memory_counts before after wants
+
 -- a run that was broken off, with the fault's own line behind
-pub fault_reports : {usage name : List ℕ} {left : Option (List ℕ)} (before between after : SinkState) (fault : RunFault) → IfSome left (λ _. PutsSome before between)
-    → PutsOwn (of_run fault) between after → Reports usage name left before after (of_run fault)
-fault_reports before between after fault some puts = broke fault refl between some (puts_own _ _ (of_run fault) puts)
+pub fault_reports : {usage name : List ℕ} {left : Option (List ℕ)} (before between : Handed) (after : SinkState) (fault : RunFault) → RunEnds {A = Ending} (Err fault) before between
+    → IfSome left (λ _. PutsSome before.errors between.errors) → PutsOwn (of_run fault) between.errors after → Reports usage name left before.errors after (of_run fault)
+fault_reports before between after fault ends some puts =
+    broke fault refl between.errors (fault_counts before between fault ends) some (puts_own _ _ (of_run fault) puts)
 
 pub line_of_reports : {usage name : List ℕ} {left : Option (List ℕ)} {before after : SinkState} {answer : Answer} → Reports usage name left before after answer
     → IsFault answer ⊎ LineStands usage name left answer before after
 line_of_reports (put_whole n stands) = inr stands
 line_of_reports (put_own f other n between leads puts) = inl f
-line_of_reports (broke fault e between some puts) = inl (subst IsFault (sym e) (is_run_fault fault))
+line_of_reports (broke fault e between counts some puts) = inl (subst IsFault (sym e) (is_run_fault fault))

@@ -1,9 +1,11 @@
 -- What stands on the error output behind a call. Of what a run put, something is said where the input told its content before.
-use Rattle.std.specs.Prelude.{◌≡◌, ℕ, List, Option, IfSome}
+use Rattle.std.specs.Prelude.{◌≡◌, ◌⊎◌, ℕ, List, Option, IfSome}
 use Rattle.icn_host.specs.Sinks.{Gains, SinkState}
 use Rattle.icn_report.specs.Puts.{Puts, Leads}
+use Rattle.icn_streams.specs.Handed.{FailsOnce, KeepsCounts, WantsOnce}
 use Rattle.icn_run.specs.declared.ending.Ending.{Ending}
 use Rattle.icn_running.specs.declared.fault.RunFault.{RunFault}
+use Rattle.icn_running.specs.declared.fault.RunFault.TheVariants as Faults
 use Rattle.icn_running.specs.Reported.{PutsReport, ending_seen}
 use Rattle.icn_lines.specs.declared.answer.Answer.{Answer}
 use Rattle.icn_lines.specs.declared.answer.Answer.TheVariants.{Wrote, Ran, Refused, Command, Missing, BadImage, FileFault, ReadFault, WriteFault, NoMemory}
@@ -28,6 +30,12 @@ LineStands usage name left ReadFault before after = ⊥
 LineStands usage name left WriteFault before after = ⊥
 LineStands usage name left NoMemory before after = ⊥
 
+-- the counts of the error output where a run was broken off by this fault: one rose at most, and once
+abbrev pub CountsFault : RunFault → SinkState → SinkState → Type 0
+CountsFault Faults.ReadFault before after = KeepsCounts before after
+CountsFault Faults.WriteFault before after = KeepsCounts before after ⊎ FailsOnce before after
+CountsFault Faults.NoMemory before after = KeepsCounts before after ⊎ WantsOnce before after
+
 -- a program's run put something
 pub record PutsSome (before after : SinkState) : Type 0 where
   pub own : List ℕ
@@ -39,5 +47,5 @@ pub data Reports (usage name : List ℕ) (left : Option (List ℕ)) (before afte
   put : (IsFault answer → ⊥) → LineStands usage name left answer before after → Reports usage name left before after answer
   own : IsFault answer → (other : Answer) → (IsFault other → ⊥) → (between : SinkState) → Leads before between (line_of usage name other)
       → Puts between after (fault_line answer) → Reports usage name left before after answer
-  broke : (fault : RunFault) → answer ≡ of_run fault → (between : SinkState) → IfSome left (λ _. PutsSome before between)
-      → Puts between after (fault_line answer) → Reports usage name left before after answer
+  broke : (fault : RunFault) → answer ≡ of_run fault → (between : SinkState) → CountsFault fault before between
+      → IfSome left (λ _. PutsSome before between) → Puts between after (fault_line answer) → Reports usage name left before after answer

@@ -25,7 +25,7 @@ returns-in-Ok-clause-reported g c name = ran_reports c.in-Ok.ending (if_some (g.
 
 pub returns-in-Err-clause-reported : goal.returns-in-Err-clause-reported
 returns-in-Err-clause-reported g c name =
-    rw c.answer_of-answer.ensures (fault_reports _ _ _ c.in-Err.fault
+    rw c.answer_of-answer.ensures (fault_reports _ _ _ c.in-Err.fault c.in-Err.ensures.first_fault
     (if_some (g.I.Source.left c.args.input.now) _ (λ left d.
     off_puts (tables_of c.args.code.now.code) (launch_with c.args.asked.arguments.now c.args.asked.limits (outside_of left)) c.in-Err.fault _ _ (c.in-Err.ensures.breaks left d)))
     (rw c.answer_of-answer.ensures at c.own_line.ensures.puts))
