@@ -1,0 +1,85 @@
+-- Where no two places are of one label, each label has its place: the address of a label is where its place stands.
+use Rattle.std.proofs.Common.{◌≡◌, ◌≢◌, ◌⊎◌, inl, inr, ℕ, ◌+◌, Bool, true, false, not, ◌&&◌, ◌||◌, List, [], ◌∷◌, ◌++◌, length, Option, None, Some, refl, subst, nat_eq, if◌then◌else◌, arith}
+use Rattle.std.proofs.lemmas.Bool.Decides.{eqb_tells}
+use Rattle.icn_unit.specs.declared.unit.UnitInstr.{UnitInstr}
+use Rattle.icn_unit.specs.declared.unit.UnitInstr.TheVariants as U
+use Rattle.icn_unit.specs.UnitRules.{place_of, place_list, placed, has_label, labels_differ}
+use Rattle.icn_link.specs.Resolving.{Scope, resolved_one, label_place, label_place_by}
+use Rattle.link_laws.proofs.CodeSteps.{AtPlace, Placed}
+
+-- how many instructions stand for one of a unit
+abbrev counted : Option ℕ → ℕ
+counted None = 1
+counted (Some label) = 0
+
+one_or_none : (S : Scope) (i : UnitInstr) → length (resolved_one S i) ≡ counted (place_of i)
+one_or_none S (U.Lab label) = refl
+one_or_none S i = refl
+
+both_of : (b t : Bool) → (b && t) ≡ true → (b ≡ true) × (t ≡ true)
+both_of true t h = (refl, h)
+both_of false t h = absurd (cc)
+
+-- a label before others, none of which it is
+here : (label : ℕ) (labels : List ℕ) → has_label (label ∷ labels) label ≡ true
+here label labels = by (nat_eq label label) (eqb_tells label label)
+  where
+    by : (b : Bool) → ((b ≡ true) × (label ≡ label)) ⊎ ((b ≡ false) × (label ≢ label)) → (b || has_label labels label) ≡ true
+    by true h = refl
+    by false (inl h) = absurd (cc)
+    by false (inr h) = absurd (h.1 refl)
+
+later : (label other : ℕ) (labels : List ℕ) → has_label labels label ≡ true → has_label (other ∷ labels) label ≡ true
+later label other labels h = by (nat_eq label other)
+  where
+    by : (b : Bool) → (b || has_label labels label) ≡ true
+    by true = refl
+    by false = h
+
+place_here : (label behind : ℕ) → label_place_by label (Some label) behind ≡ 0
+place_here label behind = by (nat_eq label label) (eqb_tells label label)
+  where
+    by : (b : Bool) → ((b ≡ true) × (label ≡ label)) ⊎ ((b ≡ false) × (label ≢ label)) → (if b then 0 else behind) ≡ 0
+    by true h = refl
+    by false (inl h) = absurd (cc)
+    by false (inr h) = absurd (h.1 refl)
+
+place_later : (label other behind : ℕ) (labels : List ℕ) → has_label labels label ≡ true → not (has_label labels other) ≡ true
+    → label_place_by label (Some other) behind ≡ behind
+place_later label other behind labels h n = by (nat_eq label other) (eqb_tells label other)
+  where
+    by : (b : Bool) → ((b ≡ true) × (label ≡ other)) ⊎ ((b ≡ false) × (label ≢ other)) → (if b then 0 else behind) ≡ behind
+    by false e = refl
+    by true (inr e) = absurd (cc)
+    by true (inl e) = absurd (let there : has_label labels other ≡ true = subst (λ l. has_label labels l ≡ true) e.1 h in
+        let no : not true ≡ true = subst (λ b. not b ≡ true) there n in cc)
+
+-- the labels from a place on have these addresses
+Known : Scope → ℕ → List ℕ → (ℕ → ℕ) → Type 0
+Known S p labels address = (label : ℕ) → has_label labels label ≡ true → S.label label ≡ p + address label
+
+placed_from : (S : Scope) (p : ℕ) (is : List UnitInstr) → labels_differ (placed is) ≡ true → Known S p (placed is) (λ label. label_place label is)
+    → Placed S p is
+unfolding Known
+placed_from S p [] d h = tt
+placed_from S p (i ∷ is) d h = by (place_of i) (length (resolved_one S i)) (one_or_none S i) d h (λ q. placed_from S q is)
+  where
+    by : (k : Option ℕ) (one : ℕ) → one ≡ counted k → labels_differ (place_list k ++ placed is) ≡ true
+        → ((label : ℕ) → has_label (place_list k ++ placed is) label ≡ true → S.label label ≡ p + label_place_by label k (label_place label is))
+        → ((q : ℕ) → labels_differ (placed is) ≡ true → ((label : ℕ) → has_label (placed is) label ≡ true → S.label label ≡ q + label_place label is) → Placed S q is)
+        → AtPlace S p k × Placed S (p + one) is
+    by None one e d h rest = (tt, rest (p + one) d (λ label k. let at = h label k in omega arith))
+    by (Some m) one e d h rest =
+        let parts = both_of (not (has_label (placed is) m)) (labels_differ (placed is)) d in
+        let at = h m (here m (placed is)) in
+        let zero = place_here m (label_place m is) in (
+          omega arith,
+          rest (p + one) parts.1 (λ label k.
+              let there = h label (later label m (placed is) k) in
+              let same = place_later label m (label_place label is) (placed is) k parts.0 in
+              omega arith),
+        )
+
+pub all_placed : (S : Scope) (is : List UnitInstr) → labels_differ (placed is) ≡ true → ((label : ℕ) → S.label label ≡ label_place label is) → Placed S 0 is
+unfolding Known
+all_placed S is d h = placed_from S 0 is d (λ label k. let at = h label in omega arith)
