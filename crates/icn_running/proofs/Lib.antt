@@ -1,0 +1,6 @@
+mod Images
+mod Lasting
+mod LoopSteps
+mod Naming
+mod RecordCounts
+mod RecordNumbers
