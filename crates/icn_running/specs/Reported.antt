@@ -1,10 +1,11 @@
 -- How a run ends, and what is put on the error output then.
-use Rattle.std.specs.Prelude.{◌≡◌, ℕ, List, [], ◌++◌, Option, Result, Ok, Err}
+use Rattle.std.specs.Prelude.{◌≡◌, ◌⊎◌, ℕ, List, [], ◌++◌, Option, Some, None, Result, Ok, Err}
 use Rattle.std.specs.Option.{option_map}
 use Rattle.icn_host.specs.Sinks.{Gains, SinkState}
+use Rattle.icn_report.specs.Puts.{BreaksOff, PutsAll, RunsShort}
 use Rattle.icn_value.specs.Store.{Heap, Names}
 use Rattle.icn_value.specs.Values.{Value}
-use Rattle.icn_heap.specs.Extents.{value_in}
+use Rattle.icn_heap.specs.Extents.{Extent, value_in}
 use Rattle.icn_heap.specs.Heaps.{heap_of}
 use Rattle.icn_defs.specs.Errors.{error_report}
 use Rattle.icn_defs.specs.Running.{Ending, Done, Exit, Errored, AtBound, bound_report}
@@ -16,6 +17,8 @@ use Rattle.icn_control.specs.Machines.{extent}
 use Rattle.icn_control.specs.declared.machine.Machine.{Machine}
 use Rattle.icn_machine.specs.declared.stepping.Stepped.{Stepped}
 use Rattle.icn_machine.specs.declared.stepping.Stepped.TheVariants as Steppeds
+use Rattle.icn_running.specs.declared.fault.RunFault.{RunFault}
+use Rattle.icn_running.specs.declared.fault.RunFault.TheVariants.{ReadFault, WriteFault, NoMemory}
 
 -- the ending that an answer is
 abbrev pub ending_seen : HeldEnding → Ending
@@ -24,38 +27,63 @@ ending_seen (HeldEndings.Exit status) = Exit status
 ending_seen (HeldEndings.Errored number) = Errored number
 ending_seen HeldEndings.AtBound = AtBound
 
--- how a run ends that stopped so; where an instruction is due, and where a fault broke it off, it has none
-abbrev pub EndsAs : Result Stepped Halt → Ending → Type 0
-EndsAs (Ok Steppeds.On) ending = ⊥
-EndsAs (Ok Steppeds.Finished) ending = ending ≡ Done
-EndsAs (Ok Steppeds.AtBound) ending = ending ≡ AtBound
-EndsAs (Err (Halts.Error number offending)) ending = ending ≡ Errored number
-EndsAs (Err (Halts.Ends status)) ending = ending ≡ Exit status
-EndsAs (Err Halts.ReadFault) ending = ⊥
-EndsAs (Err Halts.WriteFault) ending = ⊥
-EndsAs (Err Halts.NoMemory) ending = ⊥
-
--- what is put on the error output then
-abbrev pub report_for : {K : Type 0} → Names → Machine K → Result Stepped Halt → List ℕ
-report_for names m (Ok Steppeds.On) = []
-report_for names m (Ok Steppeds.Finished) = []
-report_for names m (Ok Steppeds.AtBound) = bound_report
-report_for names m (Err (Halts.Error number offending)) = error_report names (heap_of m.world.heap) number (option_map (value_in (extent m)) offending)
-report_for names m (Err (Halts.Ends status)) = []
-report_for names m (Err Halts.ReadFault) = []
-report_for names m (Err Halts.WriteFault) = []
-report_for names m (Err Halts.NoMemory) = []
-
--- the report of a run that ended so: the bytes of an error's report are those of some heap, with some value, or none, that it is about
+-- the report of a run that ended so
 abbrev pub IsReportOf : Ending → List ℕ → Type 0
 IsReportOf Done text = text ≡ []
 IsReportOf (Exit status) text = text ≡ []
 IsReportOf (Errored number) text = (names : Names) × ((heap : Heap) × ((offending : Option Value) × (text ≡ error_report names heap number offending)))
 IsReportOf AtBound text = text ≡ bound_report
 
--- a report of this ending stands at the end of what was put on a sink, behind what the program itself put
+-- Behind what the run itself has put stands the report of its ending, whole.
 pub record PutsReport (ending : Ending) (before after : SinkState) : Type 0 where
   pub own : List ℕ
   pub report : List ℕ
   pub is : IsReportOf ending report
   pub gains : Gains before.held after.held (own ++ report)
+
+-- What is answered at the end
+
+-- a report was not put whole, and this is the fault; where memory was wanting, it may be that it was not begun
+abbrev pub CutsShort : RunFault → SinkState → SinkState → List ℕ → Type 0
+CutsShort ReadFault before after text = ⊥
+CutsShort WriteFault before after text = BreaksOff before after text
+CutsShort NoMemory before after text = (after ≡ before) ⊎ RunsShort before after text
+
+-- The ending is answered once its report is put; or the fault for which it was not put whole.
+abbrev pub AnswersEnd : Ending → List ℕ → Result HeldEnding RunFault → SinkState → SinkState → Type 0
+AnswersEnd ending text (Ok answer) before after = (ending_seen answer ≡ ending) × PutsAll before after text
+AnswersEnd ending text (Err fault) before after = CutsShort fault before after text
+
+-- the fault that broke the run off is answered, and nothing is put
+abbrev pub AnswersFault : RunFault → Result HeldEnding RunFault → SinkState → SinkState → Type 0
+AnswersFault fault result before after = (result ≡ Err fault) × (after ≡ before)
+
+-- What is answered of a run that an error, its own end or a fault has halted.
+abbrev pub AnswersHalt : Names → Heap → Extent → Halt → Result HeldEnding RunFault → SinkState → SinkState → Type 0
+AnswersHalt names heap all (Halts.Error number offending) result before after =
+    AnswersEnd (Errored number) (error_report names heap number (option_map (value_in all) offending)) result before after
+AnswersHalt names heap all (Halts.Ends status) result before after = AnswersEnd (Exit status) [] result before after
+AnswersHalt names heap all Halts.ReadFault result before after = AnswersFault ReadFault result before after
+AnswersHalt names heap all Halts.WriteFault result before after = AnswersFault WriteFault result before after
+AnswersHalt names heap all Halts.NoMemory result before after = AnswersFault NoMemory result before after
+
+-- the same of one that is finished or stands at its bound; where an instruction is due, it has no end
+abbrev pub AnswersStop : Stepped → Result HeldEnding RunFault → SinkState → SinkState → Type 0
+AnswersStop Steppeds.On result before after = ⊥
+AnswersStop Steppeds.Finished result before after = AnswersEnd Done [] result before after
+AnswersStop Steppeds.AtBound result before after = AnswersEnd AtBound bound_report result before after
+
+-- What is answered of a run whose machine has stopped so.
+abbrev pub AnswersMachine : {K : Type 0} → Names → Machine K → Result Stepped Halt → Result HeldEnding RunFault → SinkState → SinkState → Type 0
+AnswersMachine names m (Ok stepped) result before after = AnswersStop stepped result before after
+AnswersMachine names m (Err halt) result before after = AnswersHalt names (heap_of m.world.heap) (extent m) halt result before after
+
+-- What is answered of a run that was over before its first instruction, over the heap that it was to have: by an error that is about no value, or for
+-- want of memory.
+abbrev pub AnswersUnbegun : Names → Heap → Halt → Result HeldEnding RunFault → SinkState → SinkState → Type 0
+AnswersUnbegun names heap (Halts.Error number None) result before after = AnswersEnd (Errored number) (error_report names heap number None) result before after
+AnswersUnbegun names heap (Halts.Error number (Some offending)) result before after = ⊥
+AnswersUnbegun names heap (Halts.Ends status) result before after = ⊥
+AnswersUnbegun names heap Halts.ReadFault result before after = ⊥
+AnswersUnbegun names heap Halts.WriteFault result before after = ⊥
+AnswersUnbegun names heap Halts.NoMemory result before after = AnswersFault NoMemory result before after

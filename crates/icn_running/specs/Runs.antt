@@ -1,13 +1,21 @@
 -- How a run ends, and what it leaves in the streams.
-use Rattle.std.specs.Prelude.{◌≡◌, ℕ, List, Result, Ok, Err}
+use Rattle.std.specs.Prelude.{◌≡◌, ℕ, List, Some, Result, Ok, Err}
+use Rattle.icn_value.specs.Limited.{Bounds}
+use Rattle.icn_value.specs.Store.{outside_of}
 use Rattle.icn_defs.specs.Interruptions.{Breaks, BreaksReading, Ends, Streams}
-use Rattle.icn_defs.specs.Running.{Ending, Launch, Observed}
+use Rattle.icn_defs.specs.Running.{Ending, Launch, Observed, launch_of}
 use Rattle.icn_code.specs.Codes.{Tables}
-use Rattle.icn_run.specs.FlatStep.{Runs}
+use Rattle.icn_run.specs.FlatStep.{Runs, start}
+use Rattle.icn_run.specs.Step.{running}
+use Rattle.icn_run.specs.declared.ending.Ending.{Ending as HeldEnding}
+use Rattle.icn_run_ends.specs.Falling.{EachStepFalls}
 use Rattle.icn_streams.specs.Handed.{Handed, KeepsAllCounts, WantsMemory}
-use Rattle.icn_machine.specs.Stepping.{InputFails, OutputFails}
+use Rattle.icn_control.specs.Machines.{stack_seen, store_seen}
+use Rattle.icn_control.specs.declared.machine.Machine.{Machine}
+use Rattle.icn_machine.specs.Stepping.{InputFails, IsKept, OutputFails}
 use Rattle.icn_running.specs.declared.fault.RunFault.{RunFault}
 use Rattle.icn_running.specs.declared.fault.RunFault.TheVariants.{ReadFault, WriteFault, NoMemory}
+use Rattle.icn_running.specs.Reported.{PutsReport, ending_seen}
 
 -- what the streams tell that a call is handed
 abbrev pub streams_of : Handed → Streams
@@ -18,19 +26,36 @@ abbrev pub RunsTo : Tables → Launch → Ending → Handed → Handed → Type 
 RunsTo tables launch ending before after =
     (seen : Observed) × ((seen.ending ≡ ending) × (Runs tables launch seen × Ends seen (streams_of before) (streams_of after)))
 
--- what a fault leaves of a run that was begun with this input
+-- what this fault leaves of a run that was begun with this input: broken off at a reading, at a put, or for want of memory
 abbrev pub LeavesBy : RunFault → List ℕ → Observed → Handed → Handed → Type 0
 LeavesBy ReadFault input seen before after = BreaksReading seen (streams_of before) (streams_of after)
 LeavesBy WriteFault input seen before after = Breaks input seen (streams_of before) (streams_of after)
 LeavesBy NoMemory input seen before after = Breaks input seen (streams_of before) (streams_of after)
 
--- the run of a code was broken off by a fault, and this is left of it
+-- The run of a code was broken off by this fault.
 abbrev pub IsBrokenOff : Tables → Launch → RunFault → Handed → Handed → Type 0
 IsBrokenOff tables launch fault before after = (seen : Observed) × (Runs tables launch seen × LeavesBy fault launch.outside.left seen before after)
 
--- the first fault ends a run: the count of what failed rose once, and no other
+-- what is said of a run that was begun so, by what was answered
+abbrev pub AnswersRun : Tables → Launch → Result HeldEnding RunFault → Handed → Handed → Type 0
+AnswersRun tables launch (Ok ending) before after = RunsTo tables launch (ending_seen ending) before after × PutsReport (ending_seen ending) before.errors after.errors
+AnswersRun tables launch (Err fault) before after = IsBrokenOff tables launch fault before after
+
+-- the same of each run with whose start this machine stands
+abbrev pub AnswersRuns : {K : Type 0} → Tables → Machine K → Result HeldEnding RunFault → Handed → Handed → Type 0
+AnswersRuns tables m result before after = (words : List (List ℕ)) (bounds : Bounds) (left : List ℕ) → before.left ≡ Some left
+    → start tables (launch_of words bounds left) ≡ running (stack_seen m) (store_seen tables (outside_of left) m)
+    → AnswersRun tables (launch_of words bounds left) result before after
+
+-- A fault is answered where that object has failed for the first time; where it is not, nothing has failed.
 abbrev pub EndsAtFirst : {A : Type 0} → Result A RunFault → Handed → Handed → Type 0
 EndsAtFirst (Ok a) before after = KeepsAllCounts before after
 EndsAtFirst (Err ReadFault) before after = InputFails before after
 EndsAtFirst (Err WriteFault) before after = OutputFails before after
 EndsAtFirst (Err NoMemory) before after = WantsMemory before after
+
+-- What holds of a run from its start on: nothing ever lacks, each step makes a turn or leaves less to do, and there is an end.
+pub record RunHolds (tables : Tables) (launch : Launch) : Type 0 where
+  pub kept : IsKept tables (start tables launch)
+  pub falls : EachStepFalls tables launch
+  pub ends : (seen : Observed) × Runs tables launch seen

@@ -1,8 +1,17 @@
 //! The run of verified code, with its reports.
 #![tactic(auto)]
 
-mod code_run;
+mod endings;
+mod error_texts;
 mod fault;
+mod launching;
+mod laws;
+mod names;
+mod report;
+mod running;
+mod shown;
 
-pub use code_run::run;
 pub use fault::RunFault;
+pub use launching::run;
+pub use report::error_report;
+pub use running::run_on;

@@ -13,3 +13,4 @@ pub mod WrittenFiles
 pub mod OperandTexts
 pub mod CodeTexts
 pub mod RulesKept
+pub mod ByteLists

@@ -1,6 +1,8 @@
 -- The unit of a text that breaks no rule keeps the rules of units, where its numbers and bytes are as their types say.
-use Rattle.std.proofs.Common.{◌≡◌, ◌≤◌, ◌<◌, ◌⊎◌, inl, inr, ℕ, suc, ◌+◌, Bool, true, false, cond, not, ◌&&◌, ◌||◌, nat_le, nat_lt, List, [], ◌∷◌, ◌++◌, length, map, refl, sym, ap, ◌∙◌, if◌then◌else◌, arith}
+use Rattle.std.proofs.Common.{◌≡◌, ◌≤◌, ◌<◌, ◌⊎◌, inl, inr, ℕ, suc, ◌+◌, Bool, true, false, cond, not, ◌&&◌, ◌||◌, nat_le, nat_lt, List, [], ◌∷◌, ◌++◌, length, map, refl, sym, ap, ◌∙◌, subst, if◌then◌else◌, arith}
 use Rattle.std.specs.List.{list_all, flat_map}
+use Rattle.std.proofs.Math.Bool.{Bool-set}
+use Rattle.std.proofs.Math.Logic.{∥∥₁_elim}
 use Rattle.std.proofs.lemmas.Bool.Decides.{leb_tells}
 use Rattle.std.proofs.lemmas.List.Folds.{list_all-append}
 use Rattle.std.proofs.lemmas.List.Sums.{count_by-le-length, sum_by-append, sum_by-cons}
@@ -16,7 +18,7 @@ use Rattle.icn_unit.specs.declared.unit.UnitInstr.{UnitInstr}
 use Rattle.icn_unit.specs.declared.unit.UnitInstr.TheVariants as I
 use Rattle.icn_unit.specs.declared.unit.NameKind.TheVariants.{Parameter, Undeclared}
 use Rattle.icn_unit.specs.declared.unit.UnitName.{UnitName}
-use Rattle.icn_unit.specs.PlainUnits.{is_parameter, params_in}
+use Rattle.icn_unit.specs.PlainUnits.{Proc, Decl, is_parameter, params_in}
 use Rattle.icn_unit.specs.PlainUnits.{Global as GlobalLine, Link as LinkLine}
 use Rattle.icn_unit.specs.UnitOperands.{is_name, ascends}
 use Rattle.icn_unit.specs.UnitRules.{is_byte, is_number, keeps_operand, keeps_proc, keeps_decl, keeps_rules, names_differ}
@@ -272,3 +274,14 @@ unit_keeps_rules file spelled f n b =
     both (both (both (codes_kept none_met file f w n) (unit_procedures_differ none_met file f))
     (both (decls_kept file w (unit_fields_differ none_met file f) b) (unit_owners_differ none_met file f)))
     (names_are_same file)
+
+-- The same of lists that are these, where it is only known that there is a spelling: that rules are kept is a test.
+pub checked_keeps_rules : (file : List Declaration) → ∥ IsSpelled file ∥₁ → context_faults file ≡ []
+    → (procs : List Proc) (decls : List Decl) → procs ≡ proc_codes file → decls ≡ unit_decls file
+    → list_all numbers_fit procs ≡ true → list_all bytes_fit decls ≡ true → keeps_rules procs decls ≡ true
+checked_keeps_rules file spelled f procs decls p d n b =
+    ∥∥₁_elim spelled (Bool-set _ _)
+    (λ s. subst (λ ps. keeps_rules ps decls ≡ true) (sym p)
+    (subst (λ ds. keeps_rules (proc_codes file) ds ≡ true) (sym d)
+    (unit_keeps_rules file s f (subst (λ ps. list_all numbers_fit ps ≡ true) p n)
+    (subst (λ ds. list_all bytes_fit ds ≡ true) d b))))

@@ -1,3 +1,4 @@
 pub mod CodeNames
 pub mod Written
 pub mod TypeBounds
+pub mod UnitSeen

@@ -1,9 +1,12 @@
-//! What the code of each procedure keeps, where it breaks no rule.
+//! The unit of a checked file, and what the code of each procedure keeps, where it breaks no rule.
 #![tactic(auto)]
 
+mod bounds;
 mod laws;
+mod making;
 
 pub use laws::{
     code_texts_fit, file_names_differ, labels_have_one_place, names_and_literals_fit,
     names_stand_once, units_keep_rules,
 };
+pub use making::unit;

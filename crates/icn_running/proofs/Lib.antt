@@ -1,0 +1,12 @@
+mod BrokenOff
+mod Counting
+mod Images
+mod Lasting
+mod LoopSteps
+mod Naming
+mod Observed
+mod RecordCounts
+mod RecordNumbers
+mod RunAnswers
+mod Starts
+mod Unbegun

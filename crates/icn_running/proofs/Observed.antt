@@ -1,0 +1,117 @@
+-- What is observed of a run that is over, and what it leaves in the streams.
+use Rattle.std.proofs.Common.{◌≡◌, ℕ, suc, List, [], Option, Some, Ok, Err, refl, sym, ap, ◌∙◌, subst, append-nil}
+use Rattle.std.specs.Option.{option_map}
+use Rattle.icn_host.specs.Sinks.{Gains, SinkState}
+use Rattle.icn_value.specs.Limited.{Bounds}
+use Rattle.icn_value.specs.Store.{Outside, outside_of}
+use Rattle.icn_value.specs.declared.val.Val.{Val}
+use Rattle.icn_heap.specs.Extents.{value_in}
+use Rattle.icn_heap.specs.Heaps.{heap_of}
+use Rattle.icn_defs.specs.Errors.{error_report}
+use Rattle.icn_defs.specs.Interruptions.{Ends}
+use Rattle.icn_defs.specs.Running.{Ending, Done, Exit, Errored, AtBound, Launch, bound_report, launch_of, with_errors}
+use Rattle.icn_vars.specs.declared.outcome.Halt.TheVariants as Halts
+use Rattle.icn_code.specs.Codes.{Tables}
+use Rattle.icn_run.specs.FlatStep.{start}
+use Rattle.icn_run.specs.Stacks.{flat}
+use Rattle.icn_run.specs.Step.{all_names, observed, over, steps}
+use Rattle.icn_streams.specs.Handed.{Follows, Handed, Puts}
+use Rattle.icn_streams.proofs.Following.{follows_then, puts_nothing}
+use Rattle.icn_control.specs.Machines.{extent}
+use Rattle.icn_control.specs.declared.machine.Machine.{Machine}
+use Rattle.icn_control.specs.declared.machine.Stage.TheVariants as Stages
+use Rattle.icn_machine.specs.Stepping.{Leads}
+use Rattle.icn_running.specs.Runs.{RunsTo, streams_of}
+
+-- the error output alone is another since
+abbrev pub then_errors : Handed → SinkState → Handed
+then_errors handed errors = record handed { errors = errors }
+
+-- Where a run is over
+
+-- The run is over so after some steps, with this report; what is told of the streams is so before the report is put.
+pub record ComesToEnd (tables : Tables) (launch : Launch) (before between : Handed) (ending : Ending) (report : List ℕ) : Type 0 where
+  pub count : ℕ
+  pub now : Outside
+  pub is : steps flat tables count (start tables launch) ≡ over ending (with_errors report now)
+  pub follows : Follows before between launch.outside now
+
+-- an empty report changes nothing
+no_errors : (now : Outside) → with_errors [] now ≡ now
+no_errors now = ap (λ (text : List ℕ). record now { errors = text }) (append-nil now.errors)
+
+module _ {K : Type 0} (tables : Tables) (launch : Launch) (n : Machine K) (before between : Handed) where
+  quiet_end : (ending : Ending) (count : ℕ) (now : Outside) → steps flat tables count (start tables launch) ≡ over ending now
+      → Follows before between launch.outside now → ComesToEnd tables launch before between ending []
+  quiet_end ending count now is follows = record {
+    count = count;
+    now = now;
+    is = is ∙ ap (λ (o : Outside). over ending o) (sym (no_errors now));
+    follows = follows;
+  }
+
+  -- the starting call is over
+  pub finished : Leads tables (start tables launch) launch.outside before n between (Ok Stages.Over)
+      → ComesToEnd tables launch before between Done []
+  finished leads = quiet_end Done (suc leads.count) leads.last.now leads.last.is (follows_then leads.follows leads.last.follows)
+
+  -- it was ended with a status
+  pub ended : (status : ℕ) → Leads tables (start tables launch) launch.outside before n between (Err (Halts.Ends status))
+      → ComesToEnd tables launch before between (Exit status) []
+  ended status leads = quiet_end (Exit status) (suc leads.count) leads.last.now leads.last.is (follows_then leads.follows leads.last.follows)
+
+  -- it stands at the bound of turns
+  pub bounded : Leads tables (start tables launch) launch.outside before n between (Ok Stages.AtBound)
+      → ComesToEnd tables launch before between AtBound bound_report
+  bounded leads = record {
+    count = suc leads.count;
+    now = leads.last.now;
+    is = leads.last.is;
+    follows = follows_then leads.follows leads.last.follows;
+  }
+
+  -- a run-time error ended it
+  pub erred : (number : ℕ) (offending : Option Val) → Leads tables (start tables launch) launch.outside before n between (Err (Halts.Error number offending))
+      → ComesToEnd tables launch before between (Errored number) (error_report (all_names tables) (heap_of n.world.heap) number (option_map (value_in (extent n)) offending))
+  erred number offending leads = record {
+    count = suc leads.count;
+    now = leads.last.now;
+    is = leads.last.is;
+    follows = follows_then leads.follows leads.last.follows;
+  }
+
+-- What is seen of it once its report is put
+
+gains_all : (before after : SinkState) (now : List ℕ) → Puts before after [] now → Gains before.held after.held now
+gains_all before after now puts = subst (λ (text : List ℕ). Gains before.held after.held text) (sym puts.is) puts.gains
+
+ends_there : (ending : Ending) (input : List ℕ) (before after : Handed) (now : Outside) → Follows before after (outside_of input) now
+    → Ends (record { ending = ending; outside = now }) (streams_of before) (streams_of after)
+ends_there ending input before after now follows = record {
+  left = follows.left;
+  output = gains_all before.output after.output now.output follows.output;
+  errors = gains_all before.errors after.errors now.errors follows.errors;
+}
+
+follows_report : (between : Handed) (errors : SinkState) (now : Outside) (report : List ℕ) → between.left ≡ Some now.left
+    → Gains between.errors.held errors.held report → Follows between (then_errors between errors) now (with_errors report now)
+follows_report between errors now report told gains = record {
+  left = told;
+  output = puts_nothing between.output now.output;
+  errors = record { text = report; is = refl; gains = gains };
+}
+
+pub run_reported : (tables : Tables) (words : List (List ℕ)) (bounds : Bounds) (input : List ℕ) (before between : Handed) (errors : SinkState) (ending : Ending) (report : List ℕ)
+    → ComesToEnd tables (launch_of words bounds input) before between ending report → Gains between.errors.held errors.held report
+    → RunsTo tables (launch_of words bounds input) ending before (then_errors between errors)
+run_reported tables words bounds input before between errors ending report comes gains = (
+  record { ending = ending; outside = with_errors report comes.now },
+  (
+    refl,
+    (
+      record { count = comes.count; is = ap observed comes.is },
+      ends_there ending input before (then_errors between errors) (with_errors report comes.now)
+          (follows_then comes.follows (follows_report between errors comes.now report comes.follows.left gains)),
+    ),
+  ),
+)

@@ -1,0 +1,110 @@
+use Rattle.std.proofs.Common.{ℕ, List, [], Err, refl, subst}
+use Rattle.icn_value.specs.Store.{outside_of}
+use Rattle.icn_defs.specs.Running.{Launch}
+use Rattle.icn_code.specs.Codes.{Tables}
+use Rattle.icn_code.specs.Seen.{tables_of}
+use Rattle.icn_code.specs.declared.code.Code.{Code}
+use Rattle.icn_run.specs.Stacks.{Frames}
+use Rattle.icn_run.specs.Step.{all_names, first_store}
+use Rattle.icn_streams.specs.Handed.{handed}
+use Rattle.icn_machine.specs.Starting.{StartsAs, launch_with}
+use Rattle.icn_running.proofs.Counting.{unbegun_counts}
+use Rattle.icn_running.proofs.RunAnswers.{run_breaks, run_ends, run_reports, unbegun_answers}
+use Rattle.icn_running.proofs.Starts.{start_lasts, start_ready}
+use Rattle.icn_running.proofs.Unbegun.{start_halts}
+use Rattle.icn_running.proofs.launching.run.Goals as goal
+
+pub run_started-requires-clause-ready : goal.run_started-requires-clause-ready
+run_started-requires-clause-ready g c =
+    let tables : Tables = tables_of c.args.code.now.code in
+    let launch : Launch = launch_with c.args.words.now c.args.limits (outside_of []) in
+    start_ready tables launch c.in-Ok.m (c.runs_hold.ensures tables c.args.code.now.code.rules c.args.code.now.verified launch).kept
+    (rw c.code.ensures.code at c.in-Ok.ensures.sound) c.in-Ok.ensures.stack (rw c.code.ensures.code at (c.in-Ok.ensures.step (outside_of [])))
+
+pub run_started-requires-clause-lasts : goal.run_started-requires-clause-lasts
+run_started-requires-clause-lasts g c =
+    let tables : Tables = tables_of c.args.code.now.code in
+    let launch : Launch = launch_with c.args.words.now c.args.limits (outside_of []) in
+    start_lasts tables launch c.args.limits c.in-Ok.m (c.runs_hold.ensures tables c.args.code.now.code.rules c.args.code.now.verified launch).falls
+    refl c.in-Ok.ensures.limits (rw c.code.ensures.code at (c.in-Ok.ensures.step (outside_of [])))
+
+pub end_unbegun-requires : goal.end_unbegun-requires
+end_unbegun-requires g c =
+    start_halts g.row.K.Denot (tables_of c.code.result.now) (launch_with c.args.words.now c.args.limits (outside_of [])) c.in-Err.halt (c.in-Err.ensures.step (outside_of []))
+
+pub returns-in-Ok-clause-ends : goal.returns-in-Ok-clause-ends
+returns-in-Ok-clause-ends g c =
+    let launch : List ℕ → Launch = λ left. launch_with c.args.words.now c.args.limits (outside_of left) in
+    run_ends (tables_of c.args.code.now.code) launch
+    (handed (g.I.Source.left c.args.input.now) (g.I.Source.faults c.args.input.now) (g.O.Sink.state c.args.out.now) (g.E.Sink.state c.args.err.now))
+    (handed (g.I.Source.left c.run_started.new.input) (g.I.Source.faults c.run_started.new.input) (g.O.Sink.state c.run_started.new.out) (g.E.Sink.state c.run_started.new.err))
+    c.run_started.result
+    (λ left told. c.run_started.ensures.answers (launch left).words (launch left).bounds left told (rw c.code.ensures.code at (c.in-Ok.ensures.step (outside_of left))))
+
+pub returns-in-Ok-clause-breaks : goal.returns-in-Ok-clause-breaks
+returns-in-Ok-clause-breaks g c =
+    let launch : List ℕ → Launch = λ left. launch_with c.args.words.now c.args.limits (outside_of left) in
+    run_breaks (tables_of c.args.code.now.code) launch
+    (handed (g.I.Source.left c.args.input.now) (g.I.Source.faults c.args.input.now) (g.O.Sink.state c.args.out.now) (g.E.Sink.state c.args.err.now))
+    (handed (g.I.Source.left c.run_started.new.input) (g.I.Source.faults c.run_started.new.input) (g.O.Sink.state c.run_started.new.out) (g.E.Sink.state c.run_started.new.err))
+    c.run_started.result
+    (λ left told. c.run_started.ensures.answers (launch left).words (launch left).bounds left told (rw c.code.ensures.code at (c.in-Ok.ensures.step (outside_of left))))
+
+pub returns-in-Ok-clause-reported : goal.returns-in-Ok-clause-reported
+returns-in-Ok-clause-reported g c =
+    let launch : List ℕ → Launch = λ left. launch_with c.args.words.now c.args.limits (outside_of left) in
+    run_reports (tables_of c.args.code.now.code) launch
+    (handed (g.I.Source.left c.args.input.now) (g.I.Source.faults c.args.input.now) (g.O.Sink.state c.args.out.now) (g.E.Sink.state c.args.err.now))
+    (handed (g.I.Source.left c.run_started.new.input) (g.I.Source.faults c.run_started.new.input) (g.O.Sink.state c.run_started.new.out) (g.E.Sink.state c.run_started.new.err))
+    c.run_started.result
+    (λ left told. c.run_started.ensures.answers (launch left).words (launch left).bounds left told (rw c.code.ensures.code at (c.in-Ok.ensures.step (outside_of left))))
+
+pub returns-in-Err-clause-ends : goal.returns-in-Err-clause-ends
+returns-in-Err-clause-ends g c =
+    let tables : Tables = tables_of c.args.code.now.code in
+    let launch : List ℕ → Launch = λ left. launch_with c.args.words.now c.args.limits (outside_of left) in
+    run_ends tables launch
+    (handed (g.I.Source.left c.args.input.now) (g.I.Source.faults c.args.input.now) (g.O.Sink.state c.args.out.now) (g.E.Sink.state c.args.err.now))
+    (handed (g.I.Source.left c.args.input.now) (g.I.Source.faults c.args.input.now) (g.O.Sink.state c.args.out.now) (g.E.Sink.state c.end_unbegun.new.err))
+    c.end_unbegun.result
+    (λ left told. let run = (c.runs_hold.ensures tables c.args.code.now.code.rules c.args.code.now.verified (launch left)).ends in
+    unbegun_answers g.row.K.Denot tables (launch left).words (launch left).bounds left run.0 c.in-Err.halt c.end_unbegun.result
+    (handed (g.I.Source.left c.args.input.now) (g.I.Source.faults c.args.input.now) (g.O.Sink.state c.args.out.now) (g.E.Sink.state c.args.err.now))
+    (g.E.Sink.state c.end_unbegun.new.err) run.1 told (subst (λ (code : Code). StartsAs {K = g.row.K.Denot} (tables_of code) (launch left) (Err c.in-Err.halt)) c.code.ensures.code (c.in-Err.ensures.step (outside_of left)))
+    (rw c.code-in-Err.ensures.code at (c.end_unbegun.ensures (first_store {K = Frames} tables (launch left)).world.heap)))
+
+pub returns-in-Err-clause-breaks : goal.returns-in-Err-clause-breaks
+returns-in-Err-clause-breaks g c =
+    let tables : Tables = tables_of c.args.code.now.code in
+    let launch : List ℕ → Launch = λ left. launch_with c.args.words.now c.args.limits (outside_of left) in
+    run_breaks tables launch
+    (handed (g.I.Source.left c.args.input.now) (g.I.Source.faults c.args.input.now) (g.O.Sink.state c.args.out.now) (g.E.Sink.state c.args.err.now))
+    (handed (g.I.Source.left c.args.input.now) (g.I.Source.faults c.args.input.now) (g.O.Sink.state c.args.out.now) (g.E.Sink.state c.end_unbegun.new.err))
+    c.end_unbegun.result
+    (λ left told. let run = (c.runs_hold.ensures tables c.args.code.now.code.rules c.args.code.now.verified (launch left)).ends in
+    unbegun_answers g.row.K.Denot tables (launch left).words (launch left).bounds left run.0 c.in-Err.halt c.end_unbegun.result
+    (handed (g.I.Source.left c.args.input.now) (g.I.Source.faults c.args.input.now) (g.O.Sink.state c.args.out.now) (g.E.Sink.state c.args.err.now))
+    (g.E.Sink.state c.end_unbegun.new.err) run.1 told (subst (λ (code : Code). StartsAs {K = g.row.K.Denot} (tables_of code) (launch left) (Err c.in-Err.halt)) c.code.ensures.code (c.in-Err.ensures.step (outside_of left)))
+    (rw c.code-in-Err.ensures.code at (c.end_unbegun.ensures (first_store {K = Frames} tables (launch left)).world.heap)))
+
+pub returns-in-Err-clause-reported : goal.returns-in-Err-clause-reported
+returns-in-Err-clause-reported g c =
+    let tables : Tables = tables_of c.args.code.now.code in
+    let launch : List ℕ → Launch = λ left. launch_with c.args.words.now c.args.limits (outside_of left) in
+    run_reports tables launch
+    (handed (g.I.Source.left c.args.input.now) (g.I.Source.faults c.args.input.now) (g.O.Sink.state c.args.out.now) (g.E.Sink.state c.args.err.now))
+    (handed (g.I.Source.left c.args.input.now) (g.I.Source.faults c.args.input.now) (g.O.Sink.state c.args.out.now) (g.E.Sink.state c.end_unbegun.new.err))
+    c.end_unbegun.result
+    (λ left told. let run = (c.runs_hold.ensures tables c.args.code.now.code.rules c.args.code.now.verified (launch left)).ends in
+    unbegun_answers g.row.K.Denot tables (launch left).words (launch left).bounds left run.0 c.in-Err.halt c.end_unbegun.result
+    (handed (g.I.Source.left c.args.input.now) (g.I.Source.faults c.args.input.now) (g.O.Sink.state c.args.out.now) (g.E.Sink.state c.args.err.now))
+    (g.E.Sink.state c.end_unbegun.new.err) run.1 told (subst (λ (code : Code). StartsAs {K = g.row.K.Denot} (tables_of code) (launch left) (Err c.in-Err.halt)) c.code.ensures.code (c.in-Err.ensures.step (outside_of left)))
+    (rw c.code-in-Err.ensures.code at (c.end_unbegun.ensures (first_store {K = Frames} tables (launch left)).world.heap)))
+
+pub returns-in-Err-clause-first_fault : goal.returns-in-Err-clause-first_fault
+returns-in-Err-clause-first_fault g c =
+    let tables : Tables = tables_of c.args.code.now.code in
+    let launch : Launch = launch_with c.args.words.now c.args.limits (outside_of []) in
+    unbegun_counts (all_names tables) (first_store {K = Frames} tables launch).world.heap c.in-Err.halt c.end_unbegun.result
+    (handed (g.I.Source.left c.args.input.now) (g.I.Source.faults c.args.input.now) (g.O.Sink.state c.args.out.now) (g.E.Sink.state c.args.err.now))
+    (g.E.Sink.state c.end_unbegun.new.err) (rw c.code-in-Err.ensures.code at (c.end_unbegun.ensures (first_store {K = Frames} tables launch).world.heap))

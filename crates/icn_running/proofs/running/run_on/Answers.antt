@@ -1,0 +1,66 @@
+use Rattle.std.proofs.Common.{◌≡◌, ◌<◌, ◌-◌, refl, sym, ◌∙◌, subst, true}
+use Rattle.icn_code.specs.Seen.{tables_of}
+use Rattle.icn_machine.specs.declared.stepping.Stepped.{Stepped}
+use Rattle.icn_machine.specs.Stepping.{IsReady, stays}
+use Rattle.icn_machine.specs.Steps.{stage_of}
+use Rattle.icn_machine.proofs.LoopSteps.{an_error, left_if, no_answer}
+use Rattle.icn_running.specs.Ons.{is_on}
+use Rattle.icn_running.proofs.LoopSteps.{on_is, on_true, run_err, run_ok, run_over, stopped_err, turns_fall}
+use Rattle.icn_running.proofs.running.run_on.Goals as goal
+
+pub loop-stepped-init : goal.loop-stepped-init
+loop-stepped-init g c = record {
+  steps = stays refl refl refl;
+  ready = c.requires.ready;
+  lasts = λ on. c.requires.lasts;
+  limits = refl;
+}
+
+pub run_to_turn-requires : goal.run_to_turn-requires
+run_to_turn-requires g c =
+    let on = on_is c.loop-stepped.stepped (sym c.is_on.ensures ∙ c.loop-stepped-test.true) in
+    record {
+      ready = subst (λ (s : Stepped). IsReady (tables_of c.args.code.now.code) c.loop-stepped.m (stage_of s)) on c.loop-stepped.invariant.ready;
+      lasts = c.loop-stepped.invariant.lasts (on_true c.loop-stepped.stepped on);
+    }
+
+pub returns-in_err-stepped-clause-steps : goal.returns-in_err-stepped-clause-steps
+returns-in_err-stepped-clause-steps g c =
+    let on = on_is c.loop-stepped.stepped (sym c.is_on.ensures ∙ c.loop-stepped-test.true) in
+    stopped_err (tables_of c.args.code.now.code) c.args.m.now _ c.run_to_turn.new.m _ c.in_err-stepped.field-0.0 c.from_residual.result
+    (run_err (tables_of c.args.code.now.code) c.args.m.now _ c.loop-stepped.m c.loop-stepped.stepped _ c.run_to_turn.new.m _ c.in_err-stepped.field-0.0 c.from_residual.result on c.loop-stepped.invariant.steps
+    c.in_err-stepped.ensures.steps c.from_residual.ensures.1) c.from_residual.ensures.1
+
+pub returns-in_err-stepped-clause-stops : goal.returns-in_err-stepped-clause-stops
+returns-in_err-stepped-clause-stops g c = no_answer c.from_residual.result _ _ c.from_residual.ensures.1
+
+pub returns-in_err-stepped-clause-halt : goal.returns-in_err-stepped-clause-halt
+returns-in_err-stepped-clause-halt g c = an_error c.from_residual.result c.in_err-stepped.field-0.0 _ c.from_residual.ensures.1 c.in_err-stepped.ensures.halt
+
+pub returns-in_err-stepped-clause-limits : goal.returns-in_err-stepped-clause-limits
+returns-in_err-stepped-clause-limits g c = c.in_err-stepped.ensures.limits ∙ c.loop-stepped.invariant.limits
+
+pub loop-stepped-smaller : goal.loop-stepped-smaller
+loop-stepped-smaller g c =
+    let test : is_on c.loop-stepped.stepped ≡ true = sym c.is_on.ensures ∙ c.loop-stepped-test.true in
+    subst (λ b. left_if (is_on c.in_ok-stepped.stepped) (c.run_to_turn.new.m.limits.turns - c.run_to_turn.new.m.turns) < left_if b (c.loop-stepped.m.limits.turns - c.loop-stepped.m.turns)) (sym test)
+    (turns_fall c.loop-stepped.m c.run_to_turn.new.m c.in_ok-stepped.stepped c.in_ok-stepped.ensures.limits c.in_ok-stepped.ensures.turn)
+
+pub loop-stepped-preserved : goal.loop-stepped-preserved
+loop-stepped-preserved g c =
+    let on = on_is c.loop-stepped.stepped (sym c.is_on.ensures ∙ c.loop-stepped-test.true) in
+    record {
+      steps = run_ok (tables_of c.args.code.now.code) c.args.m.now _ c.loop-stepped.m c.loop-stepped.stepped c.in_ok-stepped.stepped _ c.run_to_turn.new.m _ on c.loop-stepped.invariant.steps c.in_ok-stepped.ensures.steps;
+      ready = c.in_ok-stepped.ensures.ready;
+      lasts = c.in_ok-stepped.ensures.lasts;
+      limits = c.in_ok-stepped.ensures.limits ∙ c.loop-stepped.invariant.limits;
+    }
+
+pub returns-clause-steps : goal.returns-clause-steps
+returns-clause-steps g c = run_over (tables_of c.args.code.now.code) c.args.m.now _ c.loop-stepped.m _ c.loop-stepped.stepped (sym c.is_on.ensures ∙ c.loop-stepped-test.false) c.loop-stepped.invariant.steps
+
+pub returns-clause-stops : goal.returns-clause-stops
+returns-clause-stops g c = sym c.is_on.ensures ∙ c.loop-stepped-test.false
+
+pub returns-clause-limits : goal.returns-clause-limits
+returns-clause-limits g c = c.loop-stepped.invariant.limits

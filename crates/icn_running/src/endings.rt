@@ -1,0 +1,128 @@
+// The end of a run: its report, and what is answered.
+ghost use Rattle.std.specs.Prelude.{◌≡◌, IfErr, IfOk, IfSome, false};
+ghost use Rattle.std.specs.Option.{option_map};
+ghost use Rattle.icn_value.specs.Store.{Heap as HeapSeen};
+ghost use Rattle.icn_defs.specs.Errors.{error_report};
+ghost use Rattle.icn_defs.specs.Running.{Errored};
+ghost use Rattle.icn_heap.specs.Extents.{IsLive, value_in};
+ghost use Rattle.icn_heap.specs.Heaps.{extent_of, heap_of};
+ghost use Rattle.icn_code.specs.Seen.{tables_of};
+ghost use Rattle.icn_vars.specs.Outcomes.{IsLiveHalt};
+ghost use Rattle.icn_run.specs.Step.{all_names};
+ghost use Rattle.icn_control.specs.Machines.{world_reach};
+ghost use Rattle.icn_running.specs.Ons.{is_on};
+ghost use Rattle.icn_running.specs.Reported.{AnswersEnd, AnswersHalt, AnswersMachine, AnswersStop, AnswersUnbegun, ending_seen};
+ghost use Rattle.icn_running.specs.Halting.{IsAboutLive, IsUnbegun};
+
+use crate::fault::RunFault;
+use crate::report::error_report;
+use icn_cells::Stack;
+use icn_code::Code;
+use icn_control::Machine;
+use icn_frames::Cell;
+use icn_heap::Heap;
+use icn_host::Sink;
+use icn_machine::Stepped;
+use icn_report::put_line;
+use icn_run::Ending;
+use icn_value::{Limits, Val};
+use icn_vars::Halt;
+use std::alloc::Global;
+
+// Puts the report of an ending on the error output, and answers the ending.
+fn put_report<E: Sink>(ending: Ending, report: &[u8], err: &mut E) -> Result<Ending, RunFault>
+    ensures { AnswersEnd (ending_seen ending) report.now result (E.state err.old) (E.state err.new) }
+{
+    put_line(report, err)?;
+    Ok(ending)
+}
+
+// The same of a run-time error, by its number and the value that it is about.
+fn put_error<E: Sink>(
+    alloc: Global,
+    code: &Code,
+    heap: &Heap,
+    number: u16,
+    offending: Option<Val>,
+    err: &mut E,
+) -> Result<Ending, RunFault>
+    requires live { IfSome offending (IsLive (extent_of heap.now)) }
+    ensures { AnswersEnd (Errored number) (error_report (all_names (tables_of code.now)) (heap_of heap.now) number (option_map (value_in (extent_of heap.now)) offending)) result (E.state err.old) (E.state err.new) }
+{
+    let report = error_report(alloc, code, heap, number, offending)?;
+    put_report(Ending::Errored(number), &report, err)
+}
+
+// Answers what a run came to that was halted so, and puts its report.
+fn end_halted<E: Sink>(
+    alloc: Global,
+    code: &Code,
+    heap: &Heap,
+    halt: Halt,
+    err: &mut E,
+) -> Result<Ending, RunFault>
+    requires { IsAboutLive (extent_of heap.now) halt }
+    ensures { AnswersHalt (all_names (tables_of code.now)) (heap_of heap.now) (extent_of heap.now) halt result (E.state err.old) (E.state err.new) }
+{
+    match halt {
+        Halt::Error(number, offending) => put_error(alloc, code, heap, number, offending, err),
+        Halt::Ends(status) => Ok(Ending::Exit(status)),
+        Halt::ReadFault => Err(RunFault::ReadFault),
+        Halt::WriteFault => Err(RunFault::WriteFault),
+        Halt::NoMemory => Err(RunFault::NoMemory),
+    }
+}
+
+// Answers what a run came to that is finished or stands at its bound, and puts its report.
+fn end_stopped<E: Sink>(stepped: Stepped, err: &mut E) -> Result<Ending, RunFault>
+    requires { is_on stepped ≡ false }
+    ensures { AnswersStop stepped result (E.state err.old) (E.state err.new) }
+{
+    match stepped {
+        Stepped::On => unreachable!(),
+        Stepped::Finished => Ok(Ending::Done),
+        Stepped::AtBound => put_report(Ending::AtBound, b"turn bound reached\n", err),
+    }
+}
+
+/// Answers what a run came to whose machine has stopped so, and puts its report on the error output.
+///
+/// # Errors
+///
+/// The fault that broke the run off; or `WriteFault` where the error output failed, and `NoMemory` where memory ran out.
+pub fn end_run<K: Stack<Cell> + Drop, E: Sink>(
+    alloc: Global,
+    code: &Code,
+    m: &Machine<K>,
+    stopped: Result<Stepped, Halt>,
+    err: &mut E,
+) -> Result<Ending, RunFault>
+    requires stops { IfOk stopped (λ stepped. is_on stepped ≡ false) }
+    requires halt { IfErr stopped (IsLiveHalt (world_reach m.now)) }
+    ensures { AnswersMachine (all_names (tables_of code.now)) m.now stopped result (E.state err.old) (E.state err.new) }
+{
+    match stopped {
+        Ok(stepped) => end_stopped(stepped, err),
+        Err(halt) => end_halted(alloc, code, &m.world.heap, halt, err),
+    }
+}
+
+/// Answers what came of a run that was over before its first instruction, and puts its report. The heap that it was to have is
+/// one in which nothing is made.
+///
+/// # Errors
+///
+/// `WriteFault` where the error output failed, and `NoMemory` where memory ran out.
+pub fn end_unbegun<E: Sink>(
+    alloc: Global,
+    code: &Code,
+    limits: Limits,
+    halt: Halt,
+    err: &mut E,
+) -> Result<Ending, RunFault>
+    requires { IsUnbegun halt }
+    ensures { (heap : HeapSeen) → AnswersUnbegun (all_names (tables_of code.now)) heap halt result (E.state err.old) (E.state err.new) }
+{
+    let heap = Heap::new(alloc, limits)?;
+    end_halted(alloc, code, &heap, halt, err)
+}

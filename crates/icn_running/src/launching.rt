@@ -1,0 +1,77 @@
+// A run, from its start to its end.
+ghost use Rattle.std.specs.Prelude.{◌≡◌, List, Some, ℕ, IfErr, IfOk};
+ghost use Rattle.icn_value.specs.Store.{outside_of};
+ghost use Rattle.icn_code.specs.Seen.{tables_of};
+ghost use Rattle.icn_streams.specs.Handed.{handed};
+ghost use Rattle.icn_control.specs.declared.machine.Stage.TheVariants as Stages;
+ghost use Rattle.icn_machine.specs.Starting.{launch_with};
+ghost use Rattle.icn_machine.specs.Stepping.{IsReady};
+ghost use Rattle.icn_running.specs.Lasting.{Lasts};
+ghost use Rattle.icn_running.specs.Reported.{PutsReport, ending_seen};
+ghost use Rattle.icn_running.specs.Runs.{AnswersRuns, EndsAtFirst, IsBrokenOff, RunsTo};
+
+use crate::endings::{end_run, end_unbegun};
+use crate::fault::RunFault;
+use crate::laws::runs_hold;
+use crate::running::run_on;
+use icn_cells::Stack;
+use icn_control::Machine;
+use icn_frames::Cell;
+use icn_host::{Sink, Source};
+use icn_machine::{Rooms, start};
+use icn_run::Ending;
+use icn_value::Limits;
+use icn_verify::Verified;
+use std::alloc::Global;
+
+/// Runs verified code over stacks of this kind, with these words as the argument of its `main`, under these limits, and puts the
+/// report of a run-time error or of the bound of turns on the error output.
+///
+/// # Errors
+///
+/// `ReadFault` where the input failed, `WriteFault` where one of the outputs did, `NoMemory` where memory ran out. The run is over
+/// then.
+pub fn run<K: Stack<Cell> + Drop, I: Source, O: Sink, E: Sink>(
+    alloc: Global,
+    code: &Verified,
+    words: &[String],
+    limits: Limits,
+    input: &mut I,
+    out: &mut O,
+    err: &mut E,
+) -> Result<Ending, RunFault>
+    ensures ends { IfOk result (λ ending. (left : List ℕ) → I.left input.old ≡ Some left → RunsTo (tables_of code.now.code) (launch_with words.now limits (outside_of left)) (ending_seen ending) (handed (I.left input.old) (I.faults input.old) (O.state out.old) (E.state err.old)) (handed (I.left input.new) (I.faults input.new) (O.state out.new) (E.state err.new))) }
+    ensures breaks { IfErr result (λ fault. (left : List ℕ) → I.left input.old ≡ Some left → IsBrokenOff (tables_of code.now.code) (launch_with words.now limits (outside_of left)) fault (handed (I.left input.old) (I.faults input.old) (O.state out.old) (E.state err.old)) (handed (I.left input.new) (I.faults input.new) (O.state out.new) (E.state err.new))) }
+    ensures first_fault { EndsAtFirst result (handed (I.left input.old) (I.faults input.old) (O.state out.old) (E.state err.old)) (handed (I.left input.new) (I.faults input.new) (O.state out.new) (E.state err.new)) }
+    ensures reported { IfOk result (λ ending. (left : List ℕ) → I.left input.old ≡ Some left → PutsReport (ending_seen ending) (E.state err.old) (E.state err.new)) }
+{
+    runs_hold();
+    match start::<K>(alloc, code.code(), words, limits) {
+        Ok(mut m) => run_started(alloc, code, &mut m, input, out, err),
+        Err(halt) => end_unbegun(alloc, code.code(), limits, halt, err),
+    }
+}
+
+// Runs what has started to its end. The rooms of the instructions are made here.
+fn run_started<K: Stack<Cell> + Drop, I: Source, O: Sink, E: Sink>(
+    alloc: Global,
+    code: &Verified,
+    m: &mut Machine<K>,
+    input: &mut I,
+    out: &mut O,
+    err: &mut E,
+) -> Result<Ending, RunFault>
+    requires ready { IsReady (tables_of code.now.code) m.old Stages.Runs }
+    requires lasts { Lasts (tables_of code.now.code) m.old }
+    ensures answers { AnswersRuns (tables_of code.now.code) m.old result (handed (I.left input.old) (I.faults input.old) (O.state out.old) (E.state err.old)) (handed (I.left input.new) (I.faults input.new) (O.state out.new) (E.state err.new)) }
+    ensures first_fault { EndsAtFirst result (handed (I.left input.old) (I.faults input.old) (O.state out.old) (E.state err.old)) (handed (I.left input.new) (I.faults input.new) (O.state out.new) (E.state err.new)) }
+{
+    runs_hold();
+    let mut rooms = Rooms {
+        items: Vec::new(alloc),
+        vals: Vec::new(alloc),
+        buffer: Vec::new(alloc),
+    };
+    let stopped = run_on(m, code, &mut rooms, input, out, err);
+    end_run(alloc, code.code(), m, stopped, err)
+}

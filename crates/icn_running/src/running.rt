@@ -1,0 +1,90 @@
+// Steps until a run stops.
+ghost use Rattle.std.specs.Prelude.{◌≡◌, IfErr, IfOk, IsTrue, false};
+ghost use Rattle.icn_code.specs.Seen.{tables_of};
+ghost use Rattle.icn_vars.specs.Outcomes.{IsLiveHalt};
+ghost use Rattle.icn_streams.specs.Handed.{handed};
+ghost use Rattle.icn_control.specs.Machines.{world_reach};
+ghost use Rattle.icn_control.specs.declared.machine.Stage.TheVariants as Stages;
+ghost use Rattle.icn_machine.specs.Stepping.{Advances, GoesOn, IsReady};
+ghost use Rattle.icn_machine.specs.Steps.{stage_of, staged};
+ghost use Rattle.icn_running.specs.Lasting.{Lasts, MadeTurn};
+ghost use Rattle.icn_running.specs.Ons.{is_on, is_within};
+
+use icn_cells::Stack;
+use icn_control::Machine;
+use icn_frames::Cell;
+use icn_host::{Sink, Source};
+use icn_machine::{Rooms, Stepped, step};
+use icn_vars::Halt;
+use icn_verify::Verified;
+
+// Whether an instruction is due.
+fn is_on(stepped: Stepped) -> bool
+    ensures { result ≡ is_on stepped }
+{
+    match stepped {
+        Stepped::On => true,
+        Stepped::Finished => false,
+        Stepped::AtBound => false,
+    }
+}
+
+// Whether one is due, and no turn was made since so many were.
+fn is_within(stepped: Stepped, now: u64, turns: u64) -> bool
+    ensures { result ≡ is_within stepped now turns }
+{
+    match stepped {
+        Stepped::On => now == turns,
+        Stepped::Finished => false,
+        Stepped::AtBound => false,
+    }
+}
+
+/// Does instructions until the run stops. The errors are those of `step`.
+pub fn run_on<K: Stack<Cell> + Drop, I: Source, O: Sink, E: Sink>(
+    m: &mut Machine<K>,
+    code: &Verified,
+    rooms: &mut Rooms,
+    input: &mut I,
+    out: &mut O,
+    err: &mut E,
+) -> Result<Stepped, Halt>
+    requires ready { IsReady (tables_of code.now.code) m.old Stages.Runs }
+    requires lasts { Lasts (tables_of code.now.code) m.old }
+    ensures steps { Advances (tables_of code.now.code) m.old Stages.Runs (handed (I.left input.old) (I.faults input.old) (O.state out.old) (E.state err.old)) m.new (handed (I.left input.new) (I.faults input.new) (O.state out.new) (E.state err.new)) (staged result) }
+    ensures stops { IfOk result (λ stepped. is_on stepped ≡ false) }
+    ensures halt { IfErr result (IsLiveHalt (world_reach m.new)) }
+    ensures limits { m.new.limits ≡ m.old.limits }
+{
+    let mut stepped = Stepped::On;
+    while is_on(stepped) {
+        stepped = run_to_turn(m, code, rooms, input, out, err)?;
+    }
+    Ok(stepped)
+}
+
+// Does instructions until a turn was made or the run stops, one at least.
+fn run_to_turn<K: Stack<Cell> + Drop, I: Source, O: Sink, E: Sink>(
+    m: &mut Machine<K>,
+    code: &Verified,
+    rooms: &mut Rooms,
+    input: &mut I,
+    out: &mut O,
+    err: &mut E,
+) -> Result<Stepped, Halt>
+    requires ready { IsReady (tables_of code.now.code) m.old Stages.Runs }
+    requires lasts { Lasts (tables_of code.now.code) m.old }
+    ensures steps { GoesOn (tables_of code.now.code) m.old Stages.Runs (handed (I.left input.old) (I.faults input.old) (O.state out.old) (E.state err.old)) m.new (handed (I.left input.new) (I.faults input.new) (O.state out.new) (E.state err.new)) (staged result) }
+    ensures ready { IfOk result (λ stepped. IsReady (tables_of code.now.code) m.new (stage_of stepped)) }
+    ensures lasts { IfOk result (λ stepped. IsTrue (is_on stepped) → Lasts (tables_of code.now.code) m.new) }
+    ensures turn { IfOk result (λ stepped. IsTrue (is_on stepped) → MadeTurn m.old m.new) }
+    ensures halt { IfErr result (IsLiveHalt (world_reach m.new)) }
+    ensures limits { m.new.limits ≡ m.old.limits }
+{
+    let turns = m.turns;
+    let mut stepped = Stepped::On;
+    while is_within(stepped, m.turns, turns) {
+        stepped = step(m, code, rooms, input, out, err)?;
+    }
+    Ok(stepped)
+}
