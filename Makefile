@@ -1,6 +1,6 @@
 PROGRAMS = icont iconx
 PREFIX = /usr/local
-SOURCES = $(shell find crates -type f -not -path '*/out/*')
+SOURCES = $(shell find crates -type f -not -path '*/out/*' -not -path '*/data/*')
 
 .PHONY: all test install run clean
 

@@ -23,14 +23,14 @@ mod tests {
 
     const NO_PROGRAM: &[u8] = b"f.icn:0: S1 not a program\n";
 
-    // A form that is not built, on a line of the named file.
-    const UNBUILT_1: &[u8] = b"f.icn:1: S4 form not in this profile\n";
+    // A form that is left out, on a line of the named file.
+    const LEFT_OUT_1: &[u8] = b"f.icn:1: S4 form not in this profile\n";
 
-    const UNBUILT_2: &[u8] = b"f.icn:2: S4 form not in this profile\n";
+    const LEFT_OUT_3: &[u8] = b"f.icn:3: S4 form not in this profile\n";
 
-    const UNBUILT_3: &[u8] = b"f.icn:3: S4 form not in this profile\n";
+    const LEFT_OUT_4: &[u8] = b"f.icn:4: S4 form not in this profile\n";
 
-    const UNBUILT_4: &[u8] = b"f.icn:4: S4 form not in this profile\n";
+    const TOO_LARGE: &[u8] = b"f:0: K3 program too large\n";
 
     // The files beside the one that is named.
     const BESIDE: [(&str, &[u8]); 6] = [
@@ -257,91 +257,21 @@ mod tests {
         b"invocable all\nprocedure main()\nbreak\n&clock\nend\nend\n",
     ];
 
-    // Texts with a form that is not built, with the line of the refusal.
-    const UNBUILT: [(&[u8], &[u8]); 41] = [
-        // the head of the procedure, and another one
-        (b"procedure Main()\nwrite(\"hi\")\nend\n", UNBUILT_1),
-        (b"procedure p()\nwrite(\"hi\")\nend\n", UNBUILT_1),
-        (b"\nprocedure\np()\nmain()\nend\n", UNBUILT_2),
-        (b"procedure main(x)\nwrite(\"hi\")\nend\n", UNBUILT_1),
-        (b"procedure main(\nx,\ny)\nlocal z\nend\n", UNBUILT_2),
-        (b"procedure main(\n\nx[])\nend\n", UNBUILT_3),
-        // what stands before the body
-        (b"procedure main()\nlocal x\nend\n", UNBUILT_2),
-        (
-            b"procedure main()\n\nstatic x,\ny\nlocal z\nend\n",
-            UNBUILT_3,
-        ),
-        (
-            b"procedure main()\n\n\ninitial\nwrite(1)\nx\nend\n",
-            UNBUILT_4,
-        ),
-        // further declarations, and first ones
-        (b"procedure main()\nwrite(1)\nend\nglobal g\n", UNBUILT_4),
-        (b"procedure main()\nend\nlink\nx\nrecord r()\n", UNBUILT_3),
-        (
-            b"procedure main()\nwrite(1)\nend procedure\np()\nend\n",
-            UNBUILT_3,
-        ),
-        (b"global g\nprocedure main()\nwrite(x)\nend\n", UNBUILT_1),
-        (b"\nrecord r(a)\nprocedure main()\nend\n", UNBUILT_2),
-        // arguments, and what is called
-        (b"procedure main()\nwrite(x)\nend\n", UNBUILT_2),
-        (b"procedure main()\nwrite(-1)\nend\n", UNBUILT_2),
-        (b"procedure main()\nwrite(write(1))\nend\n", UNBUILT_2),
-        (b"procedure main()\nwrite('a')\nend\n", UNBUILT_2),
-        (
-            b"procedure main()\nwrite(1,\n\"b\",\nx,\ny)\nend\n",
-            UNBUILT_4,
-        ),
-        (b"procedure main()\nwrite(,\n,'c')\nx\nend\n", UNBUILT_3),
-        (b"procedure main()\nwrite(1)\nwrites(1)\nend\n", UNBUILT_3),
-        (b"procedure main()\nwrites(\"hi\")\nend\n", UNBUILT_2),
-        (b"procedure main()\nWrite(\"hi\")\nend\n", UNBUILT_2),
-        (b"procedure main()\n(write)(\nx)\nend\n", UNBUILT_2),
-        (b"procedure main()\nwrite{1}\nend\n", UNBUILT_2),
-        (b"procedure main()\nwrite\n(\"hi\")\nend\n", UNBUILT_2),
-        // the replaced word is `out`
-        (
-            b"$define write out\nprocedure main()\nwrite(\"x\")\nend\n",
-            UNBUILT_3,
-        ),
-        // other expressions of the body
-        (b"procedure main()\n1\nend\n", UNBUILT_2),
-        (b"procedure main()\n\"a\"\nend\n", UNBUILT_2),
-        (b"procedure main()\nx := 1\nend\n", UNBUILT_2),
-        (b"procedure main()\nwrite(1) +\nx\nend\n", UNBUILT_2),
-        (b"procedure main()\nwrite(1);;\n&null\nend\n", UNBUILT_3),
-        (
-            b"procedure main()\n;\n\nif x then\nwrite(1)\nend\n",
-            UNBUILT_4,
-        ),
-        // the first by place, in the body or behind it
-        (b"procedure main()\nx\nend\nrecord r(a)\n", UNBUILT_2),
-        (
-            b"procedure main()\nwrite(1)\nwrite(x);y\nend\nglobal g\n",
-            UNBUILT_3,
-        ),
-        // a `write` that the file declares
-        (
-            b"procedure main()\nwrite(1)\nend\nglobal a, write\n",
-            UNBUILT_2,
-        ),
-        (
-            b"procedure main()\n;\nwrite(1)\nend\nprocedure write()\nend\n",
-            UNBUILT_3,
-        ),
-        (
-            b"procedure main()\nwrite(1)\nend\nrecord write()\n",
-            UNBUILT_2,
-        ),
-        (b"procedure main()\nend\n\nglobal write\n", UNBUILT_4),
-        // a form of no profile, in the middle of a longer file and before context rules
+    // Texts with a form that this profile does not have, with the line of the refusal.
+    const LEFT_OUT: [(&[u8], &[u8]); 5] = [
+        // in the middle of a longer file, and before context rules
         (
             b"procedure main()\nend\n\ninvocable all\nglobal g\n",
-            UNBUILT_4,
+            LEFT_OUT_4,
         ),
-        (b"procedure main()\nbreak\nend\ninvocable\nall\n", UNBUILT_4),
+        (b"procedure main()\nbreak\nend\ninvocable\nall\n", LEFT_OUT_4),
+        // other files are linked behind all rules of this one
+        (b"procedure main()\nend\nlink\nx\nrecord r()\n", LEFT_OUT_3),
+        (
+            b"link \"a\"\nprocedure main()\nbreak\nend\n",
+            b"f.icn:3: C2 break outside a loop\n",
+        ),
+        (b"link \"a\"\nprocedure main()\nend\n", LEFT_OUT_1),
     ];
 
     // Texts whose tree breaks another rule, with the line of the refusal.
@@ -425,7 +355,7 @@ mod tests {
             b"record r()\nglobal r\nglobal r\nprocedure r()\nend\n",
             b"f.icn:4: C8 procedure or record declared twice\n",
         ),
-        // before a form that is not built, and in the order of places
+        // in the order of places
         (
             b"global g\nprocedure main(x)\nwrite(x)\nbreak\nend\n",
             b"f.icn:4: C2 break outside a loop\n",
@@ -615,9 +545,9 @@ mod tests {
     }
 
     #[test]
-    fn unbuilt_forms_are_refused(rt: HostRuntime) -> Result<(), Fail> {
+    fn forms_of_no_profile_are_refused(rt: HostRuntime) -> Result<(), Fail> {
         let alloc = rt.alloc();
-        for (source, errors) in UNBUILT {
+        for (source, errors) in LEFT_OUT {
             refused(&rt, alloc, source, errors)?;
         }
         Ok(())
@@ -637,7 +567,7 @@ mod tests {
     fn trees_have_at_most_height_2000(rt: HostRuntime) -> Result<(), Fail> {
         let alloc = rt.alloc();
         let rows: [(&[u8], usize, &[u8]); 2] = [
-            (b"global g\nprocedure\np()\n", 1999, UNBUILT_1),
+            (b"global g\nprocedure\np()\n", 1999, b""),
             (
                 b"global g\nprocedure\np()\n&clock\n",
                 2000,
@@ -650,17 +580,19 @@ mod tests {
             source.push(b'1')?;
             source.resize(head.len() + 1 + depth + depth, b')')?;
             source.extend_from_slice(b"\nend\nprocedure main()\nend\n")?;
-            refused(&rt, alloc, &source, errors)?;
+            let row = icont(alloc, &["icont", "f.icn"], &source, NONE)?;
+            assert_eq!(rt; row.errors.as_slice(), errors, "at {depth}");
+            assert_eq!(rt; row.image, errors.is_empty(), "at {depth}");
         }
         Ok(())
     }
 
-    // 65535 fields and one more, in the middle of a longer file.
+    // 65535 fields, whose names are as many strings beside others, and one more, in the middle of a longer file.
     #[test]
     fn records_have_at_most_65535_fields(rt: HostRuntime) -> Result<(), Fail> {
         let alloc = rt.alloc();
         for (count, errors) in [
-            (65535, UNBUILT_1),
+            (65535, TOO_LARGE),
             (65536, b"f.icn:4: C7 too many names or fields\n".as_slice()),
         ] {
             let mut source = b"procedure p()\nend\nrecord\nr(".to_vec(alloc)?;
@@ -675,11 +607,11 @@ mod tests {
         Ok(())
     }
 
-    // Each byte alone: in a literal, between tokens, and as a part of the name that is called.
+    // Each byte alone: in a literal, and between tokens, where letters are the name of a parameter.
     #[test]
     fn each_byte_has_its_place(rt: HostRuntime) -> Result<(), Fail> {
         let alloc = rt.alloc();
-        let places: [(&[u8], &[u8], &[u8], bool); 3] = [
+        let places: [(&[u8], &[u8], &[u8], bool); 2] = [
             (
                 b"procedure main()\nwrite(\"",
                 b"\")\nend\n",
@@ -689,13 +621,7 @@ mod tests {
             (
                 b"procedure main(",
                 b")\nwrite(\"hi\")\nend\n",
-                b"\t\n\x0b\x0c\r ",
-                true,
-            ),
-            (
-                b"procedure main()\nwrite",
-                b"(\"hi\")\nend\n",
-                b"\t\x0b\x0c\r ",
+                b"\t\n\x0b\x0c\r ABCDEFGHIJKLMNOPQRSTUVWXYZ_abcdefghijklmnopqrstuvwxyz",
                 true,
             ),
         ];
@@ -1161,8 +1087,7 @@ mod tests {
     #[test]
     fn programs_have_a_greatest_size(rt: HostRuntime) -> Result<(), Fail> {
         let alloc = rt.alloc();
-        let large: &[u8] = b"f:0: K3 program too large\n";
-        for (arguments, errors) in [(65535, b"".as_slice()), (65536, large)] {
+        for (arguments, errors) in [(65535, b"".as_slice()), (65536, TOO_LARGE)] {
             let mut source = b"procedure main()\nwrite(".to_vec(alloc)?;
             let length = source.len() + arguments - 1;
             source.resize(length, b',')?;
@@ -1174,7 +1099,7 @@ mod tests {
                 "at {arguments}"
             );
         }
-        for (strings, errors) in [(65533, b"".as_slice()), (65534, large)] {
+        for (strings, errors) in [(65533, b"".as_slice()), (65534, TOO_LARGE)] {
             let mut source = b"procedure main()\n".to_vec(alloc)?;
             for number in 0..strings {
                 source.extend_from_slice(b"write(\"")?;
