@@ -1,5 +1,0 @@
-pub mod Linked
-pub mod Sizes
-pub mod Mentions
-pub mod FirstMentions
-pub mod Laws

@@ -1,9 +1,0 @@
--- What the fault of a sink is for a run.
-use Rattle.icn_host.specs.declared.fault.Fault.{Fault}
-use Rattle.icn_host.specs.declared.fault.Fault.TheVariants as Faults
-use Rattle.icn_engine.specs.declared.fault.RunFault.{RunFault}
-use Rattle.icn_engine.specs.declared.fault.RunFault.TheVariants.{WriteFault, NoMemory}
-
-abbrev pub of_sink : Fault → RunFault
-of_sink Faults.Failed = WriteFault
-of_sink Faults.NoMemory = NoMemory
