@@ -1,5 +1,5 @@
 -- The code of each form is its translation with places for labels: one line a form, in the order of the translation.
-use Rattle.std.proofs.Common.{◌≡◌, ℕ, suc, ◌+◌, ◌-◌, Bool, true, false, List, [], ◌∷◌, ◌++◌, length, replicate, refl, sym, ap, subst, ◌∙◌, append_assoc, pos, if◌then◌else◌, arith}
+use Rattle.std.proofs.Common.{◌≡◌, ℕ, suc, ◌+◌, Bool, true, false, List, [], ◌∷◌, ◌++◌, length, replicate, refl, sym, ap, subst, ◌∙◌, append_assoc, pos, if◌then◌else◌, arith}
 use Rattle.icn_text.specs.declared.op.Op.TheVariants as O
 use Rattle.icn_tree.specs.declared.tree.Place.{Place}
 use Rattle.icn_tree.specs.declared.tree.Infix.TheVariants.{Plain, Augmented}
@@ -11,7 +11,6 @@ use Rattle.icn_code.specs.declared.instr.Instr.{Instr}
 use Rattle.icn_code.specs.declared.instr.Instr.TheVariants as I
 use Rattle.icn_unit.specs.declared.unit.UnitInstr.{UnitInstr}
 use Rattle.icn_unit.specs.declared.unit.UnitInstr.TheVariants as U
-use Rattle.icn_translate.specs.declared.forms.PrefixForm.{PrefixForm}
 use Rattle.icn_translate.specs.Drafts.{Draft, ◌▹◌, put, aside, put_next, put_last}
 use Rattle.icn_translate.specs.Instructions.{literal_instr, keyword_instr, section_op, infix_form, prefix_form}
 use Rattle.icn_translate.specs.Open.{Open, Outermost, Marked, Looped, Each, unmarks_for_break, unmarks_for_next, around}

@@ -1,5 +1,5 @@
 -- The tables of a file's unit: what its declarations and its instructions mention, as the first law has it.
-use Rattle.std.proofs.Common.{◌≡◌, ℕ, ℤ, ◌+◌, Bool, true, false, not, ◌||◌, List, [], ◌∷◌, ◌++◌, length, map, filter, find, cond, Option, None, Some, refl, sym, ap, ◌∙◌, append_assoc, append-nil, if◌then◌else◌}
+use Rattle.std.proofs.Common.{◌≡◌, ℕ, ℤ, ◌+◌, Bool, true, false, not, List, [], ◌∷◌, ◌++◌, length, map, filter, find, cond, Option, None, Some, refl, sym, ap, ◌∙◌, if◌then◌else◌}
 use Rattle.std.specs.Prelude.{is_some}
 use Rattle.std.specs.List.{flat_map, list_any}
 use Rattle.std.specs.Ordering.{int_eq}
@@ -17,19 +17,18 @@ use Rattle.icn_tree.specs.Trees.{Procedure, Declaration, Global, Link, Invocable
 use Rattle.icn_unit.specs.declared.unit.NameKind.{NameKind}
 use Rattle.icn_unit.specs.declared.unit.NameKind.TheVariants as Kinds
 use Rattle.icn_unit.specs.declared.unit.UnitInstr.{UnitInstr}
-use Rattle.icn_unit.specs.declared.unit.UnitName.{UnitName}
-use Rattle.icn_unit.specs.PlainUnits.{Proc, Decl, proc_names}
+use Rattle.icn_unit.specs.PlainUnits.{proc_names}
 use Rattle.icn_unit.specs.PlainUnits.{Global as GlobalLine, Link as LinkLine}
 use Rattle.icn_link.specs.Gathering.{with_texts}
 use Rattle.icn_link.specs.Mentions as Unit
 use Rattle.icn_link.specs.Mentions.{mention_of, mentioned_in, mentioned_by, global_in, fields_in, record_name_in, record_names, function_by, function_in, functions_in, declared}
-use Rattle.icn_meaning.specs.Program.{Routine, Kind, texts, added, without, only, global_names, procedures_of, kinds_of, kind_names, routine_names, routine_of, routines_of, function_among, function_named, is_there, names_function, used_names, undeclared_names, globals_of, statics_among}
+use Rattle.icn_meaning.specs.Program.{texts, added, without, only, global_names, procedures_of, kinds_of, kind_names, routine_names, routines_of, function_among, function_named, is_there, names_function, used_names, undeclared_names, globals_of, statics_among}
 use Rattle.icn_simulation.specs.Mentions.{Mention, AnInteger, AText, ASet, AField, integers_among, texts_among, sets_among, fields_among, firsts, initial_mentions, all_mentions}
-use Rattle.icn_simulation.specs.Joined.{routines, routine_mentions, code_mentions, record_fields, fields_of, string_mentions, strings_of, integers_of, sets_of}
-use Rattle.icn_translate.specs.FileUnits.{codes_in, proc_codes, item_text, lines_in, unit_decls}
-use Rattle.icn_translate.specs.ProcCodes.{entry_of, texts_of, kind_of, local_entries, declared_entries, begun, drafted, undeclared, proc_code}
-use Rattle.link_laws.proofs.FirstsOnce.{filter_by, texts_firsts, integers_firsts, texts_all, added_firsts, without_kept, only_kept}
-use Rattle.link_laws.proofs.Mentioning.{taken, taken_by, taken_in, code_adds}
+use Rattle.icn_simulation.specs.Joined.{routines, routine_mentions, code_mentions, record_fields, fields_of, strings_of, integers_of, sets_of}
+use Rattle.icn_translate.specs.FileUnits.{proc_codes, item_text, lines_in, unit_decls}
+use Rattle.icn_translate.specs.ProcCodes.{entry_of, kind_of, local_entries, begun, drafted, undeclared, proc_code}
+use Rattle.link_laws.proofs.FirstsOnce.{texts_firsts, integers_firsts, texts_all, added_firsts, without_kept, only_kept}
+use Rattle.link_laws.proofs.Mentioning.{taken, taken_in, code_adds}
 use Rattle.link_laws.proofs.NameEntries.{IsFit, texts_same, undeclared_same}
 
 -- each procedure is so
@@ -309,15 +308,16 @@ module _ (file : List Declaration) (fit : Fit (procedures_of file)) where
       let D = firsts bytes_eq (global_names file) in
       let functions_of : flat_map functions_in (proc_codes file) ≡ filter names_function used =
       ap (flat_map functions_in) (codes_same file) ∙ functions_used (procedures_of file) fit in
-      let later : without D (added [] (only names_function used)) ≡ filter (λ y. not (list_any (bytes_eq y) D)) (firsts bytes_eq (filter names_function used)) =
-      without_kept D (added [] (only names_function used))
-      ∙ ap (filter (λ y. not (list_any (bytes_eq y) D))) (added_firsts (only names_function used)
-      ∙ ap (firsts bytes_eq) (only_kept names_function used)) in
+      let new : List ℕ → Bool = λ y. not (list_any (bytes_eq y) D) in
+      let others = added [] (only names_function used) in
+      let later : without D others ≡ filter new (firsts bytes_eq (filter names_function used)) =
+      without_kept D others
+      ∙ ap (filter new) (added_firsts (only names_function used) ∙ ap (firsts bytes_eq) (only_kept names_function used)) in
       ap (λ l. with_texts l (flat_map functions_in (proc_codes file))) declared_same
       ∙ ap (with_texts D) functions_of
       ∙ texts_all D (filter names_function used)
       ∙ ap (λ l. D ++ l) (sym later)
-      ∙ ap (λ l. l ++ without l (added [] (only names_function used))) (sym (added_firsts (global_names file)))
+      ∙ ap (λ l. l ++ without l others) (sym (added_firsts (global_names file)))
 
   pub table_fields : Unit.fields (unit_decls file) (proc_codes file) ≡ fields_of file
   unfolding field_sort
@@ -340,9 +340,14 @@ module _ (file : List Declaration) (fit : Fit (procedures_of file)) where
   table_strings =
       let decls = unit_decls file in
       let procs = proc_codes file in
+      let fields = fields_of file in
+      let kinds = kind_names (kinds_of file) in
+      let names = proc_names procs in
+      let literals = mentioned_by Unit.text_in procs in
       texts_firsts (Unit.string_mentions decls procs)
-      ∙ ap (firsts bytes_eq) (ap (λ l. l ++ (record_names decls ++ (Unit.globals decls procs ++ (proc_names procs ++ mentioned_by Unit.text_in procs)))) table_fields
-      ∙ ap (λ l. fields_of file ++ (l ++ (Unit.globals decls procs ++ (proc_names procs ++ mentioned_by Unit.text_in procs)))) (records_same file)
-      ∙ ap (λ l. fields_of file ++ (kind_names (kinds_of file) ++ (l ++ (proc_names procs ++ mentioned_by Unit.text_in procs)))) table_globals
-      ∙ ap (λ l. fields_of file ++ (kind_names (kinds_of file) ++ (globals_of file ++ (l ++ mentioned_by Unit.text_in procs)))) (procedures_same file)
-      ∙ ap (λ l. fields_of file ++ (kind_names (kinds_of file) ++ (globals_of file ++ (routine_names (routines file) ++ l)))) (file_told text_sort file fit))
+      ∙ ap (firsts bytes_eq)
+      (ap (λ l. l ++ (record_names decls ++ (Unit.globals decls procs ++ (names ++ literals)))) table_fields
+      ∙ ap (λ l. fields ++ (l ++ (Unit.globals decls procs ++ (names ++ literals)))) (records_same file)
+      ∙ ap (λ l. fields ++ (kinds ++ (l ++ (names ++ literals)))) table_globals
+      ∙ ap (λ l. fields ++ (kinds ++ (globals_of file ++ (l ++ literals)))) (procedures_same file)
+      ∙ ap (λ l. fields ++ (kinds ++ (globals_of file ++ (routine_names (routines file) ++ l)))) (file_told text_sort file fit))

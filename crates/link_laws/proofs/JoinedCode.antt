@@ -1,6 +1,6 @@
 -- The linked code of the unit of a file that breaks no rule is the code of its declarations, table by table.
-use Rattle.std.proofs.Common.{◌≡◌, ◌<◌, ℕ, zero, suc, ◌+◌, ◌-◌, Bool, true, false, ◌&&◌, List, [], ◌∷◌, ◌++◌, length, map, filter, cond, not, Option, None, Some, refl, sym, ap, ◌∙◌, subst, append-nil, arith}
-use Rattle.std.specs.Prelude.{All, slice_index_or}
+use Rattle.std.proofs.Common.{◌≡◌, ℕ, zero, suc, ◌+◌, ◌-◌, Bool, true, false, ◌&&◌, List, [], ◌∷◌, ◌++◌, length, map, filter, cond, not, Option, None, Some, refl, sym, ap, ◌∙◌, subst, append-nil, if◌then◌else◌, arith}
+use Rattle.std.specs.Prelude.{All}
 use Rattle.std.specs.List.{flat_map, list_all, list_any}
 use Rattle.std.specs.Option.{option_map}
 use Rattle.std.specs.Str.{bytes_eq}
@@ -12,59 +12,54 @@ use Rattle.icn_text.specs.declared.func.Func.{Func}
 use Rattle.icn_tree.specs.declared.tree.Item.{Item}
 use Rattle.icn_tree.specs.declared.tree.Name.{Name}
 use Rattle.icn_tree.specs.Trees.{Procedure, Declaration, Global, Link, Invocable, Record, ProcedureOf}
-use Rattle.icn_value.specs.declared.cset.Cset.{Cset}
-use Rattle.icn_code.specs.declared.code.Global.{Global as GlobalEntry}
-use Rattle.icn_code.specs.declared.instr.Instr.{Instr}
-use Rattle.icn_code.specs.Codes.{RecordType, Proc as ProcEntry, Tables}
+use Rattle.icn_code.specs.Codes.{Tables}
 use Rattle.icn_unit.specs.declared.unit.UnitInstr.{UnitInstr}
 use Rattle.icn_unit.specs.declared.unit.UnitInstr.TheVariants as I
 use Rattle.icn_unit.specs.PlainUnits.{proc_names}
 use Rattle.icn_unit.specs.PlainUnits.{Global as GlobalLine, Link as LinkLine}
 use Rattle.icn_unit.specs.UnitOperands.{ascends}
 use Rattle.icn_unit.specs.UnitRules.{is_byte}
-use Rattle.icn_decls.specs.Faults.{Met, none_met, names_after, procedure_faults, declarations_faults, context_faults}
+use Rattle.icn_decls.specs.Faults.{Met, none_met, names_after, declarations_faults}
 use Rattle.icn_link.specs.Gathering.{text_place, integer_place, with_texts}
 use Rattle.icn_link.specs.Joined as Linked
-use Rattle.icn_link.specs.Joined.{records_in, proc_entry, cset_of, tables_with, joined_of, scope_of}
+use Rattle.icn_link.specs.Joined.{records_in, proc_entry, cset_of, joined_of, scope_of}
 use Rattle.icn_link.specs.Mentions.{Mentioned, mentioned, mention_of, mentioned_in, mentioned_by, set_in, global_in, record_names, declared}
 use Rattle.icn_link.specs.Mentions as Mentions
-use Rattle.icn_link.specs.Resolving.{Scope, resolved, label_place}
-use Rattle.icn_link.specs.Units.{all_decls, all_procs}
-use Rattle.icn_meaning.specs.Program.{Routine, Kind, joined, texts, has_name, global_names, procedures_of, kinds_of, kind_names, routine_names, routine_of, routines_of, function_named, globals_of, statics_among, place_of, later}
+use Rattle.icn_meaning.specs.Program.{texts, has_name, global_names, procedures_of, kinds_of, kind_names, routine_names, routine_of, routines_of, function_named, globals_of, statics_among, place_of, later}
 use Rattle.icn_run.specs.Step.{members_of}
 use Rattle.icn_simulation.specs.Faultless.{IsFaultless}
 use Rattle.icn_simulation.specs.Joined as Law
-use Rattle.icn_simulation.specs.Joined.{IsCodeOf, Joined, code_with, names_in, routines, procedure_entry, record_entry, global_entry, strings_of, fields_of, integers_of, sets_of}
+use Rattle.icn_simulation.specs.Joined.{IsCodeOf, Joined, code_with, names_in, routines, procedure_entry, record_entry, global_entry}
 use Rattle.icn_simulation.specs.Mentions.{firsts}
-use Rattle.icn_simulation.specs.Translation as X
 use Rattle.icn_simulation.proofs.Checked.{Each, IsSoundProcedure, sound_files}
 use Rattle.icn_translate.specs.Drafts.{name_place}
-use Rattle.icn_translate.specs.FileUnits.{codes_in, proc_codes, item_text, lines_in, unit_decls, translated_unit}
+use Rattle.icn_translate.specs.FileUnits.{proc_codes, item_text, lines_in, unit_decls, translated_unit}
 use Rattle.icn_translate.specs.ProcCodes.{texts_of, drafted, proc_code}
 use Rattle.icn_units.specs.Written.{file_fits, declaration_fits, procedure_fits, collects_fits, operand_fits}
 use Rattle.icn_units.proofs.CodeTexts.{code_operands_fit}
 use Rattle.icn_units.proofs.FileNames.{first_faultless, others_faultless}
 use Rattle.icn_units.proofs.WrittenFiles.{spelled_fits}
 use Rattle.icn_units.proofs.WrittenTrees.{first_of, second_of, both}
+use Rattle.link_laws.proofs.CodeLaw.{code_is}
 use Rattle.link_laws.proofs.CodeNames.{AgreeOn}
 use Rattle.link_laws.proofs.FileTables.{Fit, codes_same, globals_same, records_same, procedures_same, function_same, table_globals, table_fields, table_integers, table_sets, table_strings}
 use Rattle.link_laws.proofs.FirstsOnce.{has_any, texts_any, texts_firsts}
-use Rattle.link_laws.proofs.NameEntries.{IsFit, texts_same, local_names, static_names, locals_counted, statics_counted, locals_same, statics_same, parameters_counted, variable_same}
+use Rattle.link_laws.proofs.NameEntries.{IsFit, texts_same, locals_counted, statics_counted, locals_same, statics_same, parameters_counted, variable_same}
 use Rattle.link_laws.proofs.SetBits.{set_members}
 
 -- Where names stand
 
 place_same : (name : List ℕ) (names : List (List ℕ)) → Linked.place_of names name ≡ place_of name names
 place_same name [] = refl
-place_same name (other ∷ names) = ap (λ o. by_test (bytes_eq name other) o) (moved (Linked.place_of names name) ∙ ap later (place_same name names))
+place_same name (other ∷ names) = ap (λ o. if bytes_eq name other then Some zero else o)
+    (moved (Linked.place_of names name) ∙ ap later (place_same name names))
   where
-    by_test : Bool → Option ℕ → Option ℕ
-    by_test b o = cond b (Some zero) o
     moved : (o : Option ℕ) → option_map suc o ≡ later o
     moved None = refl
     moved (Some k) = refl
 
-start_same : (proc kind : Option ℕ) (declared : Bool) (function : Option Func) → Linked.start_by proc kind declared function ≡ Law.start_by proc kind declared function
+start_same : (proc kind : Option ℕ) (declared : Bool) (function : Option Func)
+    → Linked.start_by proc kind declared function ≡ Law.start_by proc kind declared function
 start_same (Some n) kind declared function = refl
 start_same None (Some n) declared function = refl
 start_same None None true function = refl
@@ -75,13 +70,7 @@ map_same : {A B : Type 0} (f g : A → B) → ((x : A) → f x ≡ g x) → (xs 
 map_same f g h [] = refl
 map_same f g h (x ∷ xs) = ap (λ y. y ∷ map f xs) (h x) ∙ ap (λ ys. g x ∷ ys) (map_same f g h xs)
 
--- the code of a procedure, as the linker resolves it
-abbrev CodeIs : Type 0
-CodeIs = (S : Scope) (N : X.Names) (met : Met) (procedure : Procedure) → procedure_faults met procedure ≡ []
-    → AgreeOn S N (drafted procedure).names → ((label : ℕ) → S.label label ≡ label_place label (proc_code procedure).instrs)
-    → resolved S (proc_code procedure).instrs ≡ X.procedure N procedure.initial procedure.body
-
-module _ (code_is : CodeIs) (file : List Declaration) (fit : Fit (procedures_of file)) where
+module _ (file : List Declaration) (fit : Fit (procedures_of file)) where
   abbrev M : Mentioned
   M = mentioned (unit_decls file) (proc_codes file)
 
@@ -95,7 +84,8 @@ module _ (code_is : CodeIs) (file : List Declaration) (fit : Fit (procedures_of 
     set = λ members. ap (λ t. text_place t members) (table_sets file fit);
     field = λ name. ap (λ t. text_place t name) (table_fields file fit);
     variable = λ name among.
-        ap (λ g. Linked.variable_at (Linked.variables g 0 0 (proc_code procedure).names) (name_place (drafted procedure).names name)) (table_globals file fit)
+        let place = name_place (drafted procedure).names name in
+        ap (λ g. Linked.variable_at (Linked.variables g 0 0 (proc_code procedure).names) place) (table_globals file fit)
         ∙ variable_same (globals_of file) procedure h name among;
     keyword = λ name. refl;
   }
@@ -179,12 +169,15 @@ module _ (code_is : CodeIs) (file : List Declaration) (fit : Fit (procedures_of 
       let start : Linked.start_by (Linked.place_of (proc_names (proc_codes file)) name) (Linked.place_of (record_names (unit_decls file)) name)
       (list_any (bytes_eq name) (declared (unit_decls file))) (Mentions.function_named name) ≡ Law.start file name =
       (λ i. Linked.start_by (procs i) (records i) (known i) (function_same name i))
-      ∙ start_same (place_of name (routine_names (routines file))) (place_of name (kind_names (kinds_of file))) (has_name name (global_names file)) (function_named name) in
+      ∙ start_same (place_of name (routine_names (routines file))) (place_of name (kind_names (kinds_of file))) (has_name name (global_names file))
+      (function_named name) in
       λ i. record { name = text_place (table_strings file fit i) name; start = start i }
 
-  all_globals_same : map (Linked.global_entry M (proc_names (proc_codes file)) (record_names (unit_decls file))) M.globals ≡ map (global_entry file) (globals_of file)
-  all_globals_same = map_same (Linked.global_entry M (proc_names (proc_codes file)) (record_names (unit_decls file))) (global_entry file) global_same M.globals
-      ∙ ap (map (global_entry file)) (table_globals file fit)
+  all_globals_same : map (Linked.global_entry M (proc_names (proc_codes file)) (record_names (unit_decls file))) M.globals
+      ≡ map (global_entry file) (globals_of file)
+  all_globals_same =
+      let linked = Linked.global_entry M (proc_names (proc_codes file)) (record_names (unit_decls file)) in
+      map_same linked (global_entry file) global_same M.globals ∙ ap (map (global_entry file)) (table_globals file fit)
 
   -- All tables but the csets
 
@@ -216,7 +209,8 @@ some_fit : (test keep : List ℕ → Bool) (xs : List (List ℕ)) → list_all t
 some_fit test keep [] h = refl
 some_fit test keep (x ∷ xs) h = by (keep x) (first_of (test x) (list_all test xs) h) (some_fit test keep xs (second_of (test x) (list_all test xs) h))
   where
-    by : (b : Bool) → test x ≡ true → list_all test (filter keep xs) ≡ true → list_all test (cond b (x ∷ filter keep xs) (filter keep xs)) ≡ true
+    by : (b : Bool) → test x ≡ true → list_all test (filter keep xs) ≡ true
+        → list_all test (cond b (x ∷ filter keep xs) (filter keep xs)) ≡ true
     by true t r = both t r
     by false t r = r
 
@@ -233,7 +227,8 @@ instrs_sets : (is : List UnitInstr) → list_all operand_fits is ≡ true → li
 instrs_sets [] h = refl
 instrs_sets (i ∷ is) h =
     list_all-append set_fits (set_in (mention_of i)) (flat_map (λ i. set_in (mention_of i)) is)
-    ∙ both (operand_sets i (first_of (operand_fits i) (list_all operand_fits is) h)) (instrs_sets is (second_of (operand_fits i) (list_all operand_fits is) h))
+    ∙ both (operand_sets i (first_of (operand_fits i) (list_all operand_fits is) h))
+    (instrs_sets is (second_of (operand_fits i) (list_all operand_fits is) h))
 
 file_sets : (met : Met) (file : List Declaration) → declarations_faults met file ≡ [] → file_fits file ≡ true
     → list_all set_fits (mentioned_by set_in (proc_codes file)) ≡ true
@@ -257,7 +252,8 @@ file_sets met (ProcedureOf p ∷ others) f w =
 
 -- A file that breaks no rule
 
-file_fit : (met : Met) (file : List Declaration) → declarations_faults met file ≡ [] → Each IsSoundProcedure (procedures_of file) → Fit (procedures_of file)
+file_fit : (met : Met) (file : List Declaration) → declarations_faults met file ≡ []
+    → Each IsSoundProcedure (procedures_of file) → Fit (procedures_of file)
 file_fit met [] f s = tt
 file_fit met (Global place names ∷ others) f s = file_fit met others (others_faultless met (Global place names) others f) s
 file_fit met (Link place items ∷ others) f s = file_fit met others (others_faultless met (Link place items) others f) s
@@ -280,21 +276,20 @@ faultless_fit file h = file_fit none_met file h.context
 written : (file : List Declaration) → IsFaultless file → file_fits file ≡ true
 written file h = ∥∥₁_elim h.spelled (hlevel Bool-set) (λ s. spelled_fits file s)
 
-module _ (code_is : CodeIs) where
-  file_joins : (file : List Declaration) → IsFaultless file → IsCodeOf file (joined_of (unit_decls file) (proc_codes file))
-  file_joins file h =
-      let fit = faultless_fit file h in
-      let mentions = mentioned_by set_in (proc_codes file) in
-      record {
-        csets = sets_back (with_texts [] mentions)
-            (ap (list_all set_fits) (texts_firsts mentions) ∙ firsts_fit set_fits mentions (file_sets none_met file h.context (written file h)))
-            ∙ table_sets file fit;
-        others = tables_same code_is file fit;
-      }
+file_joins : (file : List Declaration) → IsFaultless file → IsCodeOf file (joined_of (unit_decls file) (proc_codes file))
+file_joins file h =
+    let fit = faultless_fit file h in
+    let mentions = mentioned_by set_in (proc_codes file) in
+    record {
+      csets = sets_back (with_texts [] mentions)
+          (ap (list_all set_fits) (texts_firsts mentions) ∙ firsts_fit set_fits mentions (file_sets none_met file h.context (written file h)))
+          ∙ table_sets file fit;
+      others = tables_same file fit;
+    }
 
-  pub unit_joins : (name : List ℕ) (file : List Declaration) → IsFaultless file → Joined (file ∷ []) (Linked.joined (translated_unit name file ∷ []))
-  unit_joins name file h =
-      let one : IsCodeOf file (Linked.joined (translated_unit name file ∷ [])) =
-      subst (λ (tables : Tables). IsCodeOf file tables)
-      (λ i. joined_of (sym (append-nil (unit_decls file)) i) (sym (append-nil (proc_codes file)) i)) (file_joins file h) in
-      subst (λ (declarations : List Declaration). IsCodeOf declarations (Linked.joined (translated_unit name file ∷ []))) (sym (append-nil file)) one
+pub unit_joins : (name : List ℕ) (file : List Declaration) → IsFaultless file → Joined (file ∷ []) (Linked.joined (translated_unit name file ∷ []))
+unit_joins name file h =
+    let one : IsCodeOf file (Linked.joined (translated_unit name file ∷ [])) =
+    subst (λ (tables : Tables). IsCodeOf file tables)
+    (λ i. joined_of (sym (append-nil (unit_decls file)) i) (sym (append-nil (proc_codes file)) i)) (file_joins file h) in
+    subst (λ (declarations : List Declaration). IsCodeOf declarations (Linked.joined (translated_unit name file ∷ []))) (sym (append-nil file)) one

@@ -1,5 +1,16 @@
 pub mod FirstsOnce
 pub mod Mentioning
 pub mod NameEntries
-pub mod SetBits
 pub mod FileTables
+pub mod SetBits
+pub mod CodeSteps
+pub mod CodeWays
+pub mod CodeNames
+pub mod CodeParts
+pub mod CodeLoops
+pub mod CodeOpen
+pub mod CodeOperators
+pub mod CodeForms
+pub mod CodeLabels
+pub mod CodeLaw
+pub mod JoinedCode

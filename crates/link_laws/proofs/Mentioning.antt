@@ -1,5 +1,5 @@
 -- What each form of a tree adds to a draft: what its instructions take from tables, and the names that it uses, in order.
-use Rattle.std.proofs.Common.{◌≡◌, ℕ, Bool, true, false, List, [], ◌∷◌, ◌++◌, Option, None, Some, refl, sym, ap, ◌∙◌, append_assoc, append-nil, if◌then◌else◌}
+use Rattle.std.proofs.Common.{◌≡◌, ℕ, Bool, true, false, List, [], ◌∷◌, ◌++◌, Option, None, Some, refl, sym, ap, ◌∙◌, append_assoc, append-nil}
 use Rattle.std.specs.List.{flat_map}
 use Rattle.std.proofs.lemmas.Grind.{flat_map-append}
 use Rattle.icn_text.specs.declared.keyword.Keyword.{Keyword as KeywordNamed}
@@ -15,23 +15,23 @@ use Rattle.icn_tree.specs.declared.tree.LoopKind.{LoopKind}
 use Rattle.icn_tree.specs.declared.tree.LoopKind.TheVariants.{While, Until, Every}
 use Rattle.icn_tree.specs.declared.tree.Place.{Place}
 use Rattle.icn_tree.specs.TokenBounds.{is_augmented}
-use Rattle.icn_tree.specs.Trees.{Initial, NoInitial, Initially, Tree, MaybeTree, Trees, Clause, Clauses, Empty, Constant, Identifier, Keyword, Parentheses, Listing, Compound, Call, CoCall, Subscript, Section, Field, Prefix, Not, Binary, To, If, Case, Loop, Repeat, Create, Next, Fail, Break, Return, Suspend, Absent, Present, NoTrees, More, Default, Guarded, NoClauses, MoreClauses}
+use Rattle.icn_tree.specs.Trees.{Initial, NoInitial, Initially, Tree, MaybeTree, Trees, Clauses, Empty, Constant, Identifier, Keyword, Parentheses, Listing, Compound, Call, CoCall, Subscript, Section, Field, Prefix, Not, Binary, To, If, Case, Loop, Repeat, Create, Next, Fail, Break, Return, Suspend, Absent, Present, NoTrees, More, Default, Guarded, NoClauses, MoreClauses}
 use Rattle.icn_unit.specs.declared.unit.UnitInstr.{UnitInstr}
 use Rattle.icn_unit.specs.declared.unit.UnitInstr.TheVariants as I
 use Rattle.icn_unit.specs.UnitOperands.{keyword_of}
 use Rattle.icn_link.specs.Mentions as Unit
 use Rattle.icn_meaning.specs.Program.{names_in, names_in_all, names_in_maybe, names_in_guarded, names_in_default, names_in_initial}
 use Rattle.icn_simulation.specs.Mentions.{Mention, AnInteger, AText, ASet, AField, literal_mention, mentions, all_mentions, maybe_mentions, step_mentions, guarded_mentions, default_mentions, initial_mentions}
-use Rattle.icn_simulation.proofs.Formed.{IsInfix, Formed, FormedMaybe, FormedSome, FormedAll, FormedClauses, FormedClause, FormedInitial}
+use Rattle.icn_simulation.proofs.Formed.{IsInfix, Formed, FormedMaybe, FormedSome, FormedAll, FormedClauses, FormedInitial}
 use Rattle.icn_translate.specs.declared.builder.Ways.{Ways}
 use Rattle.icn_translate.specs.declared.forms.InfixForm.{InfixForm}
 use Rattle.icn_translate.specs.declared.forms.InfixForm.TheVariants.{Both, Scanning, Either, Limiting, Activating, Spreading, Operating}
 use Rattle.icn_translate.specs.declared.forms.PrefixForm.{PrefixForm}
 use Rattle.icn_translate.specs.declared.forms.PrefixForm.TheVariants.{Activation, Repetition, Operation}
-use Rattle.icn_translate.specs.Drafts.{Draft, ◌▹◌, put, next_label, with_label, numbered, with_name, with_names, put_variable, unmentioned, in_loop, outside_loop, innermost, aside, with_next, put_next, with_last, put_last, case_end, in_case, outside_case, with_end, put_end}
+use Rattle.icn_translate.specs.Drafts.{Draft, ◌▹◌, put, next_label, with_label, numbered, with_name, with_names, put_variable, unmentioned, in_loop, outside_loop, innermost, aside, put_next, put_last, case_end, in_case, outside_case, put_end}
 use Rattle.icn_translate.specs.Instructions.{literal_instr, known_keyword, keyword_by, keyword_instr, section_op, infix_form, prefix_form}
 use Rattle.icn_translate.specs.Open.{Open, Outermost, Marked, Looped, Each, unmarks_for_break, unmarks_for_next, around}
-use Rattle.icn_translate.specs.Translation.{is_empty, is_nothing, is_no_element, elements, bounded, created, if_mark, unless_empty, either_step, control_part, in_control, in_body, back, loop_end, prefix_by, plain_form, update, augmented_form, case_of, looped_body, translate, operands, arguments, conjunction, conjuncts, compound, creations, other_creations, subscripts, to_step, otherwise, looped_part, suspended_part, guarded, guarded_clause, default_part, default_clause, initially, body}
+use Rattle.icn_translate.specs.Translation.{is_empty, is_nothing, is_no_element, elements, bounded, created, if_mark, unless_empty, either_step, control_part, in_control, in_body, back, loop_end, prefix_by, plain_form, update, augmented_form, case_of, looped_body, translate, operands, arguments, conjunction, conjuncts, compound, creations, other_creations, subscripts, to_step, otherwise, looped_part, suspended_part, guarded, default_part, initially, body}
 use Rattle.link_laws.proofs.FirstsOnce.{names_more}
 
 -- what an instruction of a unit takes from a table, as the first law has it
@@ -566,7 +566,7 @@ mutual
   default_part_adds : (o : Open) (clauses : Clauses) → FormedClauses clauses
       → AddsAlways (default_mentions clauses) (names_in_default clauses) (default_part o clauses)
   default_part_adds o NoClauses f = plain_adds I.Efail refl
-  default_part_adds o (MoreClauses (Default place e) clauses) f = tree_adds o e f.0
+  default_part_adds o (MoreClauses (Default place e) others) f = tree_adds o e f.0
   default_part_adds o (MoreClauses (Guarded place s b) clauses) f = default_part_adds o clauses f.1
 
 -- Procedures

@@ -1,6 +1,5 @@
 -- The names of a procedure's code, in their order, against those of the procedure by their kinds.
-use Rattle.std.proofs.Common.{◌≡◌, ℕ, zero, suc, ◌+◌, Bool, true, false, not, ◌&&◌, ◌||◌, List, [], ◌∷◌, ◌++◌, length, map, drop, filter, cond, Option, None, Some, refl, sym, ap, ◌∙◌, subst, append_assoc, append-nil, if◌then◌else◌, arith}
-use Rattle.std.specs.Prelude.{slice_get}
+use Rattle.std.proofs.Common.{◌≡◌, ℕ, zero, suc, ◌+◌, Bool, true, false, not, ◌||◌, List, [], ◌∷◌, ◌++◌, length, map, drop, filter, cond, Option, None, Some, refl, sym, ap, ◌∙◌, append-nil, if◌then◌else◌, arith}
 use Rattle.std.specs.List.{flat_map, list_any, position_or_len}
 use Rattle.std.specs.Str.{bytes_eq}
 use Rattle.std.proofs.Math.Seq.{drop-append_seam}
@@ -25,33 +24,40 @@ use Rattle.icn_unit.specs.UnitRules.{names_differ}
 use Rattle.icn_link.specs.declared.variable.Variable.{Variable}
 use Rattle.icn_link.specs.declared.variable.Variable.TheVariants.{Local, Static, Global}
 use Rattle.icn_link.specs.Gathering.{text_place}
-use Rattle.icn_link.specs.Joined.{is_among, variable_of, variable_instr, locals_behind, statics_behind, variables, variable_at, is_local, is_static, locals_in, statics_in}
+use Rattle.icn_link.specs.Joined.{is_among, variable_by as variable_of_kind, variable_of, variable_instr, locals_behind, statics_behind, variables, variable_at, is_local, is_static, locals_in, statics_in}
 use Rattle.icn_meaning.specs.Program.{place_of, later, texts, locals_among, statics_among, own_names, undeclared_names, without, names_in_initial, names_in_all}
 use Rattle.icn_simulation.specs.Joined.{variable_by}
 use Rattle.icn_simulation.specs.Mentions.{firsts}
 use Rattle.icn_simulation.proofs.Formed.{FormedInitial, FormedAll}
-use Rattle.icn_translate.specs.ProcCodes.{entry_of, texts_of, kind_of, local_entries, local_texts, declared_entries, declared_texts, begun, drafted, undeclared, proc_code}
+use Rattle.icn_translate.specs.ProcCodes.{entry_of, texts_of, kind_of, local_entries, local_texts, declared_texts, begun, drafted, undeclared, proc_code}
 use Rattle.icn_units.proofs.EntryNames.{begun_names, code_names, code_names_differ, names_length}
 use Rattle.icn_units.proofs.Naming.{both_of, neither_of, was_not}
 use Rattle.link_laws.proofs.FirstsOnce.{filter_by, firsts_kept, names_all, added_firsts, without_kept}
 use Rattle.link_laws.proofs.Mentioning.{code_adds}
 
--- The names that are locals, and those that are statics, where these are the globals.
+-- a name is a local, or a static, where these are the globals
+abbrev pub is_local_in : List (List ℕ) → UnitName → Bool
+is_local_in globals entry = is_local (variable_of globals entry)
+
+abbrev pub is_static_in : List (List ℕ) → UnitName → Bool
+is_static_in globals entry = is_static (variable_of globals entry)
+
+-- The names that are locals, and those that are statics.
 abbrev pub local_names : List (List ℕ) → List UnitName → List (List ℕ)
-local_names globals entries = entry_names (filter (λ entry. is_local (variable_of globals entry)) entries)
+local_names globals entries = entry_names (filter (is_local_in globals) entries)
 
 abbrev pub static_names : List (List ℕ) → List UnitName → List (List ℕ)
-static_names globals entries = entry_names (filter (λ entry. is_static (variable_of globals entry)) entries)
+static_names globals entries = entry_names (filter (is_static_in globals) entries)
 
 pub locals_counted : (globals : List (List ℕ)) (entries : List UnitName)
     → locals_in globals entries ≡ length (local_names globals entries)
-locals_counted globals entries = sym (length-filter (λ entry. is_local (variable_of globals entry)) entries)
-    ∙ sym (names_length (filter (λ entry. is_local (variable_of globals entry)) entries))
+locals_counted globals entries = sym (length-filter (is_local_in globals) entries)
+    ∙ sym (names_length (filter (is_local_in globals) entries))
 
 pub statics_counted : (globals : List (List ℕ)) (entries : List UnitName)
     → statics_in globals entries ≡ length (static_names globals entries)
-statics_counted globals entries = sym (length-filter (λ entry. is_static (variable_of globals entry)) entries)
-    ∙ sym (names_length (filter (λ entry. is_static (variable_of globals entry)) entries))
+statics_counted globals entries = sym (length-filter (is_static_in globals) entries)
+    ∙ sym (names_length (filter (is_static_in globals) entries))
 
 -- The instruction of each name
 
@@ -102,7 +108,7 @@ placed : (name : List ℕ) (xs : List (List ℕ)) → list_any (bytes_eq name) x
 placed name [] h = absurd (cc)
 placed name (x ∷ xs) h = placed_by name x xs (bytes_eq name x) refl (placed name xs) h
 
--- what a variable is with the entries behind it
+-- a name in front of others, where it is one of them
 abbrev with_head : Bool → List ℕ → List (List ℕ) → List (List ℕ)
 with_head true name names = name ∷ names
 with_head false name names = names
@@ -113,40 +119,36 @@ headed : (test : UnitName → Bool) (entry : UnitName) (entries : List UnitName)
 headed test entry entries true = refl
 headed test entry entries false = refl
 
-global_placed : (globals : List (List ℕ)) (entry : UnitName) (kind : NameKind) → entry.kind ≡ kind
-    → variable_of globals entry ≡ Global → list_any (bytes_eq entry.name) globals ≡ true
-global_placed globals entry Kinds.Parameter e h = absurd (let g = ap (λ k. by_kind k) (sym e) ∙ h in cc)
+-- a global is among the globals
+global_placed : (globals : List (List ℕ)) (kind : NameKind) (name : List ℕ) → variable_of_kind globals kind name ≡ Global
+    → list_any (bytes_eq name) globals ≡ true
+global_placed globals Kinds.Parameter name h = absurd (cc)
+global_placed globals Kinds.Local name h = absurd (cc)
+global_placed globals Kinds.Static name h = absurd (cc)
+global_placed globals Kinds.Undeclared name h = by (is_among globals name) refl h
   where
-    by_kind : NameKind → Variable
-    by_kind k = variable_of globals (record { kind = k; name = entry.name })
-global_placed globals entry Kinds.Local e h = absurd (let g = ap (λ k. by_kind k) (sym e) ∙ h in cc)
-  where
-    by_kind : NameKind → Variable
-    by_kind k = variable_of globals (record { kind = k; name = entry.name })
-global_placed globals entry Kinds.Static e h = absurd (let g = ap (λ k. by_kind k) (sym e) ∙ h in cc)
-  where
-    by_kind : NameKind → Variable
-    by_kind k = variable_of globals (record { kind = k; name = entry.name })
-global_placed globals entry Kinds.Undeclared e h = by (is_among globals entry.name) refl (ap (λ k. by_kind k) (sym e) ∙ h)
-  where
-    by_kind : NameKind → Variable
-    by_kind k = variable_of globals (record { kind = k; name = entry.name })
-    by : (b : Bool) → is_among globals entry.name ≡ b → (if b then Global else Local) ≡ Global → is_among globals entry.name ≡ true
-    by true g i = g
-    by false g i = absurd (cc)
+    by : (b : Bool) → is_among globals name ≡ b → (if b then Global else Local) ≡ Global → is_among globals name ≡ true
+    by true e h = e
+    by false e h = absurd (cc)
+
+-- what a name is among locals and statics, where so many of both were before
+abbrev found_in : List (List ℕ) → List ℕ → ℕ → ℕ → List (List ℕ) → List (List ℕ) → Instr
+found_in globals name locals statics ls ss =
+    variable_by (shifted locals (place_of name ls)) (shifted statics (place_of name ss)) (place_of name globals)
 
 -- the first entry has the name
-first_variable : (globals : List (List ℕ)) (name : List ℕ) (locals statics : ℕ) (text : List ℕ) (ls ss : List (List ℕ)) (v : Variable)
-    → bytes_eq name text ≡ true → (v ≡ Global → list_any (bytes_eq text) globals ≡ true) → place_of name ls ≡ None → place_of name ss ≡ None
+first_variable : (globals : List (List ℕ)) (name : List ℕ) (locals statics : ℕ) (text : List ℕ) (ls ss : List (List ℕ))
+    (v : Variable) → bytes_eq name text ≡ true → (v ≡ Global → list_any (bytes_eq text) globals ≡ true)
+    → place_of name ls ≡ None → place_of name ss ≡ None
     → variable_instr v locals statics (text_place globals text)
-    ≡ variable_by (shifted locals (place_of name (with_head (is_local v) text ls)))
-    (shifted statics (place_of name (with_head (is_static v) text ss))) (place_of name globals)
+    ≡ found_in globals name locals statics (with_head (is_local v) text ls) (with_head (is_static v) text ss)
 first_variable globals name locals statics text ls ss Local e g l s =
     sym (ap (λ o. variable_by o (shifted statics (place_of name ss)) (place_of name globals))
     (ap (shifted locals) (place_first name text ls e) ∙ shifted_first locals))
 first_variable globals name locals statics text ls ss Static e g l s =
     sym (ap (λ o. variable_by (shifted locals o) (shifted statics (place_of name (text ∷ ss))) (place_of name globals)) l
-    ∙ ap (λ o. variable_by None o (place_of name globals)) (ap (shifted statics) (place_first name text ss e) ∙ shifted_first statics))
+    ∙ ap (λ o. variable_by None o (place_of name globals))
+    (ap (shifted statics) (place_first name text ss e) ∙ shifted_first statics))
 first_variable globals name locals statics text ls ss Global e g l s =
     let same : text ≡ name = sym ((bytes_eq-Decides name text).0 e) in
     let there : list_any (bytes_eq name) globals ≡ true = ap (λ t. list_any (bytes_eq t) globals) (sym same) ∙ g refl in
@@ -156,68 +158,75 @@ first_variable globals name locals statics text ls ss Global e g l s =
     ∙ ap (λ o. variable_by None None o) (placed name globals there))
 
 -- a later entry has it
-later_variable : (name : List ℕ) (locals statics : ℕ) (text : List ℕ) (ls ss : List (List ℕ)) (global : Option ℕ) (v : Variable) → bytes_eq name text ≡ false
-    → variable_by (shifted (locals_behind v locals) (place_of name ls)) (shifted (statics_behind v statics) (place_of name ss)) global
-    ≡ variable_by (shifted locals (place_of name (with_head (is_local v) text ls)))
-    (shifted statics (place_of name (with_head (is_static v) text ss))) global
-later_variable name locals statics text ls ss global Local e =
-    sym (ap (λ o. variable_by o (shifted statics (place_of name ss)) global)
+later_variable : (globals : List (List ℕ)) (name : List ℕ) (locals statics : ℕ) (text : List ℕ) (ls ss : List (List ℕ))
+    (v : Variable) → bytes_eq name text ≡ false
+    → found_in globals name (locals_behind v locals) (statics_behind v statics) ls ss
+    ≡ found_in globals name locals statics (with_head (is_local v) text ls) (with_head (is_static v) text ss)
+later_variable globals name locals statics text ls ss Local e =
+    sym (ap (λ o. variable_by o (shifted statics (place_of name ss)) (place_of name globals))
     (ap (shifted locals) (place_later name text ls e) ∙ shifted_later locals (place_of name ls)))
-later_variable name locals statics text ls ss global Static e =
-    sym (ap (λ o. variable_by (shifted locals (place_of name ls)) o global)
+later_variable globals name locals statics text ls ss Static e =
+    sym (ap (λ o. variable_by (shifted locals (place_of name ls)) o (place_of name globals))
     (ap (shifted statics) (place_later name text ss e) ∙ shifted_later statics (place_of name ss)))
-later_variable name locals statics text ls ss global Global e = refl
+later_variable globals name locals statics text ls ss Global e = refl
+
+both_headed : (globals : List (List ℕ)) (name : List ℕ) (locals statics : ℕ) (entry : UnitName) (entries : List UnitName)
+    → found_in globals name locals statics (with_head (is_local_in globals entry) entry.name (local_names globals entries))
+    (with_head (is_static_in globals entry) entry.name (static_names globals entries))
+    ≡ found_in globals name locals statics (local_names globals (entry ∷ entries)) (static_names globals (entry ∷ entries))
+both_headed globals name locals statics entry entries =
+    let L = local_names globals entries in
+    let first = headed (is_local_in globals) entry entries (is_local_in globals entry) in
+    let second = headed (is_static_in globals) entry entries (is_static_in globals entry) in
+    ap (λ l. found_in globals name locals statics (with_head (is_local_in globals entry) entry.name L) l) (sym second)
+    ∙ ap (λ l. found_in globals name locals statics l (static_names globals (entry ∷ entries))) (sym first)
 
 -- what the code has for a name, where so many locals and statics were before
 abbrev Stands : List (List ℕ) → List ℕ → List UnitName → ℕ → ℕ → Type 0
 Stands globals name entries locals statics =
     variable_at (variables globals locals statics entries) (position_or_len (bytes_eq name) (entry_names entries))
-    ≡ variable_by (shifted locals (place_of name (local_names globals entries)))
-    (shifted statics (place_of name (static_names globals entries))) (place_of name globals)
+    ≡ found_in globals name locals statics (local_names globals entries) (static_names globals entries)
 
-at_first : (globals : List (List ℕ)) (name : List ℕ) (entry : UnitName) (entries : List UnitName) (locals statics : ℕ) (b : Bool)
-    → bytes_eq name entry.name ≡ b → list_any (bytes_eq name) (entry_names (entry ∷ entries)) ≡ true
-    → names_differ (entry_names (entry ∷ entries)) ≡ true
-    → ((l s : ℕ) → list_any (bytes_eq name) (entry_names entries) ≡ true → names_differ (entry_names entries) ≡ true → Stands globals name entries l s)
-    → Stands globals name (entry ∷ entries) locals statics
-at_first globals name entry entries locals statics true e a d next =
+-- the name is one of these, which differ
+abbrev IsOne : List ℕ → List UnitName → Type 0
+IsOne name entries = (list_any (bytes_eq name) (entry_names entries) ≡ true) × (names_differ (entry_names entries) ≡ true)
+
+at_first : (globals : List (List ℕ)) (name : List ℕ) (entry : UnitName) (entries : List UnitName) (locals statics : ℕ)
+    (b : Bool) → bytes_eq name entry.name ≡ b → IsOne name (entry ∷ entries)
+    → ((l s : ℕ) → IsOne name entries → Stands globals name entries l s) → Stands globals name (entry ∷ entries) locals statics
+at_first globals name entry entries locals statics true e h next =
     let v = variable_of globals entry in
-    let later = variables globals (locals_behind v locals) (statics_behind v statics) entries in
+    let L = local_names globals entries in
+    let S = static_names globals entries in
+    let names = entry_names entries in
     let same : entry.name ≡ name = sym ((bytes_eq-Decides name entry.name).0 e) in
-    let none : list_any (bytes_eq name) (entry_names entries) ≡ false =
-    ap (λ t. list_any (bytes_eq t) (entry_names entries)) (sym same)
-    ∙ was_not (list_any (bytes_eq entry.name) (entry_names entries))
-    (both_of (not (list_any (bytes_eq entry.name) (entry_names entries))) (names_differ (entry_names entries)) d).0 in
+    let none : list_any (bytes_eq name) names ≡ false = ap (λ t. list_any (bytes_eq t) names) (sym same)
+    ∙ was_not (list_any (bytes_eq entry.name) names)
+    (both_of (not (list_any (bytes_eq entry.name) names)) (names_differ names) h.1).0 in
     let first : position_or_len (bytes_eq name) (entry_names (entry ∷ entries)) ≡ 0 = rw e refl in
     ap (variable_at (variables globals locals statics (entry ∷ entries))) first
-    ∙ first_variable globals name locals statics entry.name (local_names globals entries) (static_names globals entries) v e
-    (global_placed globals entry entry.kind refl)
-    (not_placed name (λ x. is_local (variable_of globals x)) entries none)
-    (not_placed name (λ x. is_static (variable_of globals x)) entries none)
-    ∙ sym (ap (λ l. variable_by (shifted locals (place_of name l)) (shifted statics (place_of name (static_names globals (entry ∷ entries)))) (place_of name globals))
-    (headed (λ x. is_local (variable_of globals x)) entry entries (is_local v))
-    ∙ ap (λ l. variable_by (shifted locals (place_of name (with_head (is_local v) entry.name (local_names globals entries)))) (shifted statics (place_of name l)) (place_of name globals))
-    (headed (λ x. is_static (variable_of globals x)) entry entries (is_static v)))
-at_first globals name entry entries locals statics false e a d next =
+    ∙ first_variable globals name locals statics entry.name L S v e (global_placed globals entry.kind entry.name)
+    (not_placed name (is_local_in globals) entries none) (not_placed name (is_static_in globals) entries none)
+    ∙ both_headed globals name locals statics entry entries
+at_first globals name entry entries locals statics false e h next =
     let v = variable_of globals entry in
-    let among : list_any (bytes_eq name) (entry_names entries) ≡ true =
-    ap (λ b. b || list_any (bytes_eq name) (entry_names entries)) (sym e) ∙ a in
-    let k = position_or_len (bytes_eq name) (entry_names entries) in
+    let L = local_names globals entries in
+    let S = static_names globals entries in
+    let names = entry_names entries in
+    let among : list_any (bytes_eq name) names ≡ true = ap (λ b. b || list_any (bytes_eq name) names) (sym e) ∙ h.0 in
+    let differ = (both_of (not (list_any (bytes_eq entry.name) names)) (names_differ names) h.1).1 in
+    let k = position_or_len (bytes_eq name) names in
     let behind : position_or_len (bytes_eq name) (entry_names (entry ∷ entries)) ≡ suc k = rw e (omega arith) in
     ap (variable_at (variables globals locals statics (entry ∷ entries))) behind
-    ∙ next (locals_behind v locals) (statics_behind v statics) among
-    (both_of (not (list_any (bytes_eq entry.name) (entry_names entries))) (names_differ (entry_names entries)) d).1
-    ∙ later_variable name locals statics entry.name (local_names globals entries) (static_names globals entries) (place_of name globals) v e
-    ∙ sym (ap (λ l. variable_by (shifted locals (place_of name l)) (shifted statics (place_of name (static_names globals (entry ∷ entries)))) (place_of name globals))
-    (headed (λ x. is_local (variable_of globals x)) entry entries (is_local v))
-    ∙ ap (λ l. variable_by (shifted locals (place_of name (with_head (is_local v) entry.name (local_names globals entries)))) (shifted statics (place_of name l)) (place_of name globals))
-    (headed (λ x. is_static (variable_of globals x)) entry entries (is_static v)))
+    ∙ next (locals_behind v locals) (statics_behind v statics) (among, differ)
+    ∙ later_variable globals name locals statics entry.name L S v e ∙ both_headed globals name locals statics entry entries
 
-stands : (globals : List (List ℕ)) (name : List ℕ) (entries : List UnitName) (locals statics : ℕ)
-    → list_any (bytes_eq name) (entry_names entries) ≡ true → names_differ (entry_names entries) ≡ true → Stands globals name entries locals statics
-stands globals name [] locals statics h d = absurd (cc)
-stands globals name (entry ∷ entries) locals statics h d =
-    at_first globals name entry entries locals statics (bytes_eq name entry.name) refl h d (λ l s. stands globals name entries l s)
+stands : (globals : List (List ℕ)) (name : List ℕ) (entries : List UnitName) (locals statics : ℕ) → IsOne name entries
+    → Stands globals name entries locals statics
+stands globals name [] locals statics h = absurd (let none = h.0 in cc)
+stands globals name (entry ∷ entries) locals statics h =
+    at_first globals name entry entries locals statics (bytes_eq name entry.name) refl h
+    (λ l s. stands globals name entries l s)
 
 -- The names by their kinds
 
@@ -241,7 +250,8 @@ none_pass test kind (name ∷ names) h =
     let rest = filter test (map (λ (name : Name). entry_of kind name.text) names) in
     ap (λ b. entry_names (cond b (entry_of kind name.text ∷ rest) rest)) (h name.text) ∙ none_pass test kind names h
 
-others_pass : (test : UnitName → Bool) (of : List ℕ → Bool) (names : List (List ℕ)) → ((text : List ℕ) → test (entry_of Kinds.Undeclared text) ≡ of text)
+others_pass : (test : UnitName → Bool) (of : List ℕ → Bool) (names : List (List ℕ))
+    → ((text : List ℕ) → test (entry_of Kinds.Undeclared text) ≡ of text)
     → entry_names (filter test (map (entry_of Kinds.Undeclared) names)) ≡ filter of names
 others_pass test of [] h = refl
 others_pass test of (text ∷ names) h =
@@ -258,7 +268,8 @@ named_append : (test : UnitName → Bool) (xs ys : List UnitName)
 named_append test xs ys = ap entry_names (filter-append test xs ys)
     ∙ map-append (λ (entry : UnitName). entry.name) (filter test xs) (filter test ys)
 
-local_test : (globals : List (List ℕ)) (text : List ℕ) → is_local (variable_of globals (entry_of Kinds.Undeclared text)) ≡ not (list_any (bytes_eq text) globals)
+local_test : (globals : List (List ℕ)) (text : List ℕ)
+    → is_local (variable_of globals (entry_of Kinds.Undeclared text)) ≡ not (list_any (bytes_eq text) globals)
 local_test globals text = by (is_among globals text)
   where
     by : (b : Bool) → is_local (if b then Global else Local) ≡ not b
@@ -278,38 +289,38 @@ none_of (name ∷ names) = none_of names
 
 -- the locals and statics that are declared
 locals_step : (globals : List (List ℕ)) (place : Place) (kind : LocalKind) (names : List Name) (others : List Locals)
-    → entry_names (filter (λ x. is_local (variable_of globals x)) (flat_map local_entries others)) ≡ locals_among others
-    → entry_names (filter (λ x. is_local (variable_of globals x)) (flat_map local_entries (record { place = place; kind = kind; names = names } ∷ others)))
+    → entry_names (filter (is_local_in globals) (flat_map local_entries others)) ≡ locals_among others
+    → entry_names (filter (is_local_in globals) (flat_map local_entries (record { place = place; kind = kind; names = names } ∷ others)))
     ≡ locals_among (record { place = place; kind = kind; names = names } ∷ others)
 locals_step globals place Kept.Local names others h =
-    named_append (λ x. is_local (variable_of globals x)) (map (λ (name : Name). entry_of Kinds.Local name.text) names) (flat_map local_entries others)
-    ∙ ap (λ l. l ++ entry_names (filter (λ x. is_local (variable_of globals x)) (flat_map local_entries others)))
-    (all_pass (λ x. is_local (variable_of globals x)) Kinds.Local names (λ text. refl)) ∙ ap (λ l. texts names ++ l) h
+    named_append (is_local_in globals) (map (λ (name : Name). entry_of Kinds.Local name.text) names) (flat_map local_entries others)
+    ∙ ap (λ l. l ++ entry_names (filter (is_local_in globals) (flat_map local_entries others)))
+    (all_pass (is_local_in globals) Kinds.Local names (λ text. refl)) ∙ ap (λ l. texts names ++ l) h
 locals_step globals place Kept.Static names others h =
-    named_append (λ x. is_local (variable_of globals x)) (map (λ (name : Name). entry_of Kinds.Static name.text) names) (flat_map local_entries others)
-    ∙ ap (λ l. l ++ entry_names (filter (λ x. is_local (variable_of globals x)) (flat_map local_entries others)))
-    (none_pass (λ x. is_local (variable_of globals x)) Kinds.Static names (λ text. refl)) ∙ h
+    named_append (is_local_in globals) (map (λ (name : Name). entry_of Kinds.Static name.text) names) (flat_map local_entries others)
+    ∙ ap (λ l. l ++ entry_names (filter (is_local_in globals) (flat_map local_entries others)))
+    (none_pass (is_local_in globals) Kinds.Static names (λ text. refl)) ∙ h
 
 declared_locals : (globals : List (List ℕ)) (locals : List Locals)
-    → entry_names (filter (λ x. is_local (variable_of globals x)) (flat_map local_entries locals)) ≡ locals_among locals
+    → entry_names (filter (is_local_in globals) (flat_map local_entries locals)) ≡ locals_among locals
 declared_locals globals [] = refl
 declared_locals globals (l ∷ others) = locals_step globals l.place l.kind l.names others (declared_locals globals others)
 
 statics_step : (globals : List (List ℕ)) (place : Place) (kind : LocalKind) (names : List Name) (others : List Locals)
-    → entry_names (filter (λ x. is_static (variable_of globals x)) (flat_map local_entries others)) ≡ statics_among others
-    → entry_names (filter (λ x. is_static (variable_of globals x)) (flat_map local_entries (record { place = place; kind = kind; names = names } ∷ others)))
+    → entry_names (filter (is_static_in globals) (flat_map local_entries others)) ≡ statics_among others
+    → entry_names (filter (is_static_in globals) (flat_map local_entries (record { place = place; kind = kind; names = names } ∷ others)))
     ≡ statics_among (record { place = place; kind = kind; names = names } ∷ others)
 statics_step globals place Kept.Local names others h =
-    named_append (λ x. is_static (variable_of globals x)) (map (λ (name : Name). entry_of Kinds.Local name.text) names) (flat_map local_entries others)
-    ∙ ap (λ l. l ++ entry_names (filter (λ x. is_static (variable_of globals x)) (flat_map local_entries others)))
-    (none_pass (λ x. is_static (variable_of globals x)) Kinds.Local names (λ text. refl)) ∙ h
+    named_append (is_static_in globals) (map (λ (name : Name). entry_of Kinds.Local name.text) names) (flat_map local_entries others)
+    ∙ ap (λ l. l ++ entry_names (filter (is_static_in globals) (flat_map local_entries others)))
+    (none_pass (is_static_in globals) Kinds.Local names (λ text. refl)) ∙ h
 statics_step globals place Kept.Static names others h =
-    named_append (λ x. is_static (variable_of globals x)) (map (λ (name : Name). entry_of Kinds.Static name.text) names) (flat_map local_entries others)
-    ∙ ap (λ l. l ++ entry_names (filter (λ x. is_static (variable_of globals x)) (flat_map local_entries others)))
-    (all_pass (λ x. is_static (variable_of globals x)) Kinds.Static names (λ text. refl)) ∙ ap (λ l. texts names ++ l) h
+    named_append (is_static_in globals) (map (λ (name : Name). entry_of Kinds.Static name.text) names) (flat_map local_entries others)
+    ∙ ap (λ l. l ++ entry_names (filter (is_static_in globals) (flat_map local_entries others)))
+    (all_pass (is_static_in globals) Kinds.Static names (λ text. refl)) ∙ ap (λ l. texts names ++ l) h
 
 declared_statics : (globals : List (List ℕ)) (locals : List Locals)
-    → entry_names (filter (λ x. is_static (variable_of globals x)) (flat_map local_entries locals)) ≡ statics_among locals
+    → entry_names (filter (is_static_in globals) (flat_map local_entries locals)) ≡ statics_among locals
 declared_statics globals [] = refl
 declared_statics globals (l ∷ others) = statics_step globals l.place l.kind l.names others (declared_statics globals others)
 
@@ -434,7 +445,7 @@ undeclared_same procedure h =
 pub locals_same : (globals : List (List ℕ)) (procedure : Procedure) → IsFit procedure
     → local_names globals (proc_code procedure).names ≡ own_names procedure ++ without globals (undeclared_names procedure)
 locals_same globals procedure h =
-    let test : UnitName → Bool = λ x. is_local (variable_of globals x) in
+    let test = is_local_in globals in
     let parameters = map (λ (name : Name). entry_of Kinds.Parameter name.text) procedure.parameters in
     let locals = flat_map local_entries procedure.locals in
     let others = map (entry_of Kinds.Undeclared) (undeclared procedure) in
@@ -448,7 +459,7 @@ locals_same globals procedure h =
 pub statics_same : (globals : List (List ℕ)) (procedure : Procedure)
     → static_names globals (proc_code procedure).names ≡ statics_among procedure.locals
 statics_same globals procedure =
-    let test : UnitName → Bool = λ x. is_static (variable_of globals x) in
+    let test = is_static_in globals in
     let parameters = map (λ (name : Name). entry_of Kinds.Parameter name.text) procedure.parameters in
     let locals = flat_map local_entries procedure.locals in
     let others = map (entry_of Kinds.Undeclared) (undeclared procedure) in
@@ -470,7 +481,7 @@ variable_same globals procedure h name among =
     let same : entry_names entries ≡ (drafted procedure).names = code_names h.met procedure h.faultless in
     let there : list_any (bytes_eq name) (entry_names entries) ≡ true = ap (list_any (bytes_eq name)) same ∙ among in
     ap (λ l. variable_at (variables globals 0 0 entries) (position_or_len (bytes_eq name) l)) (sym same)
-    ∙ stands globals name entries 0 0 there (code_names_differ h.met procedure h.faultless)
+    ∙ stands globals name entries 0 0 (there, code_names_differ h.met procedure h.faultless)
     ∙ ap (λ o. variable_by o (shifted 0 (place_of name (static_names globals entries))) (place_of name globals))
     (unshifted (place_of name (local_names globals entries)) ∙ ap (place_of name) (locals_same globals procedure h))
     ∙ ap (λ o. variable_by (place_of name (own_names procedure ++ without globals (undeclared_names procedure))) o (place_of name globals))

@@ -1,14 +1,13 @@
 -- The cset of bytes that ascend has these bytes as its members.
-use Rattle.std.proofs.Common.{eqb, ◌≡◌, ◌≢◌, ◌<◌, ◌≤◌, ◌⊎◌, inl, inr, ℕ, zero, suc, ◌+◌, ◌*◌, ◌/◌, ◌%◌, ◌^◌, ◌==◌, Bool, true, false, ◌&&◌, ◌||◌, List, [], ◌∷◌, length, map, filter, cond, refl, sym, ap, ◌∙◌, subst, max, slice_set, slice_index, arith, nat_lt}
+use Rattle.std.proofs.Common.{eqb, ◌≡◌, ◌≢◌, ◌<◌, ◌≤◌, ◌⊎◌, inl, inr, ℕ, zero, suc, ◌+◌, ◌/◌, ◌%◌, ◌^◌, ◌==◌, Bool, true, false, ◌||◌, List, [], ◌∷◌, length, filter, cond, refl, sym, ap, ◌∙◌, subst, max, slice_index, arith, nat_lt}
 use Rattle.std.specs.Prelude.{replicate}
 use Rattle.std.specs.Int.{bit_at}
 use Rattle.std.specs.Int.Bits.{bit_or}
-use Rattle.std.specs.List.{list_all, list_any, range_with_len}
+use Rattle.std.specs.List.{list_all, range_with_len}
 use Rattle.std.proofs.lemmas.Bool.{cases_lt, false≢true}
 use Rattle.std.proofs.lemmas.Bool.Decides.{Decides-eqb, eqb_tells, leb_tells}
-use Rattle.std.proofs.lemmas.List.{get_or-set_same, get_or-set_other, get_or-replicate, length-set}
+use Rattle.std.proofs.lemmas.List.{get_or-set_same, get_or-set_other, length-set}
 use Rattle.std.proofs.lemmas.Nat.Bits.{bit_at-lt, bit_at-zero, bit_at_or, bit_at-pow_same, bit_at-pow_other}
-use Rattle.icn_value.specs.declared.cset.Cset.{Cset}
 use Rattle.icn_value.specs.Csets.{has}
 use Rattle.icn_value.specs.Members.{contains}
 use Rattle.icn_unit.specs.UnitOperands.{ascends}
@@ -60,6 +59,7 @@ bit_more bits b n few = by (eqb_tells (n / 8) (b / 8)) (eqb_tells (n % 8) (b % 8
   where
     byte : ℕ
     byte = slice_index bits (b / 8)
+
     by : ((eqb (n / 8) (b / 8) ≡ true) × (n / 8 ≡ b / 8)) ⊎ ((eqb (n / 8) (b / 8) ≡ false) × (n / 8 ≢ b / 8))
         → ((eqb (n % 8) (b % 8) ≡ true) × (n % 8 ≡ b % 8)) ⊎ ((eqb (n % 8) (b % 8) ≡ false) × (n % 8 ≢ b % 8))
         → bit_of (with_bit bits b) n ≡ (bit_of bits n || (b == n))
