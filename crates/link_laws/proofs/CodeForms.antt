@@ -19,7 +19,7 @@ use Rattle.icn_translate.specs.Translation.{translate, operands, arguments, conj
 use Rattle.icn_units.proofs.Forms.{none_before, none_behind}
 use Rattle.icn_link.specs.Resolving.{Scope, resolved_one}
 use Rattle.icn_simulation.specs.Translation as X
-use Rattle.link_laws.proofs.CodeSteps.{Gives, none, nothing, puts, then_gives, given_as}
+use Rattle.link_laws.proofs.CodeSteps.{Gives, none, nothing, puts, ◌⨾◌, given_as}
 use Rattle.link_laws.proofs.CodeWays.{puts_next, puts_last, set_aside}
 use Rattle.link_laws.proofs.CodeNames.{AgreeOn, puts_variable, keyword_code_is, literal_code_is}
 use Rattle.link_laws.proofs.CodeParts.{bounded_gives, created_gives, not_gives, return_gives, branches_give, lone_label_gives}
@@ -60,7 +60,7 @@ module _ {S : Scope} {F : List (List ℕ)} {E : List ℕ} where
       → Gives S F (V ++ R) E (λ d. d ▹ unmarks_for_next o ▹ put_next U.Goto) (X.dropped_by_next (depths o) + 1)
       (λ p. replicate (X.dropped_by_next (depths o)) I.Unmark ++ I.Goto (X.next_way V) ∷ []) none
   next_gives o n h [] R e = absurd (omega arith)
-  next_gives o n h (w ∷ V) R e = plainly (then_gives (unmarks_for_next_give o n h) (puts_next U.Goto I.Goto (λ l. refl))) refl (λ p. refl)
+  next_gives o n h (w ∷ V) R e = plainly (unmarks_for_next_give o n h ⨾ puts_next U.Goto I.Goto (λ l. refl)) refl (λ p. refl)
 
   break_gives : (o : Open) (n : ℕ) → loops_in o ≡ suc n → (V R : List X.Ways) → length V ≡ suc n → {s : Draft → Draft} {m : ℕ} {c : ℕ → List Instr}
       → Gives S F (X.around V ++ R) E s m c none
@@ -68,7 +68,7 @@ module _ {S : Scope} {F : List (List ℕ)} {E : List ℕ} where
       (λ p. replicate (X.opened_in (depths o)) I.Unmark ++ (c (p + X.opened_in (depths o)) ++ I.Goto (X.last_way V) ∷ [])) none
   break_gives o n h [] R e x = absurd (omega arith)
   break_gives o n h (w ∷ V) R e x =
-      plainly (then_gives (unmarks_for_break_give o n h) (then_gives (set_aside x) (puts_last U.Goto I.Goto (λ l. refl)))) (omega arith) (λ p. refl)
+      plainly (unmarks_for_break_give o n h ⨾ set_aside x ⨾ puts_last U.Goto I.Goto (λ l. refl)) (omega arith) (λ p. refl)
 
 -- What both translations ask of a tree
 
@@ -115,7 +115,8 @@ compound_code false n p bounded rest =
     append_assoc bounded (I.Unmark ∷ []) (rest (p + (n + 2))) ∙ ap (λ q. bounded ++ I.Unmark ∷ rest q) at
 
 -- in one more loop
-inside : (o : Open) (c : Context) (V : List X.Ways) (b : Bool) (v : X.Ways) → Within o c V → (length (b ∷ c.loops) ≡ suc (loops_in o)) × (length (v ∷ V) ≡ suc (loops_in o))
+inside : (o : Open) (c : Context) (V : List X.Ways) (b : Bool) (v : X.Ways) → Within o c V
+    → (length (b ∷ c.loops) ≡ suc (loops_in o)) × (length (v ∷ V) ≡ suc (loops_in o))
 inside o c V b v w = (let h = w.0 in omega arith, let h = w.1 in omega arith)
 
 -- Forms
@@ -133,26 +134,27 @@ module _ {S : Scope} {N : X.Names} {F : List (List ℕ)} (agree : AgreeOn S N F)
     tree_gives o c (Keyword place name) x V R w = puts_as (keyword_instr name.text) (X.keyword_code N name.text) (keyword_code_is S N F agree name.text)
     tree_gives o c (Parentheses place es) x V R w = conjunction_gives o c es x V R w
     tree_gives o c (Listing place es) x V R w =
-        plainly (then_gives (arguments_give o c es x V R w) (puts_as (U.Llist (T.elements es)) (I.Llist (X.elements es)) (ap (λ n. I.Llist n ∷ []) (elements_same es))))
+        plainly (arguments_give o c es x V R w
+        ⨾ puts_as (U.Llist (T.elements es)) (I.Llist (X.elements es)) (ap (λ n. I.Llist n ∷ []) (elements_same es)))
         refl (λ p. refl)
     tree_gives o c (Compound place es) x V R w = compound_gives o c es x V R w
     tree_gives o c (Call place f es) x V R w =
-        plainly (then_gives (tree_gives o c f (none_before _ _ x) V R w) (then_gives (arguments_give o c es (none_behind _ _ x) V R w)
-        (puts_as (U.Invoke (T.elements es)) (I.Invoke (X.elements es)) (ap (λ n. I.Invoke n ∷ []) (elements_same es))))) (omega arith) (λ p. refl)
+        plainly (tree_gives o c f (none_before _ _ x) V R w ⨾ arguments_give o c es (none_behind _ _ x) V R w
+        ⨾ puts_as (U.Invoke (T.elements es)) (I.Invoke (X.elements es)) (ap (λ n. I.Invoke n ∷ []) (elements_same es))) (omega arith) (λ p. refl)
     tree_gives o c (CoCall place f es) x V R w =
-        plainly (then_gives (tree_gives o c f (none_before _ _ x) V R w) (then_gives (creations_give (depths o) es (none_behind _ _ x) (V ++ R))
-        (then_gives (puts_as (U.Llist (T.elements es)) (I.Llist (X.elements es)) (ap (λ n. I.Llist n ∷ []) (elements_same es))) (puts (U.Invoke 1) refl))))
+        plainly (tree_gives o c f (none_before _ _ x) V R w ⨾ creations_give (depths o) es (none_behind _ _ x) (V ++ R)
+        ⨾ puts_as (U.Llist (T.elements es)) (I.Llist (X.elements es)) (ap (λ n. I.Llist n ∷ []) (elements_same es))
+        ⨾ puts (U.Invoke 1) refl)
         (omega arith) (λ p. refl)
     tree_gives o c (Subscript place e es) x V R w =
-        plainly (then_gives (tree_gives o c e (none_before _ _ x) V R w) (subscripts_give o c es (none_behind _ _ x) V R w)) refl (λ p. refl)
+        plainly (tree_gives o c e (none_before _ _ x) V R w ⨾ subscripts_give o c es (none_behind _ _ x) V R w) refl (λ p. refl)
     tree_gives o c (Section place kind e i j) x V R w =
-        plainly (then_gives (tree_gives o c e (none_before _ _ x) V R w)
-        (then_gives (tree_gives o c i (none_before _ _ (none_behind _ _ x)) V R w)
-        (then_gives (tree_gives o c j (none_behind _ _ (none_behind _ _ x)) V R w)
-        (puts_as (U.Op (section_op kind)) (I.Op (X.section_op kind)) (ap (λ op. I.Op op ∷ []) (section_same kind)))))) (omega arith) (λ p. refl)
+        plainly (tree_gives o c e (none_before _ _ x) V R w ⨾ tree_gives o c i (none_before _ _ (none_behind _ _ x)) V R w
+        ⨾ tree_gives o c j (none_behind _ _ (none_behind _ _ x)) V R w
+        ⨾ puts_as (U.Op (section_op kind)) (I.Op (X.section_op kind)) (ap (λ op. I.Op op ∷ []) (section_same kind))) (omega arith) (λ p. refl)
     tree_gives o c (Field place e name) x V R w =
-        plainly (then_gives (tree_gives o c e x V R w)
-        (puts_as (U.Field name.text) (I.Field (N.field name.text)) (ap (λ k. I.Field k ∷ []) (agree.field name.text)))) refl (λ p. refl)
+        plainly (tree_gives o c e x V R w
+        ⨾ puts_as (U.Field name.text) (I.Field (N.field name.text)) (ap (λ k. I.Field k ∷ []) (agree.field name.text))) refl (λ p. refl)
     tree_gives o c (Prefix place operator e) x V R w {E = E} =
         let D = depths o in
         subst (λ (form : X.PrefixForm). Gives S F (V ++ R) E (T.prefix_by (prefix_form operator) (translate o e) (translate (Marked o) e))
@@ -163,8 +165,10 @@ module _ {S : Scope} {N : X.Names} {F : List (List ℕ)} (agree : AgreeOn S N F)
         let D = depths o in
         subst (λ (form : X.Form). Gives S F (V ++ R) E (T.plain_form (infix_form operator) (translate o a) (translate (Marked o) a) (translate o b))
         (plain_size form (X.size D a) (X.size (X.deeper D) a) (X.size D b))
-        (plain_code form (X.size D a) (X.size (X.deeper D) a) (X.size D b) (λ p. X.code N D V p a) (λ p. X.code N (X.deeper D) V p a) (λ p. X.code N D V p b)) none)
-        (form_same operator) (plain_gives (infix_form operator) (tree_gives o c a (none_before _ _ x) V R w) (tree_gives (Marked o) c a (none_before _ _ x) V R w)
+        (plain_code form (X.size D a) (X.size (X.deeper D) a) (X.size D b) (λ p. X.code N D V p a)
+        (λ p. X.code N (X.deeper D) V p a) (λ p. X.code N D V p b)) none)
+        (form_same operator) (plain_gives (infix_form operator) (tree_gives o c a (none_before _ _ x) V R w)
+        (tree_gives (Marked o) c a (none_before _ _ x) V R w)
         (tree_gives o c b (none_behind _ _ x) V R w))
     tree_gives o c (Binary place (Augmented operator) a b) x V R w {E = E} =
         let D = depths o in
@@ -172,13 +176,12 @@ module _ {S : Scope} {N : X.Names} {F : List (List ℕ)} (agree : AgreeOn S N F)
         (augmented_size form (X.size D a) (X.size D b)) (augmented_code form (X.size D a) (λ p. X.code N D V p a) (λ p. X.code N D V p b)) none)
         (form_same operator) (augmented_gives (infix_form operator) (tree_gives o c a (none_before _ _ x) V R w) (tree_gives o c b (none_behind _ _ x) V R w))
     tree_gives o c (To place a b by) x V R w =
-        plainly (then_gives (tree_gives o c a (none_before _ _ x) V R w)
-        (then_gives (tree_gives o c b (none_before _ _ (none_behind _ _ x)) V R w)
-        (then_gives (to_step_gives o c by (none_behind _ _ (none_behind _ _ x)) V R w) (puts (U.Op O.ToBy) refl)))) (omega arith) (λ p. refl)
+        plainly (tree_gives o c a (none_before _ _ x) V R w ⨾ tree_gives o c b (none_before _ _ (none_behind _ _ x)) V R w
+        ⨾ to_step_gives o c by (none_behind _ _ (none_behind _ _ x)) V R w ⨾ puts (U.Op O.ToBy) refl) (omega arith) (λ p. refl)
     tree_gives o c (If place e a Absent) x V R w =
         let D = depths o in
-        plainly (then_gives (puts U.Mark0 refl) (then_gives (tree_gives (Marked o) c e (none_before _ _ x) V R w) (then_gives (puts U.Unmark refl)
-        (tree_gives o c a (none_before _ _ (none_behind _ _ x)) V R w)))) (omega arith)
+        plainly (puts U.Mark0 refl ⨾ tree_gives (Marked o) c e (none_before _ _ x) V R w ⨾ puts U.Unmark refl
+        ⨾ tree_gives o c a (none_before _ _ (none_behind _ _ x)) V R w) (omega arith)
         (λ p. (let begins : p + 1 + X.size (X.deeper D) e + 1 ≡ p + X.size (X.deeper D) e + 2 = omega arith in
         ap (λ q. I.Mark0 ∷ X.code N (X.deeper D) V (p + 1) e ++ I.Unmark ∷ X.code N D V q a) begins))
     tree_gives o c (If place e a (Present b)) x V R w =
@@ -207,16 +210,17 @@ module _ {S : Scope} {N : X.Names} {F : List (List ℕ)} (agree : AgreeOn S N F)
         let n = length (others c.loops) in
         let h = break_inside c.in_create c.loops place (none_before _ _ x) in
         let around_open = loops_around o n (sym w.0 ∙ h) in
-        let inner = tree_gives (around o) (left c) e (none_behind _ _ x) (X.around V) R (sym around_open, around_ways V n (w.1 ∙ sym w.0 ∙ h) ∙ sym around_open) in
+        let inner = tree_gives (around o) (left c) e (none_behind _ _ x) (X.around V) R
+        (sym around_open, around_ways V n (w.1 ∙ sym w.0 ∙ h) ∙ sym around_open) in
         break_gives o n (sym w.0 ∙ h) V R (w.1 ∙ sym w.0 ∙ h)
         (subst (λ (D : List X.Depth). Gives S F (X.around V ++ R) E (translate (around o) e) (X.size D e) (λ p. X.code N D (X.around V) p e) none)
         (sym (around_depths o)) inner)
     tree_gives o c (Return place e) x V R w = return_gives (tree_gives (Marked o) c e (none_behind _ _ x) V R w)
     tree_gives o c (Suspend place e b) x V R w =
         let D = depths o in
-        plainly (then_gives (puts U.Mark0 refl) (then_gives (tree_gives (Marked o) c e (none_before _ _ (none_behind _ _ x)) V R w)
-        (then_gives (puts U.Psusp refl) (then_gives (puts U.Pop refl)
-        (then_gives (suspended_part_gives (Marked (Marked o)) c b (none_behind _ _ (none_behind _ _ x)) V R w) (puts U.Efail refl)))))) (omega arith)
+        plainly (puts U.Mark0 refl ⨾ tree_gives (Marked o) c e (none_before _ _ (none_behind _ _ x)) V R w ⨾ puts U.Psusp refl
+        ⨾ puts U.Pop refl ⨾ suspended_part_gives (Marked (Marked o)) c b (none_behind _ _ (none_behind _ _ x)) V R w
+        ⨾ puts U.Efail refl) (omega arith)
         (λ p. (let begins : p + 1 + X.size (X.deeper D) e + 1 + 1 ≡ p + X.size (X.deeper D) e + 3 = omega arith in
         ap (λ q. I.Mark0 ∷ X.code N (X.deeper D) V (p + 1) e ++ (I.Psusp ∷ I.Pop ∷ X.body_code N (X.deeper (X.deeper D)) V q b ++ I.Efail ∷ [])) begins))
 
@@ -224,7 +228,7 @@ module _ {S : Scope} {N : X.Names} {F : List (List ℕ)} (agree : AgreeOn S N F)
         → Gives S F (V ++ R) E (operands o es) (X.sizes (depths o) es) (λ p. X.operands N (depths o) V p es) none
     operands_give o c NoTrees x V R w = nothing
     operands_give o c (More e es) x V R w =
-        plainly (then_gives (tree_gives o c e (none_before _ _ x) V R w) (operands_give o c es (none_behind _ _ x) V R w)) refl (λ p. refl)
+        plainly (tree_gives o c e (none_before _ _ x) V R w ⨾ operands_give o c es (none_behind _ _ x) V R w) refl (λ p. refl)
 
     arguments_give : (o : Open) (c : Context) (es : Trees) → all_faults c es ≡ [] → (V R : List X.Ways) → Within o c V → {E : List ℕ}
         → Gives S F (V ++ R) E (arguments o es) (X.elements_size (depths o) es) (λ p. X.elements_code N (depths o) V p es) none
@@ -233,7 +237,7 @@ module _ {S : Scope} {N : X.Names} {F : List (List ℕ)} (agree : AgreeOn S N F)
         let D = depths o in
         let same = no_element_same (More e es) in
         plainly (unless_gives (T.is_no_element (More e es))
-        (plainly (then_gives (tree_gives o c e (none_before _ _ x) V R w) (operands_give o c es (none_behind _ _ x) V R w)) refl (λ p. refl)))
+        (plainly (tree_gives o c e (none_before _ _ x) V R w ⨾ operands_give o c es (none_behind _ _ x) V R w) refl (λ p. refl)))
         (ap (λ b. if b then 0 else X.size D e + X.sizes D es) same)
         (λ p. ap (λ b. if b then [] else X.code N D V p e ++ X.operands N D V (p + X.size D e) es) same)
 
@@ -242,7 +246,8 @@ module _ {S : Scope} {N : X.Names} {F : List (List ℕ)} (agree : AgreeOn S N F)
     conjunction_gives o c NoTrees x V R w = nothing
     conjunction_gives o c (More e NoTrees) x V R w = tree_gives o c e (none_before _ _ x) V R w
     conjunction_gives o c (More e (More f es)) x V R w =
-        plainly (then_gives (tree_gives o c e (none_before _ _ x) V R w) (then_gives (puts U.Pop refl) (conjunction_gives o c (More f es) (none_behind _ _ x) V R w)))
+        plainly (tree_gives o c e (none_before _ _ x) V R w ⨾ puts U.Pop refl
+        ⨾ conjunction_gives o c (More f es) (none_behind _ _ x) V R w)
         (omega arith) (λ p. refl)
 
     compound_gives : (o : Open) (c : Context) (es : Trees) → all_faults c es ≡ [] → (V R : List X.Ways) → Within o c V → {E : List ℕ}
@@ -254,8 +259,8 @@ module _ {S : Scope} {N : X.Names} {F : List (List ℕ)} (agree : AgreeOn S N F)
         let same = empty_same e in
         let n = X.size (X.deeper D) e in
         let rest : ℕ → List Instr = λ q. X.compound N D V q (More f es) in
-        plainly (then_gives (unless_gives (T.is_empty e) (bounded_gives (tree_gives (Marked o) c e (none_before _ _ x) V R w)))
-        (compound_gives o c (More f es) (none_behind _ _ x) V R w))
+        plainly (unless_gives (T.is_empty e) (bounded_gives (tree_gives (Marked o) c e (none_before _ _ x) V R w))
+        ⨾ compound_gives o c (More f es) (none_behind _ _ x) V R w)
         (ap (λ b. (if b then 0 else n + 2) + X.compound_size D (More f es)) same)
         (λ p. (let bounded : List Instr = I.Mark (p + n + 2) ∷ X.code N (X.deeper D) V (p + 1) e in
         compound_code (T.is_empty e) n p bounded rest ∙ ap (λ b. if b then rest p else bounded ++ I.Unmark ∷ rest (p + n + 2)) same))
@@ -266,8 +271,8 @@ module _ {S : Scope} {N : X.Names} {F : List (List ℕ)} (agree : AgreeOn S N F)
     creations_give D (More e es) x R =
         let same = no_element_same (More e es) in
         plainly (unless_gives (T.is_no_element (More e es))
-        (plainly (then_gives (created_gives (tree_gives Outermost created_context e (none_before _ _ x) [] R (refl, refl)))
-        (other_creations_give D es (none_behind _ _ x) R)) refl (λ p. refl)))
+        (plainly (created_gives (tree_gives Outermost created_context e (none_before _ _ x) [] R (refl, refl))
+        ⨾ other_creations_give D es (none_behind _ _ x) R) refl (λ p. refl)))
         (ap (λ b. if b then 0 else X.size [] e + 5 + X.creates_size D es) same)
         (λ p. (let begins : p + (X.size [] e + 5) ≡ p + X.size [] e + 5 = omega arith in
         let first : List Instr = X.created p (X.size [] e) (X.code N [] [] (p + 2) e) in
@@ -278,8 +283,8 @@ module _ {S : Scope} {N : X.Names} {F : List (List ℕ)} (agree : AgreeOn S N F)
         → Gives S F R E (other_creations es) (X.creates_size D es) (λ p. X.creates N p es) none
     other_creations_give D NoTrees x R = nothing
     other_creations_give D (More e es) x R =
-        plainly (then_gives (created_gives (tree_gives Outermost created_context e (none_before _ _ x) [] R (refl, refl)))
-        (other_creations_give D es (none_behind _ _ x) R)) refl
+        plainly (created_gives (tree_gives Outermost created_context e (none_before _ _ x) [] R (refl, refl))
+        ⨾ other_creations_give D es (none_behind _ _ x) R) refl
         (λ p. (let begins : p + (X.size [] e + 5) ≡ p + X.size [] e + 5 = omega arith in
         ap (λ q. X.created p (X.size [] e) (X.code N [] [] (p + 2) e) ++ X.creates N q es) begins))
 
@@ -287,7 +292,8 @@ module _ {S : Scope} {N : X.Names} {F : List (List ℕ)} (agree : AgreeOn S N F)
         → Gives S F (V ++ R) E (subscripts o es) (X.subscripts_size (depths o) es) (λ p. X.subscripts N (depths o) V p es) none
     subscripts_give o c NoTrees x V R w = nothing
     subscripts_give o c (More e es) x V R w =
-        plainly (then_gives (tree_gives o c e (none_before _ _ x) V R w) (then_gives (puts (U.Op O.Subscript) refl) (subscripts_give o c es (none_behind _ _ x) V R w)))
+        plainly (tree_gives o c e (none_before _ _ x) V R w ⨾ puts (U.Op O.Subscript) refl
+        ⨾ subscripts_give o c es (none_behind _ _ x) V R w)
         (omega arith) (λ p. refl)
 
     to_step_gives : (o : Open) (c : Context) (by : MaybeTree) → maybe_faults c by ≡ [] → (V R : List X.Ways) → Within o c V → {E : List ℕ}
@@ -311,7 +317,8 @@ module _ {S : Scope} {N : X.Names} {F : List (List ℕ)} (agree : AgreeOn S N F)
         → Gives S F (V ++ R) (last ∷ E) (guarded o clauses) (X.clauses_size (depths o) clauses) (λ p. X.clauses_code N (depths o) V p last clauses) none
     guarded_give o c has NoClauses x V R w = nothing
     guarded_give o c has (MoreClauses clause clauses) x V R w =
-        plainly (then_gives (guarded_clause_gives o c has clause (none_before _ _ x) V R w) (guarded_give o c (is_default has clause) clauses (none_behind _ _ x) V R w))
+        plainly (guarded_clause_gives o c has clause (none_before _ _ x) V R w
+        ⨾ guarded_give o c (is_default has clause) clauses (none_behind _ _ x) V R w)
         refl (λ p. refl)
 
     guarded_clause_gives : (o : Open) (c : Context) (has : Bool) (clause : Clause) → clause_faults c has clause ≡ [] → (V R : List X.Ways) → Within o c V

@@ -66,7 +66,8 @@ placed_from S p (i ∷ is) d h = by (place_of i) (length (resolved_one S i)) (on
   where
     by : (k : Option ℕ) (one : ℕ) → one ≡ counted k → labels_differ (place_list k ++ placed is) ≡ true
         → ((label : ℕ) → has_label (place_list k ++ placed is) label ≡ true → S.label label ≡ p + label_place_by label k (label_place label is))
-        → ((q : ℕ) → labels_differ (placed is) ≡ true → ((label : ℕ) → has_label (placed is) label ≡ true → S.label label ≡ q + label_place label is) → Placed S q is)
+        → ((q : ℕ) → labels_differ (placed is) ≡ true
+        → ((label : ℕ) → has_label (placed is) label ≡ true → S.label label ≡ q + label_place label is) → Placed S q is)
         → AtPlace S p k × Placed S (p + one) is
     by None one e d h rest = (tt, rest (p + one) d (λ label k. let at = h label k in omega arith))
     by (Some m) one e d h rest =

@@ -15,7 +15,7 @@ use Rattle.icn_units.proofs.Forms.{none_before, none_behind}
 use Rattle.icn_units.proofs.Procedures.{differ}
 use Rattle.icn_link.specs.Resolving.{Scope, resolved, label_place}
 use Rattle.icn_simulation.specs.Translation as X
-use Rattle.link_laws.proofs.CodeSteps.{Agrees, Gives, none, nothing, puts, then_gives}
+use Rattle.link_laws.proofs.CodeSteps.{Agrees, Gives, none, nothing, puts, ◌⨾◌}
 use Rattle.link_laws.proofs.CodeNames.{AgreeOn}
 use Rattle.link_laws.proofs.CodeParts.{bounded_gives, initial_gives}
 use Rattle.link_laws.proofs.CodeForms.{empty_same, plainly, unless_gives, tree_gives}
@@ -45,15 +45,16 @@ module _ {S : Scope} {N : X.Names} {F : List (List ℕ)} (agree : AgreeOn S N F)
   body_gives (More e es) x =
       let same = empty_same e in
       let n = X.size [] e + 2 in
-      plainly (then_gives (unless_gives (T.is_empty e) (bounded_gives (tree_gives agree Outermost outermost e (none_before _ _ x) [] [] (refl, refl))))
-      (body_gives es (none_behind _ _ x)))
+      plainly (unless_gives (T.is_empty e) (bounded_gives (tree_gives agree Outermost outermost e (none_before _ _ x) [] [] (refl, refl)))
+      ⨾ body_gives es (none_behind _ _ x))
       (ap (λ b. (if b then 0 else n) + body_size es) same)
-      (λ p. ap (λ b. (if b then [] else I.Mark (p + X.size [] e + 2) ∷ X.code N [] [] (p + 1) e ++ I.Unmark ∷ []) ++ X.body N (p + (if b then 0 else n)) es) same)
+      (λ p. ap (λ b.
+      (if b then [] else I.Mark (p + X.size [] e + 2) ∷ X.code N [] [] (p + 1) e ++ I.Unmark ∷ []) ++ X.body N (p + (if b then 0 else n)) es) same)
 
   whole_gives : (initial : Initial) (es : Trees) → initial_faults initial ≡ [] → all_faults outermost es ≡ []
       → Gives S F [] [] (λ d. put U.Pfail (T.body es (T.initially initial d))) (initial_size initial + body_size es)
       (λ p. initial_code N p initial ++ X.body N (p + initial_size initial) es) none
-  whole_gives initial es x y = plainly (then_gives (initially_gives initial x) (body_gives es y)) refl (λ p. refl)
+  whole_gives initial es x y = plainly (initially_gives initial x ⨾ body_gives es y) refl (λ p. refl)
 
 whole_code : (N : X.Names) (initial : Initial) (es : Trees) → initial_code N 0 initial ++ X.body N (0 + initial_size initial) es ≡ X.procedure N initial es
 whole_code N NoInitial es = refl
@@ -76,7 +77,8 @@ trees_faultless met procedure x =
     let twice = all_repeated C1 none_met (declared_names procedure) in
     let first = initial_faults procedure.initial in
     let others = all_faults outermost procedure.body in
-    let trees = none_behind twice (first ++ others) (none_behind owned (twice ++ (first ++ others)) (none_behind many (owned ++ (twice ++ (first ++ others))) x)) in
+    let trees = none_behind twice (first ++ others)
+    (none_behind owned (twice ++ (first ++ others)) (none_behind many (owned ++ (twice ++ (first ++ others))) x)) in
     (none_before first others trees, none_behind first others trees)
 
 pub code_is : (S : Scope) (N : X.Names) (met : Met) (procedure : Procedure) → procedure_faults met procedure ≡ []

@@ -9,7 +9,7 @@ use Rattle.icn_translate.specs.Drafts.{Draft, ◌▹◌, put, with_label, next_l
 use Rattle.icn_translate.specs.Translation.{put_mark, until_part, control_part, loop_end, looped_body, case_of}
 use Rattle.icn_link.specs.Resolving.{Scope}
 use Rattle.icn_simulation.specs.Translation as X
-use Rattle.link_laws.proofs.CodeSteps.{Gives, none, puts, then_gives, numbered_then, placed_then, then_placed, given_as, given_numbered}
+use Rattle.link_laws.proofs.CodeSteps.{Gives, none, puts, ◌⨾◌, numbered_then, placed_then, then_placed, given_as, given_numbered}
 use Rattle.link_laws.proofs.CodeWays.{puts_next, loops_give, goes_to_end, cases_give}
 
 -- the code of a part of a loop, and what it is where `next` goes to the place behind it
@@ -22,7 +22,7 @@ ways_are {b = b} {c = c} e f = ap (λ k. X.ways k c) e ∙ ap (λ k. X.ways b k)
 module _ {S : Scope} {F : List (List ℕ)} {W : List X.Ways} {E : List ℕ} where
   pub looped_gives : {w : X.Ways} {s : Draft → Draft} {n : ℕ} {c : ℕ → List Instr} → Gives S F (w ∷ W) E s n c none
       → Gives S F (w ∷ W) E (looped_body s) (n + 2) (λ p. I.Mark w.next ∷ c (p + 1) ++ I.Unmark ∷ []) none
-  looped_gives x = given_as (then_gives (puts_next U.Mark I.Mark (λ l. refl)) (then_gives x (puts U.Unmark refl))) (omega arith) (λ p f. (refl, tt))
+  looped_gives x = given_as (puts_next U.Mark I.Mark (λ l. refl) ⨾ x ⨾ puts U.Unmark refl) (omega arith) (λ p f. (refl, tt))
 
   pub repeat_gives : {s : Draft → Draft} {n : ℕ} {c : X.Ways → ℕ → List Instr} → ((w : X.Ways) → Gives S F (w ∷ W) E s n (c w) none)
       → Gives S F W E (λ d. d ▹ with_label ▹ put (U.Lab (next_label d)) ▹ in_loop unmentioned ▹ looped_body s ▹ loop_end (U.Loop (next_label d))) (n + 3)
@@ -46,7 +46,7 @@ module _ {S : Scope} {F : List (List ℕ)} {W : List X.Ways} {E : List ℕ} wher
       ++ (I.Unmark ∷ k (X.ways (p + m + n + 3) (p + m + n + 2)) (p + m + 2) ++ I.Loop p ∷ [])) none
   while_gives {m = m} {n = n} {c = c} {b = b} {k = k} x y ends =
       given_numbered (λ l. numbered_then (placed_then l (loops_give (U.Loop l) refl
-      (λ w. then_gives (puts U.Mark0 refl) (then_gives (x w) (then_gives (puts U.Unmark refl) (y w))))))) (omega arith)
+      (λ w. puts U.Mark0 refl ⨾ x w ⨾ puts U.Unmark refl ⨾ y w)))) (omega arith)
       (λ l p f.
       let q = p + (1 + (m + (1 + n))) in
       let w = X.ways (q + 1) q in
@@ -67,7 +67,7 @@ module _ {S : Scope} {F : List (List ℕ)} {W : List X.Ways} {E : List ℕ} wher
   until_part_gives : {s t : Draft → Draft} {m n : ℕ} {c b : ℕ → List Instr} → Gives S F W E s m c none → Gives S F W E t n b none
       → Gives S F W E (λ d. d ▹ until_part s ▹ t) (m + n + 3) (λ p. I.Mark (p + m + 3) ∷ c (p + 1) ++ (I.Unmark ∷ I.Efail ∷ b (p + m + 3))) none
   until_part_gives {m = m} {n = n} {c = c} {b = b} x y =
-      given_numbered (λ l. numbered_then (then_gives (puts (U.Mark l) refl) (then_gives x (then_gives (puts U.Unmark refl) (then_gives (puts U.Efail refl) (placed_then l y))))))
+      given_numbered (λ l. numbered_then (puts (U.Mark l) refl ⨾ x ⨾ puts U.Unmark refl ⨾ puts U.Efail refl ⨾ placed_then l y))
       (omega arith)
       (λ l p f.
       let at : S.label l ≡ p + m + 3 = f.1.1.1.1.0 ∙ omega arith in
@@ -83,7 +83,7 @@ module _ {S : Scope} {F : List (List ℕ)} {W : List X.Ways} {E : List ℕ} wher
       (λ p. I.Mark0 ∷ c (X.ways (p + m + n + 3) (p + m + n + 2)) (p + 1)
       ++ (I.Pop ∷ k (X.ways (p + m + n + 3) (p + m + n + 2)) (p + m + 2) ++ I.Efail ∷ [])) none
   every_gives {m = m} {n = n} {c = c} {b = b} {k = k} x y ends =
-      given_as (loops_give U.Efail refl (λ w. then_gives (puts U.Mark0 refl) (then_gives (x w) (then_gives (puts U.Pop refl) (y w))))) (omega arith)
+      given_as (loops_give U.Efail refl (λ w. puts U.Mark0 refl ⨾ x w ⨾ puts U.Pop refl ⨾ y w)) (omega arith)
       (λ p f.
       let q = p + (1 + (m + (1 + n))) in
       let w = X.ways (q + 1) q in
@@ -128,8 +128,8 @@ pub clause_gives : {S : Scope} {F : List (List ℕ)} {W : List X.Ways} {last : �
     ▹ put (U.Lab (next_label d))) (n + m + 6)
     (λ p. I.Mark (p + n + m + 6) ∷ I.Ccase ∷ c (p + 2) ++ (I.Op O.Equivalent ∷ I.Unmark ∷ I.Pop ∷ k (p + n + 5) ++ I.Goto last ∷ [])) none
 clause_gives {S = S} {last = last} {n = n} {m = m} {c = c} {k = k} x y =
-    given_numbered (λ l. numbered_then (then_gives (puts (U.Mark l) refl) (then_gives (puts U.Ccase refl) (then_gives x (then_gives (puts (U.Op O.Equivalent) refl)
-    (then_gives (puts U.Unmark refl) (then_gives (puts U.Pop refl) (then_gives y (then_placed l goes_to_end))))))))) (omega arith)
+    given_numbered (λ l. numbered_then (puts (U.Mark l) refl ⨾ puts U.Ccase refl ⨾ x ⨾ puts (U.Op O.Equivalent) refl
+    ⨾ puts U.Unmark refl ⨾ puts U.Pop refl ⨾ y ⨾ then_placed l goes_to_end)) (omega arith)
     (λ l p f.
     let at : S.label l ≡ p + n + m + 6 = f.1.1.1.1.1.1.1.1 ∙ omega arith in
     let first : p + 1 + 1 ≡ p + 2 = omega arith in
@@ -142,13 +142,14 @@ clause_gives {S = S} {last = last} {n = n} {m = m} {c = c} {k = k} x y =
     ))
 
 -- the clauses and the default, whose codes know where the case ends
-pub case_gives : {S : Scope} {F : List (List ℕ)} {W : List X.Ways} {E : List ℕ} {s g t : Draft → Draft} {n m i : ℕ} {c : ℕ → List Instr} {k : ℕ → ℕ → List Instr}
+pub case_gives : {S : Scope} {F : List (List ℕ)} {W : List X.Ways} {E : List ℕ} {s g t : Draft → Draft} {n m i : ℕ} {c : ℕ → List Instr}
+    {k : ℕ → ℕ → List Instr}
     {q : ℕ → List Instr} → Gives S F W E s n c none → ((last : ℕ) → Gives S F W (last ∷ E) g m (k last) none)
     → ((last : ℕ) → Gives S F W (last ∷ E) t i q none)
     → Gives S F W E (λ d. d ▹ put U.Mark0 ▹ s ▹ put U.Eret ▹ case_of g t) (n + m + i + 3)
     (λ p. I.Mark0 ∷ c (p + 1) ++ (I.Eret ∷ k (p + n + m + i + 3) (p + n + 2) ++ (I.Pop ∷ q (p + n + 3 + m)))) none
 case_gives {n = n} {m = m} {i = i} {c = c} {k = k} {q = q} x y z =
-    given_as (then_gives (puts U.Mark0 refl) (then_gives x (then_gives (puts U.Eret refl) (cases_give (λ last. then_gives (y last) (then_gives (puts U.Pop refl) (z last))))))) (omega arith)
+    given_as (puts U.Mark0 refl ⨾ x ⨾ puts U.Eret refl ⨾ cases_give (λ last. y last ⨾ puts U.Pop refl ⨾ z last)) (omega arith)
     (λ p f.
     let last : p + 1 + n + 1 + (m + (1 + i)) ≡ p + n + m + i + 3 = omega arith in
     let first : p + 1 + n + 1 ≡ p + n + 2 = omega arith in

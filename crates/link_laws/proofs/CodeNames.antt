@@ -68,7 +68,11 @@ new_stands test (name ∷ names) new rest h t = by (test name) refl (λ k. new_s
 
 name_stands : (names F : List (List ℕ)) (name : List ℕ) (b : Bool) → list_any (bytes_eq name) names ≡ b
     → Front (if b then names else names ++ name ∷ []) F → Stands (bytes_eq name) (name_place names name) F × Front names F
-name_stands names F name true e h = (subst (λ (all : List (List ℕ)). Stands (bytes_eq name) (name_place names name) all) h.is (old_stands (bytes_eq name) names h.rest e), h)
+name_stands names F name true e h = (
+  subst (λ (all : List (List ℕ)). Stands (bytes_eq name) (name_place names name) all) h.is
+      (old_stands (bytes_eq name) names h.rest e),
+  h,
+)
 name_stands names F name false e h = (
   subst (λ (all : List (List ℕ)). Stands (bytes_eq name) (name_place names name) all) h.is (new_stands (bytes_eq name) names name h.rest e (same_bytes name)),
   record { rest = name ∷ h.rest; is = sym (append_assoc names (name ∷ []) h.rest) ∙ h.is },
@@ -90,7 +94,8 @@ found_name name k (other ∷ ks) h = by (bytes_eq name (keyword_name other)) ref
   where
     by : (b : Bool) → bytes_eq name (keyword_name other) ≡ b → (keyword_among name ks ≡ Some k → bytes_eq name (keyword_name k) ≡ true)
         → bytes_eq name (keyword_name k) ≡ true
-    by true e later = let same : Some other ≡ Some k = (rw e at h) in subst (λ (found : Option Keyword). bytes_eq name (keyword_name (unwrap_or found K.Null)) ≡ true) same e
+    by true e later = let same : Some other ≡ Some k = (rw e at h) in
+        subst (λ (found : Option Keyword). bytes_eq name (keyword_name (unwrap_or found K.Null)) ≡ true) same e
     by false e later = later (rw e at h)
 
 fail_code : (name : List ℕ) → name ≡ codes "fail" → keyword_among name keywords ≡ Some K.Fail

@@ -7,7 +7,7 @@ use Rattle.icn_unit.specs.declared.unit.UnitInstr.TheVariants as U
 use Rattle.icn_translate.specs.Open.{Open, Outermost, Marked, Looped, Each, unmarks_for_break, unmarks_for_next, around}
 use Rattle.icn_link.specs.Resolving.{Scope}
 use Rattle.icn_simulation.specs.Translation as X
-use Rattle.link_laws.proofs.CodeSteps.{Gives, none, nothing, puts, then_gives, given_as}
+use Rattle.link_laws.proofs.CodeSteps.{Gives, none, nothing, puts, ◌⨾◌, given_as}
 
 -- the loops that are open, as the translation counts them
 abbrev pub depths : Open → List X.Depth
@@ -82,7 +82,7 @@ module _ {S : Scope} {F : List (List ℕ)} {W : List X.Ways} {E : List ℕ} wher
   unmarks_for_break_give Outermost n h = absurd (omega arith)
   unmarks_for_break_give (Marked o) n h =
       let more = opened_deeper (depths o) (first_in o n h) in
-      given_as (then_gives (puts U.Unmark refl) (unmarks_for_break_give o n h)) (omega arith) (λ p f. (copies_more _ _ I.Unmark more, tt))
+      given_as (puts U.Unmark refl ⨾ unmarks_for_break_give o n h) (omega arith) (λ p f. (copies_more _ _ I.Unmark more, tt))
   unmarks_for_break_give (Looped o) n h = nothing
   unmarks_for_break_give (Each o) n h = puts U.Unmark refl
 
@@ -91,6 +91,6 @@ module _ {S : Scope} {F : List (List ℕ)} {W : List X.Ways} {E : List ℕ} wher
   unmarks_for_next_give Outermost n h = absurd (omega arith)
   unmarks_for_next_give (Marked o) n h =
       let more = dropped_deeper (depths o) (first_in o n h) in
-      given_as (then_gives (puts U.Unmark refl) (unmarks_for_next_give o n h)) (omega arith) (λ p f. (copies_more _ _ I.Unmark more, tt))
+      given_as (puts U.Unmark refl ⨾ unmarks_for_next_give o n h) (omega arith) (λ p f. (copies_more _ _ I.Unmark more, tt))
   unmarks_for_next_give (Looped o) n h = nothing
   unmarks_for_next_give (Each o) n h = nothing

@@ -17,7 +17,7 @@ use Rattle.icn_translate.specs.Instructions.{section_op, infix_form, prefix_form
 use Rattle.icn_translate.specs.Translation.{prefix_by, plain_form, augmented_form}
 use Rattle.icn_link.specs.Resolving.{Scope}
 use Rattle.icn_simulation.specs.Translation as X
-use Rattle.link_laws.proofs.CodeSteps.{Gives, none, nothing, puts, then_gives, given_as}
+use Rattle.link_laws.proofs.CodeSteps.{Gives, none, nothing, puts, ◌⨾◌, given_as}
 use Rattle.link_laws.proofs.CodeParts.{repetition_gives, either_gives}
 
 pub section_same : (kind : SectionKind) → section_op kind ≡ X.section_op kind
@@ -168,30 +168,30 @@ augmented_code form a left right p = elim form as (λ x. List Instr) [
 module _ {S : Scope} {F : List (List ℕ)} {W : List X.Ways} {E : List ℕ} where
   pub prefix_gives : (form : PrefixForm) {s t : Draft → Draft} {a m : ℕ} {c k : ℕ → List Instr} → Gives S F W E s a c none → Gives S F W E t m k none
       → Gives S F W E (prefix_by form s t) (prefix_size (applied_prefix form) a m) (prefix_code (applied_prefix form) c k) none
-  prefix_gives Prefixes.Activation x y = given_as (then_gives (puts U.Pnull refl) (then_gives x (puts U.Coact refl))) (omega arith) (λ p f. (refl, tt))
+  prefix_gives Prefixes.Activation x y = given_as (puts U.Pnull refl ⨾ x ⨾ puts U.Coact refl) (omega arith) (λ p f. (refl, tt))
   prefix_gives Prefixes.Repetition {s = s} x y = repetition_gives s y
-  prefix_gives (Prefixes.Operation op) x y = given_as (then_gives x (puts (U.Op op) refl)) refl (λ p f. (refl, tt))
+  prefix_gives (Prefixes.Operation op) x y = given_as (x ⨾ puts (U.Op op) refl) refl (λ p f. (refl, tt))
 
   pub plain_gives : (form : InfixForm) {s t r : Draft → Draft} {a m b : ℕ} {c k q : ℕ → List Instr} → Gives S F W E s a c none → Gives S F W E t m k none
       → Gives S F W E r b q none
       → Gives S F W E (plain_form form s t r) (plain_size (applied form) a m b) (plain_code (applied form) a m b c k q) none
-  plain_gives Infixes.Both x y z = given_as (then_gives x (then_gives (puts U.Pop refl) z)) (omega arith) (λ p f. (refl, tt))
+  plain_gives Infixes.Both x y z = given_as (x ⨾ puts U.Pop refl ⨾ z) (omega arith) (λ p f. (refl, tt))
   plain_gives Infixes.Scanning {a = a} {c = c} {q = q} x y z =
-      given_as (then_gives x (then_gives (puts U.Bscan refl) (then_gives z (puts U.Escan refl)))) (omega arith)
+      given_as (x ⨾ puts U.Bscan refl ⨾ z ⨾ puts U.Escan refl) (omega arith)
       (λ p f. (sym (append_assoc (c p) (I.Bscan ∷ q (p + a + 1)) (I.Escan ∷ [])), tt))
   plain_gives Infixes.Either {s = s} x y z = either_gives s y z
   plain_gives Infixes.Limiting {b = b} {k = k} {q = q} x y z =
-      given_as (then_gives z (then_gives (puts U.Limit refl) (then_gives y (puts U.Lsusp refl)))) (omega arith)
+      given_as (z ⨾ puts U.Limit refl ⨾ y ⨾ puts U.Lsusp refl) (omega arith)
       (λ p f. (sym (append_assoc (q p) (I.Limit ∷ k (p + b + 1)) (I.Lsusp ∷ [])), tt))
-  plain_gives Infixes.Activating x y z = given_as (then_gives x (then_gives z (puts U.Coact refl))) (omega arith) (λ p f. (refl, tt))
-  plain_gives Infixes.Spreading x y z = given_as (then_gives x (then_gives z (puts U.Appl refl))) (omega arith) (λ p f. (refl, tt))
-  plain_gives (Infixes.Operating op) x y z = given_as (then_gives x (then_gives z (puts (U.Op op) refl))) (omega arith) (λ p f. (refl, tt))
+  plain_gives Infixes.Activating x y z = given_as (x ⨾ z ⨾ puts U.Coact refl) (omega arith) (λ p f. (refl, tt))
+  plain_gives Infixes.Spreading x y z = given_as (x ⨾ z ⨾ puts U.Appl refl) (omega arith) (λ p f. (refl, tt))
+  plain_gives (Infixes.Operating op) x y z = given_as (x ⨾ z ⨾ puts (U.Op op) refl) (omega arith) (λ p f. (refl, tt))
 
   pub augmented_gives : (form : InfixForm) {s r : Draft → Draft} {a b : ℕ} {c q : ℕ → List Instr} → Gives S F W E s a c none → Gives S F W E r b q none
       → Gives S F W E (augmented_form form s r) (augmented_size (applied form) a b) (augmented_code (applied form) a c q) none
-  augmented_gives Infixes.Both x z = given_as (then_gives x (then_gives z (puts (U.Op O.Assign) refl))) (omega arith) (λ p f. (refl, tt))
+  augmented_gives Infixes.Both x z = given_as (x ⨾ z ⨾ puts (U.Op O.Assign) refl) (omega arith) (λ p f. (refl, tt))
   augmented_gives Infixes.Scanning {a = a} {c = c} {q = q} x z =
-      given_as (then_gives x (then_gives (puts U.Dup refl) (then_gives (puts U.Bscan refl) (then_gives z (then_gives (puts U.Escan refl) (puts (U.Op O.Assign) refl))))))
+      given_as (x ⨾ puts U.Dup refl ⨾ puts U.Bscan refl ⨾ z ⨾ puts U.Escan refl ⨾ puts (U.Op O.Assign) refl)
       (omega arith)
       (λ p f. (
         let begins : p + a + 1 + 1 ≡ p + a + 2 = omega arith in
@@ -201,11 +201,11 @@ module _ {S : Scope} {F : List (List ℕ)} {W : List X.Ways} {E : List ℕ} wher
   augmented_gives Infixes.Either x z = nothing
   augmented_gives Infixes.Limiting x z = nothing
   augmented_gives Infixes.Activating x z =
-      given_as (then_gives x (then_gives (puts U.Dup refl) (then_gives z (then_gives (puts U.Coact refl) (puts (U.Op O.Assign) refl))))) (omega arith)
+      given_as (x ⨾ puts U.Dup refl ⨾ z ⨾ puts U.Coact refl ⨾ puts (U.Op O.Assign) refl) (omega arith)
       (λ p f. (refl, tt))
   augmented_gives Infixes.Spreading x z =
-      given_as (then_gives x (then_gives (puts U.Dup refl) (then_gives z (then_gives (puts U.Appl refl) (puts (U.Op O.Assign) refl))))) (omega arith)
+      given_as (x ⨾ puts U.Dup refl ⨾ z ⨾ puts U.Appl refl ⨾ puts (U.Op O.Assign) refl) (omega arith)
       (λ p f. (refl, tt))
   augmented_gives (Infixes.Operating op) x z =
-      given_as (then_gives x (then_gives (puts U.Dup refl) (then_gives z (then_gives (puts (U.Op op) refl) (puts (U.Op O.Assign) refl))))) (omega arith)
+      given_as (x ⨾ puts U.Dup refl ⨾ z ⨾ puts (U.Op op) refl ⨾ puts (U.Op O.Assign) refl) (omega arith)
       (λ p f. (refl, tt))

@@ -9,13 +9,13 @@ use Rattle.icn_translate.specs.declared.forms.InfixForm.TheVariants.{Either}
 use Rattle.icn_translate.specs.declared.forms.PrefixForm.TheVariants.{Repetition}
 use Rattle.icn_link.specs.Resolving.{Scope}
 use Rattle.icn_simulation.specs.Translation as X
-use Rattle.link_laws.proofs.CodeSteps.{Gives, none, nothing, puts, then_gives, numbered_then, placed_then, then_placed, given_numbered}
+use Rattle.link_laws.proofs.CodeSteps.{Gives, none, nothing, puts, ◌⨾◌, numbered_then, placed_then, then_placed, given_numbered}
 
 module _ {S : Scope} {F : List (List ℕ)} {W : List X.Ways} {E : List ℕ} where
   pub bounded_gives : {s : Draft → Draft} {n : ℕ} {c : ℕ → List Instr} → Gives S F W E s n c none
       → Gives S F W E (bounded s) (n + 2) (λ p. I.Mark (p + n + 2) ∷ c (p + 1) ++ I.Unmark ∷ []) none
   bounded_gives {n = n} {c = c} x =
-      given_numbered (λ l. numbered_then (then_gives (puts (U.Mark l) refl) (then_gives x (then_placed l (puts U.Unmark refl))))) (omega arith)
+      given_numbered (λ l. numbered_then (puts (U.Mark l) refl ⨾ x ⨾ then_placed l (puts U.Unmark refl))) (omega arith)
       (λ l p f. (let at : S.label l ≡ p + n + 2 = f.1.1.1 ∙ omega arith in ap (λ k. I.Mark k ∷ c (p + 1) ++ I.Unmark ∷ []) at, tt))
 
   -- behind the first label of a co-expression
@@ -23,8 +23,8 @@ module _ {S : Scope} {F : List (List ℕ)} {W : List X.Ways} {E : List ℕ} wher
       → Gives S F W E (created_behind outer s) (n + 4) (λ p. I.Mark (p + n + 3) ∷ c (p + 1) ++ (I.Coret ∷ I.Efail ∷ I.Cofail ∷ []))
       (λ p. S.label outer ≡ p + n + 4)
   behind_gives {n = n} {c = c} outer x =
-      given_numbered (λ l. numbered_then (then_gives (puts (U.Mark l) refl) (then_gives x (then_gives (puts U.Coret refl)
-      (then_gives (puts U.Efail refl) (placed_then l (then_placed outer (puts U.Cofail refl)))))))) (omega arith)
+      given_numbered (λ l. numbered_then (puts (U.Mark l) refl ⨾ x ⨾ puts U.Coret refl ⨾ puts U.Efail refl
+      ⨾ placed_then l (then_placed outer (puts U.Cofail refl)))) (omega arith)
       (λ l p f.
       let at : S.label l ≡ p + n + 3 = f.1.1.1.1.0 ∙ omega arith in
       let end : S.label outer ≡ p + n + 4 = f.1.1.1.1.1.1 ∙ omega arith in
@@ -33,7 +33,7 @@ module _ {S : Scope} {F : List (List ℕ)} {W : List X.Ways} {E : List ℕ} wher
   pub created_gives : {s : Draft → Draft} {n : ℕ} {c : ℕ → List Instr} → Gives S F W E s n c none
       → Gives S F W E (created s) (n + 5) (λ p. X.created p n (c (p + 2))) none
   created_gives {n = n} {c = c} x =
-      given_numbered (λ l. numbered_then (then_gives (puts (U.Create l) refl) (behind_gives l x))) (omega arith)
+      given_numbered (λ l. numbered_then (puts (U.Create l) refl ⨾ behind_gives l x)) (omega arith)
       (λ l p f.
       let at : S.label l ≡ p + n + 5 = f.1 ∙ omega arith in
       let first : p + 1 + n + 3 ≡ p + n + 4 = omega arith in
@@ -48,34 +48,36 @@ module _ {S : Scope} {F : List (List ℕ)} {W : List X.Ways} {E : List ℕ} wher
       → Gives S F W E (λ d. d ▹ put_mark ▹ s ▹ put U.Unmark ▹ put U.Efail ▹ put (U.Lab (next_label d)) ▹ put U.Pnull) (n + 4)
       (λ p. I.Mark (p + n + 3) ∷ c (p + 1) ++ (I.Unmark ∷ I.Efail ∷ I.Pnull ∷ [])) none
   not_gives {n = n} {c = c} x =
-      given_numbered (λ l. numbered_then (then_gives (puts (U.Mark l) refl) (then_gives x (then_gives (puts U.Unmark refl) (then_gives (puts U.Efail refl)
-      (placed_then l (puts U.Pnull refl))))))) (omega arith)
+      given_numbered (λ l. numbered_then (puts (U.Mark l) refl ⨾ x ⨾ puts U.Unmark refl ⨾ puts U.Efail refl
+      ⨾ placed_then l (puts U.Pnull refl))) (omega arith)
       (λ l p f. (let at : S.label l ≡ p + n + 3 = f.1.1.1.1.0 ∙ omega arith in ap (λ k. I.Mark k ∷ c (p + 1) ++ (I.Unmark ∷ I.Efail ∷ I.Pnull ∷ [])) at, tt))
 
   pub return_gives : {s : Draft → Draft} {n : ℕ} {c : ℕ → List Instr} → Gives S F W E s n c none
       → Gives S F W E (λ d. d ▹ put_mark ▹ s ▹ put U.Pret ▹ put (U.Lab (next_label d)) ▹ put U.Pfail) (n + 3)
       (λ p. I.Mark (p + n + 2) ∷ c (p + 1) ++ (I.Pret ∷ I.Pfail ∷ [])) none
   return_gives {n = n} {c = c} x =
-      given_numbered (λ l. numbered_then (then_gives (puts (U.Mark l) refl) (then_gives x (then_gives (puts U.Pret refl) (placed_then l (puts U.Pfail refl)))))) (omega arith)
+      given_numbered (λ l. numbered_then (puts (U.Mark l) refl ⨾ x ⨾ puts U.Pret refl
+      ⨾ placed_then l (puts U.Pfail refl))) (omega arith)
       (λ l p f. (let at : S.label l ≡ p + n + 2 = f.1.1.1.0 ∙ omega arith in ap (λ k. I.Mark k ∷ c (p + 1) ++ (I.Pret ∷ I.Pfail ∷ [])) at, tt))
 
   pub repetition_gives : (operand : Draft → Draft) {s : Draft → Draft} {n : ℕ} {c : ℕ → List Instr} → Gives S F W E s n c none
       → Gives S F W E (prefix_by Repetition operand s) (n + 3) (λ p. I.Mark0 ∷ c (p + 1) ++ (I.Chfail p ∷ I.Esusp ∷ [])) none
   repetition_gives operand {n = n} {c = c} x =
-      given_numbered (λ l. numbered_then (placed_then l (then_gives (puts U.Mark0 refl) (then_gives x (then_gives (puts (U.Chfail l) refl) (puts U.Esusp refl)))))) (omega arith)
+      given_numbered (λ l. numbered_then (placed_then l (puts U.Mark0 refl ⨾ x ⨾ puts (U.Chfail l) refl
+      ⨾ puts U.Esusp refl))) (omega arith)
       (λ l p f. (ap (λ k. I.Mark0 ∷ c (p + 1) ++ (I.Chfail k ∷ I.Esusp ∷ [])) f.0, tt))
 
   alternative_gives : {b : Draft → Draft} {m : ℕ} {c : ℕ → List Instr} (label : ℕ) → Gives S F W E b m c none
       → Gives S F W E (alternative b label) (m + 1) (λ p. I.Goto (p + m + 1) ∷ c (p + 1)) (λ p. S.label label ≡ p + 1)
   alternative_gives {m = m} {c = c} label y =
-      given_numbered (λ l. numbered_then (then_gives (puts (U.Goto l) refl) (placed_then label (then_placed l y)))) (omega arith)
+      given_numbered (λ l. numbered_then (puts (U.Goto l) refl ⨾ placed_then label (then_placed l y))) (omega arith)
       (λ l p f. (let at : S.label l ≡ p + m + 1 = f.1.1.1 ∙ omega arith in ap (λ k. I.Goto k ∷ c (p + 1)) at, f.1.0))
 
   pub either_gives : (left : Draft → Draft) {a b : Draft → Draft} {m n : ℕ} {c k : ℕ → List Instr} → Gives S F W E a m c none → Gives S F W E b n k none
       → Gives S F W E (plain_form Either left a b) (m + n + 3)
       (λ p. I.Mark (p + m + 3) ∷ c (p + 1) ++ (I.Esusp ∷ I.Goto (p + m + 3 + n) ∷ k (p + m + 3))) none
   either_gives left {m = m} {n = n} {c = c} {k = k} x y =
-      given_numbered (λ l. numbered_then (then_gives (puts (U.Mark l) refl) (then_gives x (then_gives (puts U.Esusp refl) (alternative_gives l y))))) (omega arith)
+      given_numbered (λ l. numbered_then (puts (U.Mark l) refl ⨾ x ⨾ puts U.Esusp refl ⨾ alternative_gives l y)) (omega arith)
       (λ l p f.
       let at : S.label l ≡ p + m + 3 = f.1.1.1 ∙ omega arith in
       let end : p + 1 + m + 1 + n + 1 ≡ p + m + 3 + n = omega arith in
@@ -91,7 +93,7 @@ module _ {S : Scope} {F : List (List ℕ)} {W : List X.Ways} {E : List ℕ} wher
       → Gives S F W E (λ d. d ▹ put_mark ▹ s ▹ put U.Unmark ▹ a ▹ alternative b (next_label d)) (i + m + n + 3)
       (λ p. I.Mark (p + (i + m) + 3) ∷ c (p + 1) ++ (I.Unmark ∷ k (p + i + 2) ++ I.Goto (p + (i + m) + 3 + n) ∷ q (p + (i + m) + 3))) none
   branches_give {i = i} {m = m} {n = n} {c = c} {k = k} {q = q} x y z =
-      given_numbered (λ l. numbered_then (then_gives (puts (U.Mark l) refl) (then_gives x (then_gives (puts U.Unmark refl) (then_gives y (alternative_gives l z)))))) (omega arith)
+      given_numbered (λ l. numbered_then (puts (U.Mark l) refl ⨾ x ⨾ puts U.Unmark refl ⨾ y ⨾ alternative_gives l z)) (omega arith)
       (λ l p f.
       let at : S.label l ≡ p + (i + m) + 3 = f.1.1.1.1 ∙ omega arith in
       let second : p + 1 + i + 1 ≡ p + i + 2 = omega arith in
@@ -113,7 +115,8 @@ module _ {S : Scope} {F : List (List ℕ)} {W : List X.Ways} {E : List ℕ} wher
       → Gives S F W E (λ d. d ▹ with_label ▹ put (U.Init (next_label d)) ▹ put (U.Mark (next_label d)) ▹ s ▹ put U.Unmark ▹ put (U.Lab (next_label d))) (n + 3)
       (λ p. I.Init (p + n + 3) ∷ I.Mark (p + n + 3) ∷ c (p + 2) ++ I.Unmark ∷ []) none
   initial_gives {n = n} {c = c} x =
-      given_numbered (λ l. numbered_then (then_gives (puts (U.Init l) refl) (then_gives (puts (U.Mark l) refl) (then_gives x (then_placed l (puts U.Unmark refl)))))) (omega arith)
+      given_numbered (λ l. numbered_then (puts (U.Init l) refl ⨾ puts (U.Mark l) refl ⨾ x
+      ⨾ then_placed l (puts U.Unmark refl))) (omega arith)
       (λ l p f.
       let at : S.label l ≡ p + n + 3 = f.1.1.1.1 ∙ omega arith in
       let begins : p + 1 + 1 ≡ p + 2 = omega arith in

@@ -56,10 +56,10 @@ pub record Adds (S : Scope) (F : List (List ℕ)) (W : List X.Ways) (E : List �
   pub known : fact
 
 -- A step that adds so many instructions, with this code where it begins at a place.
-pub record Gives (S : Scope) (F : List (List ℕ)) (W : List X.Ways) (E : List ℕ) (step : Draft → Draft) (n : ℕ) (code : ℕ → List Instr) (fact : ℕ → Type 0) : Type 0
-  where
-    pub long : (d : Draft) → len S (step d) ≡ len S d + n
-    pub at : (d : Draft) → Agrees S F W E (step d) → Adds S F W E d (step d) (code (len S d)) (fact (len S d))
+pub record Gives (S : Scope) (F : List (List ℕ)) (W : List X.Ways) (E : List ℕ) (step : Draft → Draft) (n : ℕ)
+    (code : ℕ → List Instr) (fact : ℕ → Type 0) : Type 0 where
+  pub long : (d : Draft) → len S (step d) ≡ len S d + n
+  pub at : (d : Draft) → Agrees S F W E (step d) → Adds S F W E d (step d) (code (len S d)) (fact (len S d))
 
 -- nothing of labels
 abbrev pub none : ℕ → Type 0
@@ -92,7 +92,8 @@ pub put_before : {S : Scope} {F : List (List ℕ)} {W : List X.Ways} {E : List �
 unfolding put
 put_before {S = S} i d h = record { placed = (placed_split S 0 d.instrs i h.placed).0; names = h.names; loops = h.loops; ends = h.ends }
 
-pub put_label : {S : Scope} {F : List (List ℕ)} {W : List X.Ways} {E : List ℕ} (label : ℕ) (d : Draft) → Agrees S F W E (put (U.Lab label) d) → S.label label ≡ len S d
+pub put_label : {S : Scope} {F : List (List ℕ)} {W : List X.Ways} {E : List ℕ} (label : ℕ) (d : Draft)
+    → Agrees S F W E (put (U.Lab label) d) → S.label label ≡ len S d
 unfolding put
 put_label {S = S} label d h = (placed_split S 0 d.instrs (U.Lab label) h.placed).1 ∙ zero-add (len S d)
 
@@ -106,6 +107,7 @@ label_instrs d = refl
 
 -- Steps
 
+infixr 20 ◌⨾◌
 module _ {S : Scope} {F : List (List ℕ)} {W : List X.Ways} {E : List ℕ} where
   -- one that adds nothing
   pub nothing : Gives S F W E (λ d. d) 0 (λ p. []) none
@@ -122,9 +124,9 @@ module _ {S : Scope} {F : List (List ℕ)} {W : List X.Ways} {E : List ℕ} wher
   }
 
   -- one step behind another
-  pub then_gives : {s t : Draft → Draft} {n m : ℕ} {a b : ℕ → List Instr} {f g : ℕ → Type 0} → Gives S F W E s n a f → Gives S F W E t m b g
+  pub ◌⨾◌ : {s t : Draft → Draft} {n m : ℕ} {a b : ℕ → List Instr} {f g : ℕ → Type 0} → Gives S F W E s n a f → Gives S F W E t m b g
       → Gives S F W E (λ d. t (s d)) (n + m) (λ p. a p ++ b (p + n)) (λ p. f p × g (p + n))
-  then_gives {s = s} {n = n} {m = m} {a = a} {b = b} {g = g} x y = record {
+  ◌⨾◌ {s = s} {n = n} {m = m} {a = a} {b = b} {g = g} x y = record {
     long = λ d. let e = x.long d in let k = y.long (s d) in omega arith;
     at = λ d h.
         let second = y.at (s d) h in

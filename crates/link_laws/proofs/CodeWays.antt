@@ -175,8 +175,11 @@ module _ {S : Scope} {F : List (List ℕ)} {w : X.Ways} {W : List X.Ways} {E : L
       let first = innermost_is d in
       let last : AtPlace S w.last (first_ways d.loops).last = subst (λ (ways : Ways). AtPlace S w.last ways.last) first k.0.0 in
       let next : AtPlace S w.next (first_ways d.loops).next =
-      subst (λ (ways : Ways). AtPlace S w.next ways.next) first (at_number S w.next (innermost d).next (outside_loop d) k.0.1) in
-      (other_ways_agree S (next_same d) (loops_of S d.loops w W last next k.1) (subst (λ (cases : List (Option ℕ)). Ends S cases E) (next_cases d) h.ends) h, k.0.1)
+      subst (λ (ways : Ways). AtPlace S w.next ways.next) first (at_number S w.next (innermost d).next (outside_loop d) k.0.1) in (
+        other_ways_agree S (next_same d) (loops_of S d.loops w W last next k.1)
+            (subst (λ (cases : List (Option ℕ)). Ends S cases E) (next_cases d) h.ends) h,
+        k.0.1,
+      )
 
   last_known : (d : Draft) → Agrees S F (w ∷ W) E (with_last d) → Agrees S F (w ∷ W) E d × (S.label (last_number d) ≡ w.last)
   last_known d h =
@@ -185,8 +188,11 @@ module _ {S : Scope} {F : List (List ℕ)} {w : X.Ways} {W : List X.Ways} {E : L
       let first = innermost_is d in
       let next : AtPlace S w.next (first_ways d.loops).next = subst (λ (ways : Ways). AtPlace S w.next ways.next) first k.0.1 in
       let last : AtPlace S w.last (first_ways d.loops).last =
-      subst (λ (ways : Ways). AtPlace S w.last ways.last) first (at_number S w.last (innermost d).last (outside_loop d) k.0.0) in
-      (other_ways_agree S (last_same d) (loops_of S d.loops w W last next k.1) (subst (λ (cases : List (Option ℕ)). Ends S cases E) (last_cases d) h.ends) h, k.0.0)
+      subst (λ (ways : Ways). AtPlace S w.last ways.last) first (at_number S w.last (innermost d).last (outside_loop d) k.0.0) in (
+        other_ways_agree S (last_same d) (loops_of S d.loops w W last next k.1)
+            (subst (λ (cases : List (Option ℕ)). Ends S cases E) (last_cases d) h.ends) h,
+        k.0.0,
+      )
 
   -- an instruction that goes to such a label
   pub puts_next : (word : ℕ → UnitInstr) (instr : ℕ → Instr) → ((l : ℕ) → resolved_one S (word l) ≡ instr (S.label l) ∷ [])
@@ -348,7 +354,8 @@ loops_give {S = S} {F = F} {W = W} {E = E} {inner = inner} {n = n} {c = c} {f = 
       let all = (x w).at e (loop_known S i one w (inner e) long (ap (λ p. p + 1) long) h) in
       let k : Loops S (unmentioned ∷ d.loops) (w ∷ W) = subst (λ (loops : List Ways). Loops S loops (w ∷ W)) (in_loops unmentioned d) all.before.loops in
       record {
-        before = other_ways_agree S (in_same unmentioned d) k.1 (subst (λ (cases : List (Option ℕ)). Ends S cases E) (in_cases unmentioned d) all.before.ends) all.before;
+        before = other_ways_agree S (in_same unmentioned d) k.1
+            (subst (λ (cases : List (Option ℕ)). Ends S cases E) (in_cases unmentioned d) all.before.ends) all.before;
         is = loop_end_code S i one (inner e) ∙ ap (λ (is : List Instr). is ++ resolved_one S i)
             (all.is ∙ ap (λ (is : List Instr). is ++ c w (len S e)) (same_code S (in_same unmentioned d)) ∙ ap (λ p. resolved S d.instrs ++ c w p) same)
             ∙ append_assoc (resolved S d.instrs) (c w (len S d)) (resolved_one S i);
@@ -410,13 +417,15 @@ cases_give {S = S} {F = F} {W = W} {E = E} {inner = inner} {n = n} {c = c} {f = 
       let loops : (outside_case g2).loops ≡ g.loops = out_case_loops g2 ∙ put_loops (U.Lab (end_number g)) g1 ∙ end_loops g in
       let cases : (outside_case g2).cases ≡ other_ends g.cases =
       out_case_cases g2 ∙ ap other_ends (put_cases (U.Lab (end_number g)) g1 ∙ end_cases g) in
-      let known : AtPlace S last (first_end g.cases) = subst (λ (k : Option ℕ). AtPlace S last k) (case_end_is g) (at_number S last (case_end g) (outside_case g) end) in
+      let known : AtPlace S last (first_end g.cases) =
+      subst (λ (k : Option ℕ). AtPlace S last k) (case_end_is g) (at_number S last (case_end g) (outside_case g) end) in
       let before : Agrees S F W (last ∷ E) g = other_ways_agree S (end_same g) (subst (λ (loops : List Ways). Loops S loops W) loops h.loops)
       (ends_of S g.cases last E known (subst (λ (cases : List (Option ℕ)). Ends S cases E) cases h.ends)) (put_before (U.Lab (end_number g)) g1 a2) in
       let all = (x last).at e before in
       let k : Ends S (None ∷ d.cases) (last ∷ E) = subst (λ (cases : List (Option ℕ)). Ends S cases (last ∷ E)) (in_case_cases None d) all.before.ends in
       record {
-        before = other_ways_agree S (in_case_same None d) (subst (λ (loops : List Ways). Loops S loops W) (in_case_loops None d) all.before.loops) k.1 all.before;
+        before = other_ways_agree S (in_case_same None d)
+            (subst (λ (loops : List Ways). Loops S loops W) (in_case_loops None d) all.before.loops) k.1 all.before;
         is = same_code S (out_case_same g2) ∙ put_code S (U.Lab (end_number g)) g1 ∙ append-nil (resolved S g1.instrs) ∙ same_code S (end_same g)
             ∙ all.is ∙ ap (λ (is : List Instr). is ++ c last (len S e)) (same_code S (in_case_same None d)) ∙ ap (λ p. resolved S d.instrs ++ c last p) same;
         known = subst (f last) same all.known;
