@@ -36,7 +36,8 @@ same_counts : (sink : SinkState) → KeepsCounts sink sink
 same_counts sink = record { faults = refl; wants = refl }
 
 -- the error output alone was put on, and its counts stayed
-errors_kept : (left left' : Option (List ℕ)) (input : ℕ) (out before after : SinkState) → KeepsCounts before after → KeepsAllCounts (handed left input out before) (handed left' input out after)
+errors_kept : (left left' : Option (List ℕ)) (input : ℕ) (out before after : SinkState) → KeepsCounts before after
+    → KeepsAllCounts (handed left input out before) (handed left' input out after)
 errors_kept left left' input out before after kept = record { faults = refl; output = same_counts out; errors = kept }
 
 -- an answer that is no fault, with all counts as they were
@@ -53,7 +54,8 @@ none_first before after WriteFault n kept = absurd (n refl)
 none_first before after NoMemory n kept = absurd (n refl)
 
 -- the same of an answer that is no failure of the input and of no output
-still_first : (before after : Handed) (answer : Answer) → (answer ≡ WriteFault → ⊥) → (answer ≡ ReadFault → ⊥) → KeepsAllCounts before after → IsFirstFaultOf answer before after
+still_first : (before after : Handed) (answer : Answer) → (answer ≡ WriteFault → ⊥) → (answer ≡ ReadFault → ⊥) → KeepsAllCounts before after
+    → IsFirstFaultOf answer before after
 still_first before after Wrote w r kept = kept
 still_first before after (Ran ending) w r kept = kept
 still_first before after (Refused file line rule) w r kept = kept
@@ -68,27 +70,34 @@ still_first before after NoMemory w r kept = uncounted kept
 -- Lines of answers that no program ran for
 
 -- want of memory in the put of a line
-want_first : {before between : SinkState} {line : List ℕ} (left left' : Option (List ℕ)) (input : ℕ) (out : SinkState) → (between ≡ before) ⊎ RunsShort before between line
+want_first : {before between : SinkState} {line : List ℕ} (left left' : Option (List ℕ)) (input : ℕ) (out : SinkState)
+    → (between ≡ before) ⊎ RunsShort before between line
     → WantsMemory (handed left input out before) (handed left' input out between)
-want_first {before} left left' input out (inl same) = uncounted (errors_kept left left' input out before _ (record { faults = ap (λ (sink : SinkState). sink.faults) same; wants = ap (λ (sink : SinkState). sink.wants) same }))
+want_first {before} left left' input out (inl same) =
+    uncounted (errors_kept left left' input out before _
+    (record { faults = ap (λ (sink : SinkState). sink.faults) same; wants = ap (λ (sink : SinkState). sink.wants) same }))
 want_first left left' input out (inr short) = errors_want refl (same_counts out) (record { faults = short.faults; wants = short.wants })
 
 -- what a given fault says of the answer that was refused
-given_file : {usage name : List ℕ} {before after : SinkState} (answer given : Answer) → Refuses usage name answer before after given → given ≡ FileFault → answer ≡ FileFault
+given_file : {usage name : List ℕ} {before after : SinkState} (answer given : Answer) → Refuses usage name answer before after given → given ≡ FileFault
+    → answer ≡ FileFault
 given_file answer _ (put n whole) e = e
 given_file answer _ (own f puts) e = e
 given_file answer _ (write_fault n stops) e = cc
 given_file answer _ (want n between leads puts) e = cc
 
-kept_file : {usage name : List ℕ} {before after : SinkState} (answer given : Answer) → Refuses usage name answer before after given → answer ≡ FileFault → given ≡ FileFault
+kept_file : {usage name : List ℕ} {before after : SinkState} (answer given : Answer) → Refuses usage name answer before after given → answer ≡ FileFault
+    → given ≡ FileFault
 kept_file answer _ (put n whole) e = e
 kept_file answer _ (own f puts) e = e
 kept_file answer _ (write_fault n stops) e = absurd (n (rw e refl))
 kept_file answer _ (want n between leads puts) e = absurd (n (rw e refl))
 
 -- an answer that no program ran for
-refused_counts : {usage name : List ℕ} {before after : SinkState} (left left' : Option (List ℕ)) (input : ℕ) (out : SinkState) (answer given : Answer) → (answer ≡ WriteFault → ⊥)
-    → (answer ≡ ReadFault → ⊥) → Refuses usage name answer before after given → RunEndsAtFirst given (handed left input out before) (handed left' input out after)
+refused_counts : {usage name : List ℕ} {before after : SinkState} (left left' : Option (List ℕ)) (input : ℕ) (out : SinkState) (answer given : Answer)
+    → (answer ≡ WriteFault → ⊥)
+    → (answer ≡ ReadFault → ⊥) → Refuses usage name answer before after given
+    → RunEndsAtFirst given (handed left input out before) (handed left' input out after)
 refused_counts {before = before} {after} left left' input out answer _ w r (put n whole) = record {
   between = after;
   first = none_first _ _ answer n (errors_kept left left' input out before after (record { faults = whole.faults; wants = whole.wants }));
@@ -98,14 +107,20 @@ refused_counts {before = before} left left' input out answer _ w r (own f puts) 
     record { between = before; first = still_first _ _ answer w r (errors_kept left left' input out before before (same_counts before)); own_line = puts }
 refused_counts {after = after} left left' input out answer _ w r (write_fault n stops) =
     record { between = after; first = errors_fail refl (same_counts out) (record { faults = stops.faults; wants = stops.wants }); own_line = refl }
-refused_counts left left' input out answer _ w r (want n between leads puts) = record { between = between; first = want_first left left' input out leads; own_line = puts }
+refused_counts left left' input out answer _ w r (want n between leads puts) =
+    record { between = between; first = want_first left left' input out leads; own_line = puts }
 
-pub refused_ends : {usage name : List ℕ} {absent given_absent : Type 0} {files files' absences absences' input : ℕ} {left left' : Option (List ℕ)} {out before after : SinkState} (answer given : Answer)
-    → (answer ≡ WriteFault → ⊥) → (answer ≡ ReadFault → ⊥) → CountsOnce files files' (answer ≡ FileFault) → HasCause absences absences' absent → (given_absent → absent)
-    → Refuses usage name answer before after given
+pub refused_ends : {usage name : List ℕ} {absent given_absent : Type 0} {files files' absences absences' input : ℕ} {left left' : Option (List ℕ)}
+    {out before after : SinkState} (answer given : Answer)
+    → (answer ≡ WriteFault → ⊥) → (answer ≡ ReadFault → ⊥) → CountsOnce files files' (answer ≡ FileFault) → HasCause absences absences' absent
+    → (given_absent → absent) → Refuses usage name answer before after given
     → EndsAtFirst given given_absent (outside files absences (handed left input out before)) (outside files' absences' (handed left' input out after))
 refused_ends {input = input} {left} {left'} {out} answer given w r file cause absences refuses = record {
-  file_fault = record { later = file.later; rose = λ e. file.rose (given_file answer given refuses e); stayed = λ n. file.stayed (λ e. n (kept_file answer given refuses e)) };
+  file_fault = record {
+    later = file.later;
+    rose = λ e. file.rose (given_file answer given refuses e);
+    stayed = λ n. file.stayed (λ e. n (kept_file answer given refuses e));
+  };
   absence = record { later = cause.later; rose = λ a. cause.rose (absences a) };
   others = refused_counts left left' input out answer given w r refuses;
 }
@@ -119,13 +134,16 @@ pub no_cause : {count : ℕ} {claim : Type 0} → (claim → ⊥) → HasCause c
 no_cause n = record { later = omega arith; rose = λ m. absurd (n m) }
 
 -- an answer in place of a result
-pub err_counts : {A : Type 0} {before now : ℕ} (answer fault : Answer) → CountsOnce before now (IsErrOf {T = A} (Err answer) fault) → CountsOnce before now (answer ≡ fault)
-err_counts answer fault cause = record { later = cause.later; rose = λ e. cause.rose (ap (λ a. Err a) e); stayed = λ n. cause.stayed (λ e. n (same_answer e)) } where
-  same_answer : {A : Type 0} {one other : Answer} → ◌≡◌ {A = Result A Answer} (Err one) (Err other) → one ≡ other
-  same_answer e = cc
+pub err_counts : {A : Type 0} {before now : ℕ} (answer fault : Answer) → CountsOnce before now (IsErrOf {T =
+    A} (Err answer) fault) → CountsOnce before now (answer ≡ fault)
+err_counts answer fault cause =
+    record { later = cause.later; rose = λ e. cause.rose (ap (λ a. Err a) e); stayed = λ n. cause.stayed (λ e. n (same_answer e)) } where
+      same_answer : {A : Type 0} {one other : Answer} → ◌≡◌ {A = Result A Answer} (Err one) (Err other) → one ≡ other
+      same_answer e = cc
 
 -- files that were read before
-pub after_read : {absent : Type 0} {faults faults' absences absences' : ℕ} {streams : Handed} {after : OutsideState} (answer : Answer) → faults' ≡ faults → absences ≤ absences'
+pub after_read : {absent : Type 0} {faults faults' absences absences' : ℕ} {streams : Handed} {after : OutsideState} (answer : Answer) → faults' ≡ faults
+    → absences ≤ absences'
     → EndsAtFirst answer absent (outside faults' absences' streams) after → EndsAtFirst answer absent (outside faults absences streams) after
 after_read {after = after} answer f a ends = record {
   file_fault = subst (λ n. CountsOnce n after.faults (answer ≡ FileFault)) f ends.file_fault;
@@ -142,7 +160,8 @@ none_counts {streams = streams} answer n = record {
 }
 
 -- an own line alone
-pub own_counts : {left left' : Option (List ℕ)} {input : ℕ} {out before after : SinkState} (answer : Answer) → (answer ≡ WriteFault → ⊥) → (answer ≡ ReadFault → ⊥) → PutsOwn answer before after
+pub own_counts : {left left' : Option (List ℕ)} {input : ℕ} {out before after : SinkState} (answer : Answer) → (answer ≡ WriteFault → ⊥)
+    → (answer ≡ ReadFault → ⊥) → PutsOwn answer before after
     → RunEndsAtFirst answer (handed left input out before) (handed left' input out after)
 own_counts {left = left} {left'} {input} {out} {before} answer w r puts =
     record { between = before; first = still_first _ _ answer w r (errors_kept left left' input out before before (same_counts before)); own_line = puts }
@@ -158,7 +177,8 @@ broken_first before after Runs.WriteFault fails = fails
 broken_first before after Runs.NoMemory wants = wants
 
 -- a run that was broken off, with the fault's own line behind
-pub broken_counts : {before : Handed} {left : Option (List ℕ)} {input : ℕ} {out : SinkState} (between after : SinkState) (fault : RunFault) → RunEnds {A = Ending} (Err fault) before (handed left input out between)
+pub broken_counts : {before : Handed} {left : Option (List ℕ)} {input : ℕ} {out : SinkState} (between after : SinkState) (fault : RunFault) → RunEnds {A =
+    Ending} (Err fault) before (handed left input out between)
     → PutsOwn (of_run fault) between after → RunEndsAtFirst (of_run fault) before (handed left input out after)
 broken_counts {before = before} between after fault ends puts = record { between = between; first = broken_first before _ fault ends; own_line = puts }
 
@@ -167,15 +187,18 @@ broken_counts {before = before} between after fault ends puts = record { between
 rose_of : (before now : ℕ) → now ≡ one_more before → Rose before now
 rose_of before now e = omega arith
 
-none_wrote : {before after : Handed} → OutputFails before after → (Rose before.output.faults after.output.faults → ⊥) → (Rose before.errors.faults after.errors.faults → ⊥) → ⊥
+none_wrote : {before after : Handed} → OutputFails before after → (Rose before.output.faults after.output.faults → ⊥)
+    → (Rose before.errors.faults after.errors.faults → ⊥) → ⊥
 none_wrote (output_fails input out err) o e = o (rose_of _ _ out.faults)
 none_wrote (errors_fail input out err) o e = e (rose_of _ _ err.faults)
 
-none_wrote_behind : {before after : Handed} → RunEndsAtFirst WriteFault before after → (Rose before.output.faults after.output.faults → ⊥) → (Rose before.errors.faults after.errors.faults → ⊥) → ⊥
+none_wrote_behind : {before after : Handed} → RunEndsAtFirst WriteFault before after → (Rose before.output.faults after.output.faults → ⊥)
+    → (Rose before.errors.faults after.errors.faults → ⊥) → ⊥
 none_wrote_behind {before = before} ends o e = none_wrote ends.first o (subst (λ (sink : SinkState). Rose before.errors.faults sink.faults → ⊥) ends.own_line e)
 
 -- where no count of faults rose, no fault is answered but want of memory
-pub faultless_of : {absent : Type 0} {before after : OutsideState} (answer : Answer) → EndsAtFirst answer absent before after → (Rose before.faults after.faults → ⊥)
+pub faultless_of : {absent : Type 0} {before after : OutsideState} (answer : Answer) → EndsAtFirst answer absent before after
+    → (Rose before.faults after.faults → ⊥)
     → (Rose before.streams.faults after.streams.faults → ⊥) → (Rose before.streams.output.faults after.streams.output.faults → ⊥)
     → (Rose before.streams.errors.faults after.streams.errors.faults → ⊥) → IsFault answer → answer ≡ NoMemory
 faultless_of FileFault ends f i o e is = absurd (f (rose_of _ _ (ends.file_fault.rose refl)))

@@ -112,8 +112,10 @@ fault_counts before after Runs.WriteFault fails = output_counts before after fai
 fault_counts before after Runs.NoMemory wants = memory_counts before after wants
 
 -- a run that was broken off, with the fault's own line behind
-pub fault_reports : {usage name : List ℕ} {left : Option (List ℕ)} (before between : Handed) (after : SinkState) (fault : RunFault) → RunEnds {A = Ending} (Err fault) before between
-    → IfSome left (λ _. PutsSome before.errors between.errors) → PutsOwn (of_run fault) between.errors after → Reports usage name left before.errors after (of_run fault)
+pub fault_reports : {usage name : List ℕ} {left : Option (List ℕ)} (before between : Handed) (after : SinkState) (fault : RunFault) → RunEnds {A =
+    Ending} (Err fault) before between
+    → IfSome left (λ _. PutsSome before.errors between.errors) → PutsOwn (of_run fault) between.errors after
+    → Reports usage name left before.errors after (of_run fault)
 fault_reports before between after fault ends some puts =
     broke fault refl between.errors (fault_counts before between fault ends) some (puts_own _ _ (of_run fault) puts)
 

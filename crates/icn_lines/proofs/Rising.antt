@@ -70,13 +70,17 @@ input_goes before after few once =
     record { faults = rises _ _ few.faults once.faults; output = keeps _ _ few.output once.output; errors = keeps _ _ few.errors once.errors }
 
 output_goes : (before after : Handed) → HaveBits before → OutputFails before after → AllGo before after
-output_goes before after few (output_fails input out err) = record { faults = stays _ _ input; output = fails _ _ few.output out; errors = keeps _ _ few.errors err }
-output_goes before after few (errors_fail input out err) = record { faults = stays _ _ input; output = keeps _ _ few.output out; errors = fails _ _ few.errors err }
+output_goes before after few (output_fails input out err) =
+    record { faults = stays _ _ input; output = fails _ _ few.output out; errors = keeps _ _ few.errors err }
+output_goes before after few (errors_fail input out err) =
+    record { faults = stays _ _ input; output = keeps _ _ few.output out; errors = fails _ _ few.errors err }
 
 memory_goes : (before after : Handed) → HaveBits before → WantsMemory before after → AllGo before after
 memory_goes before after few (uncounted same) = all_keep before after few same
-memory_goes before after few (output_wants input out err) = record { faults = stays _ _ input; output = wants _ _ few.output out; errors = keeps _ _ few.errors err }
-memory_goes before after few (errors_want input out err) = record { faults = stays _ _ input; output = keeps _ _ few.output out; errors = wants _ _ few.errors err }
+memory_goes before after few (output_wants input out err) =
+    record { faults = stays _ _ input; output = wants _ _ few.output out; errors = keeps _ _ few.errors err }
+memory_goes before after few (errors_want input out err) =
+    record { faults = stays _ _ input; output = keeps _ _ few.output out; errors = wants _ _ few.errors err }
 
 first_goes : (before after : Handed) (answer : Answer) → HaveBits before → IsFirstFaultOf answer before after → AllGo before after
 first_goes before after Wrote few first = all_keep before after few first

@@ -46,7 +46,8 @@ module _ (one : HaveOneFault) (none : HaveNoFault) (bytes : List ℕ) where
   read_broken : (t : Tables) (rule : Rule) → image_read bytes ≡ Ok t → image_read bytes ≡ Err rule → ⊥
   read_broken t rule e f = ok_err t rule (sym e ∙ f)
 
-  same_fault : (s t : Tables) (rule rule' : Rule) (k p k' p' : ℕ) → image_read bytes ≡ Ok s → image_read bytes ≡ Ok t → IsFirstFault s.procs rule k p → IsFirstFault t.procs rule' k' p' → rule ≡ rule'
+  same_fault : (s t : Tables) (rule rule' : Rule) (k p k' p' : ℕ) → image_read bytes ≡ Ok s → image_read bytes ≡ Ok t → IsFirstFault s.procs rule k p
+      → IsFirstFault t.procs rule' k' p' → rule ≡ rule'
   same_fault s t rule rule' k p k' p' e f x y = let same : s ≡ t = same_read s t e f in (one t.procs rule k p rule' k' p' (rw same at x) y).rules
 
   no_fault : (s t : Tables) (rule : Rule) (k p : ℕ) → image_read bytes ≡ Ok s → image_read bytes ≡ Ok t → IsFirstFault s.procs rule k p → IsVerified t → ⊥
@@ -88,7 +89,8 @@ kind_asked : Reading → ℕ
 kind_asked (Asks bounds name arguments) = 0
 kind_asked (Faulty kind) = kind
 
-asks_faulty : (bounds : Bounds) (name : List ℕ) (arguments : List (List ℕ)) (kind : ℕ) (reading : Reading) → reading ≡ Asks bounds name arguments → reading ≡ Faulty kind → ⊥
+asks_faulty : (bounds : Bounds) (name : List ℕ) (arguments : List (List ℕ)) (kind : ℕ) (reading : Reading) → reading ≡ Asks bounds name arguments
+    → reading ≡ Faulty kind → ⊥
 asks_faulty bounds name arguments kind reading e f = cc
 
 same_name : (b c : Bounds) (n m : List ℕ) (x y : List (List ℕ)) (reading : Reading) → reading ≡ Asks b n x → reading ≡ Asks c m y → n ≡ m
@@ -158,7 +160,8 @@ module _ (one : HaveOneFault) (none : HaveNoFault) where
   one_job words files left a _ (missing c n x f _) (wrong_words k e) = absurd (asks_faulty c n x k (asked words) f e)
   one_job words files left a _ (bad c n _ x _ f _ _) (wrong_words k e) = absurd (asks_faulty c n x k (asked words) f e)
   one_job words files left a _ (ran _ launch _ is _) (wrong_words k e) = absurd (asks_faulty launch.bounds is.name launch.words k (asked words) is.asks e)
-  one_job words files left _ _ (missing b n x e _) (missing c m y f _) = ap (λ name. refusal files left name (Missing name)) (same_name b c n m x y (asked words) e f)
+  one_job words files left _ _ (missing b n x e _) (missing c m y f _) =
+      ap (λ name. refusal files left name (Missing name)) (same_name b c n m x y (asked words) e f)
   one_job words files left _ d (missing b n x e h) (bad c m z y _ f g _) = absurd (some_none files m n z (same_name c b m n y x (asked words) f e) g h)
   one_job words files left d _ (bad c m z y _ f g _) (missing b n x e h) = absurd (some_none files m n z (same_name c b m n y x (asked words) f e) g h)
   one_job words files left _ d (missing b n x e h) (ran t launch _ is _) = absurd (missing_run words files left b n x t launch e h is)
@@ -169,7 +172,8 @@ module _ (one : HaveOneFault) (none : HaveNoFault) where
       ap (λ name. refusal files left name (BadImage r)) named ∙ ap (λ rule. refusal files left m (BadImage rule)) rules
   one_job words files left _ d (bad b n u x r e g p) (ran t launch _ is _) = absurd (refused_run words files left b n u x r t launch e g p is)
   one_job words files left d _ (ran t launch _ is _) (bad b n u x r e g p) = absurd (refused_run words files left b n u x r t launch e g p is)
-  one_job words files left _ _ (ran s a v x p) (ran t b w y q) = ap (λ observed. observation files observed) (observed_once words files left s t a b v w x y p q)
+  one_job words files left _ _ (ran s a v x p) (ran t b w y q) =
+      ap (λ observed. observation files observed) (observed_once words files left s t a b v w x y p q)
 
 -- no job answers a fault
 pub no_fault_asked : (words : List (List ℕ)) (files : FileMap) (left : List ℕ) (job : Job) → IsJob words files left job → IsFault job.answer → ⊥

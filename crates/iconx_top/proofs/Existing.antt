@@ -22,7 +22,8 @@ use Rattle.iconx_top.specs.Words.{Reading, Asks, Faulty, asked}
 
 -- what the laws of the crates below say
 record Laws : Type 0 where
-  spelled : (bytes : List ℕ) (tables : Tables) → All (λ byte. byte < 256) bytes → image_read bytes ≡ Ok tables → (keeps_rules tables ≡ true) × (bytes ≡ image_of tables)
+  spelled : (bytes : List ℕ) (tables : Tables) → All (λ byte. byte < 256) bytes → image_read bytes ≡ Ok tables
+      → (keeps_rules tables ≡ true) × (bytes ≡ image_of tables)
   judged : AreSoundOrBroken
   ends : (tables : Tables) → keeps_rules tables ≡ true → IsVerified tables → AreOver tables
 
@@ -32,11 +33,13 @@ data Judges (bytes : List ℕ) : Type 0 where
   runs_as : (tables : Tables) → IsJudged bytes (Ok tables) → keeps_rules tables ≡ true → IsVerified tables → Judges bytes
 
 module _ (laws : Laws) where
-  sound_or_not : (bytes : List ℕ) (tables : Tables) → length bytes ≤ 1073741824 → image_read bytes ≡ Ok tables → keeps_rules tables ≡ true → IsSoundOrBroken tables.procs → Judges bytes
+  sound_or_not : (bytes : List ℕ) (tables : Tables) → length bytes ≤ 1073741824 → image_read bytes ≡ Ok tables → keeps_rules tables ≡ true
+      → IsSoundOrBroken tables.procs → Judges bytes
   sound_or_not bytes tables few read kept (inl sound) = runs_as tables (runs tables few read sound) kept sound
   sound_or_not bytes tables few read kept (inr fault) = refuses fault.0 (unverified tables fault.0 fault.1 fault.2 few read fault.3)
 
-  read_or_not : (bytes : List ℕ) → All (λ byte. byte < 256) bytes → length bytes ≤ 1073741824 → (found : Result Tables Rule) → image_read bytes ≡ found → Judges bytes
+  read_or_not : (bytes : List ℕ) → All (λ byte. byte < 256) bytes → length bytes ≤ 1073741824 → (found : Result Tables Rule) → image_read bytes ≡ found
+      → Judges bytes
   read_or_not bytes all few (Err rule) read = refuses rule (broken rule few read)
   read_or_not bytes all few (Ok tables) read =
       let kept : keeps_rules tables ≡ true = (laws.spelled bytes tables all read).0 in
@@ -50,17 +53,21 @@ module _ (laws : Laws) where
   judges bytes all = short_or_not bytes all (cases_lt 1073741824 (length bytes))
 
   module _ (words : List (List ℕ)) (files : FileMap) (left : List ℕ) (hold : HoldBytes files) where
-    observed_job : (tables : Tables) (launch : Launch) → IsRun words files left tables launch → (seen : Observed) × Runs tables launch seen → (job : Job) × IsJob words files left job
+    observed_job : (tables : Tables) (launch : Launch) → IsRun words files left tables launch → (seen : Observed) × Runs tables launch seen
+        → (job : Job) × IsJob words files left job
     observed_job tables launch is seen = (observation files seen.0, ran tables launch seen.0 is seen.1)
 
-    judged_job : (bounds : Bounds) (name bytes : List ℕ) (arguments : List (List ℕ)) → asked words ≡ Asks bounds name arguments → files name ≡ Some bytes → Judges bytes → (job : Job) × IsJob words files left job
-    judged_job bounds name bytes arguments asks there (refuses rule is) = (refusal files left name (BadImage rule), bad bounds name bytes arguments rule asks there is)
+    judged_job : (bounds : Bounds) (name bytes : List ℕ) (arguments : List (List ℕ)) → asked words ≡ Asks bounds name arguments → files name ≡ Some bytes
+        → Judges bytes → (job : Job) × IsJob words files left job
+    judged_job bounds name bytes arguments asks there (refuses rule is) =
+        (refusal files left name (BadImage rule), bad bounds name bytes arguments rule asks there is)
     judged_job bounds name bytes arguments asks there (runs_as tables is kept sound) =
         let launch : Launch = record { words = arguments; bounds = bounds; outside = outside_of left } in
         let named : IsRun words files left tables launch = record { name = name; bytes = bytes; asks = asks; there = there; judged = is; input = refl } in
         observed_job tables launch named ((laws.ends tables kept sound).flat launch)
 
-    named_job : (bounds : Bounds) (name : List ℕ) (arguments : List (List ℕ)) → asked words ≡ Asks bounds name arguments → (found : Option (List ℕ)) → files name ≡ found → (job : Job) × IsJob words files left job
+    named_job : (bounds : Bounds) (name : List ℕ) (arguments : List (List ℕ)) → asked words ≡ Asks bounds name arguments → (found : Option (List ℕ))
+        → files name ≡ found → (job : Job) × IsJob words files left job
     named_job bounds name arguments asks None there = (refusal files left name (Missing name), missing bounds name arguments asks there)
     named_job bounds name arguments asks (Some bytes) there = judged_job bounds name bytes arguments asks there (judges bytes (hold name bytes there))
 

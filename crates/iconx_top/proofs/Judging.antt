@@ -23,26 +23,32 @@ short bytes all within t = omega (arith, within, ap length t ∙ length-take 107
 whole : (bytes all : List ℕ) → length bytes ≤ 1073741824 → Takes bytes all → bytes ≡ all
 whole bytes all within t = let few : length all ≤ 1073741825 = omega (arith, short bytes all within t) in t ∙ take_all 1073741825 all few
 
-checked_judged : (all : List ℕ) (tables : Tables) (result : Result Verified Answer) → length all ≤ 1073741824 → image_read all ≡ Ok tables → IsChecked tables result → IsJudgement all result
+checked_judged : (all : List ℕ) (tables : Tables) (result : Result Verified Answer) → length all ≤ 1073741824 → image_read all ≡ Ok tables
+    → IsChecked tables result → IsJudgement all result
 checked_judged all tables (Ok verified) few read is = rw is.0 (runs tables few read is.1)
 checked_judged all tables (Err (BadImage rule)) few read is = unverified tables rule is.0 is.1.0 few read is.1.1
 checked_judged all tables (Err NoMemory) few read is = tt
 checked_judged all tables (Err _) few read is = is
 
-pub code_judged : (bytes all : List ℕ) (tables : Tables) (result : Result Verified Answer) → length bytes ≤ 1073741824 → Takes bytes all → image_read bytes ≡ Ok tables → IsChecked tables result → IsJudgement all result
-code_judged bytes all tables result within t read is = checked_judged all tables result (short bytes all within t) (ap image_read (sym (whole bytes all within t)) ∙ read) is
+pub code_judged : (bytes all : List ℕ) (tables : Tables) (result : Result Verified Answer) → length bytes ≤ 1073741824 → Takes bytes all
+    → image_read bytes ≡ Ok tables → IsChecked tables result → IsJudgement all result
+code_judged bytes all tables result within t read is =
+    checked_judged all tables result (short bytes all within t) (ap image_read (sym (whole bytes all within t)) ∙ read) is
 
-pub fault_judged : (bytes all : List ℕ) (fault : ImageFault) → length bytes ≤ 1073741824 → Takes bytes all → Fails fault (image_read bytes) → IsJudgement all (Err (of_image fault))
+pub fault_judged : (bytes all : List ℕ) (fault : ImageFault) → length bytes ≤ 1073741824 → Takes bytes all → Fails fault (image_read bytes)
+    → IsJudgement all (Err (of_image fault))
 fault_judged bytes all (Broken rule) within t read = broken rule (short bytes all within t) (ap image_read (sym (whole bytes all within t)) ∙ read)
 fault_judged bytes all WantsMemory within t read = tt
 
-judged_loaded : (held : Option (List ℕ)) (name bytes : List ℕ) (result : Result Verified Answer) → held ≡ Some bytes → IsJudgement bytes result → IsLoaded held name result
+judged_loaded : (held : Option (List ℕ)) (name bytes : List ℕ) (result : Result Verified Answer) → held ≡ Some bytes → IsJudgement bytes result
+    → IsLoaded held name result
 judged_loaded held name bytes (Ok verified) e is = (bytes, (e, is))
 judged_loaded held name bytes (Err (BadImage rule)) e is = (bytes, (e, is))
 judged_loaded held name bytes (Err NoMemory) e is = tt
 judged_loaded held name bytes (Err _) e is = absurd is
 
-pub loaded : (held : Option FileMap) (name had bytes other : List ℕ) (result : Result Verified Answer) → had ≡ [] → bytes ≡ other → Reads held name 1073741825 had other → ((all : List ℕ) → Takes bytes all → IsJudgement all result)
+pub loaded : (held : Option FileMap) (name had bytes other : List ℕ) (result : Result Verified Answer) → had ≡ [] → bytes ≡ other
+    → Reads held name 1073741825 had other → ((all : List ℕ) → Takes bytes all → IsJudgement all result)
     → IfSome held (λ files. IsLoaded (files name) name result)
 loaded None name had bytes other result none same reads judged = tt
 loaded (Some files) name had bytes other result none same reads judged =

@@ -40,19 +40,22 @@ use Rattle.iconx_top.specs.Words.{Asks, asked}
 abbrev pub Asked : List (List ℕ) → FileMap → List ℕ → List ℕ → Answer → Type 0
 Asked words files left name answer = IsFault answer ⊎ IsJob words files left (refusal files left name answer)
 
-begins_of : {words : List (List ℕ)} {files : FileMap} {left : List ℕ} (name : List ℕ) (answer : Answer) (before between : SinkState) → IsJob words files left (refusal files left name answer) → Leads before between (line_of usage name answer)
+begins_of : {words : List (List ℕ)} {files : FileMap} {left : List ℕ} (name : List ℕ) (answer : Answer) (before between : SinkState)
+    → IsJob words files left (refusal files left name answer) → Leads before between (line_of usage name answer)
     → Begins (IsJob words files left) before between
 begins_of name answer before between is (inl same) = inl same
 begins_of {files = files} {left} name answer before between is (inr stops) = inr (refusal files left name answer, is, stops)
 
 -- nothing was done but to put a line
-pub refused : {words : List (List ℕ)} {files : FileMap} {left : List ℕ} (name : List ℕ) (answer given : Answer) (held held' : Option FileMap) (left' : Option (List ℕ)) (input : ℕ) (out before after : SinkState)
+pub refused : {words : List (List ℕ)} {files : FileMap} {left : List ℕ} (name : List ℕ) (answer given : Answer)
+    (held held' : Option FileMap) (left' : Option (List ℕ)) (input : ℕ) (out before after : SinkState)
     → Asked words files left name answer → held' ≡ held → held ≡ Some files → left' ≡ Some left → Refuses usage name answer before after given
     → Outcome words files left given (told held (handed left' input out before)) (told held' (handed left' input out after))
 refused name answer given held held' left' input out before after (inl f) same e d (put n h) = absurd (n f)
 refused {files = files} {left} name answer given held held' left' input out before after (inr is) same e d (put n h) =
     done (refusal files left name answer) is (record { answered = refl; files = same ∙ e; left = d; output = gains_nothing out.held; errors = h.gains })
-refused name answer given held held' left' input out before after asks same e d (own f puts) = fault f same (idle before refl refl (inl refl) (puts_own _ _ answer puts))
+refused name answer given held held' left' input out before after asks same e d (own f puts) =
+    fault f same (idle before refl refl (inl refl) (puts_own _ _ answer puts))
 refused name answer given held held' left' input out before after (inl f) same e d (write_fault n leads) = absurd (n f)
 refused name answer given held held' left' input out before after (inr is) same e d (write_fault n stops) =
     fault refl same (idle after refl refl (begins_of name answer before after is (leads_of _ _ _ Failed stops)) (all (puts_nothing after)))
@@ -62,7 +65,8 @@ refused name answer given held held' left' input out before after (inr is) same 
 
 -- what was loaded
 
-pub asked_load : {words : List (List ℕ)} {files : FileMap} {left : List ℕ} (bounds : Bounds) (name : List ℕ) (arguments : List (List ℕ)) (answer : Answer) → asked words ≡ Asks bounds name arguments
+pub asked_load : {words : List (List ℕ)} {files : FileMap} {left : List ℕ} (bounds : Bounds) (name : List ℕ) (arguments : List (List ℕ)) (answer : Answer)
+    → asked words ≡ Asks bounds name arguments
     → IsLoaded (files name) name (Err answer) → Asked words files left name answer
 asked_load {words} {files} {left} bounds name arguments (Missing other) e is =
     let job : IsJob words files left (refusal files left name (Missing name)) = missing bounds name arguments e is.1 in
@@ -73,25 +77,35 @@ asked_load bounds name arguments NoMemory e is = inl refl
 asked_load bounds name arguments _ e is = absurd is
 
 -- the run of what was loaded, over this input
-pub run_asked : {words : List (List ℕ)} {files : FileMap} (left : List ℕ) (launch : Launch) (name : List ℕ) (verified : Verified) → asked words ≡ Asks launch.bounds name launch.words
+pub run_asked : {words : List (List ℕ)} {files : FileMap} (left : List ℕ) (launch : Launch) (name : List ℕ) (verified : Verified)
+    → asked words ≡ Asks launch.bounds name launch.words
     → launch.outside ≡ outside_of left → IsLoaded (files name) name (Ok verified) → IsRun words files left (tables_of verified.code) launch
 run_asked left launch name verified e input is = record { name = name; bytes = is.0; asks = e; there = is.1.0; judged = is.1.1; input = input }
 
-pub ran_outcome : {words : List (List ℕ)} {files : FileMap} {left : List ℕ} {before after : Handed} (tables : Tables) (launch : Launch) (ending : Ending) (held : Option FileMap) → held ≡ Some files
-    → IsRun words files left tables launch → RunsTo tables launch (ending_seen ending) before after → Outcome words files left (Ran ending) (told held before) (told held after)
+pub ran_outcome : {words : List (List ℕ)} {files : FileMap} {left : List ℕ} {before after : Handed} (tables : Tables) (launch : Launch) (ending : Ending)
+    (held : Option FileMap) → held ≡ Some files → IsRun words files left tables launch → RunsTo tables launch (ending_seen ending) before after
+    → Outcome words files left (Ran ending) (told held before) (told held after)
 ran_outcome {files = files} tables launch ending held e is (seen, (ended, (runs, ends))) =
     done (observation files seen) (ran tables launch seen is runs)
-    (record { answered = ap (λ x. Ran x) (sym (held_seen ending) ∙ ap ending_held (sym ended)); files = e; left = ends.left; output = ends.output; errors = ends.errors })
+    (record {
+      answered = ap (λ x. Ran x) (sym (held_seen ending) ∙ ap ending_held (sym ended));
+      files = e;
+      left = ends.left;
+      output = ends.output;
+      errors = ends.errors;
+    })
 
-pub broke_outcome : {words : List (List ℕ)} {files : FileMap} {left : List ℕ} {before : Handed} {left' : Option (List ℕ)} {input : ℕ} {out : SinkState} (between after : SinkState) (tables : Tables) (launch : Launch) (stopped : RunFault)
-    (held : Option FileMap) → IsRun words files left tables launch → RunEnds {A = Ending} (Err stopped) before (handed left' input out between)
+pub broke_outcome : {words : List (List ℕ)} {files : FileMap} {left : List ℕ} {before : Handed} {left' : Option (List ℕ)} {input : ℕ}
+    {out : SinkState} (between after : SinkState) (tables : Tables) (launch : Launch) (stopped : RunFault) (held : Option FileMap) → IsRun words files left tables launch → RunEnds {A = Ending} (Err stopped) before (handed left' input out between)
     → IsBrokenOff tables launch stopped before (handed left' input out between) → PutsOwn (of_run stopped) between after
     → Outcome words files left (of_run stopped) (told held before) (told held (handed left' input out after))
 broke_outcome {before = before} between after tables launch stopped held is first broken puts =
-    fault (is_run_fault stopped) refl (broke stopped between tables launch refl is (broken_first before _ stopped first) broken (puts_own _ _ (of_run stopped) puts))
+    fault (is_run_fault stopped) refl
+    (broke stopped between tables launch refl is (broken_first before _ stopped first) broken (puts_own _ _ (of_run stopped) puts))
 
 -- what a run put that was broken off
-pub off_puts : (tables : Tables) (launch : Launch) (stopped : RunFault) (before after : Handed) → IsBrokenOff tables launch stopped before after → PutsSome before.errors after.errors
+pub off_puts : (tables : Tables) (launch : Launch) (stopped : RunFault) (before after : Handed) → IsBrokenOff tables launch stopped before after
+    → PutsSome before.errors after.errors
 off_puts tables launch stopped before after (seen, (runs, leaves)) = broken_puts stopped launch.outside.left seen before after leaves
 
 pub if_some : {T : Type 0} (o : Option T) (P : T → Type 0) → ((x : T) → o ≡ Some x → P x) → IfSome o P
@@ -102,7 +116,8 @@ pub at_some : {T : Type 0} (P : T → Type 0) (o : Option T) (x : T) → o ≡ S
 at_some P o x e h = rw e at h
 
 -- the files that are told behind a call
-pub held_as : {words : List (List ℕ)} {files : FileMap} {left : List ℕ} {answer : Answer} {before : Told} {after : Handed} (held held' : Option FileMap) → held' ≡ held
+pub held_as : {words : List (List ℕ)} {files : FileMap} {left : List ℕ} {answer : Answer} {before : Told} {after : Handed} (held held' : Option FileMap)
+    → held' ≡ held
     → Outcome words files left answer before (told held after) → Outcome words files left answer before (told held' after)
 held_as held held' e outcome = rw e outcome
 
@@ -121,17 +136,20 @@ pub run_no_absence : (answer : Answer) → IsOfRun answer → IsAbsence answer �
 run_no_absence (Missing name) is a = is
 run_no_absence _ is a = a
 
-pub absence_of : {name : List ℕ} {before after : SinkState} (answer given : Answer) → Refuses usage name answer before after given → IsAbsence given → IsAbsence answer
+pub absence_of : {name : List ℕ} {before after : SinkState} (answer given : Answer) → Refuses usage name answer before after given → IsAbsence given
+    → IsAbsence answer
 absence_of answer _ (put n whole) is = is
 absence_of answer _ (own f puts) is = is
 absence_of answer _ (write_fault n stops) is = absurd is
 absence_of answer _ (want n between leads puts) is = absurd is
 
 -- faulty words
-pub command_ends : {files absences input : ℕ} {left : Option (List ℕ)} {out before after : SinkState} (kind : ℕ) (given : Answer) → Refuses usage [] (Command kind) before after given
+pub command_ends : {files absences input : ℕ} {left : Option (List ℕ)} {out before after : SinkState} (kind : ℕ) (given : Answer)
+    → Refuses usage [] (Command kind) before after given
     → EndsAtFirst given (IsAbsence given) (outside files absences (handed left input out before)) (outside files absences (handed left input out after))
 command_ends kind given refuses =
-    refused_ends (Command kind) given no_write no_read (unmoved no_file) (no_cause (λ (a : IsAbsence (Command kind)). a)) (absence_of (Command kind) given refuses) refuses where
+    refused_ends (Command kind) given no_write no_read (unmoved no_file) (no_cause (λ (a : IsAbsence (Command kind)). a))
+    (absence_of (Command kind) given refuses) refuses where
       no_write : Command kind ≡ WriteFault → ⊥
       no_write e = cc
 

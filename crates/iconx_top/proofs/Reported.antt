@@ -14,6 +14,7 @@ pub load_unrun : (answer : Answer) → IsOfLoading answer → (ending : Ending) 
 load_unrun answer is ending e = rw e at is
 
 -- the image's name as the words say it
-pub asked_reports : {left : Option (List ℕ)} {before after : SinkState} {answer : Answer} (reading given : Reading) → reading ≡ given → Reports usage (image_name reading) left before after answer
+pub asked_reports : {left : Option (List ℕ)} {before after : SinkState} {answer : Answer} (reading given : Reading) → reading ≡ given
+    → Reports usage (image_name reading) left before after answer
     → Reports usage (image_name given) left before after answer
 asked_reports reading given e reports = rw (← e) reports

@@ -11,13 +11,15 @@ pub returns-in-Ok-clause-outcome : goal.returns-in-Ok-clause-outcome
 returns-in-Ok-clause-outcome g c words held told asks loaded e =
     if_some (g.I.Source.left c.args.input.now) _ (λ left d.
     let launch = launch_with c.args.asked.arguments.now c.args.asked.limits (outside_of left) in
-    ran_outcome (tables_of c.args.code.now.code) launch c.in-Ok.ending told e (run_asked left launch c.args.asked.image.now c.args.code.now asks refl loaded) (c.in-Ok.ensures.ends left d))
+    ran_outcome (tables_of c.args.code.now.code) launch c.in-Ok.ending told e
+    (run_asked left launch c.args.asked.image.now c.args.code.now asks refl loaded) (c.in-Ok.ensures.ends left d))
 
 pub returns-in-Err-clause-outcome : goal.returns-in-Err-clause-outcome
 returns-in-Err-clause-outcome g c words held told asks loaded e =
     if_some (g.I.Source.left c.args.input.now) _ (λ left d.
     let launch = launch_with c.args.asked.arguments.now c.args.asked.limits (outside_of left) in
-    rw c.answer_of-answer.ensures (broke_outcome _ _ (tables_of c.args.code.now.code) launch c.in-Err.fault told (run_asked left launch c.args.asked.image.now c.args.code.now asks refl loaded)
+    rw c.answer_of-answer.ensures (broke_outcome _ _ (tables_of c.args.code.now.code) launch c.in-Err.fault told
+    (run_asked left launch c.args.asked.image.now c.args.code.now asks refl loaded)
     c.in-Err.ensures.first_fault (c.in-Err.ensures.breaks left d) (rw c.answer_of-answer.ensures at c.own_line.ensures.puts)))
 
 pub returns-in-Ok-clause-reported : goal.returns-in-Ok-clause-reported
@@ -27,7 +29,8 @@ pub returns-in-Err-clause-reported : goal.returns-in-Err-clause-reported
 returns-in-Err-clause-reported g c name =
     rw c.answer_of-answer.ensures (fault_reports _ _ _ c.in-Err.fault c.in-Err.ensures.first_fault
     (if_some (g.I.Source.left c.args.input.now) _ (λ left d.
-    off_puts (tables_of c.args.code.now.code) (launch_with c.args.asked.arguments.now c.args.asked.limits (outside_of left)) c.in-Err.fault _ _ (c.in-Err.ensures.breaks left d)))
+    off_puts (tables_of c.args.code.now.code) (launch_with c.args.asked.arguments.now c.args.asked.limits (outside_of left)) c.in-Err.fault _ _
+    (c.in-Err.ensures.breaks left d)))
     (rw c.answer_of-answer.ensures at c.own_line.ensures.puts))
 
 pub returns-in-Ok-clause-causes : goal.returns-in-Ok-clause-causes
