@@ -1,5 +1,5 @@
 -- What tokens, files and words come to: one thing, and one alone.
-use Rattle.std.proofs.Common.{◌≡◌, ℕ, Bool, true, false, List, [], ◌∷◌, Option, None, Some, Result, Ok, Err, refl, sym, ap, ◌∙◌, true≢false}
+use Rattle.std.proofs.Common.{◌≡◌, inl, inr, ℕ, true, List, [], ◌∷◌, Option, None, Some, Result, Ok, Err, refl, sym, ap, ◌∙◌}
 use Rattle.std.specs.Option.{option_and_then}
 use Rattle.std.proofs.lemmas.Option.{none-some, same_Some}
 use Rattle.icn_host.specs.FileMaps.{FileMap}
@@ -26,8 +26,10 @@ use Rattle.icn_simulation.specs.Faultless.{IsFaultless}
 use Rattle.icn_simulation.specs.Law.{FilesMean}
 use Rattle.icn_lines.specs.declared.answer.Answer.{Answer}
 use Rattle.icn_lines.specs.declared.answer.Answer.TheVariants.{Refused}
+use Rattle.icont_top.specs.Answered.{IsAnswered, fault as answered_fault, wrong_words as answered_wrong, refused as answered_refused, wrote, ran}
 use Rattle.icont_top.specs.Job.{Job, refusal, writing, running, image_file, launched, IsJob, wrong_words, refuses, writes, runs, KeepsLimits}
 use Rattle.icont_top.specs.Linking.{broken_by, link_place, linked, rule_of, units_of}
+use Rattle.icont_top.specs.Outcomes.{IsComplete}
 use Rattle.icont_top.specs.Sources.{Scan, refused_at, source_read}
 use Rattle.icont_top.specs.Translating.{Become, not_parsed, out_of_context, not_alone, is_program, ComesTo, no_tokens, refused, not_linked, translated}
 use Rattle.icont_top.specs.Words.{Reading, Asks, Faulty as FaultyWords, asked, base_of}
@@ -230,6 +232,15 @@ module _ (words : List (List ℕ)) (files : FileMap) where
   one_job one left _ _ (runs n w p o e x h) (writes m q f y) = absurd (none-some w (sym (same_run n m (Some w) None e f)))
   one_job one left _ _ (runs n w p o e x h) (runs m v q u f y k) =
       ap (λ written. running written o) (same_image n m (Some w) (Some v) p q e f x y) ∙ ap (running (image_file m q)) (same_observed one left n m w v p q o u e f x y h k)
+
+-- Answers
+
+pub complete_of : (words : List (List ℕ)) (files : FileMap) (answer : Answer) → IsAnswered words files answer → IsComplete words files answer
+complete_of words files _ (answered_fault answer f) name run file e x = inl f
+complete_of words files _ (answered_wrong w) name run file e x = faulty-asks words files name run w e
+complete_of words files _ (answered_refused other asks answer f y) name run file e x = absurd (ok-err file answer (same_file words files name other run asks (Ok file) (Err answer) e f x y))
+complete_of words files _ (wrote other tree f y) name run file e x = inr tt
+complete_of words files _ (ran other arguments tree ending f y) name run file e x = inr tt
 
 -- there is one
 

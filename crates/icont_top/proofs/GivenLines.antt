@@ -4,7 +4,7 @@ use Rattle.std.specs.Prelude.{MatchResult}
 use Rattle.std.proofs.lemmas.Bool.Decides.{nat_tests}
 use Rattle.icn_host.specs.FileMaps.{FileMap}
 use Rattle.icn_tree.specs.declared.lines.SourceLine.{SourceLine}
-use Rattle.icn_tree.specs.declared.rule.Rule.{Rule}
+use Rattle.icn_tree.specs.declared.rule.Rule.TheVariants.{P9}
 use Rattle.icn_tree.specs.SourceTexts.{joined_len}
 use Rattle.icn_prep.specs.declared.fault.PrepFault.{PrepFault}
 use Rattle.icn_prep.specs.declared.fault.PrepFault.TheVariants.{Broken}
@@ -20,7 +20,7 @@ use Rattle.icn_prep.specs.Outcomes.{◌>>=◌}
 use Rattle.icn_prep.specs.Places.{Place, start_of, next_line}
 use Rattle.icn_prep.specs.Replacement.{Read, replaced}
 use Rattle.icn_prep.specs.Texts.{with_text, undefined}
-use Rattle.icn_prep.specs.SourceLines.{State, Source, Outcome, Step, first_state, Including, given, given_more, left_empty, passed, text_line, define_again, define_line, undef_line, include_line, if_line, else_line, endif_line, renumbered, line_line, where_taken, directive_line, line_read, ended, lines_read, file_read, too_deep, found, included, named_file, source_of, source_lines}
+use Rattle.icn_prep.specs.SourceLines.{State, Source, Outcome, Step, first_state, name_at, Including, given, given_more, left_empty, passed, text_line, define_again, define_line, undef_line, include_line, if_line, else_line, endif_line, renumbered, line_line, where_taken, directive_line, line_read, ended, lines_read, file_read, too_deep, found, included, named_file, source_of, source_lines}
 
 abbrev Within : State → Type 0
 Within s = joined_len s.lines ≤ 16777216
@@ -51,7 +51,7 @@ either false x y h g = g
 
 more_bound : (s : State) (literal : LiteralState) (lines : List SourceLine) → Bounded of_outcome (given_more s literal lines)
 more_bound s literal lines = by_test (nat_lt 16777216 (joined_len lines)) refl where
-  by_test : (b : Bool) → nat_lt 16777216 (joined_len lines) ≡ b → Bounded of_outcome (cond b (Err _) (Ok (record s { lines = lines; literal = literal })))
+  by_test : (b : Bool) → nat_lt 16777216 (joined_len lines) ≡ b → Bounded of_outcome (cond b (Err (Broken P9 (name_at s 0) 0)) (Ok (record s { lines = lines; literal = literal })))
   by_test true e = breaks _
   by_test false e = record { lines = grind (arith, nat_tests) }
 

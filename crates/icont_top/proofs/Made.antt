@@ -9,9 +9,11 @@ use Rattle.icn_tree.specs.Trees.{Declaration}
 use Rattle.icn_code.specs.Codes.{Tables}
 use Rattle.icn_code.specs.Seen.{tables_of}
 use Rattle.icn_image.specs.Spelling.{image_of}
+use Rattle.icn_unit.specs.declared.unit.Unit.{Unit}
+use Rattle.icn_translate.specs.FileUnits.{translated_unit}
 use Rattle.icn_link.specs.declared.fault.LinkFault.{LinkFault}
-use Rattle.icn_link.specs.declared.fault.LinkFault.TheVariants.{NoMemory as WantsMemory}
 use Rattle.icn_link.specs.LinkFaults.{first_fault, IsFault as IsLinkFault}
+use Rattle.icn_link.specs.Units.{unit_seen, units_seen}
 use Rattle.icn_simulation.specs.Law.{IsLinked}
 use Rattle.icn_lines.specs.declared.answer.Answer.{Answer}
 use Rattle.icn_lines.specs.declared.answer.Answer.TheVariants.{Refused, FileFault, NoMemory}
@@ -24,6 +26,10 @@ use Rattle.icont_top.specs.Translating.{Become, ComesTo, no_tokens, refused, not
 use Rattle.icont_top.specs.Words.{base_of}
 
 -- Linking
+
+-- what is linked is the unit of the file alone
+pub units_are : (base given : List ℕ) (file : List Declaration) (unit : Unit) → unit_seen unit ≡ translated_unit given file → given ≡ base → units_seen (unit ∷ []) ≡ units_of base file
+units_are base given file unit e same = ap (λ u. u ∷ []) (e ∙ ap (λ name. translated_unit name file) same)
 
 -- the code and the image of a program that was linked
 pub made_of : (base : List ℕ) (file : List Declaration) (made : Made) (tables : Tables) → tables ≡ linked base file → tables_of made.code.code ≡ tables → made.image.items ≡ image_of tables

@@ -1,5 +1,5 @@
 -- What the words, the files and the input ask for, and what became of it.
-use Rattle.std.proofs.Common.{◌≡◌, ◌⊎◌, ◌↔◌, inl, inr, ℕ, true, List, [], ◌∷◌, map, Bor, Option, None, Some, IfSome, IfOk, IfErr, Result, Ok, Err, refl, sym, ap, ◌∙◌, subst}
+use Rattle.std.proofs.Common.{◌≡◌, ◌⊎◌, ◌↔◌, inl, inr, ℕ, true, List, [], ◌∷◌, map, Bor, Option, None, Some, IfSome, Ok, Err, refl, sym, ap, ◌∙◌, subst}
 use Rattle.std.specs.Prelude.{String, string_bytes}
 use Rattle.std.specs.Option.{option_map}
 use Rattle.std.proofs.Common.{Global}
@@ -26,7 +26,7 @@ use Rattle.icn_run.specs.declared.ending.Ending.TheVariants as HeldEndings
 use Rattle.icn_simulation.specs.Law.{IsLinked, FilesMean, RunsFlat}
 use Rattle.icn_streams.specs.Handed.{Handed, handed}
 use Rattle.icn_running.specs.declared.fault.RunFault.{RunFault}
-use Rattle.icn_running.specs.Reported.{PutsReport, ending_seen}
+use Rattle.icn_running.specs.Reported.{ending_seen}
 use Rattle.icn_running.specs.Runs.{EndsAtFirst as RunEnds, IsBrokenOff, RunsTo}
 use Rattle.icn_lines.specs.declared.answer.Answer.{Answer}
 use Rattle.icn_lines.specs.declared.answer.Answer.TheVariants.{Wrote, Ran, Refused, Command, Missing, BadImage, FileFault, ReadFault, WriteFault, NoMemory}
@@ -36,17 +36,18 @@ use Rattle.icn_lines.specs.Endings.{ending_held}
 use Rattle.icn_lines.specs.Faulting.{IsOfRun, of_run}
 use Rattle.icn_lines.specs.Lines.{line_of}
 use Rattle.icn_lines.specs.Refusing.{PutsOwn, Refuses, put, own, write_fault, want}
+use Rattle.icn_lines.specs.Reporting.{PutsSome}
 use Rattle.icn_lines.specs.Telling.{Told, told, with_errors}
 use Rattle.icn_lines.proofs.Counted.{no_cause, refused_ends, unmoved}
-use Rattle.icn_lines.proofs.Reports.{is_run_fault, puts_own, ran_no_fault, wrote_no_fault}
+use Rattle.icn_lines.proofs.Reports.{broken_puts, is_run_fault, puts_own, ran_no_fault, wrote_no_fault}
 use Rattle.icont_top.specs.declared.making.Made.{Made}
 use Rattle.icont_top.specs.declared.words.FileAsked.{FileAsked}
 use Rattle.icont_top.specs.Answered.{IsAnswered, IsCommand, fault as answered_fault, refused as answered_refused, ran as answered_ran}
 use Rattle.icont_top.specs.Asking.{asking}
 use Rattle.icont_top.specs.Job.{refusal, writing, running, image_file, launched, IsJob, refuses, writes, runs}
-use Rattle.icont_top.specs.Linking.{RunsAs, image, linked}
+use Rattle.icont_top.specs.Linking.{image, linked, units_of}
 use Rattle.icont_top.specs.Loading.{IsMade}
-use Rattle.icont_top.specs.Outcomes.{Begins, MeaningBrokenOff, Outcome, done, fault, idle, torn, broke, HasWritten, HoldsImage, IsImage}
+use Rattle.icont_top.specs.Outcomes.{Begins, Outcome, done, fault, idle, torn, broke, HasWritten, HoldsImage, IsImage}
 use Rattle.icont_top.specs.Running.{IsRanOrBroken, ran, broken}
 use Rattle.icont_top.specs.Sources.{IsAbsence, IsOfRead}
 use Rattle.icont_top.specs.Translating.{ComesTo}
@@ -132,7 +133,7 @@ pub is_image : (base : List ℕ) (file : List Declaration) (made : Made) → ((t
     → keeps_rules (tables_of made.code.code) ≡ true → IsVerified (tables_of made.code.code) → IsImage file (image base file)
 is_image base file made read ends is rules verified = record {
   tables = linked base file;
-  within = image_within _ is.fits;
+  within = image_within (units_of base file) is.fits;
   read = read (linked base file) (subst (λ t. keeps_rules t ≡ true) is.code rules);
   verified = subst IsVerified is.code verified;
   runs = λ launch seen. ends (file ∷ []) (linked base file) launch seen is.joins;
@@ -197,6 +198,10 @@ pub run_ended : {before after : Handed} (tables : Tables) (words : List (List �
     → RunsTo tables (launch_of words bounds left) (ending_seen ending) before after → IsRanOrBroken tables (launched words left) (Ran ending) before after
 run_ended {before} {after} tables words left bounds ending e ends =
     ran ending refl (subst (λ launch. RunsTo tables launch (ending_seen ending) before after) (launched_as words bounds left e) ends)
+
+-- what a run put that was broken off
+pub off_puts : (tables : Tables) (launch : Launch) (wrong : RunFault) (before after : Handed) → IsBrokenOff tables launch wrong before after → PutsSome before.errors after.errors
+off_puts tables launch wrong before after off = broken_puts wrong launch.outside.left off.0 before after off.1.1
 
 pub run_broken : (tables : Tables) (words : List (List ℕ)) (left : List ℕ) (bounds : Bounds) (wrong : RunFault) (before between after : Handed) → bounds ≡ default_limits → RunEnds {A = Ending} (Err wrong) before between
     → IsBrokenOff tables (launch_of words bounds left) wrong before between → PutsOwn (of_run wrong) between.errors after.errors → with_errors between.errors after ≡ between

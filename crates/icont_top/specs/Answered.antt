@@ -13,9 +13,12 @@ use Rattle.icont_top.specs.Words.{Reading, Asks, Faulty, asked}
 pub data IsAnswered (words : List (List ℕ)) (files : FileMap) : Answer → Type 0 where
   fault : (answer : Answer) → IsFault answer → IsAnswered words files answer
   wrong_words : asked words ≡ Faulty → IsAnswered words files (Command 1)
-  refused : (name : List ℕ) (run : Option (List (List ℕ))) (answer : Answer) → asked words ≡ Asks name run → ComesTo files name (Err answer) → IsAnswered words files answer
-  wrote : (name : List ℕ) (file : List Declaration) → asked words ≡ Asks name None → ComesTo files name (Ok file) → IsAnswered words files Wrote
-  ran : (name : List ℕ) (arguments : List (List ℕ)) (file : List Declaration) (ending : Ending) → asked words ≡ Asks name (Some arguments) → ComesTo files name (Ok file) → IsAnswered words files (Ran ending)
+  refused : (name : List ℕ) (run : Option (List (List ℕ))) (answer : Answer) → asked words ≡ Asks name run
+      → ComesTo files name (Err answer) → IsAnswered words files answer
+  wrote : (name : List ℕ) (file : List Declaration) → asked words ≡ Asks name None → ComesTo files name (Ok file)
+      → IsAnswered words files Wrote
+  ran : (name : List ℕ) (arguments : List (List ℕ)) (file : List Declaration) (ending : Ending)
+      → asked words ≡ Asks name (Some arguments) → ComesTo files name (Ok file) → IsAnswered words files (Ran ending)
 
 abbrev pub IsCommand : Answer → Type 0
 IsCommand (Command kind) = Unit {0}

@@ -57,12 +57,16 @@ launched arguments left = launch_of arguments default_limits left
 -- what the words, the files and the input ask for
 pub data IsJob (words : List (List ℕ)) (files : FileMap) (left : List ℕ) : Job → Type 0 where
   wrong_words : asked words ≡ Faulty → IsJob words files left (refusal left (Command 1))
-  refuses : (name : List ℕ) (run : Option (List (List ℕ))) (answer : Answer) → asked words ≡ Asks name run → ComesTo files name (Err answer) → IsJob words files left (refusal left answer)
-  writes : (name : List ℕ) (file : List Declaration) → asked words ≡ Asks name None → ComesTo files name (Ok file) → IsJob words files left (writing (image_file name file) left)
-  runs : (name : List ℕ) (arguments : List (List ℕ)) (file : List Declaration) (seen : Observed) → asked words ≡ Asks name (Some arguments) → ComesTo files name (Ok file)
+  refuses : (name : List ℕ) (run : Option (List (List ℕ))) (answer : Answer) → asked words ≡ Asks name run
+      → ComesTo files name (Err answer) → IsJob words files left (refusal left answer)
+  writes : (name : List ℕ) (file : List Declaration) → asked words ≡ Asks name None → ComesTo files name (Ok file)
+      → IsJob words files left (writing (image_file name file) left)
+  runs : (name : List ℕ) (arguments : List (List ℕ)) (file : List Declaration) (seen : Observed)
+      → asked words ≡ Asks name (Some arguments) → ComesTo files name (Ok file)
       → FilesMean (file ∷ []) (launched arguments left) seen → IsJob words files left (running (image_file name file) seen)
 
 -- the code of the program that the words name, where they name one, keeps the limits of a code
 abbrev pub KeepsLimits : List (List ℕ) → FileMap → Type 0
-KeepsLimits words files = (name : List ℕ) (run : Option (List (List ℕ))) (file : List Declaration) → asked words ≡ Asks name run → ComesTo files name (Ok file)
+KeepsLimits words files = (name : List ℕ) (run : Option (List (List ℕ))) (file : List Declaration)
+    → asked words ≡ Asks name run → ComesTo files name (Ok file)
     → keeps_rules (linked (base_of name) file) ≡ true

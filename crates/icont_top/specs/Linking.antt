@@ -1,5 +1,5 @@
 -- The code of a program that is one file, and why it has none.
-use Rattle.std.specs.Prelude.{◌≡◌, ◌↔◌, ℕ, List, [], ◌∷◌, Option, None, Some}
+use Rattle.std.specs.Prelude.{◌↔◌, ℕ, List, [], ◌∷◌, Option, None, Some}
 use Rattle.std.specs.Option.{option_and_then, option_or}
 use Rattle.icn_tree.specs.declared.rule.Rule.{Rule}
 use Rattle.icn_tree.specs.declared.rule.Rule.TheVariants as Rules

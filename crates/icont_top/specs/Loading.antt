@@ -35,7 +35,8 @@ Makes base file (Err answer) = RefusesLink base file answer
 -- the tokens of a file of this base name were made into this; or their refusal is answered, or that memory was wanting
 abbrev pub MakesTokens : List ℕ → Scan → Result Made Answer → Type 0
 MakesTokens base scan (Ok made) = (file : List Declaration) × (Become scan.tokens (Ok file) × IsMade base file made)
-MakesTokens base scan (Err answer) = (answer ≡ NoMemory) ⊎ (((rule : Rule) × ((place : Place) × (Become scan.tokens (Err (rule, place)) × (answer ≡ refused_at scan.names rule place))))
+MakesTokens base scan (Err answer) = (answer ≡ NoMemory)
+    ⊎ (((rule : Rule) × ((place : Place) × (Become scan.tokens (Err (rule, place)) × (answer ≡ refused_at scan.names rule place))))
     ⊎ ((file : List Declaration) × (Become scan.tokens (Ok file) × RefusesLink base file answer)))
 
 -- the file of this name was made into this, or what refuses it is answered, or a fault

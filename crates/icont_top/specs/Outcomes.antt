@@ -56,12 +56,17 @@ pub record MeaningBrokenOff (file : List Declaration) (arguments : List (List �
 -- begun; or the image could not be written whole, so that its name holds nothing, what it held or a first part of the image; or the
 -- image was written, and the program was broken off as it ran.
 pub data Faults (words : List (List ℕ)) (files : FileMap) (left : List ℕ) (answer : Answer) (before after : Told) : Type 0 where
-  idle : (between : SinkState) → after.files ≡ before.files → after.streams.left ≡ before.streams.left → after.streams.output.held ≡ before.streams.output.held
-      → Begins (IsJob words files left) before.streams.errors between → Puts between after.streams.errors (fault_line answer) → Faults words files left answer before after
+  idle : (between : SinkState) → after.files ≡ before.files → after.streams.left ≡ before.streams.left
+      → after.streams.output.held ≡ before.streams.output.held
+      → Begins (IsJob words files left) before.streams.errors between
+      → Puts between after.streams.errors (fault_line answer) → Faults words files left answer before after
   torn : (name : List ℕ) (run : Option (List (List ℕ))) (file : List Declaration) → IsAsked words files name run file
-      → SetsPart before.files after.files (image_file name file).name (image_file name file).bytes → after.streams.left ≡ before.streams.left
-      → after.streams.output.held ≡ before.streams.output.held → Puts before.streams.errors after.streams.errors (fault_line answer) → Faults words files left answer before after
-  broke : (name : List ℕ) (arguments : List (List ℕ)) (file : List Declaration) (fault : RunFault) (between : SinkState) → IsAsked words files name (Some arguments) file
+      → SetsPart before.files after.files (image_file name file).name (image_file name file).bytes
+      → after.streams.left ≡ before.streams.left
+      → after.streams.output.held ≡ before.streams.output.held
+      → Puts before.streams.errors after.streams.errors (fault_line answer) → Faults words files left answer before after
+  broke : (name : List ℕ) (arguments : List (List ℕ)) (file : List Declaration) (fault : RunFault) (between : SinkState)
+      → IsAsked words files name (Some arguments) file
       → Sets before.files after.files (image_file name file).name (image_file name file).bytes → answer ≡ of_run fault
       → EndsAtFirst {A = Ending} (Err fault) before.streams (with_errors between after.streams)
       → MeaningBrokenOff file arguments left fault before.streams (with_errors between after.streams)
@@ -77,6 +82,12 @@ abbrev pub HasWritten : Answer → Type 0
 HasWritten Wrote = Unit {0}
 HasWritten (Ran ending) = Unit {0}
 HasWritten answer = ⊥
+
+-- where the words name a file that breaks no rule, its image was written, or a fault is answered
+abbrev pub IsComplete : List (List ℕ) → FileMap → Answer → Type 0
+IsComplete words files answer = (name : List ℕ) (run : Option (List (List ℕ))) (file : List Declaration)
+    → asked words ≡ Asks name run → ComesTo files name (Ok file)
+    → IsFault answer ⊎ HasWritten answer
 
 -- These bytes are the image of a code that `iconx` reads and verifies, and its run means, with all words, limits and inputs, what the
 -- file means.

@@ -17,6 +17,9 @@ use Rattle.icn_lines.specs.Telling.{with_errors}
 
 -- the run ended, or it was broken off, and a fault is answered whose line was put behind
 pub data IsRanOrBroken (tables : Tables) (launch : Launch) (answer : Answer) (before after : Handed) : Type 0 where
-  ran : (ending : Ending) → answer ≡ Ran ending → RunsTo tables launch (ending_seen ending) before after → IsRanOrBroken tables launch answer before after
-  broken : (fault : RunFault) (between : SinkState) → answer ≡ of_run fault → EndsAtFirst {A = Ending} (Err fault) before (with_errors between after)
-      → IsBrokenOff tables launch fault before (with_errors between after) → Puts between after.errors (fault_line answer) → IsRanOrBroken tables launch answer before after
+  ran : (ending : Ending) → answer ≡ Ran ending → RunsTo tables launch (ending_seen ending) before after
+      → IsRanOrBroken tables launch answer before after
+  broken : (fault : RunFault) (between : SinkState) → answer ≡ of_run fault
+      → EndsAtFirst {A = Ending} (Err fault) before (with_errors between after)
+      → IsBrokenOff tables launch fault before (with_errors between after) → Puts between after.errors (fault_line answer)
+      → IsRanOrBroken tables launch answer before after

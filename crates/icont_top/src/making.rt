@@ -93,7 +93,6 @@ fn linked(alloc: Global, base: &str, file: &Checked) -> Result<Code, Answer>
     ensures others { IfErr result IsOfTokens }
 {
     translated_units_join();
-    let text = file.file();
     let Ok(unit) = unit(alloc, base.as_bytes(), file) else {
         return Err(Answer::NoMemory);
     };

@@ -6,9 +6,9 @@ ghost use Rattle.icn_decls.specs.Spelled.{AreScanned};
 ghost use Rattle.icn_lines.specs.declared.answer.Answer.TheVariants.{Missing};
 ghost use Rattle.icont_top.specs.Sources.{name_at, refused_at, tokens_read, fault_answer, source_read, IsRead, IsErrOfAbsence, IsOfRead};
 
-use icn_lines::Answer;
 use icn_host::Files;
 use icn_lex::{LexFault, tokens};
+use icn_lines::Answer;
 use icn_prep::{PrepFault, preprocess};
 use icn_tree::{Bytes, Lines, Place, Rule, Token};
 use std::alloc::Global;

@@ -15,7 +15,7 @@ ghost use Rattle.icont_top.specs.Answered.{IsAnswered, IsCommand, IsCommanded};
 ghost use Rattle.icont_top.specs.Asking.{asking};
 ghost use Rattle.icont_top.specs.Job.{launched};
 ghost use Rattle.icont_top.specs.Loading.{IsMade};
-ghost use Rattle.icont_top.specs.Outcomes.{HasWritten, HoldsImage, Outcome};
+ghost use Rattle.icont_top.specs.Outcomes.{HasWritten, HoldsImage, IsComplete, Outcome};
 ghost use Rattle.icont_top.specs.Running.{IsRanOrBroken};
 ghost use Rattle.icont_top.specs.Sources.{IsAbsence};
 ghost use Rattle.icont_top.specs.Translating.{ComesTo};
@@ -30,7 +30,7 @@ use icn_host::{Fault, Files, Sink, Source};
 use icn_image::one_spelling;
 use icn_lines::{Answer, answer_of, own_line, refuse};
 use icn_running::run;
-use icn_simulation::{same_broken_off, same_ends};
+use icn_simulation::same_ends;
 use icn_value::Limits;
 use icn_verify::Verified;
 use std::alloc::Global;
@@ -61,7 +61,8 @@ pub fn icont_main<F: Files, I: Source, O: Sink, E: Sink>(
 
     // Where an image was written, the base name holds the image of a code that `iconx` takes, and whose runs mean what the
     // source means.
-    ensures headline { HasWritten result → IfSome (F.held files.old) (λ held. HoldsImage (map string_bytes words.now) held (F.held files.new)) }
+    ensures headline { HasWritten result
+        → IfSome (F.held files.old) (λ held. HoldsImage (map string_bytes words.now) held (F.held files.new)) }
 
     // Every other answer's line was put, whatever the files and the input tell; of a run, its report behind what it put, where the
     // input tells its content.
@@ -73,6 +74,9 @@ pub fn icont_main<F: Files, I: Source, O: Sink, E: Sink>(
 
     // Where the files tell their content, the answer is the one that the words and the files ask for, or a fault.
     ensures answered { IfSome (F.held files.old) (λ held. IsAnswered (map string_bytes words.now) held result) }
+
+    // Where the words name a file that breaks no rule, its image was written, or a fault is answered.
+    ensures complete { IfSome (F.held files.old) (λ held. IsComplete (map string_bytes words.now) held result) }
 
     // The words are faulty exactly where they are not of the command's form.
     ensures command { IsCommanded (read (map string_bytes words.now)) result }
@@ -104,12 +108,15 @@ fn file_answer<F: Files, I: Source, O: Sink, E: Sink>(
     err: &mut E,
 ) -> Answer
     requires source { is_source asked.name.now ≡ true }
-    ensures outcome { (words : List (List ℕ)) → read words ≡ asking asked.entry → IfSome (F.held files.old) (λ held. IfSome (I.left input.old) (λ left. Outcome words held left result
+    ensures outcome { (words : List (List ℕ)) → read words ≡ asking asked.entry
+        → IfSome (F.held files.old) (λ held. IfSome (I.left input.old) (λ left. Outcome words held left result
         (told (F.held files.old) (handed (I.left input.old) (I.faults input.old) (O.state out.old) (E.state err.old)))
         (told (F.held files.new) (handed (I.left input.new) (I.faults input.new) (O.state out.new) (E.state err.new))))) }
-    ensures headline { (words : List (List ℕ)) → read words ≡ asking asked.entry → HasWritten result → IfSome (F.held files.old) (λ held. HoldsImage words held (F.held files.new)) }
+    ensures headline { (words : List (List ℕ)) → read words ≡ asking asked.entry → HasWritten result
+        → IfSome (F.held files.old) (λ held. HoldsImage words held (F.held files.new)) }
     ensures reported { Reports usage [] (I.left input.old) (E.state err.old) (E.state err.new) result }
-    ensures answered { (words : List (List ℕ)) → read words ≡ asking asked.entry → IfSome (F.held files.old) (λ held. IsAnswered words held result) }
+    ensures answered { (words : List (List ℕ)) → read words ≡ asking asked.entry
+        → IfSome (F.held files.old) (λ held. IsAnswered words held result) }
     ensures command { IsCommand result → ⊥ }
     ensures untouched { IsRefusal result → F.held files.new ≡ F.held files.old }
     ensures refused { IsRefusal result → (O.state out.new).held ≡ (O.state out.old).held }
@@ -135,14 +142,17 @@ fn image_answer<F: Files, I: Source, O: Sink, E: Sink>(
     err: &mut E,
 ) -> Answer
     requires source { is_source asked.name.now ≡ true }
-    ensures outcome { (words : List (List ℕ)) (held : FileMap) (file : List Declaration) → read words ≡ asking asked.entry → ComesTo held asked.entry.name.now (Ok file) → IsMade (base_of asked.entry.name.now) file made.now
+    ensures outcome { (words : List (List ℕ)) (held : FileMap) (file : List Declaration) → read words ≡ asking asked.entry
+        → ComesTo held asked.entry.name.now (Ok file) → IsMade (base_of asked.entry.name.now) file made.now
         → IfSome (I.left input.old) (λ left. Outcome words held left result
         (told (F.held files.old) (handed (I.left input.old) (I.faults input.old) (O.state out.old) (E.state err.old)))
         (told (F.held files.new) (handed (I.left input.new) (I.faults input.new) (O.state out.new) (E.state err.new)))) }
-    ensures headline { (words : List (List ℕ)) (held : FileMap) (file : List Declaration) → read words ≡ asking asked.entry → ComesTo held asked.entry.name.now (Ok file) → IsMade (base_of asked.entry.name.now) file made.now
+    ensures headline { (words : List (List ℕ)) (held : FileMap) (file : List Declaration) → read words ≡ asking asked.entry
+        → ComesTo held asked.entry.name.now (Ok file) → IsMade (base_of asked.entry.name.now) file made.now
         → F.held files.old ≡ Some held → HasWritten result → HoldsImage words held (F.held files.new) }
     ensures reported { Reports usage [] (I.left input.old) (E.state err.old) (E.state err.new) result }
-    ensures answered { (words : List (List ℕ)) (held : FileMap) (file : List Declaration) → read words ≡ asking asked.entry → ComesTo held asked.entry.name.now (Ok file) → IsAnswered words held result }
+    ensures answered { (words : List (List ℕ)) (held : FileMap) (file : List Declaration) → read words ≡ asking asked.entry
+        → ComesTo held asked.entry.name.now (Ok file) → IsAnswered words held result }
     ensures no_refusal { IsRefusal result → ⊥ }
     ensures causes { EndsAtFirst result (IsAbsence result)
         (outside (F.faults files.old) (F.absences files.old) (handed (I.left input.old) (I.faults input.old) (O.state out.old) (E.state err.old)))
@@ -150,7 +160,6 @@ fn image_answer<F: Files, I: Source, O: Sink, E: Sink>(
 {
     one_spelling();
     same_ends();
-    let code = made.code.code();
     match files.write(base_name(asked.name), &made.image) {
         Ok(()) => match asked.run {
             Some(words) => run_answer(alloc, &made.code, words, input, out, err),

@@ -1,9 +1,11 @@
 use Rattle.std.proofs.Common.{map, refl}
 use Rattle.std.specs.Prelude.{string_bytes}
+use Rattle.icn_value.specs.Store.{outside_of}
 use Rattle.icn_code.specs.Seen.{tables_of}
+use Rattle.icn_machine.specs.Starting.{launch_with}
 use Rattle.icn_lines.proofs.Counted.{broken_counts, ran_counts}
-use Rattle.icn_lines.proofs.Reports.{broken_puts, fault_reports, ran_reports}
-use Rattle.icont_top.proofs.Topmost.{at_some, if_some, run_broken, run_ended}
+use Rattle.icn_lines.proofs.Reports.{fault_reports, ran_reports}
+use Rattle.icont_top.proofs.Topmost.{if_some, off_puts, run_broken, run_ended}
 use Rattle.icont_top.proofs.top.run_answer.Goals as goal
 
 pub returns-in-Ok-clause-ran : goal.returns-in-Ok-clause-ran
@@ -21,12 +23,14 @@ pub returns-in-Ok-clause-reported : goal.returns-in-Ok-clause-reported
 returns-in-Ok-clause-reported g c = ran_reports c.in-Ok.ending (if_some (g.I.Source.left c.args.input.now) _ (λ left d. c.in-Ok.ensures.reported left d))
 
 pub returns-in-Err-clause-reported : goal.returns-in-Err-clause-reported
-returns-in-Err-clause-reported g c = rw c.answer_of-answer.ensures (fault_reports c.in-Err.fault
-    (if_some (g.I.Source.left c.args.input.now) _ (λ left d. let off = c.in-Err.ensures.breaks left d in broken_puts c.in-Err.fault _ off.0 _ _ off.1.1)) (rw c.answer_of-answer.ensures at c.own_line.ensures.puts))
+returns-in-Err-clause-reported g c =
+    rw c.answer_of-answer.ensures (fault_reports _ _ _ c.in-Err.fault c.in-Err.ensures.first_fault
+    (if_some (g.I.Source.left c.args.input.now) _ (λ left d. off_puts (tables_of c.args.code.now.code) (launch_with c.args.words.now c.standard.result (outside_of left)) c.in-Err.fault _ _ (c.in-Err.ensures.breaks left d)))
+    (rw c.answer_of-answer.ensures at c.own_line.ensures.puts))
 
 pub returns-in-Ok-clause-causes : goal.returns-in-Ok-clause-causes
 returns-in-Ok-clause-causes g c = ran_counts c.in-Ok.ending c.in-Ok.ensures.first_fault
 
 pub returns-in-Err-clause-causes : goal.returns-in-Err-clause-causes
 returns-in-Err-clause-causes g c =
-    rw c.answer_of-answer.ensures (broken_counts c.in-Err.fault c.in-Err.ensures.first_fault (rw c.answer_of-answer.ensures at c.own_line.ensures.puts) refl)
+    rw c.answer_of-answer.ensures (broken_counts _ _ c.in-Err.fault c.in-Err.ensures.first_fault (rw c.answer_of-answer.ensures at c.own_line.ensures.puts))
