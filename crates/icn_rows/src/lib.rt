@@ -264,7 +264,10 @@ mod tests {
             b"procedure main()\nend\n\ninvocable all\nglobal g\n",
             LEFT_OUT_4,
         ),
-        (b"procedure main()\nbreak\nend\ninvocable\nall\n", LEFT_OUT_4),
+        (
+            b"procedure main()\nbreak\nend\ninvocable\nall\n",
+            LEFT_OUT_4,
+        ),
         // other files are linked behind all rules of this one
         (b"procedure main()\nend\nlink\nx\nrecord r()\n", LEFT_OUT_3),
         (
