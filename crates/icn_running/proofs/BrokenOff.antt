@@ -37,7 +37,8 @@ front was all text more is e = sym is ∙ sym (ap (take (length was)) e ∙ take
 gains_front : (before between after : SinkState) (was all more : List ℕ)
     → Puts before between [] was → after ≡ between → all ≡ was ++ more → Gains before.held after.held (take (length was) all)
 gains_front before between after was all more p same e = record {
-  appends = subst (Appends before.held after.held) (front was all p.text more p.is e) (subst (λ (s : SinkState). Appends before.held s.held p.text) (sym same) p.gains.appends);
+  appends =
+      subst (Appends before.held after.held) (front was all p.text more p.is e) (subst (λ (s : SinkState). Appends before.held s.held p.text) (sym same) p.gains.appends);
 }
 
 gains_part : (before after : SinkState) (now all more : List ℕ)
@@ -88,10 +89,14 @@ module _ (tables : Tables) where
   -- what is observed at the end extends the outside of each state before it
   to_end : (m : ℕ) (s : State Frames Frames) (seen : Observed)
       → observed (after_steps on m s) ≡ Some seen → Extends (outside_at s) seen.outside
-  to_end m (running f st) seen e = subst (HasOutside (Extends st.outside)) (over_seen (after_steps on m (running f st)) seen e) (steps_extend tables (running f st) m)
-  to_end m (failing f st) seen e = subst (HasOutside (Extends st.outside)) (over_seen (after_steps on m (failing f st)) seen e) (steps_extend tables (failing f st) m)
-  to_end m (hopping f st) seen e = subst (HasOutside (Extends st.outside)) (over_seen (after_steps on m (hopping f st)) seen e) (steps_extend tables (hopping f st) m)
-  to_end m (over ending outside) seen e = subst (HasOutside (Extends outside)) (over_seen (after_steps on m (over ending outside)) seen e) (steps_extend tables (over ending outside) m)
+  to_end m (running f st) seen e =
+      subst (HasOutside (Extends st.outside)) (over_seen (after_steps on m (running f st)) seen e) (steps_extend tables (running f st) m)
+  to_end m (failing f st) seen e =
+      subst (HasOutside (Extends st.outside)) (over_seen (after_steps on m (failing f st)) seen e) (steps_extend tables (failing f st) m)
+  to_end m (hopping f st) seen e =
+      subst (HasOutside (Extends st.outside)) (over_seen (after_steps on m (hopping f st)) seen e) (steps_extend tables (hopping f st) m)
+  to_end m (over ending outside) seen e =
+      subst (HasOutside (Extends outside)) (over_seen (after_steps on m (over ending outside)) seen e) (steps_extend tables (over ending outside) m)
   to_end m stuck seen e = none m seen e
 
   has_at : (m : ℕ) (s : State Frames Frames) (seen : Observed) (o : Outside)
@@ -136,8 +141,10 @@ module _ (tables : Tables) where
     next_since_start n was = subst (Extends (outside_of input)) (in_next n was) (since_start (suc n))
 
     -- what is left is that of one outside on the way, and what was put a first part of that of another
-    breaks_at : (before after : Handed) (mid now : Outside) → Extends (outside_of input) mid → Extends mid seen.outside → Extends now seen.outside → after.left ≡ Some mid.left
-        → PutsPart before.output after.output [] now.output → PutsPart before.errors after.errors [] now.errors → Breaks input seen (streams_of before) (streams_of after)
+    breaks_at : (before after : Handed) (mid now : Outside) → Extends (outside_of input) mid → Extends mid seen.outside → Extends now seen.outside
+        → after.left ≡ Some mid.left
+        → PutsPart before.output after.output [] now.output → PutsPart before.errors after.errors [] now.errors
+        → Breaks input seen (streams_of before) (streams_of after)
     breaks_at before after mid now since rest more left output errors = record {
       left = loses input mid seen after.left since rest left;
       output = gains_part before.output after.output now.output seen.outside.output more.output_text output more.output;
@@ -154,7 +161,8 @@ module _ (tables : Tables) where
         (part_of_nothing before.output []) (part_of_nothing before.errors [])
 
     -- a run that is over, whose report was not put whole
-    pub run_cut_short : (before between : Handed) (errors : SinkState) (ending : Ending) (report : List ℕ) → ComesToEnd tables launch before between ending report
+    pub run_cut_short : (before between : Handed) (errors : SinkState) (ending : Ending) (report : List ℕ)
+        → ComesToEnd tables launch before between ending report
         → GainsPart between.errors.held errors.held report → Breaks input seen (streams_of before) (streams_of (then_errors between errors))
     run_cut_short before between errors ending report comes part =
         let there : outside_at (at comes.count) ≡ with_errors report comes.now = ap outside_at comes.is in
@@ -191,25 +199,30 @@ module _ (tables : Tables) where
       -- a step that was broken off as it put
       pub run_breaks_putting : Step.BreaksPutting (at (suc n)) (outside_at (at n)) between after → Breaks input seen (streams_of before) (streams_of after)
       run_breaks_putting b =
-          breaks_at before after (outside_at (at n)) (outside_in (outside_at (at n)) (at (suc n))) (since_start n) (until_end n) (next_until_end n (outside_at (at n)))
+          breaks_at before after (outside_at (at n)) (outside_in (outside_at (at n)) (at (suc n))) (since_start n) (until_end n)
+          (next_until_end n (outside_at (at n)))
           (b.left ∙ f.left) (then_puts_part f.output b.output) (then_puts_part f.errors b.errors)
 
       from_idle : after ≡ between → Breaks input seen (streams_of before) (streams_of after)
       from_idle e =
           let g : Follows before after (outside_of input) (outside_at (at n)) = subst (λ (h : Handed). Follows before h (outside_of input) (outside_at (at n))) (sym e) f in
-          breaks_at before after (outside_at (at n)) (outside_at (at n)) (since_start n) (until_end n) (until_end n) g.left (puts_whole g.output) (puts_whole g.errors)
+          breaks_at before after (outside_at (at n)) (outside_at (at n)) (since_start n) (until_end n) (until_end n) g.left (puts_whole g.output)
+          (puts_whole g.errors)
 
-      from_behind : Follows between after (outside_at (at n)) (outside_in (outside_at (at n)) (at (suc n))) → Breaks input seen (streams_of before) (streams_of after)
+      from_behind : Follows between after (outside_at (at n)) (outside_in (outside_at (at n)) (at (suc n)))
+          → Breaks input seen (streams_of before) (streams_of after)
       from_behind h =
           let was = outside_at (at n) in
           let g : Follows before after (outside_of input) (outside_in was (at (suc n))) = follows_then f h in
-          breaks_at before after (outside_in was (at (suc n))) (outside_in was (at (suc n))) (next_since_start n was) (next_until_end n was) (next_until_end n was)
+          breaks_at before after (outside_in was (at (suc n))) (outside_in was (at (suc n))) (next_since_start n was) (next_until_end n was)
+          (next_until_end n was)
           g.left (puts_whole g.output) (puts_whole g.errors)
 
       -- a step that was broken off for want of memory
       pub run_breaks_off : BreaksOff (at (suc n)) (outside_at (at n)) between after → Breaks input seen (streams_of before) (streams_of after)
       run_breaks_off (idle e) = from_idle e
       run_breaks_off (reading b) =
-          reading_breaks input seen (streams_of before) (streams_of after) (run_leaves flat tables (of_input input) empty launch r.count seen (outside_begins input) r.is) (run_breaks_reading b)
+          reading_breaks input seen (streams_of before) (streams_of after)
+          (run_leaves flat tables (of_input input) empty launch r.count seen (outside_begins input) r.is) (run_breaks_reading b)
       run_breaks_off (putting b) = run_breaks_putting b
       run_breaks_off (behind h) = from_behind h

@@ -63,7 +63,8 @@ module _ (before between : Handed) (errors : SinkState) where
 
 -- of a run whose machine has stopped
 pub machine_counts : {K : Type 0} (names : Names) (n : Machine K) (stopped : Result Stepped Halt) (answered : Result HeldEnding RunFault)
-    (before between : Handed) (errors : SinkState) → IsFirstFault (staged stopped) before between → AnswersMachine names n stopped answered between.errors errors
+    (before between : Handed) (errors : SinkState) → IsFirstFault (staged stopped) before between
+    → AnswersMachine names n stopped answered between.errors errors
     → EndsAtFirst answered before (then_errors between errors)
 machine_counts names n (Ok Steppeds.On) answered before between errors first p = absurd p
 machine_counts names n (Ok Steppeds.Finished) answered before between errors first p = at_end before between errors Done [] answered first p

@@ -8,7 +8,8 @@ use Rattle.icn_defs.specs.Images.{image}
 use Rattle.icn_heap.specs.Extents.{Extent, value_in}
 use Rattle.icn_running.specs.Plain.{IsPlain}
 
-pub plain_image : (names names' : Names) (heap heap' : Heap) (all all' : Extent) (val : Val) → IsPlain val → image names heap (value_in all val) ≡ image names' heap' (value_in all' val)
+pub plain_image : (names names' : Names) (heap heap' : Heap) (all all' : Extent) (val : Val) → IsPlain val
+    → image names heap (value_in all val) ≡ image names' heap' (value_in all' val)
 plain_image names names' heap heap' all all' Vals.Null is = refl
 plain_image names names' heap heap' all all' (Vals.Integer n) is = refl
 plain_image names names' heap heap' all all' (Vals.Text span) is = absurd is

@@ -69,7 +69,8 @@ module _ (tables : Tables) (bound : ℕ) where
 
   pub falls_behind : (outsides : List Outside) (s : State Frames Frames) → AlwaysFalls tables bound s → AlwaysFalls tables bound (run_over tables outsides s)
   falls_behind outsides s falls more outside =
-      subst (λ x. Falls tables bound (over_outside outside x) (step flat tables (over_outside outside x))) (run_append tables outsides more s) (falls (outsides ++ more) outside)
+      subst (λ x. Falls tables bound (over_outside outside x) (step flat tables (over_outside outside x)))
+      (run_append tables outsides more s) (falls (outsides ++ more) outside)
 
   pub fell : (s : State Frames Frames) → AlwaysFalls tables bound s → (first : Outside) (later : List Outside) → Fell s (run_over tables (first ∷ later) s)
   fell s falls first [] = of_step first s (step flat tables (over_outside first s)) (falls [] first)
@@ -82,7 +83,8 @@ module _ (tables : Tables) (bound : ℕ) where
   falls_elsewhere was s falls [] outside =
       subst (λ x. Falls tables bound x (step flat tables x)) (sym (over_twice was outside s)) (falls [] outside)
   falls_elsewhere was s falls (first ∷ later) outside =
-      subst (λ x. Falls tables bound (over_outside outside (run_over tables later (step flat tables x))) (step flat tables (over_outside outside (run_over tables later (step flat tables x))))) (sym (over_twice was first s)) (falls (first ∷ later) outside)
+      subst (λ x. Falls tables bound (over_outside outside (run_over tables later (step flat tables x)))
+      (step flat tables (over_outside outside (run_over tables later (step flat tables x))))) (sym (over_twice was first s)) (falls (first ∷ later) outside)
 
 -- Of a machine
 
@@ -93,10 +95,14 @@ record After {K : Type 0} (tables : Tables) (m n : Machine K) : Type 0 where
   now : Outside
   is : run_over tables (first ∷ later) (state_seen tables (outside_of []) m) ≡ state_seen tables now n
 
-after : {K : Type 0} (tables : Tables) (m : Machine K) (b : Handed) (n : Machine K) (c : Handed) → Advances tables m Stages.Runs b n c (Ok Stages.Runs) → After tables m n
-after tables m b n c advances = let l = advances.meant (outside_of []) (state_seen tables (outside_of []) m) refl in record { first = l.first; later = l.later; now = l.now; is = l.is }
+after : {K : Type 0} (tables : Tables) (m : Machine K) (b : Handed) (n : Machine K) (c : Handed) → Advances tables m Stages.Runs b n c (Ok Stages.Runs)
+    → After tables m n
+after tables m b n c advances =
+    let l = advances.meant (outside_of []) (state_seen tables (outside_of []) m) refl in
+    record { first = l.first; later = l.later; now = l.now; is = l.is }
 
-pub lasts_on : {K : Type 0} (tables : Tables) (m : Machine K) (b : Handed) (n : Machine K) (c : Handed) → Lasts tables m → n.limits ≡ m.limits → Advances tables m Stages.Runs b n c (Ok Stages.Runs) → Lasts tables n
+pub lasts_on : {K : Type 0} (tables : Tables) (m : Machine K) (b : Handed) (n : Machine K) (c : Handed) → Lasts tables m → n.limits ≡ m.limits
+    → Advances tables m Stages.Runs b n c (Ok Stages.Runs) → Lasts tables n
 lasts_on tables m b n c lasts limits advances outside =
     let a = after tables m b n c advances in
     let bound = m.limits.turns in
@@ -104,15 +110,19 @@ lasts_on tables m b n c lasts limits advances outside =
     let there = subst (AlwaysFalls tables bound) a.is here in
     subst (λ (l : Limits). AlwaysFalls tables l.turns (state_seen tables outside n)) (sym limits) (falls_elsewhere tables bound outside (state_seen tables a.now n) there)
 
-falls_on : {K : Type 0} (tables : Tables) (m n : Machine K) (now : Outside) → Fell tables m.limits.turns (state_seen tables (outside_of []) m) (state_seen tables now n)
+falls_on : {K : Type 0} (tables : Tables) (m n : Machine K) (now : Outside)
+    → Fell tables m.limits.turns (state_seen tables (outside_of []) m) (state_seen tables now n)
     → MadeTurn m n ⊎ ((n.turns ≡ m.turns) × (left_now tables n < left_now tables m))
 falls_on tables m n now (ended e) = absurd e
 falls_on tables m n now (made a b) = inl (record { more = a; within = b })
 falls_on tables m n now (less a b) = inr (a, b)
 
 -- a turn was made, or less is left to do
-pub falls_by : {K : Type 0} (tables : Tables) (m : Machine K) (b : Handed) (n : Machine K) (c : Handed) → Lasts tables m → Advances tables m Stages.Runs b n c (Ok Stages.Runs)
+pub falls_by : {K : Type 0} (tables : Tables) (m : Machine K) (b : Handed) (n : Machine K) (c : Handed) → Lasts tables m
+    → Advances tables m Stages.Runs b n c (Ok Stages.Runs)
     → MadeTurn m n ⊎ ((n.turns ≡ m.turns) × (left_now tables n < left_now tables m))
 falls_by tables m b n c lasts advances =
     let a = after tables m b n c advances in
-    falls_on tables m n a.now (subst (Fell tables m.limits.turns (state_seen tables (outside_of []) m)) a.is (fell tables m.limits.turns (state_seen tables (outside_of []) m) (lasts (outside_of [])) a.first a.later))
+    falls_on tables m n a.now
+    (subst (Fell tables m.limits.turns (state_seen tables (outside_of []) m)) a.is
+    (fell tables m.limits.turns (state_seen tables (outside_of []) m) (lasts (outside_of [])) a.first a.later))

@@ -33,14 +33,20 @@ on_true Steppeds.Finished e = cc
 on_true Steppeds.AtBound e = cc
 
 -- an error ends the loop
-pub run_err : {K : Type 0} (tables : Tables) (m : Machine K) (a : Handed) (n : Machine K) (stepped : Stepped) (b : Handed) (k : Machine K) (c : Handed) (halt : Halt) (result : Result Stepped Halt) → stepped ≡ Steppeds.On
-    → GoesOn tables m Stages.Runs a n b (Ok (stage_of stepped)) → GoesOn tables n Stages.Runs b k c (Err halt) → IsErrAnd result (λ h. h ≡ halt) → GoesOn tables m Stages.Runs a k c (staged result)
-run_err tables m a n stepped b k c halt (Err h) on p q r = loop_err tables m Stages.Runs a n (stage_of stepped) Stages.Runs b k c halt (Err h) (ap stage_of on) refl p q r
+pub run_err : {K : Type 0} (tables : Tables) (m : Machine K) (a : Handed) (n : Machine K) (stepped : Stepped) (b : Handed) (k : Machine K) (c : Handed) (halt : Halt) (result : Result Stepped Halt)
+    → stepped ≡ Steppeds.On
+    → GoesOn tables m Stages.Runs a n b (Ok (stage_of stepped)) → GoesOn tables n Stages.Runs b k c (Err halt) → IsErrAnd result (λ h. h ≡ halt)
+    → GoesOn tables m Stages.Runs a k c (staged result)
+run_err tables m a n stepped b k c halt (Err h) on p q r =
+    loop_err tables m Stages.Runs a n (stage_of stepped) Stages.Runs b k c halt (Err h) (ap stage_of on) refl p q r
 run_err tables m a n stepped b k c halt (Ok s) on p q r = absurd r
 
-pub run_ok : {K : Type 0} (tables : Tables) (m : Machine K) (a : Handed) (n : Machine K) (stepped next : Stepped) (b : Handed) (k : Machine K) (c : Handed) → stepped ≡ Steppeds.On
-    → GoesOn tables m Stages.Runs a n b (Ok (stage_of stepped)) → GoesOn tables n Stages.Runs b k c (Ok (stage_of next)) → GoesOn tables m Stages.Runs a k c (Ok (stage_of next))
-run_ok tables m a n stepped next b k c on p q = loop_ok tables m Stages.Runs a n (stage_of stepped) Stages.Runs b k c (Ok (stage_of next)) (ap stage_of on) refl p q
+pub run_ok : {K : Type 0} (tables : Tables) (m : Machine K) (a : Handed) (n : Machine K) (stepped next : Stepped) (b : Handed) (k : Machine K) (c : Handed)
+    → stepped ≡ Steppeds.On
+    → GoesOn tables m Stages.Runs a n b (Ok (stage_of stepped)) → GoesOn tables n Stages.Runs b k c (Ok (stage_of next))
+    → GoesOn tables m Stages.Runs a k c (Ok (stage_of next))
+run_ok tables m a n stepped next b k c on p q =
+    loop_ok tables m Stages.Runs a n (stage_of stepped) Stages.Runs b k c (Ok (stage_of next)) (ap stage_of on) refl p q
 
 module _ {K : Type 0} (tables : Tables) (m : Machine K) (b : Handed) (n : Machine K) (c : Handed) (lasts : Lasts tables m) where
   pub lasts_next : (next : Stepped) → n.limits ≡ m.limits → Advances tables m Stages.Runs b n c (Ok (stage_of next)) → IsTrue (is_on next) → Lasts tables n
@@ -49,10 +55,12 @@ module _ {K : Type 0} (tables : Tables) (m : Machine K) (b : Handed) (n : Machin
   lasts_next Steppeds.AtBound limits steps on = absurd (cc on)
 
   turn_from : (first : Machine K) → m.turns ≡ first.turns → m.limits ≡ first.limits → MadeTurn m n → MadeTurn first n
-  turn_from first same limits made = let more = made.more in let within = made.within in let bound : m.limits.turns ≡ first.limits.turns = ap (λ (l : Limits). l.turns) limits in
+  turn_from first same limits made = let more = made.more in let within = made.within in
+      let bound : m.limits.turns ≡ first.limits.turns = ap (λ (l : Limits). l.turns) limits in
       record { more = omega (arith, more, same); within = omega (arith, within, bound) }
 
-  pub turn_next : (first : Machine K) (next : Stepped) → m.turns ≡ first.turns → m.limits ≡ first.limits → Advances tables m Stages.Runs b n c (Ok (stage_of next)) → IsTrue (is_on next)
+  pub turn_next : (first : Machine K) (next : Stepped) → m.turns ≡ first.turns → m.limits ≡ first.limits
+      → Advances tables m Stages.Runs b n c (Ok (stage_of next)) → IsTrue (is_on next)
       → (n.turns ≡ first.turns) ⊎ MadeTurn first n
   turn_next first Steppeds.On same limits steps on = by (falls_by tables m b n c lasts steps)
     where
@@ -62,10 +70,12 @@ module _ {K : Type 0} (tables : Tables) (m : Machine K) (b : Handed) (n : Machin
   turn_next first Steppeds.Finished same limits steps on = absurd (cc on)
   turn_next first Steppeds.AtBound same limits steps on = absurd (cc on)
 
-  pub left_falls : (next : Stepped) (turns : ℕ) → m.turns ≡ turns → Advances tables m Stages.Runs b n c (Ok (stage_of next)) → left_if (is_within next n.turns turns) (left_now tables n) < suc (left_now tables m)
+  pub left_falls : (next : Stepped) (turns : ℕ) → m.turns ≡ turns → Advances tables m Stages.Runs b n c (Ok (stage_of next))
+      → left_if (is_within next n.turns turns) (left_now tables n) < suc (left_now tables m)
   left_falls Steppeds.On turns same steps = by (n.turns == turns) refl (falls_by tables m b n c lasts steps)
     where
-      by : (t : Bool) → (n.turns == turns) ≡ t → MadeTurn m n ⊎ ((n.turns ≡ m.turns) × (left_now tables n < left_now tables m)) → left_if t (left_now tables n) < suc (left_now tables m)
+      by : (t : Bool) → (n.turns == turns) ≡ t → MadeTurn m n ⊎ ((n.turns ≡ m.turns) × (left_now tables n < left_now tables m))
+          → left_if t (left_now tables n) < suc (left_now tables m)
       by true e (inl made) = let more = made.more in let now = eqb-true _ _ e in absurd (omega (arith, more, now, same))
       by true e (inr less) = let l = less.1 in omega (arith, l)
       by false e q = omega arith
@@ -73,7 +83,8 @@ module _ {K : Type 0} (tables : Tables) (m : Machine K) (b : Handed) (n : Machin
   left_falls Steppeds.AtBound turns same steps = omega arith
 
 -- where it ended by a turn
-pub ended_by_turn : {K : Type 0} (first m : Machine K) (stepped : Stepped) (turns : ℕ) → turns ≡ first.turns → is_within stepped m.turns turns ≡ false → (IsTrue (is_on stepped) → (m.turns ≡ first.turns) ⊎ MadeTurn first m)
+pub ended_by_turn : {K : Type 0} (first m : Machine K) (stepped : Stepped) (turns : ℕ) → turns ≡ first.turns → is_within stepped m.turns turns ≡ false
+    → (IsTrue (is_on stepped) → (m.turns ≡ first.turns) ⊎ MadeTurn first m)
     → IsTrue (is_on stepped) → MadeTurn first m
 ended_by_turn first m Steppeds.On turns e test turn on = by (turn on)
   where
@@ -85,22 +96,27 @@ ended_by_turn first m Steppeds.AtBound turns e test turn on = absurd (cc on)
 
 -- The loop over turns
 
-pub turns_fall : {K : Type 0} (m n : Machine K) (next : Stepped) → n.limits ≡ m.limits → (IsTrue (is_on next) → MadeTurn m n) → left_if (is_on next) (n.limits.turns - n.turns) < suc (m.limits.turns - m.turns)
+pub turns_fall : {K : Type 0} (m n : Machine K) (next : Stepped) → n.limits ≡ m.limits → (IsTrue (is_on next) → MadeTurn m n)
+    → left_if (is_on next) (n.limits.turns - n.turns) < suc (m.limits.turns - m.turns)
 turns_fall m n Steppeds.On limits turn =
-    let made = turn refl in let more = made.more in let within = made.within in let bound : n.limits.turns ≡ m.limits.turns = ap (λ (l : Limits). l.turns) limits in omega (arith, more, within, bound)
+    let made = turn refl in let more = made.more in let within = made.within in
+    let bound : n.limits.turns ≡ m.limits.turns = ap (λ (l : Limits). l.turns) limits in
+    omega (arith, more, within, bound)
 turns_fall m n Steppeds.Finished limits turn = omega arith
 turns_fall m n Steppeds.AtBound limits turn = omega arith
 
 -- What stopped has gone on.
 
-pub run_over : {K : Type 0} (tables : Tables) (m : Machine K) (a : Handed) (n : Machine K) (b : Handed) (stepped : Stepped) → is_on stepped ≡ false → GoesOn tables m Stages.Runs a n b (Ok (stage_of stepped))
+pub run_over : {K : Type 0} (tables : Tables) (m : Machine K) (a : Handed) (n : Machine K) (b : Handed) (stepped : Stepped) → is_on stepped ≡ false
+    → GoesOn tables m Stages.Runs a n b (Ok (stage_of stepped))
     → Advances tables m Stages.Runs a n b (Ok (stage_of stepped))
 run_over tables m a n b stepped off (advances steps) = steps
 run_over tables m a n b Steppeds.On off (stays e h r) = absurd (cc off)
 run_over tables m a n b Steppeds.Finished off (stays e h r) = absurd (cc r)
 run_over tables m a n b Steppeds.AtBound off (stays e h r) = absurd (cc r)
 
-pub stopped_err : {K : Type 0} (tables : Tables) (m : Machine K) (a : Handed) (n : Machine K) (b : Handed) (halt : Halt) (result : Result Stepped Halt) → GoesOn tables m Stages.Runs a n b (staged result) → IsErrAnd result (λ h. h ≡ halt)
+pub stopped_err : {K : Type 0} (tables : Tables) (m : Machine K) (a : Handed) (n : Machine K) (b : Handed) (halt : Halt) (result : Result Stepped Halt)
+    → GoesOn tables m Stages.Runs a n b (staged result) → IsErrAnd result (λ h. h ≡ halt)
     → Advances tables m Stages.Runs a n b (staged result)
 stopped_err tables m a n b halt result (advances steps) r = steps
 stopped_err tables m a n b halt (Ok stepped) (stays e h q) r = absurd r

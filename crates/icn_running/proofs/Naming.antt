@@ -14,10 +14,13 @@ use Rattle.icn_apply.proofs.NameLists.{seen_twice}
 use Rattle.icn_convert.specs.Naming.{name_count}
 
 -- the name of an entry of a table of records, and of none
-pub kind_there : (strings : List (List ℕ)) (records : List Record) (kind : ℕ) (entry : Record) (name : List ℕ) → kind < length records → entry ≡ get_or records kind entry
-    → name ≡ slice_index_or strings entry.name [] → name ≡ unwrap_or (slice_get (map (λ (entry : RecordType). slice_index_or strings entry.name []) (map record_of records)) kind) []
+pub kind_there : (strings : List (List ℕ)) (records : List Record) (kind : ℕ) (entry : Record) (name : List ℕ) → kind < length records
+    → entry ≡ get_or records kind entry
+    → name ≡ slice_index_or strings entry.name []
+    → name ≡ unwrap_or (slice_get (map (λ (entry : RecordType). slice_index_or strings entry.name []) (map record_of records)) kind) []
 kind_there strings records kind entry name within there is =
-    is ∙ sym (ap (λ o. unwrap_or o []) (seen_twice record_of (λ (entry : RecordType). slice_index_or strings entry.name []) records kind entry (omega (arith, within, length-map records record_of)) there))
+    is ∙ sym (ap (λ o. unwrap_or o []) (seen_twice record_of (λ (entry : RecordType). slice_index_or strings entry.name []) records kind entry
+    (omega (arith, within, length-map records record_of)) there))
 
 pub kind_missing : (strings : List (List ℕ)) (records : List Record) (kind : ℕ) → length records ≤ kind
     → ◌≡◌ {A = List ℕ} [] (unwrap_or (slice_get (map (λ (entry : RecordType). slice_index_or strings entry.name []) (map record_of records)) kind) [])
@@ -37,5 +40,6 @@ unnamed_shown names number none =
     let few : length (names.procedures ++ (names.records ++ map func_name functions)) ≤ number =
     omega (arith, past, length-append names.procedures (names.records ++ map func_name functions), length-append names.records (map func_name functions)) in
     let no_procedure = not_below number (length names.procedures) (omega (arith, past)) (nat_lt number (length names.procedures)) refl in
-    let no_record = not_below number (length names.procedures + length names.records) (omega (arith, past)) (nat_lt number (length names.procedures + length names.records)) refl in
+    let no_record = not_below number (length names.procedures + length names.records) (omega (arith, past))
+    (nat_lt number (length names.procedures + length names.records)) refl in
     rw (no_procedure, no_record, slice_get_past (names.procedures ++ (names.records ++ map func_name functions)) number few) refl

@@ -101,8 +101,8 @@ follows_report between errors now report told gains = record {
   errors = record { text = report; is = refl; gains = gains };
 }
 
-pub run_reported : (tables : Tables) (words : List (List ℕ)) (bounds : Bounds) (input : List ℕ) (before between : Handed) (errors : SinkState) (ending : Ending) (report : List ℕ)
-    → ComesToEnd tables (launch_of words bounds input) before between ending report → Gains between.errors.held errors.held report
+pub run_reported : (tables : Tables) (words : List (List ℕ)) (bounds : Bounds) (input : List ℕ) (before between : Handed) (errors : SinkState)
+    (ending : Ending) (report : List ℕ) → ComesToEnd tables (launch_of words bounds input) before between ending report → Gains between.errors.held errors.held report
     → RunsTo tables (launch_of words bounds input) ending before (then_errors between errors)
 run_reported tables words bounds input before between errors ending report comes gains = (
   record { ending = ending; outside = with_errors report comes.now },

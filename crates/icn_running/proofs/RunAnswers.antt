@@ -35,7 +35,8 @@ use Rattle.icn_running.specs.Runs.{AnswersRun, IsBrokenOff, LeavesBy, RunsTo}
 use Rattle.icn_running.proofs.BrokenOff.{run_breaks_off, run_breaks_putting, run_breaks_reading, run_cut_short, run_not_begun}
 use Rattle.icn_running.proofs.Observed.{ComesToEnd, bounded, ended, erred, finished, run_reported, then_errors}
 
-module _ (tables : Tables) (words : List (List ℕ)) (bounds : Bounds) (input : List ℕ) (seen : Observed) (r : Runs tables (launch_of words bounds input) seen) (before between : Handed) (errors : SinkState) where
+module _ (tables : Tables) (words : List (List ℕ)) (bounds : Bounds) (input : List ℕ) (seen : Observed) (r : Runs tables (launch_of words bounds input) seen)
+    (before between : Handed) (errors : SinkState) where
   abbrev launch : Launch
   launch = launch_of words bounds input
 
@@ -68,7 +69,8 @@ module _ (tables : Tables) (words : List (List ℕ)) (bounds : Bounds) (input : 
         },
       )
   at_end ending report (Err ReadFault) is comes p = absurd p
-  at_end ending report (Err WriteFault) is comes p = (seen, (r, run_cut_short tables words bounds input seen r before between errors ending report comes p.part))
+  at_end ending report (Err WriteFault) is comes p =
+      (seen, (r, run_cut_short tables words bounds input seen r before between errors ending report comes p.part))
   at_end ending report (Err NoMemory) is comes p = cut_short ending report comes p
 
   -- a fault broke it off
@@ -87,7 +89,8 @@ module _ (tables : Tables) (words : List (List ℕ)) (bounds : Bounds) (input : 
   at_machine n (Ok Steppeds.AtBound) answered leads p = at_end AtBound bound_report answered refl (bounded tables launch n before between leads) p
   at_machine n (Err (Halts.Error number offending)) answered leads p =
       at_end (Errored number) (error_report (all_names tables) (heap_of n.world.heap) number (option_map (value_in (extent n)) offending)) answered
-      (all_names tables, (heap_of n.world.heap, (option_map (value_in (extent n)) offending, refl))) (erred tables launch n before between number offending leads) p
+      (all_names tables, (heap_of n.world.heap, (option_map (value_in (extent n)) offending, refl)))
+      (erred tables launch n before between number offending leads) p
   at_machine n (Err (Halts.Ends status)) answered leads p = at_end (Exit status) [] answered refl (ended tables launch n before between status leads) p
   at_machine n (Err Halts.ReadFault) answered leads p =
       at_fault ReadFault answered (run_breaks_reading tables words bounds input seen r leads.count before leads.between between leads.follows leads.last) p
@@ -97,26 +100,31 @@ module _ (tables : Tables) (words : List (List ℕ)) (bounds : Bounds) (input : 
       at_fault NoMemory answered (run_breaks_off tables words bounds input seen r leads.count before leads.between between leads.follows leads.last) p
 
 -- of a run that has started
-pub started_answers : {K : Type 0} (tables : Tables) (m n : Machine K) (before between : Handed) (errors : SinkState) (stopped : Result Stepped Halt) (answered : Result HeldEnding RunFault)
+pub started_answers : {K : Type 0} (tables : Tables) (m n : Machine K) (before between : Handed) (errors : SinkState)
+    (stopped : Result Stepped Halt) (answered : Result HeldEnding RunFault)
     → ((launch : Launch) → (seen : Observed) × Runs tables launch seen)
-    → ((was : Outside) (state : State Frames Frames) → IsAt tables was state m Stages.Runs → before.left ≡ Some was.left → Leads tables state was before n between (staged stopped))
+    → ((was : Outside) (state : State Frames Frames) → IsAt tables was state m Stages.Runs → before.left ≡ Some was.left
+    → Leads tables state was before n between (staged stopped))
     → AnswersMachine (all_names tables) n stopped answered between.errors errors
     → (words : List (List ℕ)) (bounds : Bounds) (input : List ℕ) → before.left ≡ Some input
     → start tables (launch_of words bounds input) ≡ running (stack_seen m) (store_seen tables (outside_of input) m)
     → AnswersRun tables (launch_of words bounds input) answered before (then_errors between errors)
 started_answers tables m n before between errors stopped answered ends leads p words bounds input told stands =
     let run = ends (launch_of words bounds input) in
-    at_machine tables words bounds input run.0 run.1 before between errors n stopped answered (leads (outside_of input) (start tables (launch_of words bounds input)) stands told) p
+    at_machine tables words bounds input run.0 run.1 before between errors n stopped answered
+    (leads (outside_of input) (start tables (launch_of words bounds input)) stands told) p
 
 -- of one that was over before its first instruction
-pub unbegun_answers : (K : Type 0) (tables : Tables) (words : List (List ℕ)) (bounds : Bounds) (input : List ℕ) (seen : Observed) (halt : Halt) (answered : Result HeldEnding RunFault) (before : Handed) (errors : SinkState)
+pub unbegun_answers : (K : Type 0) (tables : Tables) (words : List (List ℕ)) (bounds : Bounds) (input : List ℕ) (seen : Observed)
+    (halt : Halt) (answered : Result HeldEnding RunFault) (before : Handed) (errors : SinkState)
     → Runs tables (launch_of words bounds input) seen → before.left ≡ Some input → StartsAs {K = K} tables (launch_of words bounds input) (Err halt)
     → AnswersUnbegun (all_names tables) (first_store {K = Frames} tables (launch_of words bounds input)).world.heap halt answered before.errors errors
     → AnswersRun tables (launch_of words bounds input) answered before (then_errors before errors)
 unbegun_answers K tables words bounds input seen (Halts.Error number None) answered before errors r told starts p =
     at_end tables words bounds input seen r before before errors (Errored number)
     (error_report (all_names tables) (first_store {K = Frames} tables (launch_of words bounds input)).world.heap number None) answered
-    (all_names tables, ((first_store {K = Frames} tables (launch_of words bounds input)).world.heap, (None, refl))) (record { count = 0; now = outside_of input; is = starts; follows = follows_all before (outside_of input) told }) p
+    (all_names tables, ((first_store {K = Frames} tables (launch_of words bounds input)).world.heap, (None, refl)))
+    (record { count = 0; now = outside_of input; is = starts; follows = follows_all before (outside_of input) told }) p
 unbegun_answers K tables words bounds input seen (Halts.Error number (Some offending)) answered before errors r told starts p = absurd p
 unbegun_answers K tables words bounds input seen (Halts.Ends status) answered before errors r told starts p = absurd p
 unbegun_answers K tables words bounds input seen Halts.ReadFault answered before errors r told starts p = absurd p
@@ -137,7 +145,8 @@ module _ (tables : Tables) (launch : List ℕ → Launch) (before after : Handed
   run_breaks (Ok ending) answers = tt
   run_breaks (Err fault) answers = answers
 
-  pub run_reports : (answered : Result HeldEnding RunFault) → ((left : List ℕ) → before.left ≡ Some left → AnswersRun tables (launch left) answered before after)
+  pub run_reports : (answered : Result HeldEnding RunFault)
+      → ((left : List ℕ) → before.left ≡ Some left → AnswersRun tables (launch left) answered before after)
       → IfOk answered (λ ending. (left : List ℕ) → before.left ≡ Some left → PutsReport (ending_seen ending) before.errors after.errors)
   run_reports (Ok ending) answers = λ left told. (answers left told).1
   run_reports (Err fault) answers = tt

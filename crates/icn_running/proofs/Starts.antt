@@ -43,7 +43,8 @@ variables_over : (tables : Tables) → StatesHaveVariables → (outsides : List 
     → StateHasVariables tables (run_over tables outsides s)
 variables_over tables laws [] s h = h
 variables_over tables laws (outside ∷ later) s h =
-    variables_over tables laws later (step flat tables (over_outside outside s)) (laws.steps tables (over_outside outside s) (laws.elsewhere tables outside s h))
+    variables_over tables laws later (step flat tables (over_outside outside s))
+    (laws.steps tables (over_outside outside s) (laws.elsewhere tables outside s h))
 
 -- What holds of the state with which a run starts
 
@@ -53,7 +54,9 @@ pub start_kept : (tables : Tables) (launch : Launch) → IsNeverStuckOver tables
 start_kept tables launch never variables cases named fits = record {
   always = λ outsides. record {
     goes_on = never outsides;
-    variables = finds_variables tables (run_over tables outsides (start tables launch)) (variables_over tables variables outsides (start tables launch) (variables.starts tables launch));
+    variables =
+        finds_variables tables (run_over tables outsides (start tables launch))
+        (variables_over tables variables outsides (start tables launch) (variables.starts tables launch));
     mark = finds_mark tables (run_over tables outsides (start tables launch)) (cases outsides);
   };
   named = named;
@@ -78,4 +81,5 @@ pub start_lasts : {K : Type 0} (tables : Tables) (launch : Launch) (limits : Lim
 start_lasts tables launch limits m falls bounds same stands outside =
     let bound : launch.bounds.turns ≡ m.limits.turns = ap (λ b. b.turns) bounds ∙ sym (ap (λ (l : Limits). l.turns) same) in
     let here : AlwaysFalls tables m.limits.turns (start tables launch) = subst (λ (n : ℕ). AlwaysFalls tables n (start tables launch)) bound falls in
-    falls_elsewhere tables m.limits.turns outside (running (stack_seen m) (store_seen tables launch.outside m)) (subst (λ (s : State Frames Frames). AlwaysFalls tables m.limits.turns s) stands here)
+    falls_elsewhere tables m.limits.turns outside (running (stack_seen m) (store_seen tables launch.outside m))
+    (subst (λ (s : State Frames Frames). AlwaysFalls tables m.limits.turns s) stands here)

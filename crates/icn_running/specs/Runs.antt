@@ -38,7 +38,8 @@ IsBrokenOff tables launch fault before after = (seen : Observed) × (Runs tables
 
 -- what is said of a run that was begun so, by what was answered
 abbrev pub AnswersRun : Tables → Launch → Result HeldEnding RunFault → Handed → Handed → Type 0
-AnswersRun tables launch (Ok ending) before after = RunsTo tables launch (ending_seen ending) before after × PutsReport (ending_seen ending) before.errors after.errors
+AnswersRun tables launch (Ok ending) before after =
+    RunsTo tables launch (ending_seen ending) before after × PutsReport (ending_seen ending) before.errors after.errors
 AnswersRun tables launch (Err fault) before after = IsBrokenOff tables launch fault before after
 
 -- the same of each run with whose start this machine stands

@@ -30,34 +30,41 @@ run_started-requires-clause-lasts g c =
 
 pub end_unbegun-requires : goal.end_unbegun-requires
 end_unbegun-requires g c =
-    start_halts g.row.K.Denot (tables_of c.code.result.now) (launch_with c.args.words.now c.args.limits (outside_of [])) c.in-Err.halt (c.in-Err.ensures.step (outside_of []))
+    start_halts g.row.K.Denot (tables_of c.code.result.now) (launch_with c.args.words.now c.args.limits (outside_of [])) c.in-Err.halt
+    (c.in-Err.ensures.step (outside_of []))
 
 pub returns-in-Ok-clause-ends : goal.returns-in-Ok-clause-ends
 returns-in-Ok-clause-ends g c =
     let launch : List ℕ → Launch = λ left. launch_with c.args.words.now c.args.limits (outside_of left) in
     run_ends (tables_of c.args.code.now.code) launch
     (handed (g.I.Source.left c.args.input.now) (g.I.Source.faults c.args.input.now) (g.O.Sink.state c.args.out.now) (g.E.Sink.state c.args.err.now))
-    (handed (g.I.Source.left c.run_started.new.input) (g.I.Source.faults c.run_started.new.input) (g.O.Sink.state c.run_started.new.out) (g.E.Sink.state c.run_started.new.err))
+    (handed (g.I.Source.left c.run_started.new.input) (g.I.Source.faults c.run_started.new.input)
+    (g.O.Sink.state c.run_started.new.out) (g.E.Sink.state c.run_started.new.err))
     c.run_started.result
-    (λ left told. c.run_started.ensures.answers (launch left).words (launch left).bounds left told (rw c.code.ensures.code at (c.in-Ok.ensures.step (outside_of left))))
+    (λ left told. c.run_started.ensures.answers (launch left).words (launch left).bounds left told
+    (rw c.code.ensures.code at (c.in-Ok.ensures.step (outside_of left))))
 
 pub returns-in-Ok-clause-breaks : goal.returns-in-Ok-clause-breaks
 returns-in-Ok-clause-breaks g c =
     let launch : List ℕ → Launch = λ left. launch_with c.args.words.now c.args.limits (outside_of left) in
     run_breaks (tables_of c.args.code.now.code) launch
     (handed (g.I.Source.left c.args.input.now) (g.I.Source.faults c.args.input.now) (g.O.Sink.state c.args.out.now) (g.E.Sink.state c.args.err.now))
-    (handed (g.I.Source.left c.run_started.new.input) (g.I.Source.faults c.run_started.new.input) (g.O.Sink.state c.run_started.new.out) (g.E.Sink.state c.run_started.new.err))
+    (handed (g.I.Source.left c.run_started.new.input) (g.I.Source.faults c.run_started.new.input)
+    (g.O.Sink.state c.run_started.new.out) (g.E.Sink.state c.run_started.new.err))
     c.run_started.result
-    (λ left told. c.run_started.ensures.answers (launch left).words (launch left).bounds left told (rw c.code.ensures.code at (c.in-Ok.ensures.step (outside_of left))))
+    (λ left told. c.run_started.ensures.answers (launch left).words (launch left).bounds left told
+    (rw c.code.ensures.code at (c.in-Ok.ensures.step (outside_of left))))
 
 pub returns-in-Ok-clause-reported : goal.returns-in-Ok-clause-reported
 returns-in-Ok-clause-reported g c =
     let launch : List ℕ → Launch = λ left. launch_with c.args.words.now c.args.limits (outside_of left) in
     run_reports (tables_of c.args.code.now.code) launch
     (handed (g.I.Source.left c.args.input.now) (g.I.Source.faults c.args.input.now) (g.O.Sink.state c.args.out.now) (g.E.Sink.state c.args.err.now))
-    (handed (g.I.Source.left c.run_started.new.input) (g.I.Source.faults c.run_started.new.input) (g.O.Sink.state c.run_started.new.out) (g.E.Sink.state c.run_started.new.err))
+    (handed (g.I.Source.left c.run_started.new.input) (g.I.Source.faults c.run_started.new.input)
+    (g.O.Sink.state c.run_started.new.out) (g.E.Sink.state c.run_started.new.err))
     c.run_started.result
-    (λ left told. c.run_started.ensures.answers (launch left).words (launch left).bounds left told (rw c.code.ensures.code at (c.in-Ok.ensures.step (outside_of left))))
+    (λ left told. c.run_started.ensures.answers (launch left).words (launch left).bounds left told
+    (rw c.code.ensures.code at (c.in-Ok.ensures.step (outside_of left))))
 
 pub returns-in-Err-clause-ends : goal.returns-in-Err-clause-ends
 returns-in-Err-clause-ends g c =
@@ -70,7 +77,9 @@ returns-in-Err-clause-ends g c =
     (λ left told. let run = (c.runs_hold.ensures tables c.args.code.now.code.rules c.args.code.now.verified (launch left)).ends in
     unbegun_answers g.row.K.Denot tables (launch left).words (launch left).bounds left run.0 c.in-Err.halt c.end_unbegun.result
     (handed (g.I.Source.left c.args.input.now) (g.I.Source.faults c.args.input.now) (g.O.Sink.state c.args.out.now) (g.E.Sink.state c.args.err.now))
-    (g.E.Sink.state c.end_unbegun.new.err) run.1 told (subst (λ (code : Code). StartsAs {K = g.row.K.Denot} (tables_of code) (launch left) (Err c.in-Err.halt)) c.code.ensures.code (c.in-Err.ensures.step (outside_of left)))
+    (g.E.Sink.state c.end_unbegun.new.err) run.1 told
+    (subst (λ (code : Code). StartsAs {K = g.row.K.Denot} (tables_of code) (launch left) (Err c.in-Err.halt)) c.code.ensures.code
+    (c.in-Err.ensures.step (outside_of left)))
     (rw c.code-in-Err.ensures.code at (c.end_unbegun.ensures (first_store {K = Frames} tables (launch left)).world.heap)))
 
 pub returns-in-Err-clause-breaks : goal.returns-in-Err-clause-breaks
@@ -84,7 +93,9 @@ returns-in-Err-clause-breaks g c =
     (λ left told. let run = (c.runs_hold.ensures tables c.args.code.now.code.rules c.args.code.now.verified (launch left)).ends in
     unbegun_answers g.row.K.Denot tables (launch left).words (launch left).bounds left run.0 c.in-Err.halt c.end_unbegun.result
     (handed (g.I.Source.left c.args.input.now) (g.I.Source.faults c.args.input.now) (g.O.Sink.state c.args.out.now) (g.E.Sink.state c.args.err.now))
-    (g.E.Sink.state c.end_unbegun.new.err) run.1 told (subst (λ (code : Code). StartsAs {K = g.row.K.Denot} (tables_of code) (launch left) (Err c.in-Err.halt)) c.code.ensures.code (c.in-Err.ensures.step (outside_of left)))
+    (g.E.Sink.state c.end_unbegun.new.err) run.1 told
+    (subst (λ (code : Code). StartsAs {K = g.row.K.Denot} (tables_of code) (launch left) (Err c.in-Err.halt)) c.code.ensures.code
+    (c.in-Err.ensures.step (outside_of left)))
     (rw c.code-in-Err.ensures.code at (c.end_unbegun.ensures (first_store {K = Frames} tables (launch left)).world.heap)))
 
 pub returns-in-Err-clause-reported : goal.returns-in-Err-clause-reported
@@ -98,7 +109,9 @@ returns-in-Err-clause-reported g c =
     (λ left told. let run = (c.runs_hold.ensures tables c.args.code.now.code.rules c.args.code.now.verified (launch left)).ends in
     unbegun_answers g.row.K.Denot tables (launch left).words (launch left).bounds left run.0 c.in-Err.halt c.end_unbegun.result
     (handed (g.I.Source.left c.args.input.now) (g.I.Source.faults c.args.input.now) (g.O.Sink.state c.args.out.now) (g.E.Sink.state c.args.err.now))
-    (g.E.Sink.state c.end_unbegun.new.err) run.1 told (subst (λ (code : Code). StartsAs {K = g.row.K.Denot} (tables_of code) (launch left) (Err c.in-Err.halt)) c.code.ensures.code (c.in-Err.ensures.step (outside_of left)))
+    (g.E.Sink.state c.end_unbegun.new.err) run.1 told
+    (subst (λ (code : Code). StartsAs {K = g.row.K.Denot} (tables_of code) (launch left) (Err c.in-Err.halt)) c.code.ensures.code
+    (c.in-Err.ensures.step (outside_of left)))
     (rw c.code-in-Err.ensures.code at (c.end_unbegun.ensures (first_store {K = Frames} tables (launch left)).world.heap)))
 
 pub returns-in-Err-clause-first_fault : goal.returns-in-Err-clause-first_fault

@@ -28,7 +28,8 @@ pub returns-in_err-stepped-clause-steps : goal.returns-in_err-stepped-clause-ste
 returns-in_err-stepped-clause-steps g c =
     let on = on_is c.loop-stepped.stepped (sym c.is_on.ensures ∙ c.loop-stepped-test.true) in
     stopped_err (tables_of c.args.code.now.code) c.args.m.now _ c.run_to_turn.new.m _ c.in_err-stepped.field-0.0 c.from_residual.result
-    (run_err (tables_of c.args.code.now.code) c.args.m.now _ c.loop-stepped.m c.loop-stepped.stepped _ c.run_to_turn.new.m _ c.in_err-stepped.field-0.0 c.from_residual.result on c.loop-stepped.invariant.steps
+    (run_err (tables_of c.args.code.now.code) c.args.m.now _ c.loop-stepped.m c.loop-stepped.stepped _ c.run_to_turn.new.m _ c.in_err-stepped.field-0.0 c.from_residual.result on
+    c.loop-stepped.invariant.steps
     c.in_err-stepped.ensures.steps c.from_residual.ensures.1) c.from_residual.ensures.1
 
 pub returns-in_err-stepped-clause-stops : goal.returns-in_err-stepped-clause-stops
@@ -43,21 +44,26 @@ returns-in_err-stepped-clause-limits g c = c.in_err-stepped.ensures.limits ∙ c
 pub loop-stepped-smaller : goal.loop-stepped-smaller
 loop-stepped-smaller g c =
     let test : is_on c.loop-stepped.stepped ≡ true = sym c.is_on.ensures ∙ c.loop-stepped-test.true in
-    subst (λ b. left_if (is_on c.in_ok-stepped.stepped) (c.run_to_turn.new.m.limits.turns - c.run_to_turn.new.m.turns) < left_if b (c.loop-stepped.m.limits.turns - c.loop-stepped.m.turns)) (sym test)
+    subst (λ b. left_if (is_on c.in_ok-stepped.stepped) (c.run_to_turn.new.m.limits.turns - c.run_to_turn.new.m.turns)
+    < left_if b (c.loop-stepped.m.limits.turns - c.loop-stepped.m.turns)) (sym test)
     (turns_fall c.loop-stepped.m c.run_to_turn.new.m c.in_ok-stepped.stepped c.in_ok-stepped.ensures.limits c.in_ok-stepped.ensures.turn)
 
 pub loop-stepped-preserved : goal.loop-stepped-preserved
 loop-stepped-preserved g c =
     let on = on_is c.loop-stepped.stepped (sym c.is_on.ensures ∙ c.loop-stepped-test.true) in
     record {
-      steps = run_ok (tables_of c.args.code.now.code) c.args.m.now _ c.loop-stepped.m c.loop-stepped.stepped c.in_ok-stepped.stepped _ c.run_to_turn.new.m _ on c.loop-stepped.invariant.steps c.in_ok-stepped.ensures.steps;
+      steps =
+          run_ok (tables_of c.args.code.now.code) c.args.m.now _ c.loop-stepped.m c.loop-stepped.stepped c.in_ok-stepped.stepped _ c.run_to_turn.new.m _ on
+          c.loop-stepped.invariant.steps c.in_ok-stepped.ensures.steps;
       ready = c.in_ok-stepped.ensures.ready;
       lasts = c.in_ok-stepped.ensures.lasts;
       limits = c.in_ok-stepped.ensures.limits ∙ c.loop-stepped.invariant.limits;
     }
 
 pub returns-clause-steps : goal.returns-clause-steps
-returns-clause-steps g c = run_over (tables_of c.args.code.now.code) c.args.m.now _ c.loop-stepped.m _ c.loop-stepped.stepped (sym c.is_on.ensures ∙ c.loop-stepped-test.false) c.loop-stepped.invariant.steps
+returns-clause-steps g c =
+    run_over (tables_of c.args.code.now.code) c.args.m.now _ c.loop-stepped.m _ c.loop-stepped.stepped (sym c.is_on.ensures ∙ c.loop-stepped-test.false)
+    c.loop-stepped.invariant.steps
 
 pub returns-clause-stops : goal.returns-clause-stops
 returns-clause-stops g c = sym c.is_on.ensures ∙ c.loop-stepped-test.false

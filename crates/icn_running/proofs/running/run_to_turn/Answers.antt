@@ -27,7 +27,8 @@ step-requires g c =
 pub returns-in_err-stepped-clause-steps : goal.returns-in_err-stepped-clause-steps
 returns-in_err-stepped-clause-steps g c =
     let on = within_is c.loop-stepped.stepped c.loop-stepped.m.turns c.args.m.now.turns (sym c.is_within.ensures ∙ c.loop-stepped-test.true) in
-    run_err (tables_of c.args.code.now.code) c.args.m.now _ c.loop-stepped.m c.loop-stepped.stepped _ c.step.new.m _ c.in_err-stepped.field-0.0 c.from_residual.result on.0 c.loop-stepped.invariant.steps
+    run_err (tables_of c.args.code.now.code) c.args.m.now _ c.loop-stepped.m c.loop-stepped.stepped _ c.step.new.m _ c.in_err-stepped.field-0.0
+    c.from_residual.result on.0 c.loop-stepped.invariant.steps
     (advances c.in_err-stepped.ensures.steps) c.from_residual.ensures.1
 
 pub returns-in_err-stepped-clause-ready : goal.returns-in_err-stepped-clause-ready
@@ -50,18 +51,26 @@ loop-stepped-smaller g c =
     let tables = tables_of c.args.code.now.code in
     let test : is_within c.loop-stepped.stepped c.loop-stepped.m.turns c.args.m.now.turns ≡ true = sym c.is_within.ensures ∙ c.loop-stepped-test.true in
     let on = within_is c.loop-stepped.stepped c.loop-stepped.m.turns c.args.m.now.turns test in
-    subst (λ b. left_if (is_within c.in_ok-stepped.stepped c.step.new.m.turns c.args.m.now.turns) (left_now tables c.step.new.m) < left_if b (left_now tables c.loop-stepped.m)) (sym test)
-    (left_falls tables c.loop-stepped.m _ c.step.new.m _ (c.loop-stepped.invariant.lasts (on_true c.loop-stepped.stepped on.0)) c.in_ok-stepped.stepped c.args.m.now.turns on.1 c.in_ok-stepped.ensures.steps)
+    subst (λ b. left_if (is_within c.in_ok-stepped.stepped c.step.new.m.turns c.args.m.now.turns) (left_now tables c.step.new.m) < left_if b (left_now tables c.loop-stepped.m))
+    (sym test)
+    (left_falls tables c.loop-stepped.m _ c.step.new.m _ (c.loop-stepped.invariant.lasts (on_true c.loop-stepped.stepped on.0))
+    c.in_ok-stepped.stepped c.args.m.now.turns on.1 c.in_ok-stepped.ensures.steps)
 
 pub loop-stepped-preserved : goal.loop-stepped-preserved
 loop-stepped-preserved g c =
     let tables = tables_of c.args.code.now.code in
     let on = within_is c.loop-stepped.stepped c.loop-stepped.m.turns c.args.m.now.turns (sym c.is_within.ensures ∙ c.loop-stepped-test.true) in
     record {
-      steps = run_ok tables c.args.m.now _ c.loop-stepped.m c.loop-stepped.stepped c.in_ok-stepped.stepped _ c.step.new.m _ on.0 c.loop-stepped.invariant.steps (advances c.in_ok-stepped.ensures.steps);
+      steps =
+          run_ok tables c.args.m.now _ c.loop-stepped.m c.loop-stepped.stepped c.in_ok-stepped.stepped _ c.step.new.m _ on.0 c.loop-stepped.invariant.steps
+          (advances c.in_ok-stepped.ensures.steps);
       ready = c.in_ok-stepped.ensures.ready;
-      lasts = lasts_next tables c.loop-stepped.m _ c.step.new.m _ (c.loop-stepped.invariant.lasts (on_true c.loop-stepped.stepped on.0)) c.in_ok-stepped.stepped c.in_ok-stepped.ensures.limits c.in_ok-stepped.ensures.steps;
-      turn = turn_next tables c.loop-stepped.m _ c.step.new.m _ (c.loop-stepped.invariant.lasts (on_true c.loop-stepped.stepped on.0)) c.args.m.now c.in_ok-stepped.stepped on.1 c.loop-stepped.invariant.limits c.in_ok-stepped.ensures.steps;
+      lasts =
+          lasts_next tables c.loop-stepped.m _ c.step.new.m _ (c.loop-stepped.invariant.lasts (on_true c.loop-stepped.stepped on.0)) c.in_ok-stepped.stepped
+          c.in_ok-stepped.ensures.limits c.in_ok-stepped.ensures.steps;
+      turn =
+          turn_next tables c.loop-stepped.m _ c.step.new.m _ (c.loop-stepped.invariant.lasts (on_true c.loop-stepped.stepped on.0)) c.args.m.now
+          c.in_ok-stepped.stepped on.1 c.loop-stepped.invariant.limits c.in_ok-stepped.ensures.steps;
       limits = c.in_ok-stepped.ensures.limits ∙ c.loop-stepped.invariant.limits;
       turns = refl;
     }
@@ -77,7 +86,8 @@ returns-clause-lasts g c = c.loop-stepped.invariant.lasts
 
 pub returns-clause-turn : goal.returns-clause-turn
 returns-clause-turn g c =
-    ended_by_turn c.args.m.now c.loop-stepped.m c.loop-stepped.stepped c.args.m.now.turns refl (sym c.is_within.ensures ∙ c.loop-stepped-test.false) c.loop-stepped.invariant.turn
+    ended_by_turn c.args.m.now c.loop-stepped.m c.loop-stepped.stepped c.args.m.now.turns refl (sym c.is_within.ensures ∙ c.loop-stepped-test.false)
+    c.loop-stepped.invariant.turn
 
 pub returns-clause-limits : goal.returns-clause-limits
 returns-clause-limits g c = c.loop-stepped.invariant.limits

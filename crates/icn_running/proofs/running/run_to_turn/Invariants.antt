@@ -12,7 +12,9 @@ use Rattle.icn_running.proofs.running.run_to_turn.Given as goal
 
 abbrev pub invariant-loop-stepped : goal.invariant-loop-stepped
 invariant-loop-stepped g l = record {
-  steps : GoesOn (tables_of l.code.code) l.initial.m Stages.Runs (handed (g.I.Source.left l.initial.input) (g.I.Source.faults l.initial.input) (g.O.Sink.state l.initial.out) (g.E.Sink.state l.initial.err)) l.m (handed (g.I.Source.left l.input) (g.I.Source.faults l.input) (g.O.Sink.state l.out) (g.E.Sink.state l.err)) (Ok (stage_of l.stepped));
+  steps : GoesOn (tables_of l.code.code) l.initial.m Stages.Runs
+      (handed (g.I.Source.left l.initial.input) (g.I.Source.faults l.initial.input) (g.O.Sink.state l.initial.out) (g.E.Sink.state l.initial.err))
+      l.m (handed (g.I.Source.left l.input) (g.I.Source.faults l.input) (g.O.Sink.state l.out) (g.E.Sink.state l.err)) (Ok (stage_of l.stepped));
   ready : IsReady (tables_of l.code.code) l.m (stage_of l.stepped);
   lasts : IsTrue (is_on l.stepped) → Lasts (tables_of l.code.code) l.m;
   turn : IsTrue (is_on l.stepped) → (l.m.turns ≡ l.initial.m.turns) ⊎ MadeTurn l.initial.m l.m;
