@@ -1,14 +1,13 @@
 #!/usr/bin/env python3
 """Times the built icont on large sources: from the bytes of a file over its unit to its image and its run, or to its refusal.
 
-It builds by make, writes its sources into a folder of its own, and prints for each the rate and the peak of
-memory. It needs Python 3 and nothing else, and stands outside the gate.
+It builds by make, writes its sources into a folder of its own, and prints for each the time of the processor, the
+rate and the peak of memory. It needs Python 3 and nothing else, and stands outside the gate.
 """
 import os
 import subprocess
 import sys
 import tempfile
-import time
 
 TOP = os.path.dirname(os.path.dirname(os.path.abspath(__file__)))
 ICONT = os.path.join(TOP, "bin", "icont")
@@ -75,12 +74,11 @@ SOURCES = [ordinary, tokens, comments, one_line, defines, empty_lines, forms, ju
 
 
 def timed(folder, make, size):
-    """The seconds and the peak of memory, in bytes, of icont on a source."""
+    """The seconds of the processor and the peak of memory, in bytes, of icont on a source."""
     path = os.path.join(folder, "f.icn")
     source = make(size)
     with open(path, "wb") as file:
         file.write(source)
-    begun = time.monotonic()
     pid = os.fork()
     if pid == 0:
         null = os.open(os.devnull, os.O_WRONLY)
@@ -89,7 +87,7 @@ def timed(folder, make, size):
         os.chdir(folder)
         os.execv(ICONT, ["icont", "f.icn", "-x"])
     _, status, usage = os.wait4(pid, 0)
-    seconds = time.monotonic() - begun
+    seconds = usage.ru_utime + usage.ru_stime
     return len(source), seconds, usage.ru_maxrss * 1024, os.waitstatus_to_exitcode(status)
 
 
