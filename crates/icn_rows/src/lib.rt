@@ -45,7 +45,7 @@ mod tests {
     const TWO: &[u8] = b"procedure main()\nwrite(\"a\")\nwrite(2)\nend\n";
 
     // Programs, with what they write.
-    const PROGRAMS: [(&[u8], &[u8]); 44] = [
+    const PROGRAMS: [(&[u8], &[u8]); 46] = [
         (HI, b"hi\n"),
         // written semicolons, and those of ends of lines
         (b"procedure main();write(\"hi\");end", b"hi\n"),
@@ -163,6 +163,8 @@ mod tests {
         ),
         (b"$include \"g.icn\"\n", b"hi\n"),
         (b"$include g.icn", b"hi\n"),
+        (b"$include g.icn\n\n$include globals.icn\n", b"hi\n"),
+        (b"$include g.icn\n\nglobal a\n", b"hi\n"),
     ];
 
     // Texts whose lines or tokens break a rule, with the line of the refusal.
@@ -278,7 +280,7 @@ mod tests {
     ];
 
     // Texts whose tree breaks another rule, with the line of the refusal.
-    const BROKEN: [(&[u8], &[u8]); 28] = [
+    const BROKEN: [(&[u8], &[u8]); 26] = [
         // unknown keywords, at the name behind `&`
         (
             b"procedure main()\n&clock\nend\n",
@@ -383,14 +385,6 @@ mod tests {
         (
             b"$include g.icn\n$include g.icn\n",
             b"g.icn:1: C8 procedure or record declared twice\n",
-        ),
-        (
-            b"$include g.icn\n\n$include globals.icn\n",
-            b"globals.icn:5: S4 form not in this profile\n",
-        ),
-        (
-            b"$include g.icn\n\nglobal a\n",
-            b"f.icn:3: S4 form not in this profile\n",
         ),
         (
             b"$line 70 \"made.icn\"\nprocedure main()\nbreak\nend\n",
