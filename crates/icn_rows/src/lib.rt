@@ -391,8 +391,8 @@ mod tests {
             b"made.icn:71: C2 break outside a loop\n",
         ),
         (
-            b"procedure main()\n$line 70 \"made.icn\"\nwrite(1)\n\nx\nend\n",
-            b"made.icn:72: S4 form not in this profile\n",
+            b"procedure main()\n$line 70 \"made.icn\"\nwrite(1)\n\nnext\nend\n",
+            b"made.icn:72: C3 next outside a loop\n",
         ),
     ];
 
