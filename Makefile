@@ -16,7 +16,9 @@ bin/%: crates.txt examples/hello.icn $(SOURCES)
 	@cd crates/$* && rt run -- $(FIRST_$*) > ../../bin/$*.log 2>&1 || { tail -20 ../../bin/$*.log; exit 1; }
 	@cp crates/$*/out/$* $@
 
+# The rows run their own copies of the examples, since a crate reads no file outside its folder.
 test:
+	@for example in examples/*.icn; do cmp $$example crates/program_rows/data/$${example##*/} || exit 1; done
 	.ci/run
 
 install: all
