@@ -1,7 +1,3 @@
-pub mod WriteCalls
-pub mod WriteMeaning
-pub mod Lines
-pub mod Breaking
 pub mod Program
 pub mod Contexts
 pub mod Turns

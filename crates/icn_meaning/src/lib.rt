@@ -1,6 +1,6 @@
-//! The meaning of a program of the form that runs, as a definition.
+//! The meaning of a program of the whole language, as a definition.
 #![tactic(auto)]
 
 mod laws;
 
-pub use laws::{one_meaning, one_observation};
+pub use laws::one_observation;

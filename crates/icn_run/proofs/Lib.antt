@@ -1,5 +1,1 @@
-pub mod Runs
-pub mod Putting
-pub mod Piecewise
-pub mod RunsEnd
 pub mod Observing

@@ -1,10 +1,3 @@
-pub mod Values
-pub mod States
-pub mod CodeStep
-pub mod CodeRun
-pub mod Built
-pub mod Pieces
-pub mod Reports
 pub mod Rows
 pub mod Calls
 pub mod Chains

@@ -1,9 +1,5 @@
-use Rattle.icn_run.proofs.Runs.{one_observation}
 use Rattle.icn_run.proofs.Observing.{flat_once, linked_once}
 use Rattle.icn_run.proofs.laws.one_observation.Goals as goal
-
-pub returns-clause-built : goal.returns-clause-built
-returns-clause-built c = one_observation
 
 pub returns-clause-on_stacks : goal.returns-clause-on_stacks
 returns-clause-on_stacks c = flat_once
