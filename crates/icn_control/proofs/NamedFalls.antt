@@ -27,10 +27,8 @@ use Rattle.icn_control.specs.declared.failing.Due.{Due}
 use Rattle.icn_control.specs.declared.failing.Due.TheVariants as Dues
 use Rattle.icn_control.specs.Standing.{stack_in, reading_of, pair_in}
 use Rattle.icn_control.specs.Pairs.{paired}
-use Rattle.icn_control.specs.Failing.{FailsNamed}
 use Rattle.icn_control.specs.Falls.{DueNamed, FallsNamed}
 use Rattle.icn_control.specs.Machines.{running_of, store_in}
-use Rattle.icn_control.specs.declared.machine.Machine.{Machine}
 
 -- The mark is dropped.
 
@@ -117,10 +115,3 @@ store_falls w v turns begun table n heap h names tables outside k =
     let same : StoreNamed names (store_in (all_names tables) outside (world_of v) turns begun (extent_of w.heap) (record table { running = Some n }))
     = record { world = h names k.world; coexps = k.coexps } in
     subst (λ (x : HeldHeap). StoreNamed names (store_in (all_names tables) outside (world_of v) turns begun (extent_of x) (record table { running = Some n }))) (sym heap) same
-
--- where failing is not due before, nothing is said of it; one more step of failing
-pub fails_then_named : {K : Type 0} (a b c : Machine K) (before due : Due) → FailsNamed a b before → FailsNamed b c due → FailsNamed a c due
-fails_then_named a b c before due first second = record {
-  stack = λ names k. second.stack names (first.stack names k).0;
-  store = λ names tables outside k. second.store names tables outside (first.store names tables outside k);
-}

@@ -9,6 +9,5 @@ pub mod Falls
 pub mod Landing
 pub mod Failing
 pub mod Taking
-pub mod Leading
 pub mod Creations
 pub mod Operands

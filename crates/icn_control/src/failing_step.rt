@@ -1,15 +1,13 @@
 // One step of failing, over the machine.
-ghost use Rattle.std.specs.Prelude.{◌≡◌, ◌≢◌, false, IsSome};
+ghost use Rattle.std.specs.Prelude.{◌≡◌, ◌≢◌, IsSome};
 ghost use Rattle.icn_value.specs.Limited.{limits_of};
 ghost use Rattle.icn_value.specs.Store.{Outside};
 ghost use Rattle.icn_heap.specs.Heaps.{heap_of};
 ghost use Rattle.icn_code.specs.Codes.{Tables};
 ghost use Rattle.icn_run.specs.Stacks.{flat as calls};
 ghost use Rattle.icn_run.specs.Step.{fails, stuck};
-ghost use Rattle.icn_run_safe.specs.AnyOutside.{IsNeverStuckOver};
 ghost use Rattle.icn_control.specs.Failing.{DueAt, FailsNamed};
 ghost use Rattle.icn_control.specs.Falls.{FallsBelow, IsLiveDue};
-ghost use Rattle.icn_control.specs.Leading.{LeadsToDue, failing_seen, is_failing};
 ghost use Rattle.icn_control.specs.Machines.{IsSound, stack_of, stack_seen, store_seen, world_reach};
 
 use crate::failing::{Due, fall};
@@ -32,40 +30,4 @@ pub fn fail_once<K: Stack<Cell> + Drop>(m: &mut Machine<K>) -> Due
     ensures less { FallsBelow (stack_of m.old) (stack_of m.new) result }
 {
     fall(m.stacks.frames(), &mut m.world)
-}
-
-// Whether the code goes on failing.
-fn is_failing(due: Due) -> bool
-    ensures { result ≡ is_failing due }
-{
-    match due {
-        Due::Failing => true,
-        Due::Running => false,
-        Due::Beginning => false,
-        Due::Resuming(_) => false,
-        Due::Reentering => false,
-        Due::Leaving => false,
-    }
-}
-
-/// Fails until something else is due, in as many steps as suspensions come back and marks are dropped, and no further. It
-/// takes no memory.
-pub fn fail_on<K: Stack<Cell> + Drop>(m: &mut Machine<K>) -> Due
-    requires runs { IsSome m.old.stacks.table.running }
-    requires sound { (tables : Tables) × IsSound tables m.old }
-    requires goes_on { (tables : Tables) × ((outside : Outside) × IsNeverStuckOver tables (failing_seen tables outside m.old)) }
-    ensures step { (tables : Tables) (outside : Outside) → LeadsToDue tables outside (failing_seen tables outside m.old) m.new result }
-    ensures over { is_failing result ≡ false }
-    ensures sound { (tables : Tables) → IsSound tables m.old → IsSound tables m.new }
-    ensures runs { IsSome m.new.stacks.table.running }
-    ensures limits { m.new.limits ≡ m.old.limits }
-    ensures heap { m.new.world.heap ≡ m.old.world.heap }
-    ensures named { FailsNamed m.old m.new result }
-    ensures due { IsLiveDue (world_reach m.new) (stack_of m.new) result }
-{
-    let mut due = Due::Failing;
-    while is_failing(due) {
-        due = fail_once(m);
-    }
-    due
 }

@@ -29,7 +29,7 @@ mod world;
 pub use activation::Activation;
 pub use coexpressions::{create, refresh};
 pub use failing::{Due, fall};
-pub use failing_step::{fail_on, fail_once};
+pub use failing_step::fail_once;
 pub use hops::{exhaust, hop};
 pub use initial::init;
 pub use keywords::{keyword_item, push_keyword};
