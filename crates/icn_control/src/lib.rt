@@ -35,7 +35,7 @@ pub use initial::init;
 pub use keywords::{keyword_item, push_keyword};
 pub use laws::{creations_are_read, transfers_are_read};
 pub use leaving::end_failing;
-pub use limits::{give_value, limit};
+pub use limits::limit;
 pub use lists::{make_list, push_list};
 pub use literals::{push_cset, push_global, push_integer, push_local, push_static};
 pub use machine::{Machine, Stage};

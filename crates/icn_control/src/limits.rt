@@ -1,46 +1,19 @@
-// Instructions that take the value of an operand, in the activation that runs.
-ghost use Rattle.std.specs.Prelude.{◌≡◌, ◌<◌, [], false, IsSome, IfSome, OnOk, IfErr};
+// A limit on results, by the value of an operand in the activation that runs.
+ghost use Rattle.std.specs.Prelude.{◌≡◌, ◌<◌, [], IsSome, OnOk, IfErr};
 ghost use Rattle.icn_code.specs.Codes.{Tables};
 ghost use Rattle.icn_code.specs.declared.instr.Instr.TheVariants as Instrs;
-ghost use Rattle.icn_heap.specs.Heaps.{extent_of};
 ghost use Rattle.icn_vars.specs.Outcomes.{IsLiveHalt};
 ghost use Rattle.icn_vars.specs.Worlds.{reach_of};
 ghost use Rattle.icn_frames.specs.Stacks as flat;
 ghost use Rattle.icn_control.specs.Living.{IsLiveStack};
-ghost use Rattle.icn_control.specs.Parts.{ComesWith, DoesWith, natural_of};
+ghost use Rattle.icn_control.specs.Parts.{ComesWith, natural_of};
 
 use crate::machine::Stage;
-use crate::on_stack::put;
 use crate::values::value_of;
-use crate::world::restore_pair;
 use icn_cells::Stack;
 use icn_convert::to_integer;
 use icn_frames::{Cell, Frames};
-use icn_value::{Item, Val};
 use icn_vars::{Halt, World};
-
-/// Drops the innermost mark, which must not be the frame, and pushes the value of its top operand outside.
-///
-/// The error is that of the value.
-pub fn give_value<K: Stack<Cell> + Drop>(
-    frames: &mut Frames<K>,
-    world: &mut World,
-) -> Result<(), Halt>
-    requires operand { IsSome (flat.pop frames.old.flat) }
-    requires mark { IfSome (flat.pop frames.old.flat) (λ popped. flat.at_base popped.1 ≡ false) }
-    requires live { (tables : Tables) × IsLiveStack tables (reach_of world.old []) frames.old.flat }
-    ensures step { DoesWith Instrs.Eret world.old frames.old.flat world.new frames.new.flat result }
-    ensures live { (tables : Tables) → IsLiveStack tables (reach_of world.old []) frames.old.flat → OnOk result (IsLiveStack tables (reach_of world.new []) frames.new.flat) }
-    ensures halt { IfErr result (IsLiveHalt (reach_of world.new [])) }
-    ensures heap { world.new.heap ≡ world.old.heap }
-{
-    let x = frames.pop();
-    let v = value_of(frames, world, x)?;
-    let pair = frames.unmark();
-    restore_pair(world, pair);
-    put(frames, Item::Val(v));
-    Ok(())
-}
 
 /// Opens a limit mark, with the value of the top operand as its count. At 0 it fails.
 ///
