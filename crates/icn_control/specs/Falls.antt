@@ -40,17 +40,29 @@ DropsTo m n due =
 -- what is resumed is of the world
 abbrev pub IsLiveDue : Reach → FlatStack → Due → Type 0
 IsLiveDue reach m (Dues.Resuming rest) = IsLiveResidual (with_locals (locals_at m.registers m.cells) reach) rest
-IsLiveDue reach m due = ⊤
+IsLiveDue reach m Dues.Failing = ⊤
+IsLiveDue reach m Dues.Running = ⊤
+IsLiveDue reach m Dues.Beginning = ⊤
+IsLiveDue reach m Dues.Reentering = ⊤
+IsLiveDue reach m Dues.Leaving = ⊤
 
 -- where the code goes on failing, there are fewer cells
 abbrev pub FallsBelow : FlatStack → FlatStack → Due → Type 0
 FallsBelow m n Dues.Failing = length n.cells < length m.cells
-FallsBelow m n due = ⊤
+FallsBelow m n Dues.Running = ⊤
+FallsBelow m n Dues.Beginning = ⊤
+FallsBelow m n (Dues.Resuming rest) = ⊤
+FallsBelow m n Dues.Reentering = ⊤
+FallsBelow m n Dues.Leaving = ⊤
 
 -- what is to be resumed names only what has a name
 abbrev pub DueNamed : Names → Extent → Due → Type 0
 DueNamed names all (Dues.Resuming rest) = ResidualNamed names (residual_in all rest)
-DueNamed names all due = ⊤
+DueNamed names all Dues.Failing = ⊤
+DueNamed names all Dues.Running = ⊤
+DueNamed names all Dues.Beginning = ⊤
+DueNamed names all Dues.Reentering = ⊤
+DueNamed names all Dues.Leaving = ⊤
 
 -- where what a stack names has a name, so it is on the stack after, and so is what is to be resumed
 abbrev pub FallsNamed : Extent → FlatStack → FlatStack → Due → Type 0
