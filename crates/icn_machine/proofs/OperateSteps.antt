@@ -51,29 +51,9 @@ use Rattle.icn_control.proofs.GrowthSteps.{grown, stacks_grow}
 use Rattle.icn_control.proofs.ListSteps.{on_running}
 use Rattle.icn_control.proofs.TakeSteps.{taken_runs}
 use Rattle.icn_machine.specs.Answering as answering
-use Rattle.icn_machine.specs.Answering.{AnswersStep, BreaksOff, BreaksPutting, BreaksReading, IsCause, Performs, Tells, having}
+use Rattle.icn_machine.specs.Answering.{Performs, having}
 use Rattle.icn_machine.specs.Performing.{PerformsRow, StandsOver, row_on}
-
--- What a call says of a step, said of what leads to the same states
-
-answers_as : {A : Type 0} (state other : State Frames Frames) (C D : Outside → Result A Halt → Type 0) (was : Outside) (b a : Handed) (result : Result A Halt) → other ≡ state
-    → ((now : Outside) → C now result → D now result) → AnswersStep C state was b a result → AnswersStep D other was b a result
-answers_as state other C D was b a (Ok x) e h t = record { now = t.now; follows = t.follows; is = h t.now t.is }
-answers_as state other C D was b a (Err (Halts.Error number offending)) e h t = record { now = t.now; follows = t.follows; is = h t.now t.is }
-answers_as state other C D was b a (Err (Halts.Ends status)) e h t = record { now = t.now; follows = t.follows; is = h t.now t.is }
-answers_as state other C D was b a (Err Halts.ReadFault) e h t = subst (λ (x : State Frames Frames). BreaksReading x was b a) (sym e) t
-answers_as state other C D was b a (Err Halts.WriteFault) e h t = subst (λ (x : State Frames Frames). BreaksPutting x was b a) (sym e) t
-answers_as state other C D was b a (Err Halts.NoMemory) e h t = subst (λ (x : State Frames Frames). BreaksOff x was b a) (sym e) t
-
-pub performs_as : {A : Type 0} (leads others : Outside → State Frames Frames) (C D : Outside → Outside → Result A Halt → Type 0) (b a : Handed) (result : Result A Halt)
-    → ((was : Outside) → others was ≡ leads was) → ((was now : Outside) → C was now result → D was now result) → Performs leads C b a result → Performs others D b a result
-performs_as leads others C D b a result e h p = record {
-  answers = λ was told. answers_as (leads was) (others was) (C was) (D was) was b a result (e was) (h was) (p.answers was told);
-  had = p.had;
-  has = p.has;
-  meant = λ was left. answers_as (leads was) (others was) (C was) (D was) was (having p.had b) (having p.has a) result (e was) (h was) (p.meant was left);
-  caused = p.caused;
-}
+use Rattle.icn_machine.proofs.PerformEvents.{performs_as}
 
 -- Where nothing was read or put
 
@@ -174,7 +154,8 @@ performs_on m t tables w turns table k n row leads b a result kept live e f same
     let st : Store Frames = store_in_turn tables w turns table m (outside_of []) in
     let on : Frames = stack_in (extent_of w.heap) k in
     let at : Outside → Store Frames = store_in_turn tables w turns table m in
-    performs_as (row_on row w k st) leads (λ was now answer. StandsOver (row_on row w k st was) st m.world n now answer) (λ was now answer. ComesTo tables now (leads was) m answer) b a result same
+    performs_as leads (row_on row w k st) (λ was now answer. StandsOver (row_on row w k st was) st m.world n now answer)
+    (λ was now answer. ComesTo tables now (leads was) m answer) b a result same
     (λ was now h. subst (λ (x : State Frames Frames). ComesTo tables now x m result) (sym (same was)) (comes_to m t tables w turns table n (row (here flat on (at was))) on (at was) (outside_of []) now result kept live e f h))
     (p st refl)
 
