@@ -25,4 +25,5 @@ pub one_chosen : (all : Extent) (items : List Item) (n : ℤ) (place : Option �
 one_chosen all items n place p found e f low g =
     let one : p ≡ suc (p - 1) = omega (arith, low) in
     ap (option_map (item_in all)) g ∙ sym (slice_get-map (item_in all) items (p - 1))
-    ∙ sym (by_place all items n place e ∙ ap (λ (q : Option ℕ). argument_at q (map (item_in all) items)) f ∙ ap (λ (k : ℕ). argument_at (Some k) (map (item_in all) items)) one)
+    ∙ sym (by_place all items n place e ∙ ap (λ (q : Option ℕ). argument_at q (map (item_in all) items)) f
+    ∙ ap (λ (k : ℕ). argument_at (Some k) (map (item_in all) items)) one)

@@ -82,22 +82,29 @@ none_runs w value n k items m found e f g st same =
 -- Values of arguments, and what is done with them
 
 values_then : (w : World) (m k : FlatStack) (items : List Item) (vals : List Val) (next : List Value → Frames → Store Frames → State Frames Frames) → k ≡ m
-    → ((st : Store Frames) (f : List Value → State Frames Frames) → st.world ≡ world_of w → with_values_in w m items st f ≡ f (map (value_in (extent_of w.heap)) vals)) → (st : Store Frames) → st.world ≡ world_of w
-    → with_values_in w m items st (λ values. next values (stack_in (extent_of w.heap) m) st) ≡ next (map (value_in (extent_of w.heap)) vals) (stack_in (extent_of w.heap) k) st
+    → ((st : Store Frames) (f : List Value → State Frames Frames) → st.world ≡ world_of w
+    → with_values_in w m items st f ≡ f (map (value_in (extent_of w.heap)) vals))
+    → (st : Store Frames) → st.world ≡ world_of w
+    → with_values_in w m items st (λ values. next values (stack_in (extent_of w.heap) m) st)
+    ≡ next (map (value_in (extent_of w.heap)) vals) (stack_in (extent_of w.heap) k) st
 values_then w m k items vals next e f st same =
     f st (λ values. next values (stack_in (extent_of w.heap) m) st) same
     ∙ ap (λ (x : FlatStack). next (map (value_in (extent_of w.heap)) vals) (stack_in (extent_of w.heap) x) st) (sym e)
 
 pub values_run : (w v : World) (m k n : FlatStack) (items : List Item) (vals : List Val) (next : List Value → Frames → Store Frames → State Frames Frames)
     → k ≡ m
-    → ((st : Store Frames) (f : List Value → State Frames Frames) → st.world ≡ world_of w → with_values_in w m items st f ≡ f (map (value_in (extent_of w.heap)) vals))
+    → ((st : Store Frames) (f : List Value → State Frames Frames) → st.world ≡ world_of w
+    → with_values_in w m items st f ≡ f (map (value_in (extent_of w.heap)) vals))
     → ((st : Store Frames) → st.world ≡ world_of w → RunsWith (next (map (value_in (extent_of w.heap)) vals) (stack_in (extent_of w.heap) k) st) st v n)
     → (st : Store Frames) → st.world ≡ world_of w
     → RunsWith (with_values_in w m items st (λ values. next values (stack_in (extent_of w.heap) m) st)) st v n
 values_run w v m k n items vals next e f h st same = values_then w m k items vals next e f st same ∙ h st same
 
-pub values_halt : (w v : World) (m k : FlatStack) (items : List Item) (vals : List Val) (halt : Halt) (next : List Value → Frames → Store Frames → State Frames Frames) → k ≡ m
-    → ((st : Store Frames) (f : List Value → State Frames Frames) → st.world ≡ world_of w → with_values_in w m items st f ≡ f (map (value_in (extent_of w.heap)) vals))
+pub values_halt : (w v : World) (m k : FlatStack) (items : List Item) (vals : List Val) (halt : Halt)
+    (next : List Value → Frames → Store Frames → State Frames Frames)
+    → k ≡ m
+    → ((st : Store Frames) (f : List Value → State Frames Frames) → st.world ≡ world_of w
+    → with_values_in w m items st f ≡ f (map (value_in (extent_of w.heap)) vals))
     → ((st : Store Frames) → st.world ≡ world_of w → HaltsWith (next (map (value_in (extent_of w.heap)) vals) (stack_in (extent_of w.heap) k) st) st v halt)
     → (st : Store Frames) → st.world ≡ world_of w
     → HaltsWith (with_values_in w m items st (λ values. next values (stack_in (extent_of w.heap) m) st)) st v halt

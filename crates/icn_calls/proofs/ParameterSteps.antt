@@ -77,16 +77,19 @@ live_drop all (suc n) (x ∷ xs) a = live_drop all n xs (All-tail (IsLive all) x
 
 pub plain : (w : World) (m : FlatStack) (count : ℕ) (vals parameters : List Val) → parameters ≡ values_for count vals
     → (st : Store Frames) (next : List Value → Frames → Store Frames → State Frames Frames) → st.world ≡ world_of w
-    → with_parameters_in false count w m vals st next ≡ next (map (value_in (extent_of w.heap)) parameters) (stack_in (extent_of w.heap) m) (with_world (world_of w) st)
+    → with_parameters_in false count w m vals st next
+    ≡ next (map (value_in (extent_of w.heap)) parameters) (stack_in (extent_of w.heap) m) (with_world (world_of w) st)
 plain w m count vals parameters e st next same =
-    ap (λ (xs : List Value). next xs (stack_in (extent_of w.heap) m) st) (sym (ap (map (value_in (extent_of w.heap))) e ∙ map_values_for (extent_of w.heap) count vals))
+    ap (λ (xs : List Value). next xs (stack_in (extent_of w.heap) m) st)
+    (sym (ap (map (value_in (extent_of w.heap))) e ∙ map_values_for (extent_of w.heap) count vals))
     ∙ ap (next (map (value_in (extent_of w.heap)) parameters) (stack_in (extent_of w.heap) m)) (same_world w st same)
 
 pub collects : (w v : World) (m : FlatStack) (count : ℕ) (vals cut parameters : List Val) (list : Val)
     → MakesValue (list_row (map (value_in (extent_of w.heap)) (drop (count - 1) vals))) w m v (Ok list) → cut ≡ values_for (count - 1) vals
     → parameters ≡ cut ++ list ∷ [] → Keeps (extent_of w.heap) (extent_of v.heap) → All (IsLive (extent_of w.heap)) vals
     → (st : Store Frames) (next : List Value → Frames → Store Frames → State Frames Frames) → st.world ≡ world_of w
-    → with_parameters_in true count w m vals st next ≡ next (map (value_in (extent_of v.heap)) parameters) (stack_in (extent_of v.heap) m) (with_world (world_of v) st)
+    → with_parameters_in true count w m vals st next
+    ≡ next (map (value_in (extent_of v.heap)) parameters) (stack_in (extent_of v.heap) m) (with_world (world_of v) st)
 collects w v m count vals cut parameters list made_so c p k a st next same =
     let all : Extent = extent_of w.heap in
     let new : Extent = extent_of v.heap in
@@ -107,11 +110,13 @@ pub collects_not : (w v : World) (m : FlatStack) (count : ℕ) (vals : List Val)
 collects_not w v m count vals stop made_so st next same =
     let all : Extent = extent_of w.heap in
     let behind : Value → Frames → Store Frames → State Frames Frames = λ rest x s. next (filled (count - 1) (map (value_in all) vals) ++ rest ∷ []) x s in
-    subst (λ (x : State Frames Frames). HaltsWith x st v (halt_of stop)) (ap (λ (xs : List Value). list_made flat xs (stack_in all m) st behind) (map_drop all (count - 1) vals)) (made_so st behind same)
+    subst (λ (x : State Frames Frames). HaltsWith x st v (halt_of stop))
+    (ap (λ (xs : List Value). list_made flat xs (stack_in all m) st behind) (map_drop all (count - 1) vals)) (made_so st behind same)
 
 pub plain_result : (b : Bool) (w : World) (m : FlatStack) (count : ℕ) (vals parameters : List Val) → b ≡ false → parameters ≡ values_for count vals
     → (st : Store Frames) (next : List Value → Frames → Store Frames → State Frames Frames) → st.world ≡ world_of w
-    → with_parameters_in b count w m vals st next ≡ next (map (value_in (extent_of w.heap)) parameters) (stack_in (extent_of w.heap) m) (with_world (world_of w) st)
+    → with_parameters_in b count w m vals st next
+    ≡ next (map (value_in (extent_of w.heap)) parameters) (stack_in (extent_of w.heap) m) (with_world (world_of w) st)
 plain_result b w m count vals parameters e p st next same =
     ap (λ (x : Bool). with_parameters_in x count w m vals st next) e ∙ plain w m count vals parameters p st next same
 
@@ -124,7 +129,8 @@ map_nulls all (suc n) = ap (λ (r : List Value). NullValue ∷ r) (map_nulls all
 -- what a call is, once its level was tested
 called_by : (w : World) (m : FlatStack) (number : ℕ) (entry : Proc) (vals : List Val) (b : Bool)
     → nat_le (suc (held.level m)) (heap_of w.heap).bounds.levels ≡ b → (st : Store Frames) → st.world ≡ world_of w
-    → called flat number entry (map (value_in (extent_of w.heap)) vals) (stack_in (extent_of w.heap) m) st ≡ called_if flat b number entry (map (value_in (extent_of w.heap)) vals) (stack_in (extent_of w.heap) m) st
+    → called flat number entry (map (value_in (extent_of w.heap)) vals) (stack_in (extent_of w.heap) m) st
+    ≡ called_if flat b number entry (map (value_in (extent_of w.heap)) vals) (stack_in (extent_of w.heap) m) st
 called_by w m number entry vals b e st same =
     let F : Bool → State Frames Frames = λ x. called_if flat x number entry (map (value_in (extent_of w.heap)) vals) (stack_in (extent_of w.heap) m) st in
     ap (λ (l : ℕ). F (nat_le (suc l) st.world.heap.bounds.levels)) (level_read (reading_of (extent_of w.heap)) m)
@@ -139,9 +145,11 @@ called_deep w m number entry vals e st same = called_by w m number entry vals fa
 pub called_runs : (w v : World) (m k n : FlatStack) (number : ℕ) (entry : Proc) (vals parameters : List Val)
     → nat_le (suc (held.level m)) (heap_of w.heap).bounds.levels ≡ true
     → ((st : Store Frames) (next : List Value → Frames → Store Frames → State Frames Frames) → st.world ≡ world_of w
-    → with_parameters_in entry.collects entry.parameters w m vals st next ≡ next (map (value_in (extent_of v.heap)) parameters) (stack_in (extent_of v.heap) m) (with_world (world_of v) st))
+    → with_parameters_in entry.collects entry.parameters w m vals st next
+    ≡ next (map (value_in (extent_of v.heap)) parameters) (stack_in (extent_of v.heap) m) (with_world (world_of v) st))
     → k ≡ m → n ≡ held.enter number (parameters ++ replicate entry.locals Null) 0 k → (st : Store Frames) → st.world ≡ world_of w
-    → called flat number entry (map (value_in (extent_of w.heap)) vals) (stack_in (extent_of w.heap) m) st ≡ running (stack_in (extent_of v.heap) n) (with_world (world_of v) st)
+    → called flat number entry (map (value_in (extent_of w.heap)) vals) (stack_in (extent_of w.heap) m) st
+    ≡ running (stack_in (extent_of v.heap) n) (with_world (world_of v) st)
 called_runs w v m k n number entry vals parameters b f e p st same =
     let new : Extent = extent_of v.heap in
     let locals : List Val = parameters ++ replicate entry.locals Null in
@@ -157,10 +165,13 @@ called_runs w v m k n number entry vals parameters b f e p st same =
 
 pub called_halts : (w v : World) (m : FlatStack) (number : ℕ) (entry : Proc) (vals : List Val) (stop : Stop)
     → nat_le (suc (held.level m)) (heap_of w.heap).bounds.levels ≡ true
-    → ((st : Store Frames) (next : List Value → Frames → Store Frames → State Frames Frames) → st.world ≡ world_of w → HaltsWith (with_parameters_in entry.collects entry.parameters w m vals st next) st v (halt_of stop)) → (st : Store Frames) → st.world ≡ world_of w
+    → ((st : Store Frames) (next : List Value → Frames → Store Frames → State Frames Frames) → st.world ≡ world_of w
+    → HaltsWith (with_parameters_in entry.collects entry.parameters w m vals st next) st v (halt_of stop))
+    → (st : Store Frames) → st.world ≡ world_of w
     → HaltsWith (called flat number entry (map (value_in (extent_of w.heap)) vals) (stack_in (extent_of w.heap) m) st) st v (halt_of stop)
 called_halts w v m number entry vals stop b f st same =
-    subst (λ (x : State Frames Frames). HaltsWith x st v (halt_of stop)) (sym (called_by w m number entry vals true b st same)) (f st (λ ps a s. entered flat number entry ps a s) same)
+    subst (λ (x : State Frames Frames). HaltsWith x st v (halt_of stop)) (sym (called_by w m number entry vals true b st same))
+    (f st (λ ps a s. entered flat number entry ps a s) same)
 
 pub nulls_live : (all : Extent) (n : ℕ) → All (IsLive all) (replicate n Null)
 nulls_live all zero = All-nil (IsLive all)

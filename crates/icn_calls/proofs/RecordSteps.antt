@@ -48,7 +48,8 @@ made_and_pushed w kind fields m st = made_in (record_row kind fields) w m st (λ
 
 constructed_is : (w : World) (m : FlatStack) (kind at count : ℕ) (entry : RecordType) (vals fields : List Val) → at ≡ kind → count ≡ length entry.fields
     → fields ≡ values_for count vals → (st : Store Frames)
-    → constructed flat kind entry (map (value_in (extent_of w.heap)) vals) (stack_in (extent_of w.heap) m) st ≡ made_and_pushed w at (map (value_in (extent_of w.heap)) fields) m st
+    → constructed flat kind entry (map (value_in (extent_of w.heap)) vals) (stack_in (extent_of w.heap) m) st
+    ≡ made_and_pushed w at (map (value_in (extent_of w.heap)) fields) m st
 constructed_is w m kind at count entry vals fields k c e st =
     let all : Extent = extent_of w.heap in
     let is : map (value_in all) fields ≡ filled (length entry.fields) (map (value_in all) vals)
@@ -71,10 +72,13 @@ pub record_halts : (w v : World) (m : FlatStack) (kind at count : ℕ) (entry : 
     → MakesValue (record_row at (map (value_in (extent_of w.heap)) fields)) w m v (Err stop) → (st : Store Frames) → st.world ≡ world_of w
     → HaltsWith (constructed flat kind entry (map (value_in (extent_of w.heap)) vals) (stack_in (extent_of w.heap) m) st) st v (halt_of stop)
 record_halts w v m kind at count entry vals fields stop a c e made_so st same =
-    subst (λ (x : State Frames Frames). HaltsWith x st v (halt_of stop)) (sym (constructed_is w m kind at count entry vals fields a c e st)) (made_so st (λ value m st. pushed flat (rows.Val value) m st) same)
+    subst (λ (x : State Frames Frames). HaltsWith x st v (halt_of stop)) (sym (constructed_is w m kind at count entry vals fields a c e st))
+    (made_so st (λ value m st. pushed flat (rows.Val value) m st) same)
 
 pub record_counted : (w v : World) (locals : List Val) (kind : ℕ) (fields : List Value) (result : Result Val Stop)
-    → ((outside : Outside) → Found (extent_of v.heap) (new_record_of (record { kind = kind; fields = fields })) (setting_of outside w locals) (setting_of outside v locals) (value_in (extent_of v.heap)) result) → OnOk result (KeepsCounts w v)
+    → ((outside : Outside) → Found (extent_of v.heap) (new_record_of (record { kind = kind; fields = fields })) (setting_of outside w locals)
+    (setting_of outside v locals) (value_in (extent_of v.heap)) result)
+    → OnOk result (KeepsCounts w v)
 record_counted w v locals kind fields (Ok val) f =
     record_keeps w v (outside_of []) locals (rows.Val (value_in (extent_of v.heap) val)) kind fields (f (outside_of []) gives_value)
 record_counted w v locals kind fields (Err stop) f = tt
@@ -115,7 +119,8 @@ size_is sizes heap id fit live =
     let nothing : Record = record { kind = 0; fields = [] } in
     let below : id < (extent_of heap).records = live.live in
     let within : id < length (heap_of heap).records = omega (arith, record_count heap, below) in
-    let there : slice_get (heap_of heap).records id ≡ Some (get_or (heap_of heap).records id nothing) = slice_get-get_or (heap_of heap).records id nothing within in
+    let there : slice_get (heap_of heap).records id ≡ Some (get_or (heap_of heap).records id nothing)
+    = slice_get-get_or (heap_of heap).records id nothing within in
     let is : get_or (heap_of heap).records id nothing ≡ record_at (heap_of heap) id = sym (unwrap_or-slice_get (heap_of heap).records id nothing) in
     let size : Record → ℕ = λ structure. length structure.fields in
     get_or_from_slice_get (field_counts (heap_of heap)) id (size (get_or (heap_of heap).records id nothing)) 0
@@ -134,15 +139,18 @@ field_live sizes w locals id place kind fit live e p =
 -- what comes of a field, once its item has a value
 applied_is : (w : World) (tables : Tables) (field : ℕ) (item : Item) (m : FlatStack) (val : Val) (st : Store Frames)
     → FindsValue (extent_of w.heap) (item_in (extent_of w.heap) item) (here flat (stack_in (extent_of w.heap) m) st) (Ok val)
-    → field_applied flat tables field (item_in (extent_of w.heap) item ∷ []) (stack_in (extent_of w.heap) m) st ≡ field_of flat tables field (value_in (extent_of w.heap) val) (stack_in (extent_of w.heap) m) st
+    → field_applied flat tables field (item_in (extent_of w.heap) item ∷ []) (stack_in (extent_of w.heap) m) st
+    ≡ field_of flat tables field (value_in (extent_of w.heap) val) (stack_in (extent_of w.heap) m) st
 applied_is w tables field item m val st f =
-    value_goes (extent_of w.heap) (item_in (extent_of w.heap) item) (stack_in (extent_of w.heap) m) st val (λ value. field_of flat tables field value (stack_in (extent_of w.heap) m) st) f
+    value_goes (extent_of w.heap) (item_in (extent_of w.heap) item) (stack_in (extent_of w.heap) m) st val
+    (λ value. field_of flat tables field value (stack_in (extent_of w.heap) m) st) f
 
 pub field_unfound : (w : World) (tables : Tables) (field : ℕ) (item : Item) (m : FlatStack) (stop : Stop) (st : Store Frames) → st.world ≡ world_of w
     → FindsValue (extent_of w.heap) (item_in (extent_of w.heap) item) (here flat (stack_in (extent_of w.heap) m) st) (Err stop)
     → HaltsWith (field_applied flat tables field (item_in (extent_of w.heap) item ∷ []) (stack_in (extent_of w.heap) m) st) st w (halt_of stop)
 field_unfound w tables field item m stop st same f =
-    value_halts w (item_in (extent_of w.heap) item) (stack_in (extent_of w.heap) m) st stop (λ value. field_of flat tables field value (stack_in (extent_of w.heap) m) st) same f
+    value_halts w (item_in (extent_of w.heap) item) (stack_in (extent_of w.heap) m) st stop
+    (λ value. field_of flat tables field value (stack_in (extent_of w.heap) m) st) same f
 
 -- a value that is no record has no fields
 no_record : (all : Extent) (tables : Tables) (field : ℕ) (val : Val) (m : Frames) (st : Store Frames) → ((id : ℕ) → val ≡ Vals.Rec id → ⊥)
@@ -162,7 +170,8 @@ no_record all tables field (Vals.Coexp n) m st h = refl
 pub not_a_record : (w : World) (tables : Tables) (field : ℕ) (item : Item) (m : FlatStack) (val : Val) (st : Store Frames) → st.world ≡ world_of w
     → FindsValue (extent_of w.heap) (item_in (extent_of w.heap) item) (here flat (stack_in (extent_of w.heap) m) st) (Ok val)
     → ((id : ℕ) → val ≡ Vals.Rec id → ⊥)
-    → field_applied flat tables field (item_in (extent_of w.heap) item ∷ []) (stack_in (extent_of w.heap) m) st ≡ errs 107 (Some (value_in (extent_of w.heap) val)) (with_world (world_of w) st)
+    → field_applied flat tables field (item_in (extent_of w.heap) item ∷ []) (stack_in (extent_of w.heap) m) st
+    ≡ errs 107 (Some (value_in (extent_of w.heap) val)) (with_world (world_of w) st)
 not_a_record w tables field item m val st same f h =
     applied_is w tables field item m val st f ∙ no_record (extent_of w.heap) tables field val (stack_in (extent_of w.heap) m) st h
     ∙ ap (errs 107 (Some (value_in (extent_of w.heap) val))) (same_world w st same)
@@ -172,7 +181,8 @@ taken_is : (w : World) (tables : Tables) (field : ℕ) (item : Item) (m : FlatSt
     → st.world ≡ world_of w
     → FindsValue (extent_of w.heap) (item_in (extent_of w.heap) item) (here flat (stack_in (extent_of w.heap) m) st) (Ok val) → val ≡ Vals.Rec id
     → kind ≡ (record_at (heap_of w.heap) id).kind → place ≡ field_place tables field kind
-    → field_applied flat tables field (item_in (extent_of w.heap) item ∷ []) (stack_in (extent_of w.heap) m) st ≡ field_taken flat place id (stack_in (extent_of w.heap) m) st
+    → field_applied flat tables field (item_in (extent_of w.heap) item ∷ []) (stack_in (extent_of w.heap) m) st
+    ≡ field_taken flat place id (stack_in (extent_of w.heap) m) st
 taken_is w tables field item m val id kind place st same f v k p =
     let all : Extent = extent_of w.heap in
     applied_is w tables field item m val st f
@@ -185,14 +195,16 @@ pub no_such_field : (w : World) (tables : Tables) (field : ℕ) (item : Item) (m
     → st.world ≡ world_of w
     → FindsValue (extent_of w.heap) (item_in (extent_of w.heap) item) (here flat (stack_in (extent_of w.heap) m) st) (Ok val) → val ≡ Vals.Rec id
     → kind ≡ (record_at (heap_of w.heap) id).kind → place ≡ field_place tables field kind → place ≡ None
-    → field_applied flat tables field (item_in (extent_of w.heap) item ∷ []) (stack_in (extent_of w.heap) m) st ≡ errs 207 (Some (rows.ARecord id)) (with_world (world_of w) st)
+    → field_applied flat tables field (item_in (extent_of w.heap) item ∷ []) (stack_in (extent_of w.heap) m) st
+    ≡ errs 207 (Some (rows.ARecord id)) (with_world (world_of w) st)
 no_such_field w tables field item m val id kind place st same f v k p e =
     let all : Extent = extent_of w.heap in
     taken_is w tables field item m val id kind place st same f v k p
     ∙ ap (λ (o : Option ℕ). field_taken flat o id (stack_in all m) st) e
     ∙ ap (errs 207 (Some (rows.ARecord id))) (same_world w st same)
 
-pub field_runs : (w : World) (tables : Tables) (field : ℕ) (item : Item) (m k n : FlatStack) (val : Val) (id kind at : ℕ) (place : Option ℕ) (st : Store Frames) → st.world ≡ world_of w
+pub field_runs : (w : World) (tables : Tables) (field : ℕ) (item : Item) (m k n : FlatStack) (val : Val) (id kind at : ℕ) (place : Option ℕ) (st : Store Frames)
+    → st.world ≡ world_of w
     → FindsValue (extent_of w.heap) (item_in (extent_of w.heap) item) (here flat (stack_in (extent_of w.heap) m) st) (Ok val) → val ≡ Vals.Rec id
     → kind ≡ (record_at (heap_of w.heap) id).kind → place ≡ field_place tables field kind
     → place ≡ Some at → k ≡ m → n ≡ held.push (HeldVar (HeldWhole (HeldField id at))) k

@@ -49,7 +49,8 @@ kind_within tables kind rules p = let few : length tables.records ≤ 65535 = fe
 pub few_fields : (tables : Tables) (kind : ℕ) (entry : RecordType) → keeps_rules tables ≡ true → slice_get tables.records kind ≡ Some entry
     → length entry.fields ≤ 65535
 few_fields tables kind entry rules at =
-    leb-true _ _ (right _ _ (left _ _ (at_place (is_record (length tables.strings) (length tables.fields)) tables.records kind entry (records_fit tables rules) at)))
+    leb-true _ _
+    (right _ _ (left _ _ (at_place (is_record (length tables.strings) (length tables.fields)) tables.records kind entry (records_fit tables rules) at)))
 
 -- no function has a number of more than 32 bits
 pub none_past : (n : ℕ) → n ≡ 4294967296 → func_of n ≡ None

@@ -8,7 +8,11 @@ use Rattle.icn_calls.proofs.arguments.fit.Goals as goal
 
 pub loop-vals-init : goal.loop-vals-init
 loop-vals-init c =
-    record { is = refl; few = subst (λ (xs : List Val). length xs ≤ c.args.count) (sym c.truncate.ensures.items) (cut_short c.args.count c.args.vals.now.items) }
+    record {
+      is = refl;
+      few = subst (λ (xs : List Val). length xs ≤ c.args.count) (sym c.truncate.ensures.items)
+          (cut_short c.args.count c.args.vals.now.items);
+    }
 
 pub loop-vals-preserved : goal.loop-vals-preserved
 loop-vals-preserved c =

@@ -16,8 +16,10 @@ returns-then-place-procs-2 c =
     let tables = tables_of c.args.code.now in
     let past : length tables.procs ≤ c.args.number = subst (λ (n : ℕ). n ≤ c.args.number) c.proc_count-procs.ensures c.if-place-procs.false in
     let within : c.args.number - length tables.procs < length tables.records
-    = subst (λ (n : ℕ). c.args.number - n < length tables.records) c.proc_count-procs.ensures (subst (λ (n : ℕ). c.args.number - c.proc_count-procs.result < n) c.record_count-records.ensures c.if-place-procs-2.true) in
-    subst (λ (n : ℕ). IsCallee tables c.args.number (Callees.Rec (c.args.number - n))) (sym c.proc_count-procs.ensures) (at_record tables c.args.number past within)
+    = subst (λ (n : ℕ). c.args.number - n < length tables.records) c.proc_count-procs.ensures
+    (subst (λ (n : ℕ). c.args.number - c.proc_count-procs.result < n) c.record_count-records.ensures c.if-place-procs-2.true) in
+    subst (λ (n : ℕ). IsCallee tables c.args.number (Callees.Rec (c.args.number - n))) (sym c.proc_count-procs.ensures)
+    (at_record tables c.args.number past within)
 
 pub returns-in-Some : goal.returns-in-Some
 returns-in-Some c =
@@ -25,7 +27,8 @@ returns-in-Some c =
     let n : ℕ = c.args.number in
     let past : length tables.procs ≤ n = subst (λ (k : ℕ). k ≤ n) c.proc_count-procs.ensures c.if-place-procs.false in
     let past_both : length tables.records ≤ n - length tables.procs
-    = subst (λ (k : ℕ). length tables.records ≤ n - k) c.proc_count-procs.ensures (subst (λ (k : ℕ). k ≤ n - c.proc_count-procs.result) c.record_count-records.ensures c.if-place-procs-2.false) in
+    = subst (λ (k : ℕ). length tables.records ≤ n - k) c.proc_count-procs.ensures
+    (subst (λ (k : ℕ). k ≤ n - c.proc_count-procs.result) c.record_count-records.ensures c.if-place-procs-2.false) in
     let func : Option Func = Some c.in-Some.func in
     let is : func ≡ func_of (n - length tables.procs - length tables.records + 1)
     = sym c.in-Some.is ∙ c.function_at.ensures ∙ ap (λ (k : ℕ). func_of (n - k - c.record_count-records.result + 1)) c.proc_count-procs.ensures
@@ -38,7 +41,8 @@ returns-in-None c =
     let n : ℕ = c.args.number in
     let past : length tables.procs ≤ n = subst (λ (k : ℕ). k ≤ n) c.proc_count-procs.ensures c.if-place-procs.false in
     let past_both : length tables.records ≤ n - length tables.procs
-    = subst (λ (k : ℕ). length tables.records ≤ n - k) c.proc_count-procs.ensures (subst (λ (k : ℕ). k ≤ n - c.proc_count-procs.result) c.record_count-records.ensures c.if-place-procs-2.false) in
+    = subst (λ (k : ℕ). length tables.records ≤ n - k) c.proc_count-procs.ensures
+    (subst (λ (k : ℕ). k ≤ n - c.proc_count-procs.result) c.record_count-records.ensures c.if-place-procs-2.false) in
     let func : Option Func = None in
     let is : func ≡ func_of (n - length tables.procs - length tables.records + 1)
     = sym c.in-None.is ∙ c.function_at.ensures ∙ ap (λ (k : ℕ). func_of (n - k - c.record_count-records.result + 1)) c.proc_count-procs.ensures

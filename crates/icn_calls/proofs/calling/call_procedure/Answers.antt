@@ -35,12 +35,16 @@ returns-in_err-take_parameters-clause-step g c entry at st same =
     let v = c.take_parameters.new.world in
     let m = c.args.frames.now.flat in
     let stop = c.in_err-take_parameters.field-0.0 in
-    let here : Some (proc_of c.index-entry.result.now) ≡ Some entry = sym (entry_at proc_of c.args.code.now.procs.items c.args.number c.index-entry.result.now c.requires.there c.index-entry.ensures) ∙ at in
+    let here : Some (proc_of c.index-entry.result.now) ≡ Some entry
+    = sym (entry_at proc_of c.args.code.now.procs.items c.args.number c.index-entry.result.now c.requires.there c.index-entry.ensures) ∙ at in
     let more : nat_le (suc (held.level m)) (heap_of w.heap).bounds.levels ≡ true
     = ap (λ (x : Bounds). nat_le (suc (held.level m)) x.levels) c.requires.bounds
     ∙ may_call (held.level m) c.args.limits.now.levels c.level.result c.level.ensures c.if-level-limits.false in
     at_halt c.from_residual.result (halt_of stop) _ _ c.from_residual.ensures.1
-    (subst (λ (e : Proc). HaltsWith (called flat c.args.number e (map (value_in (extent_of w.heap)) c.args.vals.now.items) (stack_in (extent_of w.heap) m) st) st v (halt_of stop)) (same_Some _ _ here)
+    (subst
+    (λ (e : Proc). HaltsWith (called flat c.args.number e (map (value_in (extent_of w.heap)) c.args.vals.now.items) (stack_in (extent_of w.heap) m) st)
+    st v (halt_of stop))
+    (same_Some _ _ here)
     (called_halts w v m c.args.number (proc_of c.index-entry.result.now) c.args.vals.now.items stop more c.in_err-take_parameters.ensures.step st same))
 
 pub returns-in-Ok-clause-step : goal.returns-in-Ok-clause-step
@@ -49,12 +53,16 @@ returns-in-Ok-clause-step g c entry at st same =
     let v = c.take_parameters.new.world in
     let m = c.args.frames.now.flat in
     let n = c.enter.new.frames.flat in
-    let here : Some (proc_of c.index-entry.result.now) ≡ Some entry = sym (entry_at proc_of c.args.code.now.procs.items c.args.number c.index-entry.result.now c.requires.there c.index-entry.ensures) ∙ at in
+    let here : Some (proc_of c.index-entry.result.now) ≡ Some entry
+    = sym (entry_at proc_of c.args.code.now.procs.items c.args.number c.index-entry.result.now c.requires.there c.index-entry.ensures) ∙ at in
     let more : nat_le (suc (held.level m)) (heap_of w.heap).bounds.levels ≡ true
     = ap (λ (x : Bounds). nat_le (suc (held.level m)) x.levels) c.requires.bounds
     ∙ may_call (held.level m) c.args.limits.now.levels c.level.result c.level.ensures c.if-level-limits.false in
-    subst (λ (e : Proc). called flat c.args.number e (map (value_in (extent_of w.heap)) c.args.vals.now.items) (stack_in (extent_of w.heap) m) st ≡ running (stack_in (extent_of v.heap) n) (with_world (world_of v) st)) (same_Some _ _ here)
-    (called_runs w v m c.take_parameters.new.frames.flat n c.args.number (proc_of c.index-entry.result.now) c.args.vals.now.items c.take_parameters.new.vals.items more c.in_ok-take_parameters.ensures.step c.take_parameters.ensures.same c.in-Ok.ensures st same)
+    subst (λ (e : Proc). called flat c.args.number e (map (value_in (extent_of w.heap)) c.args.vals.now.items) (stack_in (extent_of w.heap) m) st
+    ≡ running (stack_in (extent_of v.heap) n) (with_world (world_of v) st))
+    (same_Some _ _ here)
+    (called_runs w v m c.take_parameters.new.frames.flat n c.args.number (proc_of c.index-entry.result.now) c.args.vals.now.items
+    c.take_parameters.new.vals.items more c.in_ok-take_parameters.ensures.step c.take_parameters.ensures.same c.in-Ok.ensures st same)
 
 pub returns-in-Ok-clause-live : goal.returns-in-Ok-clause-live
 returns-in-Ok-clause-live g c k =
@@ -70,5 +78,7 @@ returns-in-Ok-clause-live g c k =
     ∙ sym (ap (λ (o : Option Proc). option_map_or variables_of o 0) at) in
     let deep : suc (held.level m) ≤ 4294967295 = omega (arith, c.level.ensures, c.if-level-limits.false, c.args.limits.now.few_levels) in
     let stays : IsLiveStack t (reach_of v []) m = stack_stays t (reach_of c.args.world.now []) (reach_of v []) m c.take_parameters.ensures.kept k in
-    let entered = live_enter t (reach_of v []) m c.args.number values 0 count deep (live_with_nulls (extent_of v.heap) e.locals parameters c.in_ok-take_parameters.ensures.live) stays in
-    subst (λ (x : FlatStack). IsLiveStack t (reach_of v []) x) (sym (c.in-Ok.ensures ∙ ap (held.enter c.args.number values 0) c.take_parameters.ensures.same)) entered
+    let entered = live_enter t (reach_of v []) m c.args.number values 0 count deep
+    (live_with_nulls (extent_of v.heap) e.locals parameters c.in_ok-take_parameters.ensures.live) stays in
+    subst (λ (x : FlatStack). IsLiveStack t (reach_of v []) x)
+    (sym (c.in-Ok.ensures ∙ ap (held.enter c.args.number values 0) c.take_parameters.ensures.same)) entered

@@ -22,7 +22,8 @@ pub returns-in_err-list-clause-step : goal.returns-in_err-list-clause-step
 returns-in_err-list-clause-step g c st next same =
     let w = c.args.world.now in
     let v = c.list_of.new.world in
-    let made_so = subst (λ (xs : List Val). MakesValue (list_row (map (value_in (extent_of w.heap)) xs)) w c.args.frames.now.flat v (Err c.in_err-list.field-0.0))
+    let made_so = subst (λ (xs : List Val). MakesValue (list_row (map (value_in (extent_of w.heap)) xs)) w c.args.frames.now.flat v
+    (Err c.in_err-list.field-0.0))
     (c.from_place.ensures ∙ ap (drop (c.args.count - 1)) c.deref.ensures.value) c.in_err-list.ensures.made in
     at_stop c.from_residual.result c.in_err-list.field-0.0 _ _ c.from_residual.ensures.1
     (collects_not w v c.args.frames.now.flat c.args.count c.args.vals.now.items c.in_err-list.field-0.0 made_so st next same)
@@ -39,7 +40,8 @@ returns-clause-live g c =
     let new = extent_of c.list_of.new.world.heap in
     let grown = locals_grow old new c.args.vals.now.items c.list_of.ensures.kept.extent c.requires.vals in
     All-same (IsLive new) _ _ c.in_ok-add.ensures
-    (All-push (IsLive new) _ _ (All-same (IsLive new) _ _ c.in_ok-fit.ensures (live_values_for new (c.args.count - 1) c.args.vals.now.items grown)) c.in_ok-list.ensures.live)
+    (All-push (IsLive new) _ _ (All-same (IsLive new) _ _ c.in_ok-fit.ensures (live_values_for new (c.args.count - 1) c.args.vals.now.items grown))
+    c.in_ok-list.ensures.live)
 
 pub returns-clause-count : goal.returns-clause-count
 returns-clause-count g c =

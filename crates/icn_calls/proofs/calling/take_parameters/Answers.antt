@@ -12,7 +12,9 @@ use Rattle.icn_calls.proofs.calling.take_parameters.Goals as goal
 
 pub returns-then-collects-clause-step : goal.returns-then-collects-clause-step
 returns-then-collects-clause-step g c =
-    subst (λ (b : Bool). FindsParameters b c.args.count c.args.world.now c.args.frames.now.flat c.args.vals.now.items c.collect.new.world c.collect.new.vals.items c.collect.result) (sym c.if-collects.true) c.collect.ensures.step
+    subst (λ (b : Bool). FindsParameters b c.args.count c.args.world.now c.args.frames.now.flat c.args.vals.now.items c.collect.new.world
+    c.collect.new.vals.items c.collect.result)
+    (sym c.if-collects.true) c.collect.ensures.step
 
 pub returns-in_err-fit-clause-step : goal.returns-in_err-fit-clause-step
 returns-in_err-fit-clause-step g c st next same = at_stop c.from_residual.result NoMemory _ _ c.from_residual.ensures.1 tt

@@ -28,7 +28,8 @@ returns-in_err-rec-clause-step g c entry at st same =
     let m = c.args.frames.now.flat in
     let stop = c.in_err-rec.field-0.0 in
     at_halt c.from_residual.result (halt_of stop) _ _ c.from_residual.ensures.1
-    (record_halts w v m c.args.kind c.kind_of.result c.field_count.result entry c.args.vals.now.items c.deref.result.now stop c.kind_of.ensures (c.field_count.ensures entry at) (c.deref.ensures.value ∙ c.in-Ok.ensures) c.in_err-rec.ensures.made st same)
+    (record_halts w v m c.args.kind c.kind_of.result c.field_count.result entry c.args.vals.now.items c.deref.result.now stop c.kind_of.ensures
+    (c.field_count.ensures entry at) (c.deref.ensures.value ∙ c.in-Ok.ensures) c.in_err-rec.ensures.made st same)
 
 pub returns-in-Ok-push-clause-step : goal.returns-in-Ok-push-clause-step
 returns-in-Ok-push-clause-step g c entry at st same =
@@ -41,6 +42,7 @@ returns-in-Ok-push-clause-step g c entry at st same =
 
 pub returns-in-Ok-push-clause-live : goal.returns-in-Ok-push-clause-live
 returns-in-Ok-push-clause-live g c t k =
-    let here : IsLiveStack t (reach_of c.args.world.now []) c.record_of.new.frames.flat = subst (λ (x : FlatStack). IsLiveStack t (reach_of c.args.world.now []) x) (sym c.record_of.ensures.same) k in
+    let here : IsLiveStack t (reach_of c.args.world.now []) c.record_of.new.frames.flat
+    = subst (λ (x : FlatStack). IsLiveStack t (reach_of c.args.world.now []) x) (sym c.record_of.ensures.same) k in
     list_live t c.args.world.now c.record_of.new.world c.record_of.new.frames.flat c.push.new.self.flat c.in_ok-rec.rec c.in-Ok-push.ensures.ok
     c.record_of.ensures.kept c.in_ok-rec.ensures.live here

@@ -6,5 +6,6 @@ use Rattle.icn_calls.proofs.constructors.field_count.Goals as goal
 
 pub returns : goal.returns
 returns c entry at =
-    let here : Some (record_of c.index.result.now) ≡ Some entry = sym (entry_at record_of c.args.code.now.records.items c.args.kind c.index.result.now c.requires c.index.ensures) ∙ at in
+    let here : Some (record_of c.index.result.now) ≡ Some entry
+    = sym (entry_at record_of c.args.code.now.records.items c.args.kind c.index.result.now c.requires c.index.ensures) ∙ at in
     ap length c.as_slice.ensures.value ∙ ap (λ (e : RecordType). length e.fields) (same_Some _ _ here)

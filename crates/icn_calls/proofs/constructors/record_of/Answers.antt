@@ -21,5 +21,6 @@ returns-clause-counts g c =
 
 pub returns-clause-made : goal.returns-clause-made
 returns-clause-made g c =
-    makes_value c.requires.stack.0 c.args.world.now c.new_record.new.w c.args.frames.now.flat (new_record_of (record { kind = c.args.kind; fields = map (value_in (extent_of c.args.world.now.heap)) c.args.fields.now })) c.new_record.result
+    makes_value c.requires.stack.0 c.args.world.now c.new_record.new.w c.args.frames.now.flat
+    (new_record_of (record { kind = c.args.kind; fields = map (value_in (extent_of c.args.world.now.heap)) c.args.fields.now })) c.new_record.result
     c.new_record.ensures.kept c.requires.stack.1 c.local_count.ensures.same c.new_record.ensures.found

@@ -15,14 +15,18 @@ use Rattle.icn_calls.proofs.invoking.construct_with.Goals as goal
 pub returns-in_err-values_of-clause-step : goal.returns-in_err-values_of-clause-step
 returns-in_err-values_of-clause-step g c entry at st same =
     at_halt c.from_residual.result (halt_of c.in_err-values_of.field-0.0) _ _ c.from_residual.ensures.1
-    (c.in_err-values_of.ensures.values st (λ values. constructed flat c.args.kind entry values (stack_in (extent_of c.args.world.now.heap) c.args.frames.now.flat) st) same)
+    (c.in_err-values_of.ensures.values st
+    (λ values. constructed flat c.args.kind entry values (stack_in (extent_of c.args.world.now.heap) c.args.frames.now.flat) st) same)
 
 pub returns-in_err-values_of-clause-kept : goal.returns-in_err-values_of-clause-kept
 returns-in_err-values_of-clause-kept g c = items_all (reach_of c.args.world.now [])
 
 pub construct-requires-clause-stack : goal.construct-requires-clause-stack
-construct-requires-clause-stack g c =
-    (c.requires.stack.0, subst (λ (x : FlatStack). IsLiveStack c.requires.stack.0 (reach_of c.args.world.now []) x) (sym c.values_of.ensures.same) c.requires.stack.1)
+construct-requires-clause-stack g c = (
+  c.requires.stack.0,
+  subst (λ (x : FlatStack). IsLiveStack c.requires.stack.0 (reach_of c.args.world.now []) x) (sym c.values_of.ensures.same)
+      c.requires.stack.1,
+)
 
 pub returns-in-Ok-clause-step : goal.returns-in-Ok-clause-step
 returns-in-Ok-clause-step g c entry at =

@@ -14,7 +14,9 @@ returns-in_default g c =
     let all = extent_of w.heap in
     record {
       step = λ st same. stands_as c.call_integer.result w c.call_integer.new.frames.flat st _ _
-          (by_number (tables_of c.args.code.now) all c.args.callee (map (item_in all) c.args.items.now) (stack_in all c.args.frames.now.flat) st c.in_default.not-Proc) (c.call_integer.ensures.step st same);
+          (by_number (tables_of c.args.code.now) all c.args.callee (map (item_in all) c.args.items.now) (stack_in all c.args.frames.now.flat) st
+          c.in_default.not-Proc)
+          (c.call_integer.ensures.step st same);
       live = c.call_integer.ensures.live (tables_of c.args.code.now);
       halt = c.call_integer.ensures.halt;
       going = c.call_integer.ensures.going;
@@ -27,7 +29,8 @@ returns-in-Proc-callee_of-clause-step g c st same =
     let all = extent_of c.args.world.now.heap in
     let entry = c.in-Proc-callee_of.ensures.0 in
     stands_as c.call_with.result c.call_with.new.world c.call_with.new.frames.flat st _ _
-    (called_by_number (tables_of c.args.code.now) all c.args.callee c.in-Proc.number (code.IsProc entry) (map (item_in all) c.args.items.now) (stack_in all c.args.frames.now.flat) st c.in-Proc.is c.in-Proc-callee_of.ensures.1.1)
+    (called_by_number (tables_of c.args.code.now) all c.args.callee c.in-Proc.number (code.IsProc entry) (map (item_in all) c.args.items.now)
+    (stack_in all c.args.frames.now.flat) st c.in-Proc.is c.in-Proc-callee_of.ensures.1.1)
     (c.call_with.ensures.step entry c.in-Proc-callee_of.ensures.1.0 st same)
 
 pub returns-in-Rec-clause-step : goal.returns-in-Rec-clause-step
@@ -35,7 +38,8 @@ returns-in-Rec-clause-step g c st same =
     let all = extent_of c.args.world.now.heap in
     let entry = c.in-Rec.ensures.0 in
     stands_as c.construct_with.result c.construct_with.new.world c.construct_with.new.frames.flat st _ _
-    (called_by_number (tables_of c.args.code.now) all c.args.callee c.in-Proc.number (code.IsRecord c.in-Rec.kind entry) (map (item_in all) c.args.items.now) (stack_in all c.args.frames.now.flat) st c.in-Proc.is c.in-Rec.ensures.1.1)
+    (called_by_number (tables_of c.args.code.now) all c.args.callee c.in-Proc.number (code.IsRecord c.in-Rec.kind entry)
+    (map (item_in all) c.args.items.now) (stack_in all c.args.frames.now.flat) st c.in-Proc.is c.in-Rec.ensures.1.1)
     (c.construct_with.ensures.step entry c.in-Rec.ensures.1.0 st same)
 
 pub unreachable-unreachable : goal.unreachable-unreachable

@@ -6,7 +6,8 @@ use Rattle.icn_calls.proofs.record_fields.field_place.Goals as goal
 
 pub returns-then-place-records-clause-place : goal.returns-then-place-records-clause-place
 returns-then-place-records-clause-place c =
-    place_absent (tables_of c.args.code.now) c.args.field c.args.kind (subst (λ (n : ℕ). n ≤ c.args.kind) c.record_count-records.ensures c.if-place-records.true)
+    place_absent (tables_of c.args.code.now) c.args.field c.args.kind
+    (subst (λ (n : ℕ). n ≤ c.args.kind) c.record_count-records.ensures c.if-place-records.true)
 
 pub fields_of-requires : goal.fields_of-requires
 fields_of-requires c = subst (λ (n : ℕ). c.args.kind < n) c.record_count-records.ensures c.if-place-records.false
@@ -28,4 +29,5 @@ pub returns-clause-within : goal.returns-clause-within
 returns-clause-within c =
     let tables = tables_of c.args.code.now in
     let there = kind_there tables c.args.kind (subst (λ (n : ℕ). c.args.kind < n) c.record_count-records.ensures c.if-place-records.false) in
-    subst (λ (n : ℕ). IfSome c.first_place.result (λ place. place < n)) (count_found tables c.args.kind there.0 c.fields_of.result.now there.1 (c.fields_of.ensures there.0 there.1)) c.first_place.ensures.within
+    subst (λ (n : ℕ). IfSome c.first_place.result (λ place. place < n))
+    (count_found tables c.args.kind there.0 c.fields_of.result.now there.1 (c.fields_of.ensures there.0 there.1)) c.first_place.ensures.within

@@ -18,13 +18,15 @@ use Rattle.icn_calls.proofs.record_fields.push_field.Goals as goal
 pub returns-in_err-val-clause-step : goal.returns-in_err-val-clause-step
 returns-in_err-val-clause-step g c st same =
     at_halt c.from_residual.result (halt_of c.in_err-val.field-0.0) _ _ c.from_residual.ensures.1
-    (field_unfound c.args.world.now (tables_of c.args.code.now) c.args.field c.args.item c.args.frames.now.flat c.in_err-val.field-0.0 st same (c.in_err-val.ensures.value st same))
+    (field_unfound c.args.world.now (tables_of c.args.code.now) c.args.field c.args.item c.args.frames.now.flat c.in_err-val.field-0.0 st same
+    (c.in_err-val.ensures.value st same))
 
 pub returns-in_default : goal.returns-in_default
 returns-in_default g c =
     record {
       step =
-          λ st same. not_a_record c.args.world.now (tables_of c.args.code.now) c.args.field c.args.item c.args.frames.now.flat c.in_ok-val.val st same (c.in_ok-val.ensures.value st same) c.in_default.not-Rec;
+          λ st same. not_a_record c.args.world.now (tables_of c.args.code.now) c.args.field c.args.item c.args.frames.now.flat c.in_ok-val.val st same
+          (c.in_ok-val.ensures.value st same) c.in_default.not-Rec;
       live = λ t k. tt;
       halt = c.in_ok-val.ensures.live;
     }
@@ -43,8 +45,10 @@ returns-in-Ok-clause-step g c st same =
 
 pub returns-in-Ok-clause-live : goal.returns-in-Ok-clause-live
 returns-in-Ok-clause-live g c t k =
-    let here : IsLiveStack t (reach_of c.args.world.now []) c.value_of.new.frames.flat = subst (λ (x : FlatStack). IsLiveStack t (reach_of c.args.world.now []) x) (sym c.value_of.ensures.same) k in
+    let here : IsLiveStack t (reach_of c.args.world.now []) c.value_of.new.frames.flat
+    = subst (λ (x : FlatStack). IsLiveStack t (reach_of c.args.world.now []) x) (sym c.value_of.ensures.same) k in
     subst (λ (x : FlatStack). IsLiveStack t (reach_of c.args.world.now []) x) (sym c.in-Ok.ensures.ok)
     (live_push t (reach_of c.args.world.now []) c.value_of.new.frames.flat (Var (Whole (Field c.in-Rec.rec c.in-Some.place))) here
-    (field_live (field_count (tables_of c.args.code.now)) c.args.world.now (own c.value_of.new.frames.flat) c.in-Rec.rec c.in-Some.place c.kind.result c.requires.sizes
+    (field_live (field_count (tables_of c.args.code.now)) c.args.world.now (own c.value_of.new.frames.flat) c.in-Rec.rec c.in-Some.place c.kind.result
+    c.requires.sizes
     (subst (IsLive (extent_of c.args.world.now.heap)) c.in-Rec.is c.in_ok-val.ensures.live) c.kind.ensures c.in-Some.ensures.within))
