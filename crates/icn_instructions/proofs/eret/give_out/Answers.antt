@@ -21,7 +21,8 @@ value_of-requires-clause-stack g c =
 
 pub value_of-requires-clause-item : goal.value_of-requires-clause-item
 value_of-requires-clause-item g c =
-    (live_pop c.requires.live.0 (reach_of c.args.world.now []) c.args.frames.now.flat c.pop-x.new.self.flat c.pop-x.result c.pop-x.ensures.flat c.requires.live.1).item_live
+    (live_pop c.requires.live.0 (reach_of c.args.world.now []) c.args.frames.now.flat c.pop-x.new.self.flat c.pop-x.result c.pop-x.ensures.flat
+    c.requires.live.1).item_live
 
 pub returns-in_err-v-clause-step : goal.returns-in_err-v-clause-step
 returns-in_err-v-clause-step g c =

@@ -58,7 +58,8 @@ do_on_stack-requires-clause-live g c = (
   (
     may_name (tables_of c.args.code.now) c.requires.variables.0 c.args.m.now c.requires.variables.1,
     running_live
-        (tables_of c.args.code.now) (world_reach c.args.m.now) c.args.m.now.stacks.table c.frames.result.now.flat c.frames.ensures.running c.requires.sound.stacks,
+        (tables_of c.args.code.now) (world_reach c.args.m.now) c.args.m.now.stacks.table c.frames.result.now.flat c.frames.ensures.running
+        c.requires.sound.stacks,
   ),
 )
 
@@ -150,7 +151,14 @@ returns-in-Err-clause-no_memory g c =
 
 pub returns-in-World-clause-step : goal.returns-in-World-clause-step
 returns-in-World-clause-step g c =
-    let after : Machine g.row.K.Denot = record { world = c.do_in_world.new.world; stacks = with_stack c.args.m.now.stacks c.do_in_world.new.frames; turns = c.args.m.now.turns; begun = c.args.m.now.begun; limits = c.args.m.now.limits } in
+    let after : Machine g.row.K.Denot
+    = record {
+      world = c.do_in_world.new.world;
+      stacks = with_stack c.args.m.now.stacks c.do_in_world.new.frames;
+      turns = c.args.m.now.turns;
+      begun = c.args.m.now.begun;
+      limits = c.args.m.now.limits;
+    } in
     λ outside. world_comes after (tables_of c.args.code.now) c.requires.goes_on.0 outside c.args.m.now.world c.args.m.now.stacks.table
     c.frames-in-World.result.now.flat c.do_in_world.new.frames.flat c.args.instr c.do_in_world.result refl c.do_in_world.ensures.kept
     c.requires.sound.stacks c.frames-in-World.ensures.running c.do_in_world.ensures.step c.requires.goes_on.1
@@ -160,7 +168,8 @@ returns-in-World-clause-sound g c =
     let k = c.requires.sound in
     let m = c.args.m.now in
     let v = c.do_in_world.new.world in
-    let after : Machine g.row.K.Denot = record { world = v; stacks = with_stack m.stacks c.do_in_world.new.frames; turns = m.turns; begun = m.begun; limits = m.limits } in
+    let after : Machine g.row.K.Denot
+    = record { world = v; stacks = with_stack m.stacks c.do_in_world.new.frames; turns = m.turns; begun = m.begun; limits = m.limits } in
     on_both c.do_in_world.result (IsLiveStack (tables_of c.args.code.now) (reach_of v []) c.do_in_world.new.frames.flat) (KeepsCounts m.world v)
     (IsSound (tables_of c.args.code.now) after)
     (λ live counts. record {
@@ -234,6 +243,7 @@ returns-in-Coexpression-clause-stack g c = c.do_with_coexpressions.ensures.stack
 pub returns-in-World-clause-stack : goal.returns-in-World-clause-stack
 returns-in-World-clause-stack g c =
     let m = c.args.m.now in
-    let after : Machine g.row.K.Denot = record { world = c.do_in_world.new.world; stacks = with_stack m.stacks c.do_in_world.new.frames; turns = m.turns; begun = m.begun; limits = m.limits } in
+    let after : Machine g.row.K.Denot
+    = record { world = c.do_in_world.new.world; stacks = with_stack m.stacks c.do_in_world.new.frames; turns = m.turns; begun = m.begun; limits = m.limits } in
     world_stack after (tables_of c.args.code.now) c.args.instr m.world c.frames-in-World.result.now.flat c.do_in_world.new.world
     c.do_in_world.new.frames.flat c.do_in_world.result (store_seen (tables_of c.args.code.now) c.requires.goes_on.0 m) refl refl c.do_in_world.ensures.step
