@@ -164,7 +164,8 @@ quiet_cause tables state n h was (Err Halts.WriteFault) k = absurd k
 quiet_cause tables state n h was (Err Halts.NoMemory) k = uncounted (all_counts h)
 
 -- a step is answered from the state's own outside on
-own_step : {K : Type 0} (tables : Tables) (m : Machine K) (stage : Stage) (n : Machine K) (was : Outside) (state : State Frames Frames) (before after : Handed) (result : Result Stage Halt)
+own_step : {K : Type 0} (tables : Tables) (m : Machine K) (stage : Stage) (n : Machine K) (was : Outside) (state : State Frames Frames)
+    (before after : Handed) (result : Result Stage Halt)
     → IsAt tables was state m stage → before.left ≡ Some was.left
     → AnswersStep (λ now answer. ComesTo tables now (step flat tables state) n answer) (step flat tables state) was before after result
     → Leads tables state was before n after result
@@ -174,7 +175,9 @@ own_step tables m stage n was state before after result at told last =
       between = before;
       follows = subst (λ (o : Outside). Follows before before was o) (sym own) (follows_all before was told);
       last =
-          subst (λ (o : Outside). AnswersStep (λ now answer. ComesTo tables now (step flat tables state) n answer) (step flat tables state) o before after result) (sym own) last;
+          subst (λ (o : Outside). AnswersStep (λ now answer. ComesTo tables now (step flat tables state) n answer) (step flat tables state) o before
+          after result)
+          (sym own) last;
     }
 
 -- a step that neither reads nor puts
@@ -183,7 +186,8 @@ pub quiet_step : {K : Type 0} (tables : Tables) (m : Machine K) (stage : Stage) 
     → Advances tables m stage h n h result
 quiet_step tables m stage h n result goes comes = record {
   answers =
-      λ was state at told. own_step tables m stage n was state h h result at told (quiet_answer tables (step flat tables state) n h was result told (comes was state at));
+      λ was state at told. own_step tables m stage n was state h h result at told
+      (quiet_answer tables (step flat tables state) n h was result told (comes was state at));
   meant = λ was state at. record {
     first = was;
     later = [];
@@ -207,15 +211,18 @@ meant_at tables state n was before after (Err Halts.WriteFault) h = (was, tt)
 meant_at tables state n was before after (Err Halts.NoMemory) h = (was, tt)
 
 -- a step that performs a row
-pub performed_step : {K : Type 0} (tables : Tables) (leads : Outside → State Frames Frames) (m : Machine K) (stage : Stage) (before : Handed) (n : Machine K) (after : Handed) (result : Result Stage Halt)
+pub performed_step : {K : Type 0} (tables : Tables) (leads : Outside → State Frames Frames) (m : Machine K) (stage : Stage) (before : Handed)
+    (n : Machine K) (after : Handed) (result : Result Stage Halt)
     → ((was : Outside) (state : State Frames Frames) → IsAt tables was state m stage → step flat tables state ≡ leads was)
     → PerformsOn tables leads n before after result → Advances tables m stage before n after result
 performed_step tables leads m stage before n after result is p = record {
   answers = λ was state at told. own_step tables m stage n was state before after result at told
-      (subst (λ (s : State Frames Frames). AnswersStep (λ now answer. ComesTo tables now s n answer) s was before after result) (sym (is was state at)) (p.answers was told));
+      (subst (λ (s : State Frames Frames). AnswersStep (λ now answer. ComesTo tables now s n answer) s was before after result) (sym (is was state at))
+      (p.answers was told));
   meant = λ was state at.
       let first : Outside = outside_of p.had in
-      let same : step flat tables (over_outside first state) ≡ leads first = is first (over_outside first state) (at_elsewhere tables was first state m stage at) in
+      let same : step flat tables (over_outside first state) ≡ leads first
+      = is first (over_outside first state) (at_elsewhere tables was first state m stage at) in
       let there = meant_at tables (leads first) n first (having p.had before) (having p.has after) result (p.meant first refl) in
       record {
         first = first;
@@ -227,7 +234,8 @@ performed_step tables leads m stage before n after result is p = record {
 }
 
 -- Some steps after others
-pub advances_then : {K : Type 0} (tables : Tables) (m : Machine K) (stage : Stage) (a : Handed) (n : Machine K) (next : Stage) (b : Handed) (k : Machine K) (c : Handed) (result : Result Stage Halt)
+pub advances_then : {K : Type 0} (tables : Tables) (m : Machine K) (stage : Stage) (a : Handed) (n : Machine K) (next : Stage) (b : Handed)
+    (k : Machine K) (c : Handed) (result : Result Stage Halt)
     → goes_on next ≡ true
     → Advances tables m stage a n b (Ok next) → Advances tables n next b k c result → Advances tables m stage a k c result
 advances_then tables m stage a n next b k c result goes first second = record {
@@ -238,15 +246,23 @@ advances_then tables m stage a n next b k c result goes first second = record {
       let two = second.answers now there (is_at tables now there n next goes one.last.is) one.last.follows.left in
       let same : steps flat tables (suc one.count + two.count) state ≡ steps flat tables two.count there = steps_then tables (suc one.count) two.count state in
       let more : suc (suc one.count + two.count) ≡ suc one.count + suc two.count = omega arith in
-      let all : steps flat tables (suc (suc one.count + two.count)) state ≡ steps flat tables (suc two.count) there = ap (λ (j : ℕ). steps flat tables j state) more ∙ steps_then tables (suc one.count) (suc two.count) state in
+      let all : steps flat tables (suc (suc one.count + two.count)) state ≡ steps flat tables (suc two.count) there
+      = ap (λ (j : ℕ). steps flat tables j state) more ∙ steps_then tables (suc one.count) (suc two.count) state in
       record {
         count = suc one.count + two.count;
         between = two.between;
         follows =
-            subst (λ (s : State Frames Frames). Follows a two.between was (outside_at s)) (sym same) (follows_then (follows_then one.follows one.last.follows) two.follows);
+            subst (λ (s : State Frames Frames). Follows a two.between was (outside_at s)) (sym same)
+            (follows_then (follows_then one.follows one.last.follows) two.follows);
         last =
-            subst (λ (s : State Frames Frames). AnswersStep (λ now answer. ComesTo tables now (steps flat tables (suc (suc one.count + two.count)) state) k answer) (steps flat tables (suc (suc one.count + two.count)) state) (outside_at s) two.between c result) (sym same)
-            (subst (λ (s : State Frames Frames). AnswersStep (λ now answer. ComesTo tables now s k answer) s (outside_at (steps flat tables two.count there)) two.between c result) (sym all) two.last);
+            subst (λ (s : State Frames Frames). AnswersStep
+            (λ now answer. ComesTo tables now (steps flat tables (suc (suc one.count + two.count)) state) k answer)
+            (steps flat tables (suc (suc one.count + two.count)) state) (outside_at s) two.between c result)
+            (sym same)
+            (subst
+            (λ (s : State Frames Frames). AnswersStep (λ now answer. ComesTo tables now s k answer) s (outside_at (steps flat tables two.count there))
+            two.between c result)
+            (sym all) two.last);
       };
   meant = λ was state at.
       let one = first.meant was state at in
@@ -257,7 +273,8 @@ advances_then tables m stage a n next b k c result goes first second = record {
         later = one.later ++ two.first ∷ two.later;
         now = two.now;
         is =
-            subst (λ (s : State Frames Frames). StandsBy tables two.now s k result) (sym (over_then tables (one.first ∷ one.later) (two.first ∷ two.later) state)) two.is;
+            subst (λ (s : State Frames Frames). StandsBy tables two.now s k result)
+            (sym (over_then tables (one.first ∷ one.later) (two.first ∷ two.later) state)) two.is;
       };
   caused = fault_then a b c result first.caused second.caused;
 }

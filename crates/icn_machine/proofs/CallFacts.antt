@@ -63,13 +63,16 @@ CallsWith tables w m callee items v n result = (st : Store Frames) → st.world 
 
 -- Names
 
-pub call_named : (law : StepsKeepNames) (tables : Tables) (names : Names) (w v : World) (m n : FlatStack) (callee : Val) (items : List rows.Item) (result : Result Stage Halt) → names ≡ all_names tables
+pub call_named : (law : StepsKeepNames) (tables : Tables) (names : Names) (w v : World) (m n : FlatStack) (callee : Val) (items : List rows.Item)
+    (result : Result Stage Halt)
+    → names ≡ all_names tables
     → function_in tables callee ≡ None → All (ItemNamed names) items → StackNamed names (stack_in (extent_of w.heap) m) → WorldNamed names (world_of w)
     → CallsWith tables w m callee items v n result → IfOk result IsGoing
     → LeavesNamed names v n result
 call_named law tables names w v m n callee items result known none are stack world h g =
     subst (λ (x : Names). LeavesNamed x v n result) (sym known)
-    (by_result result h g (subst (λ (x : Names). All (ItemNamed x) items) known are) (subst (λ (x : Names). StackNamed x (stack_in (extent_of w.heap) m)) known stack) (subst (λ (x : Names). WorldNamed x (world_of w)) known world))
+    (by_result result h g (subst (λ (x : Names). All (ItemNamed x) items) known are)
+    (subst (λ (x : Names). StackNamed x (stack_in (extent_of w.heap) m)) known stack) (subst (λ (x : Names). WorldNamed x (world_of w)) known world))
   where
     ns : Names
     ns = all_names tables
@@ -80,12 +83,15 @@ call_named law tables names w v m n callee items result known none are stack wor
     after : All (ItemNamed ns) items → StackNamed ns (stack_in (extent_of w.heap) m) → WorldNamed ns (world_of w)
         → StateNamed ns (invoked flat tables (value_in (extent_of w.heap) callee) items (stack_in (extent_of w.heap) m) st)
     after are stack world =
-        law.called tables (value_in (extent_of w.heap) callee) items (stack_in (extent_of w.heap) m) st (λ k func is found. absurd (no_function tables (extent_of w.heap) callee k func none is found)) are stack (bare_named ns w world)
+        law.called tables (value_in (extent_of w.heap) callee) items (stack_in (extent_of w.heap) m) st
+        (λ k func is found. absurd (no_function tables (extent_of w.heap) callee k func none is found)) are stack (bare_named ns w world)
 
     by_result : (result : Result Stage Halt) → CallsWith tables w m callee items v n result → IfOk result IsGoing → All (ItemNamed ns) items
         → StackNamed ns (stack_in (extent_of w.heap) m) → WorldNamed ns (world_of w) → LeavesNamed ns v n result
-    by_result (Ok Stages.Runs) h g are stack world = let s = subst (λ (x : State Frames Frames). StateNamed ns x) (h st refl) (after are stack world) in (s.0, s.1.world)
-    by_result (Ok Stages.Fails) h g are stack world = let s = subst (λ (x : State Frames Frames). StateNamed ns x) (h st refl) (after are stack world) in (s.0, s.1.world)
+    by_result (Ok Stages.Runs) h g are stack world =
+        let s = subst (λ (x : State Frames Frames). StateNamed ns x) (h st refl) (after are stack world) in (s.0, s.1.world)
+    by_result (Ok Stages.Fails) h g are stack world =
+        let s = subst (λ (x : State Frames Frames). StateNamed ns x) (h st refl) (after are stack world) in (s.0, s.1.world)
     by_result (Ok Stages.HopDue) h g are stack world = absurd g
     by_result (Ok Stages.Over) h g are stack world = absurd g
     by_result (Ok Stages.AtBound) h g are stack world = absurd g
@@ -109,7 +115,8 @@ call_sized law tables w v m n callee items result none h g fits = by_result resu
 
     after : StateFits tables (invoked flat tables (value_in (extent_of w.heap) callee) items (stack_in (extent_of w.heap) m) st)
     after =
-        law.called tables (value_in (extent_of w.heap) callee) items (stack_in (extent_of w.heap) m) st (λ k func is found. absurd (no_function tables (extent_of w.heap) callee k func none is found)) fits
+        law.called tables (value_in (extent_of w.heap) callee) items (stack_in (extent_of w.heap) m) st
+        (λ k func is found. absurd (no_function tables (extent_of w.heap) callee k func none is found)) fits
 
     by_result : (result : Result Stage Halt) → CallsWith tables w m callee items v n result → IfOk result IsGoing
         → OnOk result (FitSizes (field_count tables) (heap_of v.heap))

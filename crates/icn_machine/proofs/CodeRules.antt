@@ -41,4 +41,5 @@ index_there (x ∷ xs) (suc n) d l = index_there xs n d (omega (arith, l))
 
 pub index_as : {X : Type 0} (xs ys : List X) (m n : ℕ) (d : X) → ys ≡ xs → m ≡ n → n < length xs → slice_get xs n ≡ Some (slice_index_or ys m d)
 index_as xs ys m n d e f l =
-    subst (λ (zs : List _). slice_get xs n ≡ Some (slice_index_or zs m d)) (sym e) (subst (λ (k : ℕ). slice_get xs n ≡ Some (slice_index_or xs k d)) (sym f) (index_there xs n d l))
+    subst (λ (zs : List _). slice_get xs n ≡ Some (slice_index_or zs m d)) (sym e)
+    (subst (λ (k : ℕ). slice_get xs n ≡ Some (slice_index_or xs k d)) (sym f) (index_there xs n d l))

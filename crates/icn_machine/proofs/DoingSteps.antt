@@ -107,15 +107,18 @@ module _ {K : Type 0} (m n : Machine K) (f : FlatStack) (moves : Moves m n f) wh
           (sym (step_does tables (stack_seen m) instr (store_seen tables outside m) instr_here) ∙ step_here outside)
           (always_doing tables (stack_seen m) instr (store_seen tables outside m) instr_here (kept_running tables m ready.kept outside));
       variables =
-          λ outside. subst (λ (st : Store Frames). HasVariables tables st) (sym (moved_store tables outside)) ((kept_running tables m ready.kept outside).always []).variables;
+          λ outside. subst (λ (st : Store Frames). HasVariables tables st) (sym (moved_store tables outside))
+          ((kept_running tables m ready.kept outside).always []).variables;
       in_range =
           subst (λ (s : FlatStack). IsInRange tables (held.proc s) instr) (sym now_stack) (instr_in_range tables (held.proc f) f.place instr rules stands);
       mark =
           subst (λ (s : Frames). HasCaseMark instr s) (sym moved_stack) (((kept_running tables m ready.kept (outside_of [])).always []).mark instr instr_here);
       stack_named =
-          subst (λ (s : Frames). StackNamed (all_names tables) s) (sym moved_stack) (record { cells = (kept_running tables m ready.kept (outside_of [])).named.0.cells });
+          subst (λ (s : Frames). StackNamed (all_names tables) s) (sym moved_stack)
+          (record { cells = (kept_running tables m ready.kept (outside_of [])).named.0.cells });
       store_named =
-          λ outside. subst (λ (st : Store Frames). StoreNamed (all_names tables) st) (sym (moved_store tables outside)) (kept_running tables m ready.kept outside).named.1;
+          λ outside. subst (λ (st : Store Frames). StoreNamed (all_names tables) st) (sym (moved_store tables outside))
+          (kept_running tables m ready.kept outside).named.1;
       fits = λ outside. subst (λ (st : Store Frames). StoreFits tables st) (sym (moved_store tables outside)) (kept_running tables m ready.kept outside).fits;
     }
 
@@ -170,7 +173,8 @@ pub whole_done : {K : Type 0} (tables : Tables) (m n : Machine K) (instr : Instr
     → ((outside : Outside) → ComesTo tables outside (does tables outside instr m) n result)
     → (takes_no_memory instr ≡ true → HasMemory result) → EndsWhole result
 whole_done tables m n instr (Ok stage) w comes memory =
-    let o : Outside = outside_of [] in whole_stands tables o (does tables o instr m) n stage (whole_state tables instr (stack_seen m) (store_seen tables o m) w) (comes o)
+    let o : Outside
+    = outside_of [] in whole_stands tables o (does tables o instr m) n stage (whole_state tables instr (stack_seen m) (store_seen tables o m) w) (comes o)
 whole_done tables m n instr (Err (Halts.Error number offending)) w comes memory = tt
 whole_done tables m n instr (Err (Halts.Ends status)) w comes memory = tt
 whole_done tables m n instr (Err Halts.ReadFault) w comes memory = tt
@@ -186,13 +190,15 @@ applied_performs tables m n instr j before after result e p = subst (λ (x : Ins
 pub calls_as : (instr j : Instr) → instr ≡ j → (MayCall j → ⊥) → MayCall instr → ⊥
 calls_as instr j e h k = h (subst MayCall e k)
 
-pub staged_err : {K : Type 0} (tables : Tables) (m : Machine K) (stage : Stage) (a : Handed) (n : Machine K) (b : Handed) (halt : Halt) (result : Result Stepped Halt)
+pub staged_err : {K : Type 0} (tables : Tables) (m : Machine K) (stage : Stage) (a : Handed) (n : Machine K) (b : Handed) (halt : Halt)
+    (result : Result Stepped Halt)
     → IsErrAnd result (λ h. h ≡ halt) → GoesOn tables m stage a n b (Err halt)
     → GoesOn tables m stage a n b (staged result)
 staged_err tables m stage a n b halt (Err h) e p = subst (λ (x : Halt). GoesOn tables m stage a n b (Err x)) (sym e) p
 staged_err tables m stage a n b halt (Ok s) e p = absurd e
 
-pub advanced_err : {K : Type 0} (tables : Tables) (m : Machine K) (stage : Stage) (a : Handed) (n : Machine K) (b : Handed) (halt : Halt) (result : Result Stepped Halt)
+pub advanced_err : {K : Type 0} (tables : Tables) (m : Machine K) (stage : Stage) (a : Handed) (n : Machine K) (b : Handed) (halt : Halt)
+    (result : Result Stepped Halt)
     → IsErrAnd result (λ h. h ≡ halt) → Advances tables m stage a n b (Err halt)
     → Advances tables m stage a n b (staged result)
 advanced_err tables m stage a n b halt (Err h) e p = subst (λ (x : Halt). Advances tables m stage a n b (Err x)) (sym e) p
@@ -210,7 +216,8 @@ err_memory halt (Err h) e w = by h (subst (λ (x : Halt). EndsWhole (Err x)) (sy
     by Halts.NoMemory q = absurd q
 
 -- failing behind an instruction
-pub then_fails : {K : Type 0} (tables : Tables) (m : Machine K) (stage : Stage) (a : Handed) (n : Machine K) (next : Stage) (b : Handed) (k : Machine K) (c : Handed) (result : Result Stage Halt)
+pub then_fails : {K : Type 0} (tables : Tables) (m : Machine K) (stage : Stage) (a : Handed) (n : Machine K) (next : Stage) (b : Handed)
+    (k : Machine K) (c : Handed) (result : Result Stage Halt)
     → goes_on next ≡ true
     → Advances tables m stage a n b (Ok next) → GoesOn tables n next b k c result → Advances tables m stage a k c result
 then_fails tables m stage a n next b k c result goes p (advances q) = advances_then tables m stage a n next b k c result goes p q

@@ -61,7 +61,8 @@ values_live all (val ∷ vals) reach e are =
 plain_named : (names : Names) (values : List Value) → All (ValueNamed names) values → All (ItemNamed names) (map plain values)
 plain_named names [] are = All-nil (ItemNamed names)
 plain_named names (value ∷ values) are =
-    All-cons (ItemNamed names) (plain value) (map plain values) (record { named = All-head (ValueNamed names) value values are }) (plain_named names values (All-tail (ValueNamed names) value values are))
+    All-cons (ItemNamed names) (plain value) (map plain values) (record { named = All-head (ValueNamed names) value values are })
+    (plain_named names values (All-tail (ValueNamed names) value values are))
 
 list_named : (names : Names) (o : Option (Numbered Value)) → Maybe (ListNamed names) o → All (ValueNamed names) (unwrap_or o (new_list [])).items
 list_named names None h = All-nil (ValueNamed names)
@@ -80,7 +81,8 @@ pub list_items_named : (names : Names) (w : World) (id : ℕ) (vals : List Val) 
     → All (ItemNamed names) (map (item_in (extent_of w.heap)) items)
 list_items_named names w id vals items e p h =
     let all : Extent = extent_of w.heap in
-    let there = list_named names (slice_get (heap_of w.heap).lists id) (each_get (ListNamed names) (heap_of w.heap).lists id (each_of (ListNamed names) (heap_of w.heap).lists h.lists)) in
+    let there = list_named names (slice_get (heap_of w.heap).lists id)
+    (each_get (ListNamed names) (heap_of w.heap).lists id (each_of (ListNamed names) (heap_of w.heap).lists h.lists)) in
     subst (λ (xs : List rows.Item). All (ItemNamed names) xs) (sym (ap (map (item_in all)) p ∙ items_plain all vals))
     (plain_named names (map (value_in all) vals) (subst (λ (xs : List Value). All (ValueNamed names) xs) (sym e) there))
 
@@ -89,7 +91,8 @@ pub record_items_named : (names : Names) (w : World) (id : ℕ) (vals : List Val
     → All (ItemNamed names) (map (item_in (extent_of w.heap)) items)
 record_items_named names w id vals items e p h =
     let all : Extent = extent_of w.heap in
-    let there = record_named names (slice_get (heap_of w.heap).records id) (each_get (RecordNamed names) (heap_of w.heap).records id (each_of (RecordNamed names) (heap_of w.heap).records h.records)) in
+    let there = record_named names (slice_get (heap_of w.heap).records id)
+    (each_get (RecordNamed names) (heap_of w.heap).records id (each_of (RecordNamed names) (heap_of w.heap).records h.records)) in
     subst (λ (xs : List rows.Item). All (ItemNamed names) xs) (sym (ap (map (item_in all)) p ∙ items_plain all vals))
     (plain_named names (map (value_in all) vals) (subst (λ (xs : List Value). All (ValueNamed names) xs) (sym e) there))
 
@@ -150,50 +153,63 @@ applied_on tables w m callee from st =
 first_goes : (tables : Tables) (w : World) (m : FlatStack) (callee from : Item) (value : Val) (st : Store Frames) → st.world ≡ world_of w
     → FindsItem w m callee (Ok value)
     → applied_on tables w m callee from st
-    ≡ with_value flat (item_in (extent_of w.heap) from) (stack_in (extent_of w.heap) m) st (λ x. elements_called flat tables (value_in (extent_of w.heap) value) x (stack_in (extent_of w.heap) m) st)
+    ≡ with_value flat (item_in (extent_of w.heap) from) (stack_in (extent_of w.heap) m) st
+    (λ x. elements_called flat tables (value_in (extent_of w.heap) value) x (stack_in (extent_of w.heap) m) st)
 first_goes tables w m callee from value st same f =
     let all : Extent = extent_of w.heap in
     let M : Frames = stack_in all m in
-    value_goes all (item_in all callee) M st value (λ called. with_value flat (item_in all from) M st (λ x. elements_called flat tables called x M st)) (f st same)
+    value_goes all (item_in all callee) M st value (λ called. with_value flat (item_in all from) M st (λ x. elements_called flat tables called x M st))
+    (f st same)
 
 both_go : (tables : Tables) (w : World) (m : FlatStack) (callee from : Item) (value other : Val) (st : Store Frames) → st.world ≡ world_of w
     → FindsItem w m callee (Ok value) → FindsItem w m from (Ok other)
-    → applied_on tables w m callee from st ≡ elements_called flat tables (value_in (extent_of w.heap) value) (value_in (extent_of w.heap) other) (stack_in (extent_of w.heap) m) st
+    → applied_on tables w m callee from st
+    ≡ elements_called flat tables (value_in (extent_of w.heap) value) (value_in (extent_of w.heap) other) (stack_in (extent_of w.heap) m) st
 both_go tables w m callee from value other st same f k =
     let all : Extent = extent_of w.heap in
     let M : Frames = stack_in all m in
     first_goes tables w m callee from value st same f
     ∙ value_goes all (item_in all from) M st other (λ x. elements_called flat tables (value_in all value) x M st) (k st same)
 
-pub elements_event : (tables : Tables) (names : Names) (w v : World) (m k n : FlatStack) (callee from : Item) (value other : Val) (items xs : List Item) (before after : Handed) (result : Result Stage Halt)
+pub elements_event : (tables : Tables) (names : Names) (w v : World) (m k n : FlatStack) (callee from : Item) (value other : Val)
+    (items xs : List Item) (before after : Handed) (result : Result Stage Halt)
     → FindsItem w m callee (Ok value) → FindsItem w m from (Ok other) → FindsElements {A = Unit} w other items (Ok tt) → k ≡ m → xs ≡ items
-    → PerformsEvent names (λ st. invoked flat tables (value_in (extent_of w.heap) value) (map (item_in (extent_of w.heap)) xs) (stack_in (extent_of w.heap) k) st) w before v n after result
+    → PerformsEvent names (λ st. invoked flat tables (value_in (extent_of w.heap) value) (map (item_in (extent_of w.heap)) xs)
+    (stack_in (extent_of w.heap) k) st) w before v n after result
     → PerformsEvent names (applied_on tables w m callee from) w before v n after result
 elements_event tables names w v m k n callee from value other items xs before after result f g h e d p =
     let all : Extent = extent_of w.heap in
-    event_as names (applied_on tables w m callee from) (λ st. invoked flat tables (value_in all value) (map (item_in all) xs) (stack_in all k) st) w v n before after result
+    event_as names (applied_on tables w m callee from) (λ st. invoked flat tables (value_in all value) (map (item_in all) xs) (stack_in all k) st) w v
+    n before after result
     (λ st same names_same. both_go tables w m callee from value other st same f g
     ∙ h tables (value_in all value) (stack_in all m) st same
     ∙ ap (λ (x : FlatStack). invoked flat tables (value_in all value) (map (item_in all) items) (stack_in all x) st) (sym e)
     ∙ ap (λ (ys : List Item). invoked flat tables (value_in all value) (map (item_in all) ys) (stack_in all k) st) (sym d))
     p
 
-stops_event : (tables : Tables) (names : Names) (w : World) (m n : FlatStack) (callee from : Item) (halt : Halt) (before : Handed) (result : Result Stage Halt) → IsErrAnd result (λ h. h ≡ halt)
+stops_event : (tables : Tables) (names : Names) (w : World) (m n : FlatStack) (callee from : Item) (halt : Halt) (before : Handed) (result : Result Stage Halt)
+    → IsErrAnd result (λ h. h ≡ halt)
     → ((st : Store Frames) → st.world ≡ world_of w → HaltsWith (applied_on tables w m callee from st) st w halt)
     → PerformsEvent names (applied_on tables w m callee from) w before w n before result
 stops_event tables names w m n callee from halt before result err h =
     still_event names (applied_on tables w m callee from) w w n before result
-    (λ st same. at_halt result halt (StandsWith (applied_on tables w m callee from st) st w n) (HaltsWith (applied_on tables w m callee from st) st w) err (h st same))
+    (λ st same. at_halt result halt (StandsWith (applied_on tables w m callee from st) st w n) (HaltsWith (applied_on tables w m callee from st) st w)
+    err (h st same))
 
-pub callee_stops : (tables : Tables) (names : Names) (w : World) (m n : FlatStack) (callee from : Item) (stop : Stop) (before : Handed) (result : Result Stage Halt) → IsErrAnd result (λ h. h ≡ halt_of stop)
+pub callee_stops : (tables : Tables) (names : Names) (w : World) (m n : FlatStack) (callee from : Item) (stop : Stop) (before : Handed)
+    (result : Result Stage Halt)
+    → IsErrAnd result (λ h. h ≡ halt_of stop)
     → FindsItem w m callee (Err stop) → PerformsEvent names (applied_on tables w m callee from) w before w n before result
 callee_stops tables names w m n callee from stop before result err f =
     let all : Extent = extent_of w.heap in
     let M : Frames = stack_in all m in
     stops_event tables names w m n callee from (halt_of stop) before result err
-    (λ st same. value_halts w (item_in all callee) M st stop (λ called. with_value flat (item_in all from) M st (λ x. elements_called flat tables called x M st)) same (f st same))
+    (λ st same. value_halts w (item_in all callee) M st stop
+    (λ called. with_value flat (item_in all from) M st (λ x. elements_called flat tables called x M st)) same (f st same))
 
-pub from_stops : (tables : Tables) (names : Names) (w : World) (m n : FlatStack) (callee from : Item) (value : Val) (stop : Stop) (before : Handed) (result : Result Stage Halt) → IsErrAnd result (λ h. h ≡ halt_of stop)
+pub from_stops : (tables : Tables) (names : Names) (w : World) (m n : FlatStack) (callee from : Item) (value : Val) (stop : Stop) (before : Handed)
+    (result : Result Stage Halt)
+    → IsErrAnd result (λ h. h ≡ halt_of stop)
     → FindsItem w m callee (Ok value) → FindsItem w m from (Err stop) → PerformsEvent names (applied_on tables w m callee from) w before w n before result
 from_stops tables names w m n callee from value stop before result err f g =
     let all : Extent = extent_of w.heap in
@@ -202,13 +218,16 @@ from_stops tables names w m n callee from value stop before result err f g =
     (λ st same. subst (λ (s : State Frames Frames). HaltsWith s st w (halt_of stop)) (sym (first_goes tables w m callee from value st same f))
     (value_halts w (item_in all from) M st stop (λ x. elements_called flat tables (value_in all value) x M st) same (g st same)))
 
-pub elements_stop : (tables : Tables) (names : Names) (w : World) (m n : FlatStack) (callee from : Item) (value other : Val) (items : List Item) (halt : Halt) (before : Handed) (result : Result Stage Halt) → IsErrAnd result (λ h. h ≡ halt)
+pub elements_stop : (tables : Tables) (names : Names) (w : World) (m n : FlatStack) (callee from : Item) (value other : Val) (items : List Item)
+    (halt : Halt) (before : Handed) (result : Result Stage Halt)
+    → IsErrAnd result (λ h. h ≡ halt)
     → FindsItem w m callee (Ok value) → FindsItem w m from (Ok other) → FindsElements {A = Unit} w other items (Err halt)
     → PerformsEvent names (applied_on tables w m callee from) w before w n before result
 elements_stop tables names w m n callee from value other items halt before result err f g h =
     let all : Extent = extent_of w.heap in
     stops_event tables names w m n callee from halt before result err
-    (λ st same. subst (λ (s : State Frames Frames). HaltsWith s st w halt) (sym (both_go tables w m callee from value other st same f g)) (h tables (value_in all value) (stack_in all m) st same))
+    (λ st same. subst (λ (s : State Frames Frames). HaltsWith s st w halt) (sym (both_go tables w m callee from value other st same f g))
+    (h tables (value_in all value) (stack_in all m) st same))
 
 -- Two operands
 
@@ -220,7 +239,9 @@ two_taken m k n upper lower e f =
 
 pub second_pops : (m k : FlatStack) (upper : Item) → held.pop m ≡ Some (upper, k) → IsSome (taken 2 m) → IsSome (held.pop k)
 second_pops m k upper e h =
-    let there : IsSome (taken_onto 1 k (upper ∷ [])) = subst (λ (o : Option (List Item × FlatStack)). IsSome o) (ap (option_and_then (λ (popped : Item × FlatStack). taken_onto 1 popped.1 (popped.0 ∷ []))) e) h in
+    let there : IsSome (taken_onto 1 k (upper ∷ []))
+    = subst (λ (o : Option (List Item × FlatStack)). IsSome o)
+    (ap (option_and_then (λ (popped : Item × FlatStack). taken_onto 1 popped.1 (popped.0 ∷ []))) e) h in
     by_pop (held.pop k) there
   where
     by_pop : (o : Option (Item × FlatStack)) → IsSome (option_and_then (λ (popped : Item × FlatStack). taken_onto 0 popped.1 (popped.0 ∷ upper ∷ [])) o)

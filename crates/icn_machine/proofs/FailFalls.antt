@@ -177,11 +177,13 @@ module _ (tables : Tables) (m : Frames) (st : Store Frames) where
   resumes : (why : Why) (n : Frames) → length n.cells < length m.cells → Goal (resumed flat tables why n st)
   resumes Alt n l = inr (refl, l)
   resumes (Op rest) n l =
-      turned tables st (λ st. outcome flat (again rest (here flat n st)) n st) (length m.cells) (after_outcome st.turns (again rest (here flat n (TurnOf st))) n (TurnOf st) refl)
+      turned tables st (λ st. outcome flat (again rest (here flat n st)) n st) (length m.cells)
+      (after_outcome st.turns (again rest (here flat n (TurnOf st))) n (TurnOf st) refl)
   resumes (Scan pair) n l = inr (refl, l)
   resumes Escan n l = exchanges n l (flat.swap_newest (pair_now st) n) refl
   resumes Proc n l =
-      turned tables st (λ st. maybe_exchanged (flat.swap_oldest (pair_now st) n) n st running) (length m.cells) (after_maybe st.turns (flat.swap_oldest (pair_now (TurnOf st)) n) n (TurnOf st))
+      turned tables st (λ st. maybe_exchanged (flat.swap_oldest (pair_now st) n) n st running) (length m.cells)
+      (after_maybe st.turns (flat.swap_oldest (pair_now (TurnOf st)) n) n (TurnOf st))
 
   resumes_or_drops : (o : Option (Why × Frames)) → flat.resume m ≡ o → Goal (resumed_or_dropped flat tables m st o)
   resumes_or_drops None e = drops (cut m.registers.mark m.cells) refl
@@ -193,4 +195,5 @@ module _ (tables : Tables) (m : Frames) (st : Store Frames) where
 -- a hop is a turn
 pub hops_further : (tables : Tables) (m : Frames) (st : Store Frames) (c : ℕ) → Further st.turns st.world.heap.bounds.turns c (hop flat tables m st)
 hops_further tables m st c =
-    turned tables st (λ st. passed_failure flat (activator_of st.active st) m st) c (after_failure st.turns (activator_of st.active (TurnOf st)) m (TurnOf st) refl)
+    turned tables st (λ st. passed_failure flat (activator_of st.active st) m st) c
+    (after_failure st.turns (activator_of st.active (TurnOf st)) m (TurnOf st) refl)

@@ -69,14 +69,17 @@ failed_further tables m n Stages.AtBound b l = tt
 failed_further tables m n Stages.HopDue b l =
     let bound : (heap_of m.world.heap).bounds.turns ≡ m.limits.turns = turns_bound (heap_of m.world.heap).bounds m.limits b in
     let there : Further m.turns (heap_of m.world.heap).bounds.turns (length (stack_seen m).cells) (hopping l.1.1.0 (store_seen tables l.1.0 n)) =
-    subst (λ (s : State Frames Frames). Further m.turns (heap_of m.world.heap).bounds.turns (length (stack_seen m).cells) s) l.1.1.1 (fails_further tables (stack_seen m) (store_seen tables l.0 m)) in
+    subst (λ (s : State Frames Frames). Further m.turns (heap_of m.world.heap).bounds.turns (length (stack_seen m).cells) s) l.1.1.1
+    (fails_further tables (stack_seen m) (store_seen tables l.0 m)) in
     record { more = there.0; within = subst (λ (x : ℕ). m.turns < x) bound there.1 }
 failed_further tables m n Stages.Fails b l =
     let there : Further m.turns (heap_of m.world.heap).bounds.turns (length (stack_seen m).cells) (failing (stack_seen n) (store_seen tables l.1.0 n)) =
-    subst (λ (s : State Frames Frames). Further m.turns (heap_of m.world.heap).bounds.turns (length (stack_seen m).cells) s) l.1.1 (fails_further tables (stack_seen m) (store_seen tables l.0 m)) in
+    subst (λ (s : State Frames Frames). Further m.turns (heap_of m.world.heap).bounds.turns (length (stack_seen m).cells) s) l.1.1
+    (fails_further tables (stack_seen m) (store_seen tables l.0 m)) in
     by there
   where
-    by : ((n.turns ≡ suc m.turns) × (m.turns < (heap_of m.world.heap).bounds.turns)) ⊎ ((n.turns ≡ m.turns) × (length (stack_seen n).cells < length (stack_seen m).cells))
+    by : ((n.turns ≡ suc m.turns) × (m.turns < (heap_of m.world.heap).bounds.turns))
+        ⊎ ((n.turns ≡ m.turns) × (length (stack_seen n).cells < length (stack_seen m).cells))
         → FailsFurther m n Stages.Fails
     by (inl x) = inl (record { more = x.0; within = subst (λ (t : ℕ). m.turns < t) (turns_bound (heap_of m.world.heap).bounds m.limits b) x.1 })
     by (inr x) = inr x
@@ -85,7 +88,8 @@ failed_further tables m n Stages.Fails b l =
 pub failed_quietly : {K : Type 0} (tables : Tables) (m n : Machine K) (h : Handed) (stage : Stage)
     → ((outside : Outside) → StandsAt tables outside (failed tables m outside) n stage) → Advances tables m Stages.Fails h n h (Ok stage)
 failed_quietly tables m n h stage f =
-    quiet_step tables m Stages.Fails h n (Ok stage) refl (λ was state at. subst (λ (s : State Frames Frames). StandsAt tables was (step flat tables s) n stage) (sym at) (f was))
+    quiet_step tables m Stages.Fails h n (Ok stage) refl
+    (λ was state at. subst (λ (s : State Frames Frames). StandsAt tables was (step flat tables s) n stage) (sym at) (f was))
 
 pub lands_quietly : {K : Type 0} (tables : Tables) (m n : Machine K) (stage : Stage)
     → ((outside : Outside) → StandsAt tables outside (failed tables m outside) n stage) → Lands tables m n stage
@@ -97,12 +101,14 @@ pub by_due : {K : Type 0} (tables : Tables) (outside : Outside) (state due : Sta
 by_due tables outside state due n stage e h = subst (λ (s : State Frames Frames). StandsAt tables outside s n stage) (sym e) h
 
 -- where a row is resumed
-pub failed_performing : {K : Type 0} (tables : Tables) (leads : Outside → State Frames Frames) (m : Machine K) (before : Handed) (n : Machine K) (after : Handed) (result : Result Stage Halt)
+pub failed_performing : {K : Type 0} (tables : Tables) (leads : Outside → State Frames Frames) (m : Machine K) (before : Handed) (n : Machine K)
+    (after : Handed) (result : Result Stage Halt)
     → ((was : Outside) → failed tables m was ≡ leads was) → PerformsOn tables leads n before after result → Advances tables m Stages.Fails before n after result
 failed_performing tables leads m before n after result e p =
     performed_step tables leads m Stages.Fails before n after result (λ was state at. ap (step flat tables) at ∙ e was) p
 
-pub lands_performing : {K : Type 0} (tables : Tables) (leads : Outside → State Frames Frames) (m : Machine K) (before : Handed) (n : Machine K) (after : Handed) (result : Result Stage Halt)
+pub lands_performing : {K : Type 0} (tables : Tables) (leads : Outside → State Frames Frames) (m : Machine K) (before : Handed) (n : Machine K)
+    (after : Handed) (result : Result Stage Halt)
     → ((was : Outside) → failed tables m was ≡ leads was) → PerformsOn tables leads n before after result → IfOk result (Lands tables m n)
 lands_performing tables leads m before n after (Ok stage) e p =
     let first : Outside = outside_of p.had in let told = p.meant first refl in
@@ -132,7 +138,8 @@ pub hopped_quietly : {K : Type 0} (tables : Tables) (m n : Machine K) (h : Hande
     → ((outside : Outside) (old : Frames) → StandsAt tables outside (hopped tables m outside old) n stage)
     → Advances tables m Stages.HopDue h n h (Ok stage)
 hopped_quietly tables m n h stage f =
-    quiet_step tables m Stages.HopDue h n (Ok stage) refl (λ was state at. subst (λ (s : State Frames Frames). StandsAt tables was (step flat tables s) n stage) (sym at.1) (f was at.0))
+    quiet_step tables m Stages.HopDue h n (Ok stage) refl
+    (λ was state at. subst (λ (s : State Frames Frames). StandsAt tables was (step flat tables s) n stage) (sym at.1) (f was at.0))
 
 pub hopped_kept : {K : Type 0} (tables : Tables) → StepsKeepNames → StepsKeepSizes → (m n : Machine K) (stage : Stage)
     → KeepsState tables m Stages.HopDue → ((outside : Outside) (old : Frames) → StandsAt tables outside (hopped tables m outside old) n stage)
@@ -151,12 +158,14 @@ hopped_turn tables m n Stages.HopDue b f =
     let o : Outside = outside_of [] in
     let l = f o (stack_seen m) in
     let there : Further m.turns (heap_of m.world.heap).bounds.turns 0 (hopping l.0 (store_seen tables o n)) =
-    subst (λ (s : State Frames Frames). Further m.turns (heap_of m.world.heap).bounds.turns 0 s) l.1 (hops_further tables (stack_seen m) (store_seen tables o m) 0) in
+    subst (λ (s : State Frames Frames). Further m.turns (heap_of m.world.heap).bounds.turns 0 s) l.1
+    (hops_further tables (stack_seen m) (store_seen tables o m) 0) in
     record { more = there.0; within = subst (λ (t : ℕ). m.turns < t) (turns_bound (heap_of m.world.heap).bounds m.limits b) there.1 }
 hopped_turn tables m n Stages.Fails b f =
     let o : Outside = outside_of [] in
     let there : Further m.turns (heap_of m.world.heap).bounds.turns 0 (failing (stack_seen n) (store_seen tables o n)) =
-    subst (λ (s : State Frames Frames). Further m.turns (heap_of m.world.heap).bounds.turns 0 s) (f o (stack_seen m)) (hops_further tables (stack_seen m) (store_seen tables o m) 0) in
+    subst (λ (s : State Frames Frames). Further m.turns (heap_of m.world.heap).bounds.turns 0 s) (f o (stack_seen m))
+    (hops_further tables (stack_seen m) (store_seen tables o m) 0) in
     by there
   where
     by : ((n.turns ≡ suc m.turns) × (m.turns < (heap_of m.world.heap).bounds.turns)) ⊎ ((n.turns ≡ m.turns) × (length (stack_seen n).cells < 0)) → IsTurn m n

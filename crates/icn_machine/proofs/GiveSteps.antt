@@ -34,10 +34,12 @@ fails_given oc m e =
 pub gives_given : (oc : Outcome) (item : Item) (m n : FlatStack) → oc ≡ Gives item → n ≡ held.push item m → GivesOutcome oc m n Stages.Runs
 gives_given oc item m n e p =
     let here : GivesOutcome (Gives item) m n Stages.Runs
-    = λ all old seen st s. ap (λ (y : Frames). running (flat.push (item_in all item) y) (with_at seen st)) s ∙ ap (λ (y : FlatStack). running (stack_in all y) (with_at seen st)) (sym p) in
+    = λ all old seen st s. ap (λ (y : Frames). running (flat.push (item_in all item) y) (with_at seen st)) s
+    ∙ ap (λ (y : FlatStack). running (stack_in all y) (with_at seen st)) (sym p) in
     subst (λ (x : Outcome). GivesOutcome x m n Stages.Runs) (sym e) here
 
-pub suspends_given : (oc : Outcome) (item : Item) (rest : Residual) (m n : FlatStack) → oc ≡ Suspends item rest → held.given_to (Some item) (held.suspend_by (Op rest) m) ≡ Some n → GivesOutcome oc m n Stages.Runs
+pub suspends_given : (oc : Outcome) (item : Item) (rest : Residual) (m n : FlatStack) → oc ≡ Suspends item rest
+    → held.given_to (Some item) (held.suspend_by (Op rest) m) ≡ Some n → GivesOutcome oc m n Stages.Runs
 suspends_given oc item rest m n e p =
     let here : GivesOutcome (Suspends item rest) m n Stages.Runs
     = λ all old seen st s. ap (λ (y : Frames). running (flat.push (item_in all item) (flat.suspend (calls.Op (residual_in all rest)) y)) (with_at seen st)) s
@@ -45,20 +47,24 @@ suspends_given oc item rest m n e p =
     ∙ ap (λ (y : FlatStack). running (stack_in all y) (with_at seen st)) (same_Some _ _ p) in
     subst (λ (x : Outcome). GivesOutcome x m n Stages.Runs) (sym e) here
 
-pub gives_live : (t : Tables) (reach : Reach) (oc : Outcome) (item : Item) (m n : FlatStack) → oc ≡ Gives item → n ≡ held.push item m → IsLiveStack t reach m → IsLiveOutcome (with_locals (held.local_count m) reach) oc → IsLiveStack t reach n
+pub gives_live : (t : Tables) (reach : Reach) (oc : Outcome) (item : Item) (m n : FlatStack) → oc ≡ Gives item → n ≡ held.push item m
+    → IsLiveStack t reach m → IsLiveOutcome (with_locals (held.local_count m) reach) oc → IsLiveStack t reach n
 gives_live t reach oc item m n e p l i =
     let given : IsLiveOutcome (with_locals (own m) reach) (Gives item) = subst (λ (x : Outcome). IsLiveOutcome (with_locals (own m) reach) x) e i in
     subst (λ (x : FlatStack). IsLiveStack t reach x) (sym p) (live_push t reach m item l given.live)
 
-pub suspends_live : (t : Tables) (reach : Reach) (oc : Outcome) (item : Item) (rest : Residual) (m n : FlatStack) → oc ≡ Suspends item rest → held.given_to (Some item) (held.suspend_by (Op rest) m) ≡ Some n
+pub suspends_live : (t : Tables) (reach : Reach) (oc : Outcome) (item : Item) (rest : Residual) (m n : FlatStack) → oc ≡ Suspends item rest
+    → held.given_to (Some item) (held.suspend_by (Op rest) m) ≡ Some n
     → IsLiveStack t reach m → IsLiveOutcome (with_locals (held.local_count m) reach) oc → IsLiveStack t reach n
 suspends_live t reach oc item rest m n e p l i =
     let given : IsLiveOutcome (with_locals (own m) reach) (Suspends item rest) = subst (λ (x : Outcome). IsLiveOutcome (with_locals (own m) reach) x) e i in
     let left : FlatStack = held.suspend (Op rest) m in
-    let there : IsLiveItem (with_locals (own left) reach) item = subst (λ (k : ℕ). IsLiveItem (with_locals k reach) item) (sym (suspend_owner m (Op rest) l.root)) given.live.0 in
+    let there : IsLiveItem (with_locals (own left) reach) item
+    = subst (λ (k : ℕ). IsLiveItem (with_locals k reach) item) (sym (suspend_owner m (Op rest) l.root)) given.live.0 in
     subst (λ (x : FlatStack). IsLiveStack t reach x) (same_Some _ _ p) (live_push t reach left item (live_suspend t reach m (Op rest) l given.live.1) there)
 
-pub gives_named : (names : Names) (all : Extent) (seen : Setting) (oc : Outcome) (item : Item) (m n : FlatStack) → oc ≡ Gives item → n ≡ held.push item m → StackNamed names (stack_in all m)
+pub gives_named : (names : Names) (all : Extent) (seen : Setting) (oc : Outcome) (item : Item) (m n : FlatStack) → oc ≡ Gives item
+    → n ≡ held.push item m → StackNamed names (stack_in all m)
     → OutcomeNamed names (outcome_in all oc seen) → StackNamed names (stack_in all n)
 gives_named names all seen oc item m n e p h o =
     let given : OutcomeNamed names (outcome_in all (Gives item) seen) = subst (λ (x : Outcome). OutcomeNamed names (outcome_in all x seen)) e o in
@@ -66,12 +72,14 @@ gives_named names all seen oc item m n e p h o =
     (named.stack_out names (stack_in all (held.push item m)) (given.0, named.stack_in names (stack_in all m) h))
 
 pub suspends_named : (names : Names) (all : Extent) (seen : Setting) (oc : Outcome) (item : Item) (rest : Residual) (m n : FlatStack) → oc ≡ Suspends item rest
-    → held.given_to (Some item) (held.suspend_by (Op rest) m) ≡ Some n → StackNamed names (stack_in all m) → OutcomeNamed names (outcome_in all oc seen) → StackNamed names (stack_in all n)
+    → held.given_to (Some item) (held.suspend_by (Op rest) m) ≡ Some n → StackNamed names (stack_in all m)
+    → OutcomeNamed names (outcome_in all oc seen) → StackNamed names (stack_in all n)
 suspends_named names all seen oc item rest m n e p h o =
     let given : OutcomeNamed names (outcome_in all (Suspends item rest) seen) = subst (λ (x : Outcome). OutcomeNamed names (outcome_in all x seen)) e o in
     let M : Frames = stack_in all m in
     let left : Frames = stack_in all (held.suspend (Op rest) m) in
     let suspended : named.M names left
-    = subst (λ (x : Frames). named.M names x) (suspend_read (reading_of all) (Op rest) m) (named.suspend names (calls.Op (residual_in all rest)) M given.1.0 (named.stack_in names M h)) in
+    = subst (λ (x : Frames). named.M names x) (suspend_read (reading_of all) (Op rest) m)
+    (named.suspend names (calls.Op (residual_in all rest)) M given.1.0 (named.stack_in names M h)) in
     subst (λ (x : FlatStack). StackNamed names (stack_in all x)) (same_Some _ _ p)
     (named.stack_out names (stack_in all (held.push item (held.suspend (Op rest) m))) (given.0, suspended))

@@ -89,7 +89,8 @@ always_over : (tables : Tables) (outside : Outside) (state : State Frames Frames
     → AlwaysOver tables (LacksNothing tables) (over_outside outside state)
 always_over tables outside state h [] = lacks_over tables outside state (h [])
 always_over tables outside state h (next ∷ later) =
-    subst (λ (s : State Frames Frames). LacksNothing tables (run_over tables later (step flat tables s))) (sym (over_twice outside next state)) (h (next ∷ later))
+    subst (λ (s : State Frames Frames). LacksNothing tables (run_over tables later (step flat tables s))) (sym (over_twice outside next state))
+    (h (next ∷ later))
 
 named_over : (names : Names) (outside : Outside) (state : State Frames Frames) → StateNamed names state → StateNamed names (over_outside outside state)
 named_over names outside (running m st) h = (h.0, record { world = h.1.world; coexps = h.1.coexps })

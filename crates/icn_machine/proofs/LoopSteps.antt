@@ -15,7 +15,8 @@ use Rattle.icn_machine.proofs.AdvanceSteps.{advances_then}
 
 -- Some steps after none or some
 
-pub goes_then : {K : Type 0} (tables : Tables) (m : Machine K) (stage : Stage) (a : Handed) (n : Machine K) (next : Stage) (b : Handed) (k : Machine K) (c : Handed) (result : Result Stage Halt)
+pub goes_then : {K : Type 0} (tables : Tables) (m : Machine K) (stage : Stage) (a : Handed) (n : Machine K) (next : Stage) (b : Handed) (k : Machine K)
+    (c : Handed) (result : Result Stage Halt)
     → goes_on next ≡ true
     → GoesOn tables m stage a n b (Ok next) → Advances tables n next b k c result → Advances tables m stage a k c result
 goes_then tables m stage a n next b k c result goes (advances p) q = advances_then tables m stage a n next b k c result goes p q
@@ -27,7 +28,8 @@ goes_then {K} tables m stage a n next b k c result goes (stays e h r) q =
     stage_same : (s t : Stage) → ◌≡◌ {A = Result Stage Halt} (Ok s) (Ok t) → s ≡ t
     stage_same s t e = cc
 
-pub goes_goes : {K : Type 0} (tables : Tables) (m : Machine K) (stage : Stage) (a : Handed) (n : Machine K) (next : Stage) (b : Handed) (k : Machine K) (c : Handed) (result : Result Stage Halt)
+pub goes_goes : {K : Type 0} (tables : Tables) (m : Machine K) (stage : Stage) (a : Handed) (n : Machine K) (next : Stage) (b : Handed) (k : Machine K)
+    (c : Handed) (result : Result Stage Halt)
     → goes_on next ≡ true
     → GoesOn tables m stage a n b (Ok next) → GoesOn tables n next b k c result → GoesOn tables m stage a k c result
 goes_goes tables m stage a n next b k c result goes p (advances q) = advances (goes_then tables m stage a n next b k c result goes p q)
@@ -98,8 +100,12 @@ within_falls m n Stages.AtBound turns e t = omega arith
 -- how many turns are left, where failing goes on
 pub turns_fall : {K : Type 0} (m n : Machine K) (stage : Stage) → n.limits ≡ m.limits → MakesTurn m n stage
     → left_if (is_failing stage) (n.limits.turns - n.turns) < suc (m.limits.turns - m.turns)
-turns_fall m n Stages.Fails l t = let same : n.limits.turns ≡ m.limits.turns = ap (λ (x : Limits). x.turns) l in let more = t.more in let within = t.within in omega (arith, same, more, within)
-turns_fall m n Stages.HopDue l t = let same : n.limits.turns ≡ m.limits.turns = ap (λ (x : Limits). x.turns) l in let more = t.more in let within = t.within in omega (arith, same, more, within)
+turns_fall m n Stages.Fails l t =
+    let same : n.limits.turns ≡ m.limits.turns
+    = ap (λ (x : Limits). x.turns) l in let more = t.more in let within = t.within in omega (arith, same, more, within)
+turns_fall m n Stages.HopDue l t =
+    let same : n.limits.turns ≡ m.limits.turns
+    = ap (λ (x : Limits). x.turns) l in let more = t.more in let within = t.within in omega (arith, same, more, within)
 turns_fall m n Stages.Runs l t = omega arith
 turns_fall m n Stages.Over l t = omega arith
 turns_fall m n Stages.AtBound l t = omega arith
@@ -113,13 +119,15 @@ failing_goes Stages.AtBound e = cc
 
 -- One turn of a loop, where it goes on and where an error leaves it
 
-pub loop_ok : {K : Type 0} (tables : Tables) (m : Machine K) (stage : Stage) (a : Handed) (n : Machine K) (next due : Stage) (b : Handed) (k : Machine K) (c : Handed) (result : Result Stage Halt)
+pub loop_ok : {K : Type 0} (tables : Tables) (m : Machine K) (stage : Stage) (a : Handed) (n : Machine K) (next due : Stage) (b : Handed)
+    (k : Machine K) (c : Handed) (result : Result Stage Halt)
     → next ≡ due → goes_on due ≡ true
     → GoesOn tables m stage a n b (Ok next) → GoesOn tables n due b k c result → GoesOn tables m stage a k c result
 loop_ok tables m stage a n next due b k c result e goes p q =
     goes_goes tables m stage a n due b k c result goes (subst (λ (s : Stage). GoesOn tables m stage a n b (Ok s)) e p) q
 
-pub loop_err : {K : Type 0} (tables : Tables) (m : Machine K) (stage : Stage) (a : Handed) (n : Machine K) (next due : Stage) (b : Handed) (k : Machine K) (c : Handed) (halt : Halt) (result : Result Stage Halt)
+pub loop_err : {K : Type 0} (tables : Tables) (m : Machine K) (stage : Stage) (a : Handed) (n : Machine K) (next due : Stage) (b : Handed)
+    (k : Machine K) (c : Handed) (halt : Halt) (result : Result Stage Halt)
     → next ≡ due → goes_on due ≡ true
     → GoesOn tables m stage a n b (Ok next) → GoesOn tables n due b k c (Err halt) → IsErrAnd result (λ h. h ≡ halt) → GoesOn tables m stage a k c result
 loop_err tables m stage a n next due b k c halt (Err h) e goes p q r =

@@ -48,7 +48,8 @@ instr_within tables all f st d = by_instr (slice_get (instrs_of tables (flat.pro
   where
     by_instr : (o : Option Instr) → slice_get (instrs_of tables (flat.proc (stack_in all f))) f.place ≡ o → f.place < length (instrs_of tables (held.proc f))
     by_instr (Some instr) e =
-        subst (λ (p : ℕ). f.place < length (instrs_of tables p)) (proc_read (reading_of all) f) (slice_get_within (instrs_of tables (flat.proc (stack_in all f))) f.place instr e)
+        subst (λ (p : ℕ). f.place < length (instrs_of tables p)) (proc_read (reading_of all) f)
+        (slice_get_within (instrs_of tables (flat.proc (stack_in all f))) f.place instr e)
     by_instr None e =
         absurd (d (ap (λ (o : Option Instr). with_found o (λ instr. instruction flat tables instr (flat.go (suc f.place) (stack_in all f)) st)) e))
 
@@ -74,7 +75,8 @@ never_running tables m k outside = next_lacks_nothing tables (running (stack_see
 pub always_doing : (tables : Tables) (m : Frames) (instr : Instr) (st : Store Frames) → instruction_at flat tables m ≡ Some instr
     → IsKept tables (running m st) → AlwaysOver tables (LacksNothing tables) (instruction flat tables instr (flat.go (suc m.place) m) st)
 always_doing tables m instr st e k =
-    subst (λ (s : State Frames Frames). AlwaysOver tables (LacksNothing tables) s) (step_does tables m instr st e) (always_next tables (LacksNothing tables) (running m st) k.always)
+    subst (λ (s : State Frames Frames). AlwaysOver tables (LacksNothing tables) s) (step_does tables m instr st e)
+    (always_next tables (LacksNothing tables) (running m st) k.always)
 
 -- What comes of it
 
@@ -146,7 +148,8 @@ world_names_as names tables m instr e d = subst (λ (n : Names). WorldNamed n (w
 abbrev pub LandsBy : {K : Type 0} → Tables → (Outside → State Frames Frames) → Machine K → Stage → Type 0
 LandsBy tables leads n stage = (was : Outside) × ((now : Outside) × StandsAt tables now (leads was) n stage)
 
-pub lands_by : {K : Type 0} (tables : Tables) (leads : Outside → State Frames Frames) (before : Handed) (n : Machine K) (after : Handed) (result : Result Stage Halt)
+pub lands_by : {K : Type 0} (tables : Tables) (leads : Outside → State Frames Frames) (before : Handed) (n : Machine K) (after : Handed)
+    (result : Result Stage Halt)
     → PerformsOn tables leads n before after result → IfOk result (LandsBy tables leads n)
 lands_by tables leads before n after (Ok stage) p = let first : Outside = outside_of p.had in let told = p.meant first refl in (first, (told.now, told.is))
 lands_by tables leads before n after (Err halt) p = tt
@@ -203,7 +206,8 @@ called_ready names tables m n instr j (Ok stage) e i d l sound stack named store
     always = subst (λ (x : Instr). AlwaysOver tables (LacksNothing tables) (does tables l.0 x m)) i (d.always l.0);
     named = named_by (all_names tables) tables l.1.0 (does tables l.0 j m) n stage l.1.1
         (subst (λ (x : Names). StackNamed x (stack_seen n)) e named.0)
-        (subst (λ (x : Names). StoreNamed x (store_seen tables l.1.0 n)) e (store l.1.0 (subst (λ (x : Names). StoreNamed x (store_seen tables l.1.0 m)) (sym e) (d.store_named l.1.0))));
+        (subst (λ (x : Names). StoreNamed x (store_seen tables l.1.0 n)) e
+        (store l.1.0 (subst (λ (x : Names). StoreNamed x (store_seen tables l.1.0 m)) (sym e) (d.store_named l.1.0))));
     fits = fits_by tables l.1.0 (does tables l.0 j m) n stage l.1.1 (sized (d.fits l.1.0));
   });
 }

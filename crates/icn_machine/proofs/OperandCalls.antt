@@ -77,12 +77,14 @@ onto_named : (names : Names) (all : Extent) (n : ℕ) (m k : FlatStack) (xs item
 onto_named names all zero m k xs items e a h =
     let here : List Item × FlatStack = (xs, m) in
     let both : All (ItemNamed names) (map (item_in all) xs) × StackNamed names (stack_in all m) = (a, h) in
-    subst (λ (pair : List Item × FlatStack). All (ItemNamed names) (map (item_in all) pair.0) × StackNamed names (stack_in all pair.1)) (same_Some here (items, k) e) both
+    subst (λ (pair : List Item × FlatStack). All (ItemNamed names) (map (item_in all) pair.0) × StackNamed names (stack_in all pair.1))
+    (same_Some here (items, k) e) both
 onto_named names all (suc n) m k xs items e a h = by_pop (held.pop m) refl e (onto_named names all n)
   where
     by_pop : (o : Option (Item × FlatStack)) → held.pop m ≡ o
         → option_and_then (λ (popped : Item × FlatStack). taken_onto n popped.1 (popped.0 ∷ xs)) o ≡ Some (items, k)
-        → ((m k : FlatStack) (xs items : List Item) → taken_onto n m xs ≡ Some (items, k) → All (ItemNamed names) (map (item_in all) xs) → StackNamed names (stack_in all m)
+        → ((m k : FlatStack) (xs items : List Item) → taken_onto n m xs ≡ Some (items, k) → All (ItemNamed names) (map (item_in all) xs)
+        → StackNamed names (stack_in all m)
         → All (ItemNamed names) (map (item_in all) items) × StackNamed names (stack_in all k))
         → All (ItemNamed names) (map (item_in all) items) × StackNamed names (stack_in all k)
     by_pop None p q f = cc
@@ -102,7 +104,8 @@ TakesTurn tables instr n next =
     (m : Frames) (st : Store Frames) → instruction flat tables instr m st ≡ with_found (flat.take n m) (parted (λ xs a. turn tables st (next xs a)))
 
 -- what it comes to, once its operands are taken
-pub takes_turn : (all : Extent) (tables : Tables) (instr : Instr) (n : ℕ) (next : List rows.Item → Frames → Store Frames → State Frames Frames) (running : Option FlatStack) (m k : FlatStack) (items : List Item) (st : Store Frames)
+pub takes_turn : (all : Extent) (tables : Tables) (instr : Instr) (n : ℕ) (next : List rows.Item → Frames → Store Frames → State Frames Frames)
+    (running : Option FlatStack) (m k : FlatStack) (items : List Item) (st : Store Frames)
     → TakesTurn tables instr n next → running ≡ Some m → taken n m ≡ Some (items, k)
     → instruction flat tables instr (stack_in all (running_of running)) st ≡ turn tables st (next (map (item_in all) items) (stack_in all k))
 takes_turn all tables instr n next running m k items st is e p =
@@ -110,13 +113,15 @@ takes_turn all tables instr n next running m k items st is e p =
     ∙ is (stack_in all m) st
     ∙ taken_runs all n m k items (λ xs a. turn tables st (next xs a)) p
 
-pub operands_perform : {K : Type 0} (m after : Machine K) (t tables : Tables) (instr : Instr) (n : ℕ) (next : List rows.Item → Frames → Store Frames → State Frames Frames) (f k g l : FlatStack) (items xs : List Item)
+pub operands_perform : {K : Type 0} (m after : Machine K) (t tables : Tables) (instr : Instr) (n : ℕ)
+    (next : List rows.Item → Frames → Store Frames → State Frames Frames) (f k g l : FlatStack) (items xs : List Item)
     (before now : Handed) (result : Result Stage Halt) → TakesTurn tables instr n next → m.stacks.table.running ≡ Some f → taken n f ≡ Some (items, k) → k ≡
     g → xs ≡ items
     → nat_lt m.turns (heap_of m.world.heap).bounds.turns ≡ true → KeepsItems (reach_of m.world []) (reach_of after.world [])
     → AreLiveStacks t (reach_of m.world []) m.stacks.table
     → after.turns ≡ suc m.turns → after.begun.items ≡ m.begun.items → after.stacks.table ≡ record m.stacks.table { running = Some l } → IfOk result IsGoing
-    → PerformsEvent (all_names tables) (next (map (item_in (extent_of m.world.heap)) xs) (stack_in (extent_of m.world.heap) g)) m.world before after.world l now result
+    → PerformsEvent (all_names tables) (next (map (item_in (extent_of m.world.heap)) xs)
+    (stack_in (extent_of m.world.heap) g)) m.world before after.world l now result
     → PerformsOn tables (λ outside. does tables outside instr m) after before now result
 operands_perform m after t tables instr n next f k g l items xs before now result is e p on of b kept live turns begun table going performs =
     let all : Extent = extent_of m.world.heap in
@@ -130,7 +135,8 @@ operands_perform m after t tables instr n next f k g l items xs before now resul
     performs
 
 -- the same of what neither reads nor puts anything
-pub operands_come : {K : Type 0} (m after : Machine K) (t tables : Tables) (instr : Instr) (n : ℕ) (next : List rows.Item → Frames → Store Frames → State Frames Frames) (f k g l : FlatStack) (items xs : List Item)
+pub operands_come : {K : Type 0} (m after : Machine K) (t tables : Tables) (instr : Instr) (n : ℕ)
+    (next : List rows.Item → Frames → Store Frames → State Frames Frames) (f k g l : FlatStack) (items xs : List Item)
     (result : Result Stage Halt) → TakesTurn tables instr n next → m.stacks.table.running ≡ Some f → taken n f ≡ Some (items, k) → k ≡ g → xs ≡ items
     → nat_lt m.turns (heap_of m.world.heap).bounds.turns ≡ true → KeepsItems (reach_of m.world []) (reach_of after.world [])
     → AreLiveStacks t (reach_of m.world []) m.stacks.table
@@ -151,11 +157,13 @@ operands_come m after t tables instr n next f k g l items xs result is e p on of
     ∙ ap (λ (bs : List Bool). turn tables (store bs) event) (sym begun)
     ∙ ap (λ (x : Bool). turn_if x (store after.begun.items) event) b in
     subst (λ (s : State Frames Frames). ComesTo tables outside s after result) (sym goes)
-    (stands_on after t tables outside outside m.world m.turns m.stacks.table l (event st) result kept live turns table going (stands_over (event st) st after.world l outside result (comes st refl)))
+    (stands_on after t tables outside outside m.world m.turns m.stacks.table l (event st) result kept live turns table going
+    (stands_over (event st) st after.world l outside result (comes st refl)))
 
 -- one turn more would be past the bound
 
-pub bound_comes : {K : Type 0} (m after : Machine K) (tables : Tables) (instr : Instr) (n : ℕ) (next : List rows.Item → Frames → Store Frames → State Frames Frames) (f k : FlatStack) (items : List Item)
+pub bound_comes : {K : Type 0} (m after : Machine K) (tables : Tables) (instr : Instr) (n : ℕ)
+    (next : List rows.Item → Frames → Store Frames → State Frames Frames) (f k : FlatStack) (items : List Item)
     → TakesTurn tables instr n next → m.stacks.table.running ≡ Some f → taken n f ≡ Some (items, k) → nat_lt m.turns (heap_of m.world.heap).bounds.turns ≡ false
     → ((outside : Outside) → at_bound {K = Frames} {M = Frames} (store_seen tables outside m) ≡ at_bound (store_seen tables outside after))
     → (outside : Outside) → ComesTo tables outside (does tables outside instr m) after (Ok Stages.AtBound)
@@ -165,7 +173,8 @@ bound_comes m after tables instr n next f k items is e p b same outside =
     ∙ turn_bound tables (store_seen tables outside m) (store_seen tables outside m) (next (map (item_in all) items) (stack_in all k)) b refl
     ∙ same outside
 
-pub bound_performs : {K : Type 0} (m after : Machine K) (tables : Tables) (instr : Instr) (n : ℕ) (next : List rows.Item → Frames → Store Frames → State Frames Frames) (f k : FlatStack) (items : List Item) (before : Handed)
+pub bound_performs : {K : Type 0} (m after : Machine K) (tables : Tables) (instr : Instr) (n : ℕ)
+    (next : List rows.Item → Frames → Store Frames → State Frames Frames) (f k : FlatStack) (items : List Item) (before : Handed)
     → TakesTurn tables instr n next → m.stacks.table.running ≡ Some f → taken n f ≡ Some (items, k) → nat_lt m.turns (heap_of m.world.heap).bounds.turns ≡ false
     → ((outside : Outside) → at_bound {K = Frames} {M = Frames} (store_seen tables outside m) ≡ at_bound (store_seen tables outside after))
     → PerformsOn tables (λ outside. does tables outside instr m) after before before (Ok Stages.AtBound)
@@ -192,7 +201,8 @@ going_has_stack m (Ok Stages.AtBound) g r = absurd g
 going_has_stack m (Err halt) g r = tt
 
 -- the store after names only what has a name, where the world after does and the co-expressions did
-pub store_left : (t : Tables) (names ns : Names) (outside : Outside) (w v : World) (turns more : ℕ) (begun : List _) (table : Table) (n : FlatStack) (result : Result Stage Halt)
+pub store_left : (t : Tables) (names ns : Names) (outside : Outside) (w v : World) (turns more : ℕ) (begun : List _) (table : Table) (n : FlatStack)
+    (result : Result Stage Halt)
     → KeepsItems (reach_of w []) (reach_of v []) → AreLiveStacks t (reach_of w []) table → LeavesNamed names v n result
     → StoreNamed names (store_in ns outside (world_of w) turns begun (extent_of w.heap) table)
     → OnOk result (StoreNamed names (store_in ns outside (world_of v) more begun (extent_of v.heap) (record table { running = Some n })))
@@ -202,10 +212,11 @@ store_left t names ns outside w v turns more begun table n (Ok stage) kept live 
 store_left t names ns outside w v turns more begun table n (Err halt) kept live left h = tt
 
 -- a machine on which a turn was counted, and whose world has grown, is sound
-pub sound_after : {K : Type 0} (m after : Machine K) (t : Tables) (n : FlatStack) → after.turns ≡ m.turns + 1 → after.limits ≡ m.limits → after.stacks.table ≡ record m.stacks.table {
-  running =
-      Some n;
-}
+pub sound_after : {K : Type 0} (m after : Machine K) (t : Tables) (n : FlatStack) → after.turns ≡ m.turns + 1 → after.limits ≡ m.limits
+    → after.stacks.table ≡ record m.stacks.table {
+      running =
+          Some n;
+    }
     → KeepsItems (reach_of m.world []) (reach_of after.world []) → IsLiveStack t (reach_of after.world []) n → KeepsCounts m.world after.world → IsSound t m
     → IsSound t after
 sound_after m after t n turns limits table kept live counts k =
@@ -214,7 +225,8 @@ sound_after m after t n turns limits table kept live counts k =
     let F : Table → Type 0 = λ u. AreLiveStacks t (reach_of after.world []) u in
     let same : after.stacks.table.coexps ≡ m.stacks.table.coexps = ap (λ (u : Table). u.coexps) table in
     let fits : FitTurns after.turns m.stacks.table.active ds
-    = subst (λ (x : ℕ). FitTurns x m.stacks.table.active ds) (sym turns) (list_counts (m.turns + 1) m.stacks.table.active cs ds counts.coexps (turn_more m.turns m.stacks.table.active cs k.counted.results)) in
+    = subst (λ (x : ℕ). FitTurns x m.stacks.table.active ds) (sym turns)
+    (list_counts (m.turns + 1) m.stacks.table.active cs ds counts.coexps (turn_more m.turns m.stacks.table.active cs k.counted.results)) in
     record {
       stacks = subst F (sym table) (stacks_grow t m.world after.world m.stacks.table n kept live k.stacks);
       bounds = counts.bounds ∙ k.bounds ∙ ap limits_of (sym limits);

@@ -71,7 +71,8 @@ counts_same : (b : Handed) → KeepsAllCounts b b
 counts_same b = record { faults = refl; output = record { faults = refl; wants = refl }; errors = record { faults = refl; wants = refl } }
 
 -- the step itself neither reads nor puts
-pub performs_still : {A : Type 0} (leads : Outside → State Frames Frames) (C : Outside → Outside → Result A Halt → Type 0) (b : Handed) (x : A) → ((was : Outside) → C was was (Ok x)) → Performs leads C b b (Ok x)
+pub performs_still : {A : Type 0} (leads : Outside → State Frames Frames) (C : Outside → Outside → Result A Halt → Type 0) (b : Handed) (x : A)
+    → ((was : Outside) → C was was (Ok x)) → Performs leads C b b (Ok x)
 performs_still leads C b x h = record {
   answers = λ was told. record { now = was; follows = follows_same b was told; is = h was };
   had = [];
@@ -81,7 +82,8 @@ performs_still leads C b x h = record {
 }
 
 -- memory ran out before anything was read or put
-pub performs_idle : {A : Type 0} (leads : Outside → State Frames Frames) (C : Outside → Outside → Result A Halt → Type 0) (b : Handed) → Performs leads C b b (Err Halts.NoMemory)
+pub performs_idle : {A : Type 0} (leads : Outside → State Frames Frames) (C : Outside → Outside → Result A Halt → Type 0) (b : Handed)
+    → Performs leads C b b (Err Halts.NoMemory)
 performs_idle leads C b = record {
   answers = λ was told. answering.idle refl;
   had = [];
@@ -120,20 +122,28 @@ unfinished oc m st other e = by_test (sym (goes_on oc m st) ∙ ap is_finished e
     by_test q = cc
 
 -- where the machine stands with the stack and the world that a row left, a turn more
-comes_to : {K : Type 0} (m : Machine K) (t tables : Tables) (w : World) (turns : ℕ) (table : Table) (n : FlatStack) (oc : Outcome) (a : Frames) (st : Store Frames) (was now : Outside) (result : Result Stage Halt)
-    → KeepsItems (reach_of w []) (reach_of m.world []) → AreLiveStacks t (reach_of w []) table → m.stacks.table ≡ record table { running = Some n } → m.turns ≡ suc turns
-    → StandsOver (outcome flat oc a st) (store_in (all_names tables) was (world_of w) (suc turns) m.begun.items (extent_of w.heap) table) m.world n now result → ComesTo tables now (outcome flat oc a st) m result
+comes_to : {K : Type 0} (m : Machine K) (t tables : Tables) (w : World) (turns : ℕ) (table : Table) (n : FlatStack) (oc : Outcome) (a : Frames)
+    (st : Store Frames) (was now : Outside) (result : Result Stage Halt)
+    → KeepsItems (reach_of w []) (reach_of m.world []) → AreLiveStacks t (reach_of w []) table → m.stacks.table ≡ record table { running = Some n }
+    → m.turns ≡ suc turns
+    → StandsOver (outcome flat oc a st) (store_in (all_names tables) was (world_of w) (suc turns) m.begun.items (extent_of w.heap) table) m.world n now result
+    → ComesTo tables now (outcome flat oc a st) m result
 comes_to m t tables w turns table n oc a st was now (Ok Stages.Runs) k l e f h =
     let F : Table → ℕ → State Frames Frames
-    = λ x y. running (stack_in (extent_of m.world.heap) (running_of x.running)) (store_in (all_names tables) now (world_of m.world) y m.begun.items (extent_of m.world.heap) x) in
-    h ∙ ap (running (stack_in (extent_of m.world.heap) n)) (grown t (all_names tables) now w m.world (suc turns) m.begun.items table (Some n) k l) ∙ ap (λ (x : Table). F x (suc turns)) (sym e) ∙ ap (F m.stacks.table) (sym f)
+    = λ x y. running (stack_in (extent_of m.world.heap) (running_of x.running))
+    (store_in (all_names tables) now (world_of m.world) y m.begun.items (extent_of m.world.heap) x) in
+    h ∙ ap (running (stack_in (extent_of m.world.heap) n)) (grown t (all_names tables) now w m.world (suc turns) m.begun.items table (Some n) k l)
+    ∙ ap (λ (x : Table). F x (suc turns)) (sym e) ∙ ap (F m.stacks.table) (sym f)
 comes_to m t tables w turns table n oc a st was now (Ok Stages.Fails) k l e f h =
     let F : Table → ℕ → State Frames Frames
-    = λ x y. failing (stack_in (extent_of m.world.heap) (running_of x.running)) (store_in (all_names tables) now (world_of m.world) y m.begun.items (extent_of m.world.heap) x) in
-    h ∙ ap (failing (stack_in (extent_of m.world.heap) n)) (grown t (all_names tables) now w m.world (suc turns) m.begun.items table (Some n) k l) ∙ ap (λ (x : Table). F x (suc turns)) (sym e) ∙ ap (F m.stacks.table) (sym f)
+    = λ x y. failing (stack_in (extent_of m.world.heap) (running_of x.running))
+    (store_in (all_names tables) now (world_of m.world) y m.begun.items (extent_of m.world.heap) x) in
+    h ∙ ap (failing (stack_in (extent_of m.world.heap) n)) (grown t (all_names tables) now w m.world (suc turns) m.begun.items table (Some n) k l)
+    ∙ ap (λ (x : Table). F x (suc turns)) (sym e) ∙ ap (F m.stacks.table) (sym f)
 comes_to m t tables w turns table n oc a st was now (Ok Stages.HopDue) k l e f h = absurd h
 comes_to m t tables w turns table n oc a st was now (Ok Stages.Over) k l e f h =
-    absurd (unfinished oc a st (with_world (world_of m.world) (store_in (all_names tables) now (world_of w) (suc turns) m.begun.items (extent_of w.heap) table)) h)
+    absurd (unfinished oc a st
+    (with_world (world_of m.world) (store_in (all_names tables) now (world_of w) (suc turns) m.begun.items (extent_of w.heap) table)) h)
 comes_to m t tables w turns table n oc a st was now (Ok Stages.AtBound) k l e f h = absurd h
 comes_to m t tables w turns table n oc a st was now (Err (Halts.Error number offending)) k l e f h = h
 comes_to m t tables w turns table n oc a st was now (Err (Halts.Ends status)) k l e f h = h
@@ -146,8 +156,10 @@ abbrev pub store_in_turn : {K : Type 0} → Tables → World → ℕ → Table �
 store_in_turn tables w turns table m was = store_in (all_names tables) was (world_of w) (suc turns) m.begun.items (extent_of w.heap) table
 
 -- what a call said of a row on the stack that runs, said of the machine for any states that are the row's
-pub performs_on : {K : Type 0} (m : Machine K) (t tables : Tables) (w : World) (turns : ℕ) (table : Table) (k n : FlatStack) (row : Row) (leads : Outside → State Frames Frames) (b a : Handed) (result : Result Stage Halt)
-    → KeepsItems (reach_of w []) (reach_of m.world []) → AreLiveStacks t (reach_of w []) table → m.stacks.table ≡ record table { running = Some n } → m.turns ≡ suc turns
+pub performs_on : {K : Type 0} (m : Machine K) (t tables : Tables) (w : World) (turns : ℕ) (table : Table) (k n : FlatStack) (row : Row)
+    (leads : Outside → State Frames Frames) (b a : Handed) (result : Result Stage Halt)
+    → KeepsItems (reach_of w []) (reach_of m.world []) → AreLiveStacks t (reach_of w []) table → m.stacks.table ≡ record table { running = Some n }
+    → m.turns ≡ suc turns
     → ((was : Outside) → leads was ≡ row_on row w k (store_in_turn tables w turns table m was) was) → PerformsRow row w k b m.world n a result
     → Performs leads (λ was now answer. ComesTo tables now (leads was) m answer) b a result
 performs_on m t tables w turns table k n row leads b a result kept live e f same p =
@@ -156,15 +168,18 @@ performs_on m t tables w turns table k n row leads b a result kept live e f same
     let at : Outside → Store Frames = store_in_turn tables w turns table m in
     performs_as leads (row_on row w k st) (λ was now answer. StandsOver (row_on row w k st was) st m.world n now answer)
     (λ was now answer. ComesTo tables now (leads was) m answer) b a result same
-    (λ was now h. subst (λ (x : State Frames Frames). ComesTo tables now x m result) (sym (same was)) (comes_to m t tables w turns table n (row (here flat on (at was))) on (at was) (outside_of []) now result kept live e f h))
+    (λ was now h. subst (λ (x : State Frames Frames). ComesTo tables now x m result) (sym (same was))
+    (comes_to m t tables w turns table n (row (here flat on (at was))) on (at was) (outside_of []) now result kept live e f h))
     (p st refl)
 
 -- a store of this world
 abbrev store_of : World → Store Frames
-store_of w = record { world = world_of w; outside = outside_of []; turns = 0; begun = []; coexps = []; active = 0; names = record { procedures = []; records = [] } }
+store_of w =
+    record { world = world_of w; outside = outside_of []; turns = 0; begun = []; coexps = []; active = 0; names = record { procedures = []; records = [] } }
 
 -- a stack runs where a row was answered, which never comes to a hop
-pub has_stack : {K : Type 0} (m : Machine K) (w : World) (k n : FlatStack) (row : Row) (b a : Handed) (result : Result Stage Halt) → m.stacks.table.running ≡ Some n → PerformsRow row w k b m.world n a result → IfOk result (HasStack m)
+pub has_stack : {K : Type 0} (m : Machine K) (w : World) (k n : FlatStack) (row : Row) (b a : Handed) (result : Result Stage Halt)
+    → m.stacks.table.running ≡ Some n → PerformsRow row w k b m.world n a result → IfOk result (HasStack m)
 has_stack m w k n row b a (Ok Stages.Runs) e p = subst (λ (o : Option FlatStack). IsSome o) (sym e) refl
 has_stack m w k n row b a (Ok Stages.Fails) e p = subst (λ (o : Option FlatStack). IsSome o) (sym e) refl
 has_stack m w k n row b a (Ok Stages.HopDue) e p = let said = p (store_of w) refl in absurd (said.meant (outside_of said.had) refl).is
@@ -175,34 +190,46 @@ has_stack m w k n row b a (Err halt) e p = tt
 -- Operations
 
 -- but for one all operations are rows
-operated_is : (op : Op) (xs : List run_rows.Item) (m : Frames) (st : Store Frames) → (op ≡ Ops.Refresh → ⊥) → operated flat op xs m st ≡ outcome flat (step_rows.apply st.names (Operation op) xs (here flat m st)) m st
+operated_is : (op : Op) (xs : List run_rows.Item) (m : Frames) (st : Store Frames) → (op ≡ Ops.Refresh → ⊥)
+    → operated flat op xs m st ≡ outcome flat (step_rows.apply st.names (Operation op) xs (here flat m st)) m st
 operated_is Ops.Refresh xs m st d = absurd (d refl)
 operated_is op xs m st d = refl
 
 -- the turn is counted
-in_turn : (tables : Tables) (st : Store Frames) (event : Store Frames → State Frames Frames) → nat_lt st.turns st.world.heap.bounds.turns ≡ true → turn tables st event ≡ event (record st { turns = suc st.turns })
+in_turn : (tables : Tables) (st : Store Frames) (event : Store Frames → State Frames Frames) → nat_lt st.turns st.world.heap.bounds.turns ≡ true
+    → turn tables st event ≡ event (record st { turns = suc st.turns })
 in_turn tables st event b = ap (λ (x : Bool). turn_if x st event) b
 
 -- what the instruction is once its operands are taken
-pub op_is : (all : Extent) (tables : Tables) (table : Table) (m k : FlatStack) (items : List Item) (op : Op) (st : Store Frames) → table.running ≡ Some m → taken (arity op) m ≡ Some (items, k)
-    → instruction flat tables (Instrs.Op op) (stack_in all (running_of table.running)) st ≡ turn tables st (operated flat op (map (item_in all) items) (stack_in all k))
+pub op_is : (all : Extent) (tables : Tables) (table : Table) (m k : FlatStack) (items : List Item) (op : Op) (st : Store Frames)
+    → table.running ≡ Some m → taken (arity op) m ≡ Some (items, k)
+    → instruction flat tables (Instrs.Op op) (stack_in all (running_of table.running)) st
+    ≡ turn tables st (operated flat op (map (item_in all) items) (stack_in all k))
 op_is all tables table m k items op st e p =
-    on_running table m (λ x. instruction flat tables (Instrs.Op op) (stack_in all x) st) e ∙ taken_runs all (arity op) m k items (λ xs a. turn tables st (operated flat op xs a)) p
+    on_running table m (λ x. instruction flat tables (Instrs.Op op) (stack_in all x) st) e ∙ taken_runs all (arity op) m k items
+    (λ xs a. turn tables st (operated flat op xs a)) p
 
-pub operates : {K : Type 0} (tables : Tables) (names : Names) (w : World) (table : Table) (m k : FlatStack) (items : List Item) (op : Op) (after : Machine K) (turns : ℕ) (was : Outside) → (op ≡ Ops.Refresh → ⊥)
+pub operates : {K : Type 0} (tables : Tables) (names : Names) (w : World) (table : Table) (m k : FlatStack) (items : List Item) (op : Op)
+    (after : Machine K) (turns : ℕ) (was : Outside)
+    → (op ≡ Ops.Refresh → ⊥)
     → table.running ≡ Some m → taken (arity op) m ≡ Some (items, k) → nat_lt turns (heap_of w.heap).bounds.turns ≡ true → all_names tables ≡ names
-    → instruction flat tables (Instrs.Op op) (stack_in (extent_of w.heap) (running_of table.running)) (store_in (all_names tables) was (world_of w) turns after.begun.items (extent_of w.heap) table)
+    → instruction flat tables (Instrs.Op op) (stack_in (extent_of w.heap) (running_of table.running)) (store_in (all_names tables) was (world_of w)
+    turns after.begun.items (extent_of w.heap) table)
     ≡ row_on (step_rows.apply names (Operation op) (map (item_in (extent_of w.heap)) items)) w k (store_in_turn tables w turns table after was) was
 operates tables names w table m k items op after turns was d e p b n =
     let all : Extent = extent_of w.heap in
     let st : Store Frames = store_in (all_names tables) was (world_of w) turns after.begun.items all table in
     let xs = map (item_in all) items in
-    op_is all tables table m k items op st e p ∙ in_turn tables st (operated flat op xs (stack_in all k)) b ∙ operated_is op xs (stack_in all k) (store_in_turn tables w turns table after was) d
+    op_is all tables table m k items op st e p ∙ in_turn tables st (operated flat op xs (stack_in all k)) b ∙ operated_is op xs (stack_in all k)
+    (store_in_turn tables w turns table after was) d
     ∙ ap (λ (ns : Names). row_on (step_rows.apply ns (Operation op) xs) w k (store_in_turn tables w turns table after was) was) n
 
-pub resumes : {K : Type 0} (tables : Tables) (w : World) (table : Table) (m : FlatStack) (rest : run_rows.Residual) (after : Machine K) (turns : ℕ) (was : Outside) → table.running ≡ Some m
+pub resumes : {K : Type 0} (tables : Tables) (w : World) (table : Table) (m : FlatStack) (rest : run_rows.Residual) (after : Machine K) (turns : ℕ)
+    (was : Outside)
+    → table.running ≡ Some m
     → nat_lt turns (heap_of w.heap).bounds.turns ≡ true
-    → resumed flat tables (calls.Op rest) (stack_in (extent_of w.heap) (running_of table.running)) (store_in (all_names tables) was (world_of w) turns after.begun.items (extent_of w.heap) table)
+    → resumed flat tables (calls.Op rest) (stack_in (extent_of w.heap) (running_of table.running)) (store_in (all_names tables) was (world_of w) turns
+    after.begun.items (extent_of w.heap) table)
     ≡ row_on (rows.again rest) w m (store_in_turn tables w turns table after was) was
 resumes tables w table m rest after turns was e b =
     let all : Extent = extent_of w.heap in
@@ -220,7 +247,8 @@ taken_length zero m k onto items e =
 taken_length (suc n) m k onto items e = by_pop (held.pop m) e (taken_length n)
   where
     by_pop : (o : Option (Item × FlatStack)) → option_and_then (λ (popped : Item × FlatStack). taken_onto n popped.1 (popped.0 ∷ onto)) o ≡ Some (items, k)
-        → ((m k : FlatStack) (onto items : List Item) → taken_onto n m onto ≡ Some (items, k) → length items ≡ n + length onto) → length items ≡ suc n + length onto
+        → ((m k : FlatStack) (onto items : List Item) → taken_onto n m onto ≡ Some (items, k) → length items ≡ n + length onto)
+        → length items ≡ suc n + length onto
     by_pop None q f = cc
     by_pop (Some popped) q f =
         let more : length items ≡ n + suc (length onto) = f popped.1 k (popped.0 ∷ onto) items q in
@@ -232,7 +260,8 @@ taken_count n m k items e =
     omega arith
 
 -- the same operands, and the same stack, under other names
-pub taken_as : (n o : ℕ) (m k l : FlatStack) (items xs : List Item) → taken n m ≡ Some (items, k) → n ≡ o → Some k ≡ Some l → xs ≡ items → taken o m ≡ Some (xs, l)
+pub taken_as : (n o : ℕ) (m k l : FlatStack) (items xs : List Item) → taken n m ≡ Some (items, k) → n ≡ o → Some k ≡ Some l → xs ≡ items
+    → taken o m ≡ Some (xs, l)
 taken_as n o m k l items xs e same kept value =
     let F : List Item → FlatStack → Option (List Item × FlatStack) = λ x y. Some (x, y) in
     subst (λ (x : ℕ). taken x m ≡ Some (items, k)) same e ∙ ap (λ (x : List Item). F x k) (sym value) ∙ ap (F xs) (same_Some _ _ kept)
@@ -242,34 +271,43 @@ pub record TakesNamed (names : Names) (all : Extent) (items : List Item) (k : Fl
   pub items_named : named.Each (ItemNamed names) (map (item_in all) items)
   pub rest : named.M names (stack_in all k)
 
-popped_named : (names : Names) (all : Extent) (m : FlatStack) (popped : Item × FlatStack) → held.pop m ≡ Some popped → named.M names (stack_in all m) → ItemNamed names (item_in all popped.0) × named.M names (stack_in all popped.1)
+popped_named : (names : Names) (all : Extent) (m : FlatStack) (popped : Item × FlatStack) → held.pop m ≡ Some popped → named.M names (stack_in all m)
+    → ItemNamed names (item_in all popped.0) × named.M names (stack_in all popped.1)
 popped_named names all m popped e h =
     let P : Option (run_rows.Item × Frames) → Type 0 = λ o. named.Maybe (named.Two names (ItemNamed names)) o in
-    subst P (pop_read (reading_of all) m ∙ ap (option_map (λ (x : Item × FlatStack). (item_in all x.0, stack_in all x.1))) e) (named.pop names (stack_in all m) h)
+    subst P (pop_read (reading_of all) m ∙ ap (option_map (λ (x : Item × FlatStack). (item_in all x.0, stack_in all x.1))) e)
+    (named.pop names (stack_in all m) h)
 
-named_onto : (names : Names) (all : Extent) (n : ℕ) (m k : FlatStack) (onto items : List Item) → taken_onto n m onto ≡ Some (items, k) → named.Each (ItemNamed names) (map (item_in all) onto) → named.M names (stack_in all m) → TakesNamed names all items k
+named_onto : (names : Names) (all : Extent) (n : ℕ) (m k : FlatStack) (onto items : List Item) → taken_onto n m onto ≡ Some (items, k)
+    → named.Each (ItemNamed names) (map (item_in all) onto) → named.M names (stack_in all m) → TakesNamed names all items k
 named_onto names all zero m k onto items e xs h =
     let here : List Item × FlatStack = (onto, m) in
     let there : TakesNamed names all onto m = record { items_named = xs; rest = h } in
     subst (λ (x : List Item × FlatStack). TakesNamed names all x.0 x.1) (same_Some here (items, k) e) there
 named_onto names all (suc n) m k onto items e xs h = by_pop (held.pop m) refl e (named_onto names all n)
   where
-    by_pop : (o : Option (Item × FlatStack)) → held.pop m ≡ o → option_and_then (λ (popped : Item × FlatStack). taken_onto n popped.1 (popped.0 ∷ onto)) o ≡ Some (items, k)
-        → ((m k : FlatStack) (onto items : List Item) → taken_onto n m onto ≡ Some (items, k) → named.Each (ItemNamed names) (map (item_in all) onto) → named.M names (stack_in all m) → TakesNamed names all items k) → TakesNamed names all items k
+    by_pop : (o : Option (Item × FlatStack)) → held.pop m ≡ o
+        → option_and_then (λ (popped : Item × FlatStack). taken_onto n popped.1 (popped.0 ∷ onto)) o ≡ Some (items, k)
+        → ((m k : FlatStack) (onto items : List Item) → taken_onto n m onto ≡ Some (items, k) → named.Each (ItemNamed names) (map (item_in all) onto)
+        → named.M names (stack_in all m) → TakesNamed names all items k)
+        → TakesNamed names all items k
     by_pop None p q f = cc
     by_pop (Some popped) p q f =
         let back = popped_named names all m popped p h in
         f popped.1 k (popped.0 ∷ onto) items q (back.0, xs) back.1
 
-pub named_taken : (names : Names) (all : Extent) (n : ℕ) (m k : FlatStack) (items : List Item) → taken n m ≡ Some (items, k) → StackNamed names (stack_in all m) → TakesNamed names all items k
+pub named_taken : (names : Names) (all : Extent) (n : ℕ) (m k : FlatStack) (items : List Item) → taken n m ≡ Some (items, k)
+    → StackNamed names (stack_in all m) → TakesNamed names all items k
 named_taken names all n m k items e h = named_onto names all n m k [] items e tt (named.stack_in names (stack_in all m) h)
 
 -- what is said of the stack of a machine, said of the one that runs
 
-pub named_running : (names : Names) (all : Extent) (table : Table) (m : FlatStack) → table.running ≡ Some m → StackNamed names (stack_in all (running_of table.running)) → StackNamed names (stack_in all m)
+pub named_running : (names : Names) (all : Extent) (table : Table) (m : FlatStack) → table.running ≡ Some m
+    → StackNamed names (stack_in all (running_of table.running)) → StackNamed names (stack_in all m)
 named_running names all table m e h = subst (λ (o : Option FlatStack). StackNamed names (stack_in all (running_of o))) e h
 
-pub rest_running : (reach : Reach) (table : Table) (m : FlatStack) (rest : Residual) → table.running ≡ Some m → IsLiveResidual (with_locals (held.local_count (running_of table.running)) reach) rest
+pub rest_running : (reach : Reach) (table : Table) (m : FlatStack) (rest : Residual) → table.running ≡ Some m
+    → IsLiveResidual (with_locals (held.local_count (running_of table.running)) reach) rest
     → IsLiveResidual (with_locals (held.local_count m) reach) rest
 rest_running reach table m rest e h = subst (λ (o : Option FlatStack). IsLiveResidual (with_locals (held.local_count (running_of o)) reach) rest) e h
 
@@ -279,7 +317,8 @@ pub both_ok : {A E : Type 0} (result : Result A E) (P Q R : Type 0) → OnOk res
 both_ok (Ok x) P Q R p q f = f p q
 both_ok (Err e) P Q R p q f = tt
 
-pub sound_after : {K : Type 0} (m after : Machine K) (t : Tables) (n : FlatStack) → KeepsItems (reach_of m.world []) (reach_of after.world []) → after.stacks.table ≡ record m.stacks.table { running = Some n } → after.turns ≡ m.turns + 1
+pub sound_after : {K : Type 0} (m after : Machine K) (t : Tables) (n : FlatStack) → KeepsItems (reach_of m.world []) (reach_of after.world [])
+    → after.stacks.table ≡ record m.stacks.table { running = Some n } → after.turns ≡ m.turns + 1
     → after.limits ≡ m.limits → IsSound t m → IsLiveStack t (reach_of after.world []) n → counting.KeepsCounts m.world after.world → IsSound t after
 sound_after m after t n kept table turns limits s l c = record {
   stacks = subst (λ (x : Table). AreLiveStacks t (reach_of after.world []) x) (sym table) (stacks_grow t m.world after.world m.stacks.table n kept l s.stacks);
@@ -288,7 +327,8 @@ sound_after m after t n kept table turns limits s l c = record {
   counted = record {
     results = subst (λ (x : ℕ). FitTurns x after.stacks.table.active (heap_of after.world.heap).coexps) (sym turns)
         (subst (λ (x : Table). FitTurns (m.turns + 1) x.active (heap_of after.world.heap).coexps) (sym table)
-        (list_counts (m.turns + 1) m.stacks.table.active (heap_of m.world.heap).coexps (heap_of after.world.heap).coexps c.coexps (turn_more m.turns m.stacks.table.active (heap_of m.world.heap).coexps s.counted.results)));
+        (list_counts (m.turns + 1) m.stacks.table.active (heap_of m.world.heap).coexps (heap_of after.world.heap).coexps c.coexps
+        (turn_more m.turns m.stacks.table.active (heap_of m.world.heap).coexps s.counted.results)));
     activators = subst (λ (x : Table). EnterOthers x.coexps) (sym table) s.counted.activators;
   };
 }

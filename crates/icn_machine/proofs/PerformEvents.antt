@@ -30,7 +30,8 @@ use Rattle.icn_machine.specs.Performing.{PerformsOn, PerformsRow, StandsOver, ov
 
 -- The same step, said otherwise
 
-answers_as : {A : Type 0} (Comes Same : Outside → Result A Halt → Type 0) (a b : State Frames Frames) (was : Outside) (before after : Handed) (result : Result A Halt)
+answers_as : {A : Type 0} (Comes Same : Outside → Result A Halt → Type 0) (a b : State Frames Frames) (was : Outside) (before after : Handed)
+    (result : Result A Halt)
     → a ≡ b → ((now : Outside) → Comes now result → Same now result)
     → AnswersStep Comes b was before after result → AnswersStep Same a was before after result
 answers_as Comes Same a b was before after (Ok x) e h t = record { now = t.now; follows = t.follows; is = h t.now t.is }
@@ -49,7 +50,8 @@ performs_as leads others Comes Same before after result e h p = record {
   had = p.had;
   has = p.has;
   meant =
-      λ was left. answers_as (Comes was) (Same was) (leads was) (others was) was (having p.had before) (having p.has after) result (e was) (h was) (p.meant was left);
+      λ was left. answers_as (Comes was) (Same was) (leads was) (others was) was (having p.had before) (having p.has after) result (e was) (h was)
+      (p.meant was left);
   caused = p.caused;
 }
 
@@ -85,7 +87,8 @@ still_caused before (Err Halts.NoMemory) f =
     uncounted (record { faults = refl; output = record { faults = refl; wants = refl }; errors = record { faults = refl; wants = refl } })
 
 -- what is so over each outside is performed, where nothing is read or put
-pub still_performs : {A : Type 0} (leads : Outside → State Frames Frames) (Comes : Outside → Outside → Result A Halt → Type 0) (before : Handed) (result : Result A Halt)
+pub still_performs : {A : Type 0} (leads : Outside → State Frames Frames) (Comes : Outside → Outside → Result A Halt → Type 0) (before : Handed)
+    (result : Result A Halt)
     → IsFaultless result → ((was : Outside) → Comes was was result) → Performs leads Comes before before result
 still_performs leads Comes before result f h = record {
   answers = λ was told. still_answers (Comes was) (leads was) was before result told f (h was);
@@ -108,7 +111,8 @@ comes_faultless tables outside state m (Err Halts.NoMemory) h = tt
 pub comes_performs : {K : Type 0} (tables : Tables) (leads : Outside → State Frames Frames) (m : Machine K) (before : Handed) (result : Result Stage Halt)
     → ((outside : Outside) → ComesTo tables outside (leads outside) m result) → PerformsOn tables leads m before before result
 comes_performs tables leads m before result h =
-    still_performs leads (λ was now answer. ComesTo tables now (leads was) m answer) before result (comes_faultless tables (outside_of []) (leads (outside_of [])) m result (h (outside_of []))) h
+    still_performs leads (λ was now answer. ComesTo tables now (leads was) m answer) before result
+    (comes_faultless tables (outside_of []) (leads (outside_of [])) m result (h (outside_of []))) h
 
 -- the same on a stack in a world
 
@@ -142,11 +146,13 @@ still_event names event w v n before result h st same names_same =
     (with_faultless (event st) st v n result (h st same)) (λ was. stands_over (event (over_outside was st)) st v n was result (h (over_outside was st) same))
 
 -- an event that is another one, over whatever outside
-pub event_as : (names : Names) (event other : Store Frames → State Frames Frames) (w v : World) (n : FlatStack) (before after : Handed) (result : Result Stage Halt)
+pub event_as : (names : Names) (event other : Store Frames → State Frames Frames) (w v : World) (n : FlatStack) (before after : Handed)
+    (result : Result Stage Halt)
     → ((st : Store Frames) → st.world ≡ world_of w → st.names ≡ names → event st ≡ other st)
     → PerformsEvent names other w before v n after result → PerformsEvent names event w before v n after result
 event_as names event other w v n before after result e p st same names_same =
-    performs_as (λ was. event (over_outside was st)) (λ was. other (over_outside was st)) (λ was now answer. StandsOver (other (over_outside was st)) st v n now answer)
+    performs_as (λ was. event (over_outside was st)) (λ was. other (over_outside was st))
+    (λ was now answer. StandsOver (other (over_outside was st)) st v n now answer)
     (λ was now answer. StandsOver (event (over_outside was st)) st v n now answer) before after result (λ was. e (over_outside was st) same names_same)
     (λ was now h. subst (λ (s : State Frames Frames). StandsOver s st v n now result) (sym (e (over_outside was st) same names_same)) h) (p st same names_same)
 
@@ -188,7 +194,8 @@ row_going row w v m n before after (Err halt) st same p = tt
 
 -- On a machine
 
-pub stands_on : {K : Type 0} (m : Machine K) (t tables : Tables) (was now : Outside) (w : World) (turns : ℕ) (table : Table) (n : FlatStack) (state : State Frames Frames) (result : Result Stage Halt)
+pub stands_on : {K : Type 0} (m : Machine K) (t tables : Tables) (was now : Outside) (w : World) (turns : ℕ) (table : Table) (n : FlatStack)
+    (state : State Frames Frames) (result : Result Stage Halt)
     → KeepsItems (reach_of w []) (reach_of m.world []) → AreLiveStacks t (reach_of w []) table → m.turns ≡ suc turns
     → m.stacks.table ≡ record table { running = Some n } → IfOk result IsGoing
     → StandsOver state (store_in (all_names tables) was (world_of w) (suc turns) m.begun.items (extent_of w.heap) table) m.world n now result
@@ -223,7 +230,8 @@ stands_on {K} m t tables was now w turns table n state result k l e f g h = by_r
     by_result (Err Halts.NoMemory) g h = tt
 
 -- an event behind a turn, on the machine that is left
-pub turn_performs : {K : Type 0} (m : Machine K) (t tables : Tables) (leads : Outside → State Frames Frames) (w : World) (turns : ℕ) (table : Table) (n : FlatStack)
+pub turn_performs : {K : Type 0} (m : Machine K) (t tables : Tables) (leads : Outside → State Frames Frames) (w : World) (turns : ℕ) (table : Table)
+    (n : FlatStack)
     (event : Store Frames → State Frames Frames) (before after : Handed) (result : Result Stage Halt) → nat_lt turns (heap_of w.heap).bounds.turns ≡ true
     → KeepsItems (reach_of w []) (reach_of m.world []) → AreLiveStacks t (reach_of w []) table → m.turns ≡ suc turns
     → m.stacks.table ≡ record table { running = Some n } → IfOk result IsGoing
@@ -233,7 +241,9 @@ turn_performs m t tables leads w turns table n event before after result b k l e
     let st : Outside → Store Frames = λ was. store_in (all_names tables) was (world_of w) (suc turns) m.begun.items (extent_of w.heap) table in
     let goes : (was : Outside) → leads was ≡ event (st was)
     = λ was. is was ∙ ap (λ (x : Bool). turn_if x (store_in (all_names tables) was (world_of w) turns m.begun.items (extent_of w.heap) table) event) b in
-    performs_as leads (λ was. event (st was)) (λ was now answer. StandsOver (event (st was)) (st (outside_of [])) m.world n now answer) (λ was now answer. ComesTo tables now (leads was) m answer)
+    performs_as leads (λ was. event (st was)) (λ was now answer. StandsOver (event (st was)) (st (outside_of [])) m.world n now answer)
+    (λ was now answer. ComesTo tables now (leads was) m answer)
     before after result goes
-    (λ was now h. subst (λ (s : State Frames Frames). ComesTo tables now s m result) (sym (goes was)) (stands_on m t tables (outside_of []) now w turns table n (event (st was)) result k l e f g h))
+    (λ was now h. subst (λ (s : State Frames Frames). ComesTo tables now s m result) (sym (goes was))
+    (stands_on m t tables (outside_of []) now w turns table n (event (st was)) result k l e f g h))
     (p (st (outside_of [])) refl refl)

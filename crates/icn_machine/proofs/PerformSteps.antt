@@ -57,7 +57,8 @@ use Rattle.icn_machine.specs.Performing.{LeavesNamed, PerformsRow, StandsOver, o
 
 -- Locals that a row has set
 
-live_one : (t : Tables) (reach : Reach) (v : Val) (h : ℕ) (m : FlatStack) (o : Option Cell) → cell_at h m.cells ≡ o → IsLive reach.extent v → IsLiveStack t reach m → IsLiveStack t reach (record m { cells = set_local h v m.cells o })
+live_one : (t : Tables) (reach : Reach) (v : Val) (h : ℕ) (m : FlatStack) (o : Option Cell) → cell_at h m.cells ≡ o → IsLive reach.extent v
+    → IsLiveStack t reach m → IsLiveStack t reach (record m { cells = set_local h v m.cells o })
 live_one t reach v h m (Some (Local old)) e i l =
     live_replace t reach m h (Local old) (Local v) e (record { live = λ n s x. (i, x.1); locals = refl; frame = λ x. x; mark = λ b x. x }) l
 live_one t reach v h m (Some (Base proc locals)) e i l = l
@@ -68,24 +69,29 @@ live_one t reach v h m (Some (Suspension why registers place)) e i l = l
 live_one t reach v h m (Some (Operand item)) e i l = l
 live_one t reach v h m None e i l = l
 
-live_from : (t : Tables) (reach : Reach) (vs : List Val) (h : ℕ) (m : FlatStack) → All (IsLive reach.extent) vs → IsLiveStack t reach m → IsLiveStack t reach (record m { cells = set_from h vs m.cells })
+live_from : (t : Tables) (reach : Reach) (vs : List Val) (h : ℕ) (m : FlatStack) → All (IsLive reach.extent) vs → IsLiveStack t reach m
+    → IsLiveStack t reach (record m { cells = set_from h vs m.cells })
 live_from t reach [] h m a l = l
 live_from t reach (v ∷ vs) h m a l =
     live_from t reach vs (suc h) (record m { cells = set_local (suc h) v m.cells (cell_at (suc h) m.cells) }) (All-tail (IsLive reach.extent) v vs a)
     (live_one t reach v (suc h) m (cell_at (suc h) m.cells) refl (All-head (IsLive reach.extent) v vs a) l)
 
 -- the stack with these locals is of the world after the row
-pub live_after : (t : Tables) (w v : World) (m n : FlatStack) → KeepsItems (reach_of w []) (reach_of v []) → IsLiveStack t (reach_of w []) m → All (IsLive (extent_of v.heap)) (held.locals n)
+pub live_after : (t : Tables) (w v : World) (m n : FlatStack) → KeepsItems (reach_of w []) (reach_of v []) → IsLiveStack t (reach_of w []) m
+    → All (IsLive (extent_of v.heap)) (held.locals n)
     → held.set_locals (held.locals n) m ≡ n → IsLiveStack t (reach_of v []) n
 live_after t w v m n k l a s =
-    subst (λ (x : FlatStack). IsLiveStack t (reach_of v []) x) s (live_from t (reach_of v []) (held.locals n) m.registers.base m a (stack_stays t (reach_of w []) (reach_of v []) m k l))
+    subst (λ (x : FlatStack). IsLiveStack t (reach_of v []) x) s
+    (live_from t (reach_of v []) (held.locals n) m.registers.base m a (stack_stays t (reach_of w []) (reach_of v []) m k l))
 
 -- what items may name that are of the activation that runs
-pub reach_is : (w : World) (m : FlatStack) (count : ℕ) → count ≡ held.local_count m → count ≡ length (held.locals m) → with_locals (held.local_count m) (reach_of w []) ≡ reach_of w (held.locals m)
+pub reach_is : (w : World) (m : FlatStack) (count : ℕ) → count ≡ held.local_count m → count ≡ length (held.locals m)
+    → with_locals (held.local_count m) (reach_of w []) ≡ reach_of w (held.locals m)
 reach_is w m count e f = ap (λ (n : ℕ). with_locals n (reach_of w [])) (sym e ∙ f)
 
 -- what the stack with these locals stands for
-pub set_is : (t : Tables) (w v : World) (m n : FlatStack) → KeepsItems (reach_of w []) (reach_of v []) → IsLiveStack t (reach_of w []) m → held.set_locals (held.locals n) m ≡ n
+pub set_is : (t : Tables) (w v : World) (m n : FlatStack) → KeepsItems (reach_of w []) (reach_of v []) → IsLiveStack t (reach_of w []) m
+    → held.set_locals (held.locals n) m ≡ n
     → flat.set_locals (map (value_in (extent_of v.heap)) (held.locals n)) (stack_in (extent_of w.heap) m) ≡ stack_in (extent_of v.heap) n
 set_is t w v m n k l s =
     ap (flat.set_locals (map (value_in (extent_of v.heap)) (held.locals n))) (sym (stack_same t (reach_of w []) (reach_of v []) m k l))
@@ -93,7 +99,8 @@ set_is t w v m n k l s =
     ∙ ap (stack_in (extent_of v.heap)) s
 
 -- the locals of a stack whose cells have names
-pub locals_named : (names : Names) (all : Extent) (m : FlatStack) → StackNamed names (stack_in all m) → All (ValueNamed names) (map (value_in all) (held.locals m))
+pub locals_named : (names : Names) (all : Extent) (m : FlatStack) → StackNamed names (stack_in all m)
+    → All (ValueNamed names) (map (value_in all) (held.locals m))
 locals_named names all m h =
     subst (λ (values : List Value). All (ValueNamed names) values) (locals_read (reading_of all) m)
     (named.all_of (ValueNamed names) (flat.locals (stack_in all m)) (named.locals names (stack_in all m) (named.stack_in names (stack_in all m) h)))
@@ -119,7 +126,8 @@ nil_right [] = refl
 nil_right (x ∷ xs) = ap (λ (s : List ℕ). x ∷ s) (nil_right xs)
 
 -- the report of an error may stand behind what the row puts
-errors_in : (oc : Outcome) (M : Frames) (st : Store Frames) (was : Outside) → (more : List ℕ) × ((outside_in was (outcome flat oc M st)).errors ≡ (outside_after oc).errors ++ more)
+errors_in : (oc : Outcome) (M : Frames) (st : Store Frames) (was : Outside)
+    → (more : List ℕ) × ((outside_in was (outcome flat oc M st)).errors ≡ (outside_after oc).errors ++ more)
 errors_in (Fails seen) M st was = ([], nil_right seen.outside.errors)
 errors_in (Gives item seen) M st was = ([], nil_right seen.outside.errors)
 errors_in (Suspends item rest seen) M st was = ([], nil_right seen.outside.errors)
@@ -153,7 +161,8 @@ puts_longer before after was now later more e p =
 
 -- Answers
 
-pub here_is : (w : World) (m : FlatStack) (st : Store Frames) (was : Outside) → st.world ≡ world_of w → here flat (stack_in (extent_of w.heap) m) (over_outside was st) ≡ setting_of was w (held.locals m)
+pub here_is : (w : World) (m : FlatStack) (st : Store Frames) (was : Outside) → st.world ≡ world_of w
+    → here flat (stack_in (extent_of w.heap) m) (over_outside was st) ≡ setting_of was w (held.locals m)
 here_is w m st was same =
     let F : StoreWorld → List Value → Setting = λ x y. record { world = x; locals = y; outside = was } in
     ap (λ (x : StoreWorld). F x (flat.locals (stack_in (extent_of w.heap) m))) same ∙ ap (F (world_of w)) (locals_read (reading_of (extent_of w.heap)) m)
@@ -161,30 +170,37 @@ here_is w m st was same =
 abbrev outcome_on : World → FlatStack → Store Frames → Outside → Outcome → State Frames Frames
 outcome_on w m st was oc = outcome flat oc (stack_in (extent_of w.heap) m) (over_outside was st)
 
-state_is : (row : Row) (w : World) (m : FlatStack) (st : Store Frames) (was : Outside) → st.world ≡ world_of w → row_on row w m st was ≡ outcome_on w m st was (row (setting_of was w (held.locals m)))
+state_is : (row : Row) (w : World) (m : FlatStack) (st : Store Frames) (was : Outside) → st.world ≡ world_of w
+    → row_on row w m st was ≡ outcome_on w m st was (row (setting_of was w (held.locals m)))
 state_is row w m st was same = ap (λ (s : Setting). outcome_on w m st was (row s)) (here_is w m st was same)
 
 -- where a row has set the locals of a stack: the worlds, the stack before and the one that is left
 pub record Sets (w v : World) (m k : FlatStack) : Type 0 where
   pub same : flat.set_locals (map (value_in (extent_of v.heap)) (held.locals k)) (stack_in (extent_of w.heap) m) ≡ stack_in (extent_of v.heap) k
 
-stands : (w v : World) (m n : FlatStack) (row : Row) (st : Store Frames) (was now : Outside) (stage : Stage) (x : State Frames Frames) → row_on row w m st was ≡ x
-    → StandsAs x (stack_in (extent_of v.heap) n) (record st { world = world_of v; outside = now }) stage → StandsOver (row_on row w m st was) st v n now (Ok stage)
+stands : (w v : World) (m n : FlatStack) (row : Row) (st : Store Frames) (was now : Outside) (stage : Stage) (x : State Frames Frames)
+    → row_on row w m st was ≡ x
+    → StandsAs x (stack_in (extent_of v.heap) n) (record st { world = world_of v; outside = now }) stage
+    → StandsOver (row_on row w m st was) st v n now (Ok stage)
 stands w v m n row st was now Stages.Runs x e g = e ∙ g
 stands w v m n row st was now Stages.Fails x e g = e ∙ g
 stands w v m n row st was now Stages.HopDue x e g = absurd g
 stands w v m n row st was now Stages.Over x e g = absurd g
 stands w v m n row st was now Stages.AtBound x e g = absurd g
 
-tells_ok : (w v : World) (m k n : FlatStack) (row : Row) (st : Store Frames) (was : Outside) (b a : Handed) (oc : HeldOutcome) (stage : Stage) → st.world ≡ world_of w → Sets w v m k → GivesOutcome oc k n stage
-    → Comes row was (given w (held.locals m) b) (given v (held.locals k) a) (Ok oc) → Tells (λ now answer. StandsOver (row_on row w m st was) st v n now answer) was b a (Ok stage)
+tells_ok : (w v : World) (m k n : FlatStack) (row : Row) (st : Store Frames) (was : Outside) (b a : Handed) (oc : HeldOutcome) (stage : Stage)
+    → st.world ≡ world_of w → Sets w v m k → GivesOutcome oc k n stage
+    → Comes row was (given w (held.locals m) b) (given v (held.locals k) a) (Ok oc)
+    → Tells (λ now answer. StandsOver (row_on row w m st was) st v n now answer) was b a (Ok stage)
 tells_ok w v m k n row st was b a oc stage same s g c =
     let all : Extent = extent_of v.heap in
     let seen : Setting = setting_of c.now v (held.locals k) in
     record {
       now = c.now;
       follows = c.follows;
-      is = stands w v m n row st was c.now stage (outcome_on w m st was (outcome_in all oc seen)) (state_is row w m st was same ∙ ap (outcome_on w m st was) c.comes)
+      is =
+          stands w v m n row st was c.now stage (outcome_on w m st was (outcome_in all oc seen))
+          (state_is row w m st was same ∙ ap (outcome_on w m st was) c.comes)
           (g all (stack_in (extent_of w.heap) m) seen (over_outside was st) s.same);
     }
 
@@ -221,7 +237,8 @@ breaks w v m row st was b a same (idle e) = answering.idle e
 breaks w v m row st was b a same (reading r) = answering.reading (reads_part w v m row st was b a same r)
 breaks w v m row st was b a same (putting p) = answering.putting (puts_part w v m row st was b a same p)
 
-outside_given : (all : Extent) (oc : HeldOutcome) (seen : Setting) (M : Frames) (st : Store Frames) (was : Outside) → outside_in was (outcome flat (outcome_in all oc seen) M st) ≡ seen.outside
+outside_given : (all : Extent) (oc : HeldOutcome) (seen : Setting) (M : Frames) (st : Store Frames) (was : Outside)
+    → outside_in was (outcome flat (outcome_in all oc seen) M st) ≡ seen.outside
 outside_given all HeldFails seen M st was = refl
 outside_given all (HeldGives item) seen M st was = refl
 outside_given all (HeldSuspends item rest) seen M st was = refl
@@ -231,15 +248,19 @@ breaks_behind : (w v : World) (m k : FlatStack) (row : Row) (st : Store Frames) 
     → Comes row was (given w (held.locals m) b) (given v (held.locals k) a) (Ok oc) → BreaksOff (row_on row w m st was) was b a
 breaks_behind w v m k row st was b a oc same c =
     let seen : Setting = setting_of c.now v (held.locals k) in
-    let is : row_on row w m st was ≡ outcome_on w m st was (outcome_in (extent_of v.heap) oc seen) = state_is row w m st was same ∙ ap (outcome_on w m st was) c.comes in
+    let is : row_on row w m st was ≡ outcome_on w m st was (outcome_in (extent_of v.heap) oc seen)
+    = state_is row w m st was same ∙ ap (outcome_on w m st was) c.comes in
     let out : outside_in was (row_on row w m st was) ≡ c.now
     = ap (outside_in was) is ∙ outside_given (extent_of v.heap) oc seen (stack_in (extent_of w.heap) m) (over_outside was st) was in
     behind (subst (λ (x : Outside). Follows b a was x) (sym out) c.follows)
 
 halts : (w v : World) (m k n : FlatStack) (row : Row) (st : Store Frames) (was : Outside) (b a : Handed) (halt : Halt) → st.world ≡ world_of w
-    → Answers row was (given w (held.locals m) b) (given v (held.locals k) a) (Err halt) → AnswersStep (λ now answer. StandsOver (row_on row w m st was) st v n now answer) (row_on row w m st was) was b a (Err halt)
-halts w v m k n row st was b a (Halts.Error number offending) same c = record { now = c.now; follows = c.follows; is = state_is row w m st was same ∙ ap (outcome_on w m st was) c.comes }
-halts w v m k n row st was b a (Halts.Ends status) same c = record { now = c.now; follows = c.follows; is = state_is row w m st was same ∙ ap (outcome_on w m st was) c.comes }
+    → Answers row was (given w (held.locals m) b) (given v (held.locals k) a) (Err halt)
+    → AnswersStep (λ now answer. StandsOver (row_on row w m st was) st v n now answer) (row_on row w m st was) was b a (Err halt)
+halts w v m k n row st was b a (Halts.Error number offending) same c =
+    record { now = c.now; follows = c.follows; is = state_is row w m st was same ∙ ap (outcome_on w m st was) c.comes }
+halts w v m k n row st was b a (Halts.Ends status) same c =
+    record { now = c.now; follows = c.follows; is = state_is row w m st was same ∙ ap (outcome_on w m st was) c.comes }
 halts w v m k n row st was b a Halts.ReadFault same c = reads_part w v m row st was b a same c
 halts w v m k n row st was b a Halts.WriteFault same c = puts_part w v m row st was b a same c
 halts w v m k n row st was b a Halts.NoMemory same c = breaks w v m row st was b a same c
@@ -263,7 +284,8 @@ performs_ok w v m k n row b a oc stage s g r st same = record {
   caused = r.caused;
 }
 
-pub performs_lack : (w v : World) (m k n : FlatStack) (row : Row) (b a : Handed) (oc : HeldOutcome) → Applies row (given w (held.locals m) b) (given v (held.locals k) a) (Ok oc) → PerformsRow row w m b v n a (Err Halts.NoMemory)
+pub performs_lack : (w v : World) (m k n : FlatStack) (row : Row) (b a : Handed) (oc : HeldOutcome)
+    → Applies row (given w (held.locals m) b) (given v (held.locals k) a) (Ok oc) → PerformsRow row w m b v n a (Err Halts.NoMemory)
 performs_lack w v m k n row b a oc r st same = record {
   answers = λ was told. breaks_behind w v m k row st was b a oc same (r.answers was told);
   had = r.meant.had;
@@ -272,7 +294,8 @@ performs_lack w v m k n row b a oc r st same = record {
   caused = uncounted r.caused;
 }
 
-performs_halt : (w v : World) (m k n : FlatStack) (row : Row) (b a : Handed) (halt : Halt) → Applies row (given w (held.locals m) b) (given v (held.locals k) a) (Err halt) → PerformsRow row w m b v n a (Err halt)
+performs_halt : (w v : World) (m k n : FlatStack) (row : Row) (b a : Handed) (halt : Halt)
+    → Applies row (given w (held.locals m) b) (given v (held.locals k) a) (Err halt) → PerformsRow row w m b v n a (Err halt)
 performs_halt w v m k n row b a halt r st same = record {
   answers = λ was told. halts w v m k n row st was b a halt same (r.answers was told);
   had = r.meant.had;
@@ -293,11 +316,13 @@ heap_given all HeldFails seen = refl
 heap_given all (HeldGives item) seen = refl
 heap_given all (HeldSuspends item rest) seen = refl
 
-pub apply_counts : (names : Names) (what : HeldApplied) (items : List Item) (at : Setting) → KeepCounts at.world.heap (heap_after (step_rows.apply names (applied_of what) items at))
+pub apply_counts : (names : Names) (what : HeldApplied) (items : List Item) (at : Setting)
+    → KeepCounts at.world.heap (heap_after (step_rows.apply names (applied_of what) items at))
 apply_counts names (Op op) items at = rows_keep_counts.operations op items at
 apply_counts names (Func func) items at = rows_keep_counts.values items (function_of names func) at (λ values. rows_keep_counts.functions names func values at)
 
-pub counts_after : (w v : World) (m k : FlatStack) (row : Row) (b a : Handed) (oc : HeldOutcome) → ((at : Setting) → KeepCounts at.world.heap (heap_after (row at)))
+pub counts_after : (w v : World) (m k : FlatStack) (row : Row) (b a : Handed) (oc : HeldOutcome)
+    → ((at : Setting) → KeepCounts at.world.heap (heap_after (row at)))
     → Applies row (given w (held.locals m) b) (given v (held.locals k) a) (Ok oc) → KeepsCounts w v
 counts_after w v m k row b a oc h r =
     let was : Outside = outside_of r.meant.had in
@@ -314,18 +339,21 @@ seen_named names all (HeldGives item) seen h = h.1
 seen_named names all (HeldSuspends item rest) seen h = h.1.1
 
 pub set_named : (names : Names) (w v : World) (m k : FlatStack) (oc : HeldOutcome) → Sets w v m k → StackNamed names (stack_in (extent_of w.heap) m)
-    → OutcomeNamed names (outcome_in (extent_of v.heap) oc (setting_of (outside_of []) v (held.locals k))) → StackNamed names (stack_in (extent_of v.heap) k) × WorldNamed names (world_of v)
+    → OutcomeNamed names (outcome_in (extent_of v.heap) oc (setting_of (outside_of []) v (held.locals k)))
+    → StackNamed names (stack_in (extent_of v.heap) k) × WorldNamed names (world_of v)
 set_named names w v m k oc s h o =
     let all : Extent = extent_of v.heap in
     let seen = seen_named names all oc (setting_of (outside_of []) v (held.locals k)) o in
     let values : List Value = map (value_in all) (held.locals k) in
     let M : Frames = stack_in (extent_of w.heap) m in (
       subst (λ (x : Frames). StackNamed names x) s.same
-          (named.stack_out names (flat.set_locals values M) (named.set_locals names values M (named.each_of (ValueNamed names) values seen.locals) (named.stack_in names M h))),
+          (named.stack_out names (flat.set_locals values M)
+          (named.set_locals names values M (named.each_of (ValueNamed names) values seen.locals) (named.stack_in names M h))),
       seen.world,
     )
 
-pub names_left : (result : Result Stage Halt) (names : Names) (v : World) (n : FlatStack) (halt : Halt) → IsErrAnd result (λ h. h ≡ halt) → LeavesNamed names v n result
+pub names_left : (result : Result Stage Halt) (names : Names) (v : World) (n : FlatStack) (halt : Halt) → IsErrAnd result (λ h. h ≡ halt)
+    → LeavesNamed names v n result
 names_left (Ok stage) names v n halt e = absurd e
 names_left (Err other) names v n halt e = tt
 
@@ -334,14 +362,18 @@ names_left (Err other) names v n halt e = tt
 abbrev AppliesOn : Row → World → FlatStack → Handed → World → FlatStack → Handed → Result HeldOutcome Halt → Type 0
 AppliesOn row w m b v k a answer = Applies row (given w (held.locals m) b) (given v (held.locals k) a) answer
 
-pub kept_after : (w v : World) (m k : FlatStack) (row : Row) (b a : Handed) (answer : Result HeldOutcome Halt) → AppliesOn row w m b v k a answer → KeepsItems (reach_of w []) (reach_of v [])
-kept_after w v m k row b a answer r = record { extent = r.kept.extent; fields = r.kept.fields; globals = r.kept.globals; statics = r.kept.statics; locals = refl }
+pub kept_after : (w v : World) (m k : FlatStack) (row : Row) (b a : Handed) (answer : Result HeldOutcome Halt) → AppliesOn row w m b v k a answer
+    → KeepsItems (reach_of w []) (reach_of v [])
+kept_after w v m k row b a answer r =
+    record { extent = r.kept.extent; fields = r.kept.fields; globals = r.kept.globals; statics = r.kept.statics; locals = refl }
 
-sets_in : (t : Tables) (w v : World) (m k : FlatStack) (row : Row) (b a : Handed) (answer : Result HeldOutcome Halt) → AppliesOn row w m b v k a answer → held.set_locals (held.locals k) m ≡ k
+sets_in : (t : Tables) (w v : World) (m k : FlatStack) (row : Row) (b a : Handed) (answer : Result HeldOutcome Halt) → AppliesOn row w m b v k a answer
+    → held.set_locals (held.locals k) m ≡ k
     → IsLiveStack t (reach_of w []) m → Sets w v m k
 sets_in t w v m k row b a answer r s l = record { same = set_is t w v m k (kept_after w v m k row b a answer r) l s }
 
-pub given_row : (t : Tables) (w v : World) (m k n : FlatStack) (row : Row) (b a : Handed) (oc : HeldOutcome) (stage : Stage) → AppliesOn row w m b v k a (Ok oc) → held.set_locals (held.locals k) m ≡ k
+pub given_row : (t : Tables) (w v : World) (m k n : FlatStack) (row : Row) (b a : Handed) (oc : HeldOutcome) (stage : Stage)
+    → AppliesOn row w m b v k a (Ok oc) → held.set_locals (held.locals k) m ≡ k
     → IsLiveStack t (reach_of w []) m → GivesOutcome oc k n stage → PerformsRow row w m b v n a (Ok stage)
 given_row t w v m k n row b a oc stage r s l g = performs_ok w v m k n row b a oc stage (sets_in t w v m k row b a (Ok oc) r s l) g r
 
@@ -352,16 +384,19 @@ without_locals v locals Halts.ReadFault l = l
 without_locals v locals Halts.WriteFault l = l
 without_locals v locals Halts.NoMemory l = l
 
-pub halt_live : (result : Result Stage Halt) (w v : World) (m k : FlatStack) (row : Row) (b a : Handed) (halt : Halt) → IsErrAnd result (λ h. h ≡ halt) → AppliesOn row w m b v k a (Err halt)
+pub halt_live : (result : Result Stage Halt) (w v : World) (m k : FlatStack) (row : Row) (b a : Handed) (halt : Halt) → IsErrAnd result (λ h. h ≡ halt)
+    → AppliesOn row w m b v k a (Err halt)
     → IfErr result (IsLiveHalt (reach_of v []))
 halt_live (Ok stage) w v m k row b a halt e r = absurd e
 halt_live (Err other) w v m k row b a halt e r = subst (λ (h : Halt). IsLiveHalt (reach_of v []) h) (sym e) (without_locals v (held.locals k) halt r.live)
 
-pub stack_live : (t : Tables) (w v : World) (m k : FlatStack) (row : Row) (b a : Handed) (answer : Result HeldOutcome Halt) → AppliesOn row w m b v k a answer → held.set_locals (held.locals k) m ≡ k
+pub stack_live : (t : Tables) (w v : World) (m k : FlatStack) (row : Row) (b a : Handed) (answer : Result HeldOutcome Halt)
+    → AppliesOn row w m b v k a answer → held.set_locals (held.locals k) m ≡ k
     → IsLiveStack t (reach_of w []) m → IsLiveStack t (reach_of v []) k
 stack_live t w v m k row b a answer r s l = live_after t w v m k (kept_after w v m k row b a answer r) l r.locals s
 
-pub outcome_live : (w v : World) (m k : FlatStack) (row : Row) (b a : Handed) (oc : HeldOutcome) (count : ℕ) → AppliesOn row w m b v k a (Ok oc) → count ≡ held.local_count k → count ≡ length (held.locals k)
+pub outcome_live : (w v : World) (m k : FlatStack) (row : Row) (b a : Handed) (oc : HeldOutcome) (count : ℕ) → AppliesOn row w m b v k a (Ok oc)
+    → count ≡ held.local_count k → count ≡ length (held.locals k)
     → IsLiveOutcome (with_locals (held.local_count k) (reach_of v [])) oc
 outcome_live w v m k row b a oc count r f g = subst (λ (x : Reach). IsLiveOutcome x oc) (sym (reach_is v k count f g)) r.live
 
@@ -371,7 +406,8 @@ pub record NamedWith (names : Names) (v : World) (k : FlatStack) (oc : HeldOutco
   pub world : WorldNamed names (world_of v)
   pub outcome : OutcomeNamed names (outcome_in (extent_of v.heap) oc (setting_of (outside_of []) v (held.locals k)))
 
-pub named_with : (t : Tables) (names : Names) (w v : World) (m k : FlatStack) (row : Row) (b a : Handed) (oc : HeldOutcome) → AppliesOn row w m b v k a (Ok oc) → held.set_locals (held.locals k) m ≡ k
+pub named_with : (t : Tables) (names : Names) (w v : World) (m k : FlatStack) (row : Row) (b a : Handed) (oc : HeldOutcome)
+    → AppliesOn row w m b v k a (Ok oc) → held.set_locals (held.locals k) m ≡ k
     → IsLiveStack t (reach_of w []) m → StackNamed names (stack_in (extent_of w.heap) m) → AnswerNamed names v (held.locals k) (Ok oc) → NamedWith names v k oc
 named_with t names w v m k row b a oc r s l h n =
     let both = set_named names w v m k oc (sets_in t w v m k row b a (Ok oc) r s l) h n in

@@ -116,7 +116,8 @@ absorbed : (ys : List Val) (h k : ℕ) (v : Val) (cells : List Cell) → h < k �
 absorbed [] h k v cells p q = absurd (omega arith)
 absorbed (y ∷ ys) h k v cells p q =
     ap (set_from (suc h) ys) (set_is (suc h) y (put_at k v cells) ∙ put_both (suc h) k v y cells)
-    ∙ (elim (cases_lt (suc h) k) as (λ x. set_from (suc h) ys (put_down (length cells - suc h) y (put_down (length cells - k) v cells)) ≡ set_from h (y ∷ ys) cells) [
+    ∙ (elim (cases_lt (suc h) k) as
+    (λ x. set_from (suc h) ys (put_down (length cells - suc h) y (put_down (length cells - k) v cells)) ≡ set_from h (y ∷ ys) cells) [
       | inl later ↦
           let to : k ≤ suc h + length ys = omega arith in
           past (passes (length cells - suc h) (length cells - k) v y cells) (absorbed ys (suc h) k v (put_at (suc h) y cells) later to)
@@ -132,7 +133,8 @@ absorbed (y ∷ ys) h k v cells p q =
     past (one e) rest = ap (set_from (suc h) ys) (e ∙ sym (set_is (suc h) y cells))
     past (other e) rest = ap (set_from (suc h) ys) (e ∙ sym (put_both k (suc h) y v cells)) ∙ rest ∙ ap (set_from (suc h) ys) (sym (set_is (suc h) y cells))
 
-from_twice : (xs ys : List Val) (h g : ℕ) (cells : List Cell) → h ≤ g → g + length xs ≤ h + length ys → set_from h ys (set_from g xs cells) ≡ set_from h ys cells
+from_twice : (xs ys : List Val) (h g : ℕ) (cells : List Cell) → h ≤ g → g + length xs ≤ h + length ys
+    → set_from h ys (set_from g xs cells) ≡ set_from h ys cells
 from_twice [] ys h g cells p q = refl
 from_twice (x ∷ xs) ys h g cells p q =
     let low : h ≤ suc g = omega arith in

@@ -81,7 +81,9 @@ pub one_static : (tables : Tables) (vals more : List Val) (first : Procedure) (o
     → more ++ replicate (sum_by statics_of (map proc_of others)) Vals.Null ≡ replicate (sum_by statics_of tables.procs) Vals.Null
 one_static tables vals more first others rest e p so =
     let rest_sum : ℕ = sum_by statics_of (map proc_of others) in
-    let joined : (vals ++ replicate first.statics Vals.Null) ++ replicate rest_sum Vals.Null ≡ vals ++ (replicate first.statics Vals.Null ++ replicate rest_sum Vals.Null) = simp append_assoc in
+    let joined : (vals ++ replicate first.statics Vals.Null) ++ replicate rest_sum Vals.Null
+    ≡ vals ++ (replicate first.statics Vals.Null ++ replicate rest_sum Vals.Null)
+    = simp append_assoc in
     ap (λ (xs : List Val). xs ++ replicate rest_sum Vals.Null) p
     ∙ joined
     ∙ ap (λ (xs : List Val). vals ++ xs) (replicate-append-replicate first.statics rest_sum Vals.Null)
@@ -101,7 +103,8 @@ charge_ok : (h k : Heap) (n : ℕ) → charged_strings h n ≡ Ok k → (nat_le 
 unfolding charged_strings
 charge_ok h k n e = by_test (nat_le (h.strings + n) h.bounds.strings) refl e
   where
-    by_test : (t : Bool) → nat_le (h.strings + n) h.bounds.strings ≡ t → (if t then Ok (record h { strings = h.strings + n }) else Err (Fulls.Strings h.strings h.bounds.strings)) ≡ Ok k
+    by_test : (t : Bool) → nat_le (h.strings + n) h.bounds.strings ≡ t
+        → (if t then Ok (record h { strings = h.strings + n }) else Err (Fulls.Strings h.strings h.bounds.strings)) ≡ Ok k
         → (nat_le (h.strings + n) h.bounds.strings ≡ true) × (k ≡ record h { strings = h.strings + n })
     by_test true q f = let same : record h { strings = h.strings + n } ≡ k = cc in (q, sym same)
     by_test false q f = cc
@@ -111,7 +114,8 @@ charge_err : (h : Heap) (n : ℕ) (full : Full) → charged_strings h n ≡ Err 
 unfolding charged_strings
 charge_err h n full e = by_test (nat_le (h.strings + n) h.bounds.strings) refl e
   where
-    by_test : (t : Bool) → nat_le (h.strings + n) h.bounds.strings ≡ t → (if t then Ok (record h { strings = h.strings + n }) else Err (Fulls.Strings h.strings h.bounds.strings)) ≡ Err full
+    by_test : (t : Bool) → nat_le (h.strings + n) h.bounds.strings ≡ t
+        → (if t then Ok (record h { strings = h.strings + n }) else Err (Fulls.Strings h.strings h.bounds.strings)) ≡ Err full
         → (nat_le (h.strings + n) h.bounds.strings ≡ false) × (full ≡ Fulls.Strings h.strings h.bounds.strings)
     by_test false q f = (q, cc)
     by_test true q f = cc
@@ -162,7 +166,8 @@ refused_all first was word others rest words e c h = by_test (nat_le (first.stri
         ∙ sum_by-cons length word others in
         let total : first.strings + sum_by length words ≤ first.bounds.strings = leb-true _ _ q in
         let part : was.strings + length word ≤ first.bounds.strings = omega (arith, split, total, h.sum, h.none) in
-        let here : was.strings + length word ≤ was.bounds.strings = subst (λ b. was.strings + length word ≤ b.strings) (sym (ap (λ (x : Heap). x.bounds) h.same)) part in
+        let here : was.strings + length word ≤ was.bounds.strings
+        = subst (λ b. was.strings + length word ≤ b.strings) (sym (ap (λ (x : Heap). x.bounds) h.same)) part in
         let passes : nat_le (was.strings + length word) was.bounds.strings ≡ true = le-leb _ _ here in
         cc
 
@@ -173,7 +178,8 @@ refused_by A first was now word others rest words full e (inl lack) h =
     subst (λ (x : Full). ChargesWords {A = A} first words now (Err (stop_of x))) (sym lack) tt
 refused_by A first was now word others rest words full e (inr c) h =
     let stopped = charge_err was (length word) full c in
-    subst (λ (x : Full). ChargesWords {A = A} first words now (Err (stop_of x))) (sym stopped.1) (refused_all first was word others rest words e stopped.0 h, (refl, refl))
+    subst (λ (x : Full). ChargesWords {A = A} first words now (Err (stop_of x))) (sym stopped.1)
+    (refused_all first was word others rest words e stopped.0 h, (refl, refl))
 
 pub word_refused : {A : Type 0} (result : Result A Stop) (first was now : Heap) (word : List ℕ) (others rest words : List (List ℕ)) (full : Full)
     → IsErrAnd result (λ s. s ≡ stop_of full) → rest ≡ word ∷ others
@@ -191,7 +197,9 @@ pub one_word : (old new : Extent) (vals more : List Val) (span : _) (word : List
     → more ≡ vals ++ Vals.Text span ∷ [] → Keeps old new → All (IsLive old) vals → text_in new span ≡ word
     → map (value_in old) vals ++ text_values rest ≡ text_values words → map (value_in new) more ++ text_values others ≡ text_values words
 one_word old new vals more span word others rest words e p keeps live t so =
-    let joined : (map (value_in new) vals ++ value_in new (Vals.Text span) ∷ []) ++ text_values others ≡ map (value_in new) vals ++ value_in new (Vals.Text span) ∷ text_values others = simp append_assoc in
+    let joined : (map (value_in new) vals ++ value_in new (Vals.Text span) ∷ []) ++ text_values others
+    ≡ map (value_in new) vals ++ value_in new (Vals.Text span) ∷ text_values others
+    = simp append_assoc in
     ap (λ (xs : List Val). map (value_in new) xs ++ text_values others) p
     ∙ ap (λ (xs : List Value). xs ++ text_values others) (map-append (value_in new) vals (Vals.Text span ∷ []))
     ∙ joined
@@ -226,7 +234,8 @@ pred_is (suc n) = omega arith
 pub nulls_live_any : (all : Extent) (n : ℕ) → All (IsLive all) (replicate n Vals.Null)
 nulls_live_any all n = nulls_live all n
 
-pub words_fit_err : {A : Type 0} (result : Result A Stop) (bounds : Bounds) (words : List (List ℕ)) (stop : Stop) → IsErrAnd result (λ s. s ≡ stop) → WordsFit {A =
+pub words_fit_err : {A : Type 0} (result : Result A Stop) (bounds : Bounds) (words : List (List ℕ)) (stop : Stop) → IsErrAnd result (λ s. s ≡ stop)
+    → WordsFit {A =
     A} bounds words (Err stop) → WordsFit bounds words result
 words_fit_err {A} (Ok a) bounds words stop e h = absurd e
 words_fit_err {A} (Err s) bounds words stop e h = subst (λ (x : Stop). WordsFit {A = A} bounds words (Err x)) (sym e) h
@@ -241,10 +250,11 @@ pub words_fit_ok : (first : Heap) (bounds : Bounds) (words : List (List ℕ)) �
     → nat_le (first.strings + sum_by length words) first.bounds.strings ≡ true → nat_le (0 + sum_by length words) bounds.strings ≡ true
 words_fit_ok first bounds words e h = subst (λ (x : Heap). nat_le (x.strings + sum_by length words) x.bounds.strings ≡ true) e h
 
-pub world_is : (tables : Tables) (bounds : Bounds) (words : List (List ℕ)) (first now : HeldHeap) (globals statics : List Val) → heap_of first ≡ first_heap bounds → heap_of now ≡ record (heap_of first) {
-  strings =
-      (heap_of first).strings + sum_by length words;
-}
+pub world_is : (tables : Tables) (bounds : Bounds) (words : List (List ℕ)) (first now : HeldHeap) (globals statics : List Val)
+    → heap_of first ≡ first_heap bounds → heap_of now ≡ record (heap_of first) {
+      strings =
+          (heap_of first).strings + sum_by length words;
+    }
     → map (value_in (extent_of now)) globals ≡ first_globals tables → statics ≡ replicate (static_count tables) Vals.Null
     → new_world now globals statics ≡ world_charged tables bounds words
 world_is tables bounds words first now globals statics e h g s =
@@ -254,4 +264,5 @@ world_is tables bounds words first now globals statics e h g s =
     ∙ ap (λ (x : Heap). record x { strings = x.strings + sum_by length words }) e in
     ap (λ (x : Heap). F x (map (value_in all) globals) (map (value_in all) statics)) heap
     ∙ ap (λ (gs : List Value). F (record (first_heap bounds) { strings = 0 + sum_by length words }) gs (map (value_in all) statics)) g
-    ∙ ap (λ (ss : List Value). F (record (first_heap bounds) { strings = 0 + sum_by length words }) (first_globals tables) ss) (ap (map (value_in all)) s ∙ nulls_read all (static_count tables))
+    ∙ ap (λ (ss : List Value). F (record (first_heap bounds) { strings = 0 + sum_by length words }) (first_globals tables) ss)
+    (ap (map (value_in all)) s ∙ nulls_read all (static_count tables))

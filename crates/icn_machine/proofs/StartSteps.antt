@@ -99,7 +99,8 @@ global_there : (tables : Tables) (main : ℕ) (o : Option Global) → keeps_rule
     → option_and_then (λ (global : Global). procedure_at global.start) o ≡ Some main → slice_get tables.procs main ≡ None → ⊥
 global_there tables main None rules q g f = cc
 global_there tables main (Some global) rules q g f =
-    let fits = found_holds (is_called_main tables) (is_global (length tables.strings) (length tables.records) (length tables.procs)) tables.globals global (globals_fit tables rules) q in
+    let fits = found_holds (is_called_main tables) (is_global (length tables.strings) (length tables.records) (length tables.procs)) tables.globals
+    global (globals_fit tables rules) q in
     start_there tables main global.start (right _ _ fits) g f
 
 -- the procedure that `main` begins with is there
@@ -109,7 +110,8 @@ main_there tables main rules e f = global_there tables main (find (is_called_mai
 -- Lists, on whatever stack they are made
 
 -- what follows a check
-check_made : (t : Bool) (number : ℕ) (offending : Option Value) (next : Row) (at : Setting) (a b : Frames) (st su : Store Frames) (N : Value → Frames → Store Frames → State Frames Frames)
+check_made : (t : Bool) (number : ℕ) (offending : Option Value) (next : Row) (at : Setting) (a b : Frames) (st su : Store Frames)
+    (N : Value → Frames → Store Frames → State Frames Frames)
     → with_at at st ≡ with_at at su → made flat (next at) a st N ≡ made flat (next at) b su N
     → made flat (check t number offending next at) a st N ≡ made flat (check t number offending next at) b su N
 check_made true number offending next at a b st su N e h = h
@@ -118,7 +120,10 @@ check_made false number offending next at a b st su N e h = ap (errs number offe
 -- the setting in which a list is made
 abbrev listed_in : List Value → Setting → Setting
 listed_in values at =
-    record at { world = record at.world { heap = record at.world.heap { cells = at.world.heap.cells + (1 + length values); lists = at.world.heap.lists ++ new_list values ∷ [] } } }
+    record at {
+      world = record at.world
+          { heap = record at.world.heap { cells = at.world.heap.cells + (1 + length values); lists = at.world.heap.lists ++ new_list values ∷ [] } };
+    }
 
 -- a list is made on one stack as on another one, where what follows is the same there
 pub list_as : (values : List Value) (at : Setting) (a b : Frames) (st su : Store Frames) (N : Value → Frames → Store Frames → State Frames Frames)
@@ -155,7 +160,8 @@ check_passes true q next at = refl
 check_passes false q next at = cc
 
 pub words_paid : (words : List (List ℕ)) (at : Setting) → nat_le (at.world.heap.strings + sum_by length words) at.world.heap.bounds.strings ≡ true
-    → words_row words at ≡ list_row (text_values words) (record at { world = record at.world { heap = record at.world.heap { strings = at.world.heap.strings + sum_by length words } } })
+    → words_row words at ≡ list_row (text_values words) (record at
+    { world = record at.world { heap = record at.world.heap { strings = at.world.heap.strings + sum_by length words } } })
 words_paid words at e = check_passes (nat_le (at.world.heap.strings + sum_by length words) at.world.heap.bounds.strings) e _ at
 
 words_refused : (t : Bool) → t ≡ false → (next : Row) (at : Setting) (a : Frames) (st : Store Frames) (N : Value → Frames → Store Frames → State Frames Frames)
@@ -186,7 +192,8 @@ start_full tables launch main entry e f w =
     (begun_with main entry)
 
 -- the procedure is begun on one stack without locals as on another one
-begun_collected : (collects : Bool) (count : ℕ) (arguments : List Value) (all : Extent) (st : Store Frames) (K : List Value → Frames → Store Frames → State Frames Frames)
+begun_collected : (collects : Bool) (count : ℕ) (arguments : List Value) (all : Extent) (st : Store Frames)
+    (K : List Value → Frames → Store Frames → State Frames Frames)
     → ((ps : List Value) (s : Store Frames) → K ps empty s ≡ K ps (stack_in all bare) s)
     → collected flat collects count arguments empty st K ≡ collected flat collects count arguments (stack_in all bare) st K
 begun_collected false count arguments all st K h = h _ st
@@ -196,7 +203,8 @@ begun_collected true count arguments all st K h =
 begun_as : (t : Bool) (main : ℕ) (entry : Proc) (arguments : List Value) (all : Extent) (st : Store Frames)
     → begun_if flat t main entry arguments empty st ≡ begun_if flat t main entry arguments (stack_in all bare) st
 begun_as true main entry arguments all st =
-    begun_collected entry.collects entry.parameters arguments all st (λ ps a s. running (flat.begin main (ps ++ replicate entry.locals Null) 0 a) s) (λ ps s. refl)
+    begun_collected entry.collects entry.parameters arguments all st (λ ps a s. running (flat.begin main (ps ++ replicate entry.locals Null) 0 a) s)
+    (λ ps s. refl)
 begun_as false main entry arguments all st = refl
 
 -- as a list of values of a world in which the words are charged
@@ -204,7 +212,8 @@ pub start_in : (tables : Tables) (launch : Launch) (main : ℕ) (entry : Proc) (
     → slice_get tables.procs main ≡ Some entry
     → nat_le (0 + sum_by length launch.words) launch.bounds.strings ≡ true → world_of w ≡ world_charged tables launch.bounds launch.words
     → map (value_in (extent_of w.heap)) vals ≡ text_values launch.words
-    → start tables launch ≡ made_in (list_row (map (value_in (extent_of w.heap)) vals)) w bare (with_world (world_of w) (first tables launch)) (begun_with main entry)
+    → start tables launch
+    ≡ made_in (list_row (map (value_in (extent_of w.heap)) vals)) w bare (with_world (world_of w) (first tables launch)) (begun_with main entry)
 start_in tables launch main entry w vals e f paid world values =
     let st : Store Frames = first tables launch in
     let all : Extent = extent_of w.heap in
@@ -268,15 +277,19 @@ begins_runs entry w v u f k vals one params locals list p q o made_one found mor
     ∙ ap (λ (t : Bool). begun_if flat t main entry (value_in all list ∷ []) M s) (levels_pass (heap_of v.heap).bounds.levels levels)
     ∙ ap (λ (xs : List Val). collected flat entry.collects entry.parameters (map (value_in all) xs) M s K) (sym o)
     ∙ here_found s K refl
-    ∙ ap (λ (xs : List Value). running (flat.begin main xs 0 (stack_in late bare)) (with_world (world_of u) st)) (sym (ap (map (value_in late)) more ∙ map_with_nulls late entry.locals params))
+    ∙ ap (λ (xs : List Value). running (flat.begin main xs 0 (stack_in late bare)) (with_world (world_of u) st))
+    (sym (ap (map (value_in late)) more ∙ map_with_nulls late entry.locals params))
     ∙ ap (λ (x : Frames). running x (with_world (world_of u) st)) (begin_read (reading_of late) main locals 0 (stack_in late bare))
 
 list_error : (entry : Proc) (w v : World) (vals : List Val) (n : ℕ) (offending : Option Val) (main : ℕ) (st : Store Frames)
-    → OutcomeSo (list_row (map (value_in (extent_of w.heap)) vals) (here flat (stack_in (extent_of w.heap) bare) st)) (here flat (stack_in (extent_of w.heap) bare) st)
-    → made_in (list_row (map (value_in (extent_of w.heap)) vals)) w bare st stays_stuck ≡ errs n (option_map (value_in (extent_of v.heap)) offending) (with_world (world_of v) st)
+    → OutcomeSo (list_row (map (value_in (extent_of w.heap)) vals) (here flat (stack_in (extent_of w.heap) bare) st)) (here flat
+    (stack_in (extent_of w.heap) bare) st)
+    → made_in (list_row (map (value_in (extent_of w.heap)) vals)) w bare st stays_stuck
+    ≡ errs n (option_map (value_in (extent_of v.heap)) offending) (with_world (world_of v) st)
     → made_in (list_row (map (value_in (extent_of w.heap)) vals)) w bare st (begun_with main entry) ≡ errs n None st
 list_error entry w v vals n offending main st (fits g) e =
-    absurd (never_error (made_in (list_row (map (value_in (extent_of w.heap)) vals)) w bare st stays_stuck) n (option_map (value_in (extent_of v.heap)) offending) (with_world (world_of v) st)
+    absurd (never_error (made_in (list_row (map (value_in (extent_of w.heap)) vals)) w bare st stays_stuck) n
+    (option_map (value_in (extent_of v.heap)) offending) (with_world (world_of v) st)
     (g (stack_in (extent_of w.heap) bare) st) e)
 list_error entry w v vals n offending main st (is_full g) e =
     let M : Frames = stack_in (extent_of w.heap) bare in
@@ -290,7 +303,8 @@ list_stops entry w v f vals locals Stops.NoMemory p h = tt
 list_stops entry w v f vals locals (Stops.Error n offending) p h =
     let here_made : MakesValue (list_row (map (value_in (extent_of w.heap)) vals)) w bare v (Err (Stops.Error n offending))
     = subst (λ (x : FlatStack). MakesValue (list_row (map (value_in (extent_of w.heap)) vals)) w x v (Err (Stops.Error n offending))) p h in
-    λ main st same. list_error entry w v vals n offending main st (list_so (map (value_in (extent_of w.heap)) vals) (here flat (stack_in (extent_of w.heap) bare) st)) (here_made st stays_stuck same)
+    λ main st same. list_error entry w v vals n offending main st
+    (list_so (map (value_in (extent_of w.heap)) vals) (here flat (stack_in (extent_of w.heap) bare) st)) (here_made st stays_stuck same)
 
 -- what the parameters come to
 abbrev begin_with_them : ℕ → Proc → List Value → Frames → Store Frames → State Frames Frames
@@ -325,14 +339,15 @@ parameters_stop entry w v u f k vals one params locals list (Stops.Error n offen
     λ main st same.
     here_made st (begun_with main entry) same
     ∙ ap (λ (t : Bool). begun_if flat t main entry (value_in all list ∷ []) M (with_world (world_of v) st)) (levels_pass (heap_of v.heap).bounds.levels levels)
-    ∙ ap (λ (xs : List Val). collected flat entry.collects entry.parameters (map (value_in all) xs) M (with_world (world_of v) st) (begin_with_them main entry)) (sym o)
+    ∙ ap (λ (xs : List Val). collected flat entry.collects entry.parameters (map (value_in all) xs) M (with_world (world_of v) st) (begin_with_them main entry))
+    (sym o)
     ∙ collected_error entry (map (value_in all) one) M (with_world (world_of v) st) (with_world (world_of u) (with_world (world_of v) st)) n
     (option_map (value_in (extent_of u.heap)) offending) main
     (collected_so entry.collects entry.parameters (map (value_in all) one) M (with_world (world_of v) st))
     (here_found (with_world (world_of v) st) all_stuck refl)
 
-pub begins_err : (result : Result Unit Stop) (entry : Proc) (w v : World) (vals locals : List Val) (stop : Stop) → IsErrAnd result (λ s. s ≡ stop) → BeginsWith {A =
-    Unit} entry w vals v locals (Err stop)
+pub begins_err : (result : Result Unit Stop) (entry : Proc) (w v : World) (vals locals : List Val) (stop : Stop) → IsErrAnd result (λ s. s ≡ stop)
+    → BeginsWith {A = Unit} entry w vals v locals (Err stop)
     → BeginsWith entry w vals v locals result
 begins_err (Ok done) entry w v vals locals stop e h = absurd e
 begins_err (Err other) entry w v vals locals stop e h = subst (λ (x : Stop). BeginsWith {A = Unit} entry w vals v locals (Err x)) (sym e) h
@@ -340,7 +355,8 @@ begins_err (Err other) entry w v vals locals stop e h = subst (λ (x : Stop). Be
 -- The machine
 
 -- a machine that holds what the start says stands for the first state
-pub starts_as : {K : Type 0} (m : Machine K) (tables : Tables) (launch : Launch) (main : ℕ) (entry : Proc) (w : World) (vals locals : List Val) (f : FlatStack) → main_of tables ≡ Some main → slice_get tables.procs main ≡ Some entry
+pub starts_as : {K : Type 0} (m : Machine K) (tables : Tables) (launch : Launch) (main : ℕ) (entry : Proc) (w : World) (vals locals : List Val) (f : FlatStack)
+    → main_of tables ≡ Some main → slice_get tables.procs main ≡ Some entry
     → nat_le (0 + sum_by length launch.words) launch.bounds.strings ≡ true → world_of w ≡ world_charged tables launch.bounds launch.words
     → map (value_in (extent_of w.heap)) vals ≡ text_values launch.words
     → BeginsWith {A = Unit} entry w vals m.world locals (Ok tt) → f ≡ held.begin main locals 0 → m.stacks.table ≡ first_table f → m.turns ≡ 0
@@ -348,7 +364,8 @@ pub starts_as : {K : Type 0} (m : Machine K) (tables : Tables) (launch : Launch)
 starts_as m tables launch main entry w vals locals f e g paid world values begins stack table turns begun =
     let st : Store Frames = first tables launch in
     let all : Extent = extent_of m.world.heap in
-    let F : Table → ℕ → List Bool → State Frames Frames = λ t n bs. running (stack_in all (running_of t.running)) (store_in (all_names tables) launch.outside (world_of m.world) n bs all t) in
+    let F : Table → ℕ → List Bool → State Frames Frames
+    = λ t n bs. running (stack_in all (running_of t.running)) (store_in (all_names tables) launch.outside (world_of m.world) n bs all t) in
     start_in tables launch main entry w vals e g paid world values
     ∙ begins main (with_world (world_of w) st) refl
     ∙ ap (λ (x : FlatStack). F (first_table x) 0 (replicate (length tables.procs) false)) (sym stack)
@@ -374,7 +391,8 @@ locals_stop K tables launch main entry w v vals locals (Stops.Error n offending)
 
 first_status : (t : Tables) (reach : Reach) (n : ℕ) (coexp : Coexp) → slice_get (main_coexp ∷ []) n ≡ Some coexp → IsLiveCoexp t reach n coexp
 first_status t reach zero coexp e =
-    subst (λ (c : Coexp). IsLiveCoexp t reach 0 c) (same_Some _ _ e) (record { status = tt; values = All-nil (IsLive reach.extent); count = λ p. absurd (omega (arith, p)) })
+    subst (λ (c : Coexp). IsLiveCoexp t reach 0 c) (same_Some _ _ e)
+    (record { status = tt; values = All-nil (IsLive reach.extent); count = λ p. absurd (omega (arith, p)) })
 first_status t reach (suc n) coexp e = cc
 
 first_activators : (n : ℕ) → 0 < n → activator_in (slice_get (main_coexp ∷ []) n) ≡ n → ⊥

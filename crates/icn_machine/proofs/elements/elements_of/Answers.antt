@@ -29,36 +29,45 @@ returns-in-Rec-clause-halt c = wants_memory (reach_of c.args.world.now []) c.rec
 
 pub returns-in-Null-clause-elements : goal.returns-in-Null-clause-elements
 returns-in-Null-clause-elements c =
-    no_elements c.args.world.now c.args.from c.args.items.now.items (λ id e. let both = sym c.in-Null.is ∙ e in cc) (λ id e. let both = sym c.in-Null.is ∙ e in cc)
+    no_elements c.args.world.now c.args.from c.args.items.now.items (λ id e. let both = sym c.in-Null.is ∙ e in cc)
+    (λ id e. let both = sym c.in-Null.is ∙ e in cc)
 
 pub returns-in-Integer-clause-elements : goal.returns-in-Integer-clause-elements
 returns-in-Integer-clause-elements c =
-    no_elements c.args.world.now c.args.from c.args.items.now.items (λ id e. let both = sym c.in-Integer.is ∙ e in cc) (λ id e. let both = sym c.in-Integer.is ∙ e in cc)
+    no_elements c.args.world.now c.args.from c.args.items.now.items (λ id e. let both = sym c.in-Integer.is ∙ e in cc)
+    (λ id e. let both = sym c.in-Integer.is ∙ e in cc)
 
 pub returns-in-Text-clause-elements : goal.returns-in-Text-clause-elements
 returns-in-Text-clause-elements c =
-    no_elements c.args.world.now c.args.from c.args.items.now.items (λ id e. let both = sym c.in-Text.is ∙ e in cc) (λ id e. let both = sym c.in-Text.is ∙ e in cc)
+    no_elements c.args.world.now c.args.from c.args.items.now.items (λ id e. let both = sym c.in-Text.is ∙ e in cc)
+    (λ id e. let both = sym c.in-Text.is ∙ e in cc)
 
 pub returns-in-Chars-clause-elements : goal.returns-in-Chars-clause-elements
 returns-in-Chars-clause-elements c =
-    no_elements c.args.world.now c.args.from c.args.items.now.items (λ id e. let both = sym c.in-Chars.is ∙ e in cc) (λ id e. let both = sym c.in-Chars.is ∙ e in cc)
+    no_elements c.args.world.now c.args.from c.args.items.now.items (λ id e. let both = sym c.in-Chars.is ∙ e in cc)
+    (λ id e. let both = sym c.in-Chars.is ∙ e in cc)
 
 pub returns-in-Std-clause-elements : goal.returns-in-Std-clause-elements
 returns-in-Std-clause-elements c =
-    no_elements c.args.world.now c.args.from c.args.items.now.items (λ id e. let both = sym c.in-Std.is ∙ e in cc) (λ id e. let both = sym c.in-Std.is ∙ e in cc)
+    no_elements c.args.world.now c.args.from c.args.items.now.items (λ id e. let both = sym c.in-Std.is ∙ e in cc)
+    (λ id e. let both = sym c.in-Std.is ∙ e in cc)
 
 pub returns-in-Proc-clause-elements : goal.returns-in-Proc-clause-elements
 returns-in-Proc-clause-elements c =
-    no_elements c.args.world.now c.args.from c.args.items.now.items (λ id e. let both = sym c.in-Proc.is ∙ e in cc) (λ id e. let both = sym c.in-Proc.is ∙ e in cc)
+    no_elements c.args.world.now c.args.from c.args.items.now.items (λ id e. let both = sym c.in-Proc.is ∙ e in cc)
+    (λ id e. let both = sym c.in-Proc.is ∙ e in cc)
 
 pub returns-in-Set-clause-elements : goal.returns-in-Set-clause-elements
 returns-in-Set-clause-elements c =
-    no_elements c.args.world.now c.args.from c.args.items.now.items (λ id e. let both = sym c.in-Set.is ∙ e in cc) (λ id e. let both = sym c.in-Set.is ∙ e in cc)
+    no_elements c.args.world.now c.args.from c.args.items.now.items (λ id e. let both = sym c.in-Set.is ∙ e in cc)
+    (λ id e. let both = sym c.in-Set.is ∙ e in cc)
 
 pub returns-in-Table-clause-elements : goal.returns-in-Table-clause-elements
 returns-in-Table-clause-elements c =
-    no_elements c.args.world.now c.args.from c.args.items.now.items (λ id e. let both = sym c.in-Table.is ∙ e in cc) (λ id e. let both = sym c.in-Table.is ∙ e in cc)
+    no_elements c.args.world.now c.args.from c.args.items.now.items (λ id e. let both = sym c.in-Table.is ∙ e in cc)
+    (λ id e. let both = sym c.in-Table.is ∙ e in cc)
 
 pub returns-in-Coexp-clause-elements : goal.returns-in-Coexp-clause-elements
 returns-in-Coexp-clause-elements c =
-    no_elements c.args.world.now c.args.from c.args.items.now.items (λ id e. let both = sym c.in-Coexp.is ∙ e in cc) (λ id e. let both = sym c.in-Coexp.is ∙ e in cc)
+    no_elements c.args.world.now c.args.from c.args.items.now.items (λ id e. let both = sym c.in-Coexp.is ∙ e in cc)
+    (λ id e. let both = sym c.in-Coexp.is ∙ e in cc)

@@ -22,7 +22,8 @@ pub fail_once-requires-clause-sound : goal.fail_once-requires-clause-sound
 fail_once-requires-clause-sound g c = (c.requires.ready.0, c.requires.ready.1.1.sound)
 
 pub fail_once-requires-clause-goes_on : goal.fail_once-requires-clause-goes_on
-fail_once-requires-clause-goes_on g c = (c.requires.ready.0, (outside_of [], never_failed c.requires.ready.0 c.args.m.now c.requires.ready.1.1.kept (outside_of [])))
+fail_once-requires-clause-goes_on g c =
+    (c.requires.ready.0, (outside_of [], never_failed c.requires.ready.0 c.args.m.now c.requires.ready.1.1.kept (outside_of [])))
 
 pub begin_again-requires : goal.begin_again-requires
 begin_again-requires g c = record { bounds = (c.fail_once.ensures.sound c.requires.ready.0 c.requires.ready.1.1.sound).bounds }
@@ -61,7 +62,8 @@ pub resume-requires-clause-world_named : goal.resume-requires-clause-world_named
 resume-requires-clause-world_named g c =
     let tables = c.requires.ready.0 in
     let k = kept_seen tables c.args.m.now c.requires.ready.1.1.kept (outside_of []) in
-    subst (λ (n : Names). WorldNamed n (world_of c.fail_once.new.m.world)) c.requires.ready.1.0 (c.fail_once.ensures.named.store (all_names tables) tables (outside_of []) k.named.1).world
+    subst (λ (n : Names). WorldNamed n (world_of c.fail_once.new.m.world)) c.requires.ready.1.0
+    (c.fail_once.ensures.named.store (all_names tables) tables (outside_of []) k.named.1).world
 
 pub resume-requires-clause-rest_named : goal.resume-requires-clause-rest_named
 resume-requires-clause-rest_named g c =
@@ -80,32 +82,42 @@ end_failing-requires-clause-goes_on g c =
 
 pub returns-in-Failing-clause-steps : goal.returns-in-Failing-clause-steps
 returns-in-Failing-clause-steps g c tables named ready =
-    failed_quietly tables c.args.m.now c.fail_once.new.m _ Stages.Fails (λ o. at_due tables o (failed tables c.args.m.now o) c.fail_once.new.m c.fail_once.result Dues.Failing c.in-Failing.is (c.fail_once.ensures.step tables o))
+    failed_quietly tables c.args.m.now c.fail_once.new.m _ Stages.Fails
+    (λ o. at_due tables o (failed tables c.args.m.now o) c.fail_once.new.m c.fail_once.result Dues.Failing c.in-Failing.is (c.fail_once.ensures.step tables o))
 
 pub returns-in-Failing-clause-ready : goal.returns-in-Failing-clause-ready
 returns-in-Failing-clause-ready g c tables named ready = record {
   sound = c.fail_once.ensures.sound tables ready.sound;
   stack = c.fail_once.ensures.runs;
-  kept = failed_kept tables c.steps_keep_names.ensures.kept c.steps_keep_sizes.ensures.kept c.args.m.now c.fail_once.new.m Stages.Fails ready.kept (lands_quietly tables c.args.m.now c.fail_once.new.m Stages.Fails (λ o. at_due tables o (failed tables c.args.m.now o) c.fail_once.new.m c.fail_once.result Dues.Failing c.in-Failing.is (c.fail_once.ensures.step tables o)));
+  kept =
+      failed_kept tables c.steps_keep_names.ensures.kept c.steps_keep_sizes.ensures.kept c.args.m.now c.fail_once.new.m Stages.Fails ready.kept
+      (lands_quietly tables c.args.m.now c.fail_once.new.m Stages.Fails (λ o. at_due tables o (failed tables c.args.m.now o) c.fail_once.new.m
+      c.fail_once.result Dues.Failing c.in-Failing.is (c.fail_once.ensures.step tables o)));
 }
 
 pub returns-in-Failing-clause-further : goal.returns-in-Failing-clause-further
 returns-in-Failing-clause-further g c =
     let tables = c.requires.ready.0 in
-    failed_further tables c.args.m.now c.fail_once.new.m Stages.Fails c.requires.ready.1.1.sound.bounds (lands_quietly tables c.args.m.now c.fail_once.new.m Stages.Fails (λ o. at_due tables o (failed tables c.args.m.now o) c.fail_once.new.m c.fail_once.result Dues.Failing c.in-Failing.is (c.fail_once.ensures.step tables o)))
+    failed_further tables c.args.m.now c.fail_once.new.m Stages.Fails c.requires.ready.1.1.sound.bounds
+    (lands_quietly tables c.args.m.now c.fail_once.new.m Stages.Fails (λ o. at_due tables o (failed tables c.args.m.now o) c.fail_once.new.m
+    c.fail_once.result Dues.Failing c.in-Failing.is (c.fail_once.ensures.step tables o)))
 
 pub returns-in-Failing-clause-limits : goal.returns-in-Failing-clause-limits
 returns-in-Failing-clause-limits g c = c.fail_once.ensures.limits
 
 pub returns-in-Running-clause-steps : goal.returns-in-Running-clause-steps
 returns-in-Running-clause-steps g c tables named ready =
-    failed_quietly tables c.args.m.now c.fail_once.new.m _ Stages.Runs (λ o. at_due tables o (failed tables c.args.m.now o) c.fail_once.new.m c.fail_once.result Dues.Running c.in-Running.is (c.fail_once.ensures.step tables o))
+    failed_quietly tables c.args.m.now c.fail_once.new.m _ Stages.Runs
+    (λ o. at_due tables o (failed tables c.args.m.now o) c.fail_once.new.m c.fail_once.result Dues.Running c.in-Running.is (c.fail_once.ensures.step tables o))
 
 pub returns-in-Running-clause-ready : goal.returns-in-Running-clause-ready
 returns-in-Running-clause-ready g c tables named ready = record {
   sound = c.fail_once.ensures.sound tables ready.sound;
   stack = c.fail_once.ensures.runs;
-  kept = failed_kept tables c.steps_keep_names.ensures.kept c.steps_keep_sizes.ensures.kept c.args.m.now c.fail_once.new.m Stages.Runs ready.kept (lands_quietly tables c.args.m.now c.fail_once.new.m Stages.Runs (λ o. at_due tables o (failed tables c.args.m.now o) c.fail_once.new.m c.fail_once.result Dues.Running c.in-Running.is (c.fail_once.ensures.step tables o)));
+  kept =
+      failed_kept tables c.steps_keep_names.ensures.kept c.steps_keep_sizes.ensures.kept c.args.m.now c.fail_once.new.m Stages.Runs ready.kept
+      (lands_quietly tables c.args.m.now c.fail_once.new.m Stages.Runs (λ o. at_due tables o (failed tables c.args.m.now o) c.fail_once.new.m
+      c.fail_once.result Dues.Running c.in-Running.is (c.fail_once.ensures.step tables o)));
 }
 
 pub returns-in-Running-clause-limits : goal.returns-in-Running-clause-limits
@@ -113,78 +125,137 @@ returns-in-Running-clause-limits g c = c.fail_once.ensures.limits
 
 pub returns-in-Beginning-clause-steps : goal.returns-in-Beginning-clause-steps
 returns-in-Beginning-clause-steps g c tables named ready =
-    failed_quietly tables c.args.m.now c.begin_again.new.m _ c.begin_again.result (λ o. by_due tables o _ _ c.begin_again.new.m c.begin_again.result (at_due tables o (failed tables c.args.m.now o) c.fail_once.new.m c.fail_once.result Dues.Beginning c.in-Beginning.is (c.fail_once.ensures.step tables o)) (c.begin_again.ensures.step tables o))
+    failed_quietly tables c.args.m.now c.begin_again.new.m _ c.begin_again.result
+    (λ o. by_due tables o _ _ c.begin_again.new.m c.begin_again.result
+    (at_due tables o (failed tables c.args.m.now o) c.fail_once.new.m c.fail_once.result Dues.Beginning c.in-Beginning.is (c.fail_once.ensures.step tables o))
+    (c.begin_again.ensures.step tables o))
 
 pub returns-in-Beginning-clause-ready : goal.returns-in-Beginning-clause-ready
 returns-in-Beginning-clause-ready g c tables named ready = record {
   sound = c.begin_again.ensures.sound tables (c.fail_once.ensures.sound tables ready.sound);
   stack = c.begin_again.ensures.stack c.fail_once.ensures.runs;
-  kept = failed_kept tables c.steps_keep_names.ensures.kept c.steps_keep_sizes.ensures.kept c.args.m.now c.begin_again.new.m c.begin_again.result ready.kept (lands_quietly tables c.args.m.now c.begin_again.new.m c.begin_again.result (λ o. by_due tables o _ _ c.begin_again.new.m c.begin_again.result (at_due tables o (failed tables c.args.m.now o) c.fail_once.new.m c.fail_once.result Dues.Beginning c.in-Beginning.is (c.fail_once.ensures.step tables o)) (c.begin_again.ensures.step tables o)));
+  kept =
+      failed_kept tables c.steps_keep_names.ensures.kept c.steps_keep_sizes.ensures.kept c.args.m.now c.begin_again.new.m c.begin_again.result
+      ready.kept
+      (lands_quietly tables c.args.m.now c.begin_again.new.m c.begin_again.result (λ o. by_due tables o _ _ c.begin_again.new.m c.begin_again.result (at_due
+      tables o (failed tables c.args.m.now o) c.fail_once.new.m c.fail_once.result Dues.Beginning c.in-Beginning.is
+      (c.fail_once.ensures.step tables o)) (c.begin_again.ensures.step tables o)));
 }
 
 pub returns-in-Beginning-clause-further : goal.returns-in-Beginning-clause-further
 returns-in-Beginning-clause-further g c =
     let tables = c.requires.ready.0 in
-    failed_further tables c.args.m.now c.begin_again.new.m c.begin_again.result c.requires.ready.1.1.sound.bounds (lands_quietly tables c.args.m.now c.begin_again.new.m c.begin_again.result (λ o. by_due tables o _ _ c.begin_again.new.m c.begin_again.result (at_due tables o (failed tables c.args.m.now o) c.fail_once.new.m c.fail_once.result Dues.Beginning c.in-Beginning.is (c.fail_once.ensures.step tables o)) (c.begin_again.ensures.step tables o)))
+    failed_further tables c.args.m.now c.begin_again.new.m c.begin_again.result c.requires.ready.1.1.sound.bounds
+    (lands_quietly tables c.args.m.now c.begin_again.new.m c.begin_again.result (λ o. by_due tables o _ _ c.begin_again.new.m c.begin_again.result
+    (at_due tables o (failed tables c.args.m.now o) c.fail_once.new.m c.fail_once.result Dues.Beginning c.in-Beginning.is (c.fail_once.ensures.step tables o))
+    (c.begin_again.ensures.step tables o)))
 
 pub returns-in-Beginning-clause-limits : goal.returns-in-Beginning-clause-limits
 returns-in-Beginning-clause-limits g c = c.begin_again.ensures.limits ∙ c.fail_once.ensures.limits
 
 pub returns-in-Reentering-clause-steps : goal.returns-in-Reentering-clause-steps
 returns-in-Reentering-clause-steps g c tables named ready =
-    failed_quietly tables c.args.m.now c.reenter.new.m _ c.reenter.result (λ o. by_due tables o _ _ c.reenter.new.m c.reenter.result (at_due tables o (failed tables c.args.m.now o) c.fail_once.new.m c.fail_once.result Dues.Reentering c.in-Reentering.is (c.fail_once.ensures.step tables o)) (c.reenter.ensures.step tables o))
+    failed_quietly tables c.args.m.now c.reenter.new.m _ c.reenter.result
+    (λ o. by_due tables o _ _ c.reenter.new.m c.reenter.result (at_due tables o (failed tables c.args.m.now o) c.fail_once.new.m c.fail_once.result
+    Dues.Reentering c.in-Reentering.is (c.fail_once.ensures.step tables o)) (c.reenter.ensures.step tables o))
 
 pub returns-in-Reentering-clause-ready : goal.returns-in-Reentering-clause-ready
 returns-in-Reentering-clause-ready g c tables named ready = record {
   sound = c.reenter.ensures.sound tables (c.fail_once.ensures.sound tables ready.sound);
   stack = c.reenter.ensures.stack;
-  kept = failed_kept tables c.steps_keep_names.ensures.kept c.steps_keep_sizes.ensures.kept c.args.m.now c.reenter.new.m c.reenter.result ready.kept (lands_quietly tables c.args.m.now c.reenter.new.m c.reenter.result (λ o. by_due tables o _ _ c.reenter.new.m c.reenter.result (at_due tables o (failed tables c.args.m.now o) c.fail_once.new.m c.fail_once.result Dues.Reentering c.in-Reentering.is (c.fail_once.ensures.step tables o)) (c.reenter.ensures.step tables o)));
+  kept =
+      failed_kept tables c.steps_keep_names.ensures.kept c.steps_keep_sizes.ensures.kept c.args.m.now c.reenter.new.m c.reenter.result ready.kept
+      (lands_quietly tables c.args.m.now c.reenter.new.m c.reenter.result (λ o. by_due tables o _ _ c.reenter.new.m c.reenter.result (at_due tables o
+      (failed tables c.args.m.now o) c.fail_once.new.m c.fail_once.result Dues.Reentering c.in-Reentering.is
+      (c.fail_once.ensures.step tables o)) (c.reenter.ensures.step tables o)));
 }
 
 pub returns-in-Reentering-clause-further : goal.returns-in-Reentering-clause-further
 returns-in-Reentering-clause-further g c =
     let tables = c.requires.ready.0 in
-    failed_further tables c.args.m.now c.reenter.new.m c.reenter.result c.requires.ready.1.1.sound.bounds (lands_quietly tables c.args.m.now c.reenter.new.m c.reenter.result (λ o. by_due tables o _ _ c.reenter.new.m c.reenter.result (at_due tables o (failed tables c.args.m.now o) c.fail_once.new.m c.fail_once.result Dues.Reentering c.in-Reentering.is (c.fail_once.ensures.step tables o)) (c.reenter.ensures.step tables o)))
+    failed_further tables c.args.m.now c.reenter.new.m c.reenter.result c.requires.ready.1.1.sound.bounds
+    (lands_quietly tables c.args.m.now c.reenter.new.m c.reenter.result (λ o. by_due tables o _ _ c.reenter.new.m c.reenter.result (at_due tables o
+    (failed tables c.args.m.now o) c.fail_once.new.m c.fail_once.result Dues.Reentering c.in-Reentering.is
+    (c.fail_once.ensures.step tables o)) (c.reenter.ensures.step tables o)))
 
 pub returns-in-Reentering-clause-limits : goal.returns-in-Reentering-clause-limits
 returns-in-Reentering-clause-limits g c = c.reenter.ensures.limits ∙ c.fail_once.ensures.limits
 
 pub returns-in-Leaving-clause-steps : goal.returns-in-Leaving-clause-steps
 returns-in-Leaving-clause-steps g c tables named ready =
-    failed_quietly tables c.args.m.now c.end_failing.new.m _ c.end_failing.result (λ o. by_due tables o _ _ c.end_failing.new.m c.end_failing.result (at_due tables o (failed tables c.args.m.now o) c.fail_once.new.m c.fail_once.result Dues.Leaving c.in-Leaving.is (c.fail_once.ensures.step tables o)) (c.end_failing.ensures.step tables o))
+    failed_quietly tables c.args.m.now c.end_failing.new.m _ c.end_failing.result
+    (λ o. by_due tables o _ _ c.end_failing.new.m c.end_failing.result
+    (at_due tables o (failed tables c.args.m.now o) c.fail_once.new.m c.fail_once.result Dues.Leaving c.in-Leaving.is (c.fail_once.ensures.step tables o))
+    (c.end_failing.ensures.step tables o))
 
 pub returns-in-Leaving-clause-ready : goal.returns-in-Leaving-clause-ready
 returns-in-Leaving-clause-ready g c tables named ready = record {
   sound = c.end_failing.ensures.sound tables (c.fail_once.ensures.sound tables ready.sound);
   stack = c.end_failing.ensures.stack;
-  kept = failed_kept tables c.steps_keep_names.ensures.kept c.steps_keep_sizes.ensures.kept c.args.m.now c.end_failing.new.m c.end_failing.result ready.kept (lands_quietly tables c.args.m.now c.end_failing.new.m c.end_failing.result (λ o. by_due tables o _ _ c.end_failing.new.m c.end_failing.result (at_due tables o (failed tables c.args.m.now o) c.fail_once.new.m c.fail_once.result Dues.Leaving c.in-Leaving.is (c.fail_once.ensures.step tables o)) (c.end_failing.ensures.step tables o)));
+  kept =
+      failed_kept tables c.steps_keep_names.ensures.kept c.steps_keep_sizes.ensures.kept c.args.m.now c.end_failing.new.m c.end_failing.result
+      ready.kept
+      (lands_quietly tables c.args.m.now c.end_failing.new.m c.end_failing.result (λ o. by_due tables o _ _ c.end_failing.new.m c.end_failing.result
+      (at_due tables o (failed tables c.args.m.now o) c.fail_once.new.m c.fail_once.result Dues.Leaving c.in-Leaving.is (c.fail_once.ensures.step tables o))
+      (c.end_failing.ensures.step tables o)));
 }
 
 pub returns-in-Leaving-clause-further : goal.returns-in-Leaving-clause-further
 returns-in-Leaving-clause-further g c =
     let tables = c.requires.ready.0 in
-    failed_further tables c.args.m.now c.end_failing.new.m c.end_failing.result c.requires.ready.1.1.sound.bounds (lands_quietly tables c.args.m.now c.end_failing.new.m c.end_failing.result (λ o. by_due tables o _ _ c.end_failing.new.m c.end_failing.result (at_due tables o (failed tables c.args.m.now o) c.fail_once.new.m c.fail_once.result Dues.Leaving c.in-Leaving.is (c.fail_once.ensures.step tables o)) (c.end_failing.ensures.step tables o)))
+    failed_further tables c.args.m.now c.end_failing.new.m c.end_failing.result c.requires.ready.1.1.sound.bounds
+    (lands_quietly tables c.args.m.now c.end_failing.new.m c.end_failing.result (λ o. by_due tables o _ _ c.end_failing.new.m c.end_failing.result
+    (at_due tables o (failed tables c.args.m.now o) c.fail_once.new.m c.fail_once.result Dues.Leaving c.in-Leaving.is (c.fail_once.ensures.step tables o))
+    (c.end_failing.ensures.step tables o)))
 
 pub returns-in-Leaving-clause-limits : goal.returns-in-Leaving-clause-limits
 returns-in-Leaving-clause-limits g c = c.end_failing.ensures.limits ∙ c.fail_once.ensures.limits
 
 pub returns-in-Resuming-clause-steps : goal.returns-in-Resuming-clause-steps
 returns-in-Resuming-clause-steps g c tables named ready =
-    failed_performing tables (λ (o : Outside). resumed flat tables (Operation (residual_in (extent c.fail_once.new.m) c.in-Resuming.rest)) (stack_seen c.fail_once.new.m) (store_seen tables o c.fail_once.new.m)) c.args.m.now _ c.resume.new.m _ c.resume.result (λ o. at_due tables o (failed tables c.args.m.now o) c.fail_once.new.m c.fail_once.result (Dues.Resuming c.in-Resuming.rest) c.in-Resuming.is (c.fail_once.ensures.step tables o)) (c.resume.ensures.step tables)
+    failed_performing tables
+    (λ (o : Outside). resumed flat tables (Operation (residual_in (extent c.fail_once.new.m) c.in-Resuming.rest)) (stack_seen c.fail_once.new.m)
+    (store_seen tables o c.fail_once.new.m))
+    c.args.m.now _ c.resume.new.m _ c.resume.result
+    (λ o. at_due tables o (failed tables c.args.m.now o) c.fail_once.new.m c.fail_once.result (Dues.Resuming c.in-Resuming.rest) c.in-Resuming.is
+    (c.fail_once.ensures.step tables o))
+    (c.resume.ensures.step tables)
 
 pub returns-in-Resuming-clause-ready : goal.returns-in-Resuming-clause-ready
 returns-in-Resuming-clause-ready g c tables named ready =
-    let lands : IfOk c.resume.result (Lands tables c.args.m.now c.resume.new.m) = lands_performing tables (λ (o : Outside). resumed flat tables (Operation (residual_in (extent c.fail_once.new.m) c.in-Resuming.rest)) (stack_seen c.fail_once.new.m) (store_seen tables o c.fail_once.new.m)) c.args.m.now _ c.resume.new.m _ c.resume.result (λ o. at_due tables o (failed tables c.args.m.now o) c.fail_once.new.m c.fail_once.result (Dues.Resuming c.in-Resuming.rest) c.in-Resuming.is (c.fail_once.ensures.step tables o)) (c.resume.ensures.step tables) in
-    let kept : IfOk c.resume.result (λ (stage : Stage). HasStack c.resume.new.m stage × Lands tables c.args.m.now c.resume.new.m stage) = if_both c.resume.result (HasStack c.resume.new.m) (Lands tables c.args.m.now c.resume.new.m) _ (λ stage p q. (p, q)) c.resume.ensures.stack lands in
-    if_on c.resume.result (IsSound tables c.resume.new.m) (λ (stage : Stage). HasStack c.resume.new.m stage × Lands tables c.args.m.now c.resume.new.m stage) (IsReady tables c.resume.new.m)
-    (λ stage sound q. record { sound = sound; stack = q.0; kept = failed_kept tables c.steps_keep_names.ensures.kept c.steps_keep_sizes.ensures.kept c.args.m.now c.resume.new.m stage ready.kept q.1 })
+    let lands : IfOk c.resume.result (Lands tables c.args.m.now c.resume.new.m)
+    = lands_performing tables
+    (λ (o : Outside). resumed flat tables (Operation (residual_in (extent c.fail_once.new.m) c.in-Resuming.rest)) (stack_seen c.fail_once.new.m)
+    (store_seen tables o c.fail_once.new.m))
+    c.args.m.now _ c.resume.new.m _ c.resume.result
+    (λ o. at_due tables o (failed tables c.args.m.now o) c.fail_once.new.m c.fail_once.result (Dues.Resuming c.in-Resuming.rest) c.in-Resuming.is
+    (c.fail_once.ensures.step tables o))
+    (c.resume.ensures.step tables) in
+    let kept : IfOk c.resume.result (λ (stage : Stage). HasStack c.resume.new.m stage × Lands tables c.args.m.now c.resume.new.m stage)
+    = if_both c.resume.result (HasStack c.resume.new.m) (Lands tables c.args.m.now c.resume.new.m) _ (λ stage p q. (p, q)) c.resume.ensures.stack lands in
+    if_on c.resume.result (IsSound tables c.resume.new.m)
+    (λ (stage : Stage). HasStack c.resume.new.m stage × Lands tables c.args.m.now c.resume.new.m stage) (IsReady tables c.resume.new.m)
+    (λ stage sound q.
+    record {
+      sound = sound;
+      stack = q.0;
+      kept = failed_kept tables c.steps_keep_names.ensures.kept c.steps_keep_sizes.ensures.kept c.args.m.now
+          c.resume.new.m stage ready.kept q.1;
+    })
     (c.resume.ensures.sound tables (c.fail_once.ensures.sound tables ready.sound)) kept
 
 pub returns-in-Resuming-clause-further : goal.returns-in-Resuming-clause-further
 returns-in-Resuming-clause-further g c =
     let tables = c.requires.ready.0 in
-    if_so c.resume.result (Lands tables c.args.m.now c.resume.new.m) (FailsFurther c.args.m.now c.resume.new.m) (λ stage q. failed_further tables c.args.m.now c.resume.new.m stage c.requires.ready.1.1.sound.bounds q)
-    (lands_performing tables (λ (o : Outside). resumed flat tables (Operation (residual_in (extent c.fail_once.new.m) c.in-Resuming.rest)) (stack_seen c.fail_once.new.m) (store_seen tables o c.fail_once.new.m)) c.args.m.now _ c.resume.new.m _ c.resume.result (λ o. at_due tables o (failed tables c.args.m.now o) c.fail_once.new.m c.fail_once.result (Dues.Resuming c.in-Resuming.rest) c.in-Resuming.is (c.fail_once.ensures.step tables o)) (c.resume.ensures.step tables))
+    if_so c.resume.result (Lands tables c.args.m.now c.resume.new.m) (FailsFurther c.args.m.now c.resume.new.m)
+    (λ stage q. failed_further tables c.args.m.now c.resume.new.m stage c.requires.ready.1.1.sound.bounds q)
+    (lands_performing tables
+    (λ (o : Outside). resumed flat tables (Operation (residual_in (extent c.fail_once.new.m) c.in-Resuming.rest)) (stack_seen c.fail_once.new.m)
+    (store_seen tables o c.fail_once.new.m))
+    c.args.m.now _ c.resume.new.m _ c.resume.result
+    (λ o. at_due tables o (failed tables c.args.m.now o) c.fail_once.new.m c.fail_once.result (Dues.Resuming c.in-Resuming.rest) c.in-Resuming.is
+    (c.fail_once.ensures.step tables o))
+    (c.resume.ensures.step tables))
 
 pub returns-in-Resuming-clause-halt : goal.returns-in-Resuming-clause-halt
 returns-in-Resuming-clause-halt g c = c.resume.ensures.halt

@@ -11,11 +11,13 @@ loop-m-init g c = record {
 }
 
 pub fail_turn-requires : goal.fail_turn-requires
-fail_turn-requires g c = record { ready = (c.requires.ready.0, (c.requires.ready.1.0, c.loop-m.invariant.ready c.requires.ready.0 c.requires.ready.1.0 c.requires.ready.1.1)) }
+fail_turn-requires g c =
+    record { ready = (c.requires.ready.0, (c.requires.ready.1.0, c.loop-m.invariant.ready c.requires.ready.0 c.requires.ready.1.0 c.requires.ready.1.1)) }
 
 pub returns-in_err-stage-clause-steps : goal.returns-in_err-stage-clause-steps
 returns-in_err-stage-clause-steps g c tables named ready =
-    loop_err tables c.args.m.now c.args.from _ c.loop-m.m c.loop-m.stage c.loop-m.stage _ c.fail_turn.new.m _ c.in_err-stage.field-0.0 c.from_residual.result refl
+    loop_err tables c.args.m.now c.args.from _ c.loop-m.m c.loop-m.stage c.loop-m.stage _ c.fail_turn.new.m _ c.in_err-stage.field-0.0
+    c.from_residual.result refl
     (failing_goes c.loop-m.stage (sym c.is_failing.ensures ∙ c.loop-m-test.true)) (c.loop-m.invariant.steps tables named ready)
     (c.in_err-stage.ensures.steps tables named (c.loop-m.invariant.ready tables named ready)) c.from_residual.ensures.1
 
@@ -34,7 +36,9 @@ returns-in_err-stage-clause-limits g c = c.in_err-stage.ensures.limits ∙ c.loo
 pub loop-m-smaller : goal.loop-m-smaller
 loop-m-smaller g c =
     let test : is_failing c.loop-m.stage ≡ true = sym c.is_failing.ensures ∙ c.loop-m-test.true in
-    subst (λ b. left_if (is_failing c.in_ok-stage.stage) (c.fail_turn.new.m.limits.turns - c.fail_turn.new.m.turns) < left_if b (c.loop-m.m.limits.turns - c.loop-m.m.turns)) (sym test)
+    subst (λ b. left_if (is_failing c.in_ok-stage.stage) (c.fail_turn.new.m.limits.turns - c.fail_turn.new.m.turns) < left_if b
+    (c.loop-m.m.limits.turns - c.loop-m.m.turns))
+    (sym test)
     (turns_fall c.loop-m.m c.fail_turn.new.m c.in_ok-stage.stage c.in_ok-stage.ensures.limits c.in_ok-stage.ensures.turn)
 
 pub loop-m-preserved : goal.loop-m-preserved

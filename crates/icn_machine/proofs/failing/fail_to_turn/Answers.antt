@@ -19,13 +19,25 @@ pub fail_next-requires : goal.fail_next-requires
 fail_next-requires g c =
     let tables = c.requires.ready.0 in
     let fails = fails_is c.loop-stage.stage c.loop-stage.m.turns c.args.m.now.turns (sym c.fails_within.ensures ∙ c.loop-stage-test.true) in
-    record { ready = (tables, (c.requires.ready.1.0, subst (λ (s : Stage). IsReady tables c.loop-stage.m s) fails.0 (c.loop-stage.invariant.ready tables c.requires.ready.1.0 c.requires.ready.1.1))) }
+    record {
+      ready = (
+        tables,
+        (
+          c.requires.ready.1.0,
+          subst (λ (s : Stage). IsReady tables c.loop-stage.m s) fails.0
+              (c.loop-stage.invariant.ready tables c.requires.ready.1.0 c.requires.ready.1.1),
+        ),
+      );
+    }
 
 pub returns-in_err-stage-clause-steps : goal.returns-in_err-stage-clause-steps
 returns-in_err-stage-clause-steps g c tables named ready =
     let fails = fails_is c.loop-stage.stage c.loop-stage.m.turns c.args.m.now.turns (sym c.fails_within.ensures ∙ c.loop-stage-test.true) in
-    loop_err tables c.args.m.now Stages.Fails _ c.loop-stage.m c.loop-stage.stage Stages.Fails _ c.fail_next.new.m _ c.in_err-stage.field-0.0 c.from_residual.result fails.0 refl (c.loop-stage.invariant.steps tables named ready)
-    (advances (c.in_err-stage.ensures.steps tables named (subst (λ (s : Stage). IsReady tables c.loop-stage.m s) fails.0 (c.loop-stage.invariant.ready tables named ready)))) c.from_residual.ensures.1
+    loop_err tables c.args.m.now Stages.Fails _ c.loop-stage.m c.loop-stage.stage Stages.Fails _ c.fail_next.new.m _ c.in_err-stage.field-0.0
+    c.from_residual.result fails.0 refl (c.loop-stage.invariant.steps tables named ready)
+    (advances (c.in_err-stage.ensures.steps tables named
+    (subst (λ (s : Stage). IsReady tables c.loop-stage.m s) fails.0 (c.loop-stage.invariant.ready tables named ready))))
+    c.from_residual.ensures.1
 
 pub returns-in_err-stage-clause-ready : goal.returns-in_err-stage-clause-ready
 returns-in_err-stage-clause-ready g c tables named ready = no_answer c.from_residual.result _ _ c.from_residual.ensures.1
@@ -43,16 +55,24 @@ pub loop-stage-smaller : goal.loop-stage-smaller
 loop-stage-smaller g c =
     let test : fails_within c.loop-stage.stage c.loop-stage.m.turns c.args.m.now.turns ≡ true = sym c.fails_within.ensures ∙ c.loop-stage-test.true in
     let fails = fails_is c.loop-stage.stage c.loop-stage.m.turns c.args.m.now.turns test in
-    subst (λ b. left_if (fails_within c.in_ok-stage.stage c.fail_next.new.m.turns c.args.m.now.turns) (length (stack_seen c.fail_next.new.m).cells) < left_if b (length (stack_seen c.loop-stage.m).cells)) (sym test)
+    subst (λ b. left_if (fails_within c.in_ok-stage.stage c.fail_next.new.m.turns c.args.m.now.turns) (length (stack_seen c.fail_next.new.m).cells)
+    < left_if b (length (stack_seen c.loop-stage.m).cells))
+    (sym test)
     (within_falls c.loop-stage.m c.fail_next.new.m c.in_ok-stage.stage c.args.m.now.turns fails.1 c.in_ok-stage.ensures.further)
 
 pub loop-stage-preserved : goal.loop-stage-preserved
 loop-stage-preserved g c =
     let fails = fails_is c.loop-stage.stage c.loop-stage.m.turns c.args.m.now.turns (sym c.fails_within.ensures ∙ c.loop-stage-test.true) in
     record {
-      steps = λ tables named ready. loop_ok tables c.args.m.now Stages.Fails _ c.loop-stage.m c.loop-stage.stage Stages.Fails _ c.fail_next.new.m _ _ fails.0 refl (c.loop-stage.invariant.steps tables named ready)
-          (advances (c.in_ok-stage.ensures.steps tables named (subst (λ (s : Stage). IsReady tables c.loop-stage.m s) fails.0 (c.loop-stage.invariant.ready tables named ready))));
-      ready = λ tables named ready. c.in_ok-stage.ensures.ready tables named (subst (λ (s : Stage). IsReady tables c.loop-stage.m s) fails.0 (c.loop-stage.invariant.ready tables named ready));
+      steps =
+          λ tables named ready. loop_ok tables c.args.m.now Stages.Fails _ c.loop-stage.m c.loop-stage.stage Stages.Fails _ c.fail_next.new.m _ _
+          fails.0 refl (c.loop-stage.invariant.steps tables named ready)
+          (advances
+          (c.in_ok-stage.ensures.steps tables named
+          (subst (λ (s : Stage). IsReady tables c.loop-stage.m s) fails.0 (c.loop-stage.invariant.ready tables named ready))));
+      ready =
+          λ tables named ready. c.in_ok-stage.ensures.ready tables named
+          (subst (λ (s : Stage). IsReady tables c.loop-stage.m s) fails.0 (c.loop-stage.invariant.ready tables named ready));
       turn = within_more c.args.m.now c.loop-stage.m c.fail_next.new.m c.in_ok-stage.stage fails.1 c.loop-stage.invariant.limits c.in_ok-stage.ensures.further;
       limits = c.in_ok-stage.ensures.limits ∙ c.loop-stage.invariant.limits;
       turns = refl;
@@ -66,7 +86,8 @@ returns-clause-ready g c tables named ready = c.loop-stage.invariant.ready table
 
 pub returns-clause-turn : goal.returns-clause-turn
 returns-clause-turn g c =
-    within_ended c.args.m.now c.loop-stage.m c.loop-stage.stage c.args.m.now.turns refl (sym c.fails_within.ensures ∙ c.loop-stage-test.false) c.loop-stage.invariant.turn
+    within_ended c.args.m.now c.loop-stage.m c.loop-stage.stage c.args.m.now.turns refl (sym c.fails_within.ensures ∙ c.loop-stage-test.false)
+    c.loop-stage.invariant.turn
 
 pub returns-clause-limits : goal.returns-clause-limits
 returns-clause-limits g c = c.loop-stage.invariant.limits

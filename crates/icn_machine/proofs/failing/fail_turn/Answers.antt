@@ -4,16 +4,22 @@ use Rattle.icn_machine.specs.Stepping.{IsReady, advances, stays}
 use Rattle.icn_machine.proofs.failing.fail_turn.Goals as goal
 
 pub fail_to_turn-requires : goal.fail_to_turn-requires
-fail_to_turn-requires g c = record { ready = (c.requires.ready.0, (c.requires.ready.1.0, subst (λ (s : Stage). IsReady c.requires.ready.0 c.args.m.now s) c.in-Fails.is c.requires.ready.1.1)) }
+fail_to_turn-requires g c =
+    record {
+      ready = (c.requires.ready.0, (c.requires.ready.1.0, subst (λ (s : Stage). IsReady c.requires.ready.0 c.args.m.now s) c.in-Fails.is c.requires.ready.1.1));
+    }
 
 pub hop_next-requires : goal.hop_next-requires
-hop_next-requires g c = record { ready = (c.requires.ready.0, subst (λ (s : Stage). IsReady c.requires.ready.0 c.args.m.now s) c.in-HopDue.is c.requires.ready.1.1) }
+hop_next-requires g c =
+    record { ready = (c.requires.ready.0, subst (λ (s : Stage). IsReady c.requires.ready.0 c.args.m.now s) c.in-HopDue.is c.requires.ready.1.1) }
 
 pub returns-in-Fails-clause-steps : goal.returns-in-Fails-clause-steps
-returns-in-Fails-clause-steps g c tables named ready = rw c.in-Fails.is (c.fail_to_turn.ensures.steps tables named (subst (λ (s : Stage). IsReady tables c.args.m.now s) c.in-Fails.is ready))
+returns-in-Fails-clause-steps g c tables named ready =
+    rw c.in-Fails.is (c.fail_to_turn.ensures.steps tables named (subst (λ (s : Stage). IsReady tables c.args.m.now s) c.in-Fails.is ready))
 
 pub returns-in-Fails-clause-ready : goal.returns-in-Fails-clause-ready
-returns-in-Fails-clause-ready g c tables named ready = c.fail_to_turn.ensures.ready tables named (subst (λ (s : Stage). IsReady tables c.args.m.now s) c.in-Fails.is ready)
+returns-in-Fails-clause-ready g c tables named ready =
+    c.fail_to_turn.ensures.ready tables named (subst (λ (s : Stage). IsReady tables c.args.m.now s) c.in-Fails.is ready)
 
 pub returns-in-Fails-clause-turn : goal.returns-in-Fails-clause-turn
 returns-in-Fails-clause-turn g c = c.fail_to_turn.ensures.turn
@@ -25,10 +31,12 @@ pub returns-in-Fails-clause-limits : goal.returns-in-Fails-clause-limits
 returns-in-Fails-clause-limits g c = c.fail_to_turn.ensures.limits
 
 pub returns-in-HopDue-clause-steps : goal.returns-in-HopDue-clause-steps
-returns-in-HopDue-clause-steps g c tables named ready = rw c.in-HopDue.is (advances (c.hop_next.ensures.steps tables _ (subst (λ (s : Stage). IsReady tables c.args.m.now s) c.in-HopDue.is ready)))
+returns-in-HopDue-clause-steps g c tables named ready =
+    rw c.in-HopDue.is (advances (c.hop_next.ensures.steps tables _ (subst (λ (s : Stage). IsReady tables c.args.m.now s) c.in-HopDue.is ready)))
 
 pub returns-in-HopDue-clause-ready : goal.returns-in-HopDue-clause-ready
-returns-in-HopDue-clause-ready g c tables named ready = c.hop_next.ensures.ready tables (subst (λ (s : Stage). IsReady tables c.args.m.now s) c.in-HopDue.is ready)
+returns-in-HopDue-clause-ready g c tables named ready =
+    c.hop_next.ensures.ready tables (subst (λ (s : Stage). IsReady tables c.args.m.now s) c.in-HopDue.is ready)
 
 pub returns-in-HopDue-clause-turn : goal.returns-in-HopDue-clause-turn
 returns-in-HopDue-clause-turn g c = c.hop_next.ensures.turn

@@ -14,11 +14,14 @@ pub returns-clause-ready : goal.returns-clause-ready
 returns-clause-ready g c tables ready = record {
   sound = c.hop.ensures.sound tables ready.sound;
   stack = c.hop.ensures.stack;
-  kept = hopped_kept tables c.steps_keep_names.ensures.kept c.steps_keep_sizes.ensures.kept c.args.m.now c.hop.new.m c.hop.result ready.kept (c.hop.ensures.step tables);
+  kept =
+      hopped_kept tables c.steps_keep_names.ensures.kept c.steps_keep_sizes.ensures.kept c.args.m.now c.hop.new.m c.hop.result ready.kept
+      (c.hop.ensures.step tables);
 }
 
 pub returns-clause-turn : goal.returns-clause-turn
-returns-clause-turn g c = hopped_turn c.requires.ready.0 c.args.m.now c.hop.new.m c.hop.result c.requires.ready.1.sound.bounds (c.hop.ensures.step c.requires.ready.0)
+returns-clause-turn g c =
+    hopped_turn c.requires.ready.0 c.args.m.now c.hop.new.m c.hop.result c.requires.ready.1.sound.bounds (c.hop.ensures.step c.requires.ready.0)
 
 pub returns-clause-limits : goal.returns-clause-limits
 returns-clause-limits g c = c.hop.ensures.limits

@@ -31,7 +31,8 @@ pub returns-then-m-clause-step : goal.returns-then-m-clause-step
 returns-then-m-clause-step g c =
     let m = c.args.m.now in
     let t = tables_of c.args.code.now in
-    let after : Machine g.row.K.Denot = record { world = m.world; stacks = with_stack m.stacks c.pop-item.new.self; turns = m.turns; begun = m.begun; limits = m.limits } in
+    let after : Machine g.row.K.Denot
+    = record { world = m.world; stacks = with_stack m.stacks c.pop-item.new.self; turns = m.turns; begun = m.begun; limits = m.limits } in
     let none : nat_lt m.turns (heap_of m.world.heap).bounds.turns ≡ false
     = ap (λ (x : Bounds). nat_lt m.turns x.turns) c.requires.sound.1.bounds ∙ no_more m.turns m.limits.turns c.if-m.true in
     bound_comes m after t (Instrs.Field c.args.field) 1 (field_applied flat t c.args.field) c.frames.result.now.flat c.pop-item.new.self.flat
@@ -43,7 +44,8 @@ returns-then-m-clause-sound g c tables k =
     let m = c.args.m.now in
     record {
       stacks = stacks_on tables (reach_of m.world []) m.stacks.table c.frames.result.now.flat c.pop-item.new.self.flat c.frames.ensures.running
-          (λ l. (live_pop tables (reach_of m.world []) c.frames.result.now.flat c.pop-item.new.self.flat c.pop-item.result c.pop-item.ensures.flat l).rest) k.stacks;
+          (λ l. (live_pop tables (reach_of m.world []) c.frames.result.now.flat c.pop-item.new.self.flat c.pop-item.result c.pop-item.ensures.flat l).rest)
+          k.stacks;
       bounds = k.bounds;
       counts = k.counts;
       counted = record { results = k.counted.results; activators = k.counted.activators };
@@ -63,7 +65,8 @@ push_field-requires-clause-item g c =
     let t = c.requires.sound.0 in
     let live = running_live t (reach_of m.world []) m.stacks.table c.frames.result.now.flat c.frames.ensures.running c.requires.sound.1.stacks in
     let back = live_pop t (reach_of m.world []) c.frames.result.now.flat c.pop-item.new.self.flat c.pop-item.result c.pop-item.ensures.flat live in
-    subst (λ (x : FlatStack). IsLiveItem (with_locals (held.local_count x) (reach_of m.world [])) c.pop-item.result) (same_Some _ _ c.frames-2.ensures.running) back.item_live
+    subst (λ (x : FlatStack). IsLiveItem (with_locals (held.local_count x) (reach_of m.world [])) c.pop-item.result)
+    (same_Some _ _ c.frames-2.ensures.running) back.item_live
 
 pub push_field-requires-clause-sizes : goal.push_field-requires-clause-sizes
 push_field-requires-clause-sizes g c = c.requires.sizes
@@ -72,7 +75,8 @@ pub returns-in_err-push_field-clause-step : goal.returns-in_err-push_field-claus
 returns-in_err-push_field-clause-step g c =
     let m = c.args.m.now in
     let t = tables_of c.args.code.now in
-    let after : Machine g.row.K.Denot = record { world = m.world; stacks = with_stack m.stacks c.push_field.new.frames; turns = m.turns + 1; begun = m.begun; limits = m.limits } in
+    let after : Machine g.row.K.Denot
+    = record { world = m.world; stacks = with_stack m.stacks c.push_field.new.frames; turns = m.turns + 1; begun = m.begun; limits = m.limits } in
     let more : nat_lt m.turns (heap_of m.world.heap).bounds.turns ≡ true
     = ap (λ (x : Bounds). nat_lt m.turns x.turns) c.requires.sound.1.bounds ∙ under m.turns m.limits.turns c.if-m.false in
     operands_come m after c.requires.sound.0 t (Instrs.Field c.args.field) 1 (field_applied flat t c.args.field) c.frames.result.now.flat
@@ -87,7 +91,8 @@ pub returns-clause-step : goal.returns-clause-step
 returns-clause-step g c =
     let m = c.args.m.now in
     let t = tables_of c.args.code.now in
-    let after : Machine g.row.K.Denot = record { world = m.world; stacks = with_stack m.stacks c.push_field.new.frames; turns = m.turns + 1; begun = m.begun; limits = m.limits } in
+    let after : Machine g.row.K.Denot
+    = record { world = m.world; stacks = with_stack m.stacks c.push_field.new.frames; turns = m.turns + 1; begun = m.begun; limits = m.limits } in
     let more : nat_lt m.turns (heap_of m.world.heap).bounds.turns ≡ true
     = ap (λ (x : Bounds). nat_lt m.turns x.turns) c.requires.sound.1.bounds ∙ under m.turns m.limits.turns c.if-m.false in
     operands_come m after c.requires.sound.0 t (Instrs.Field c.args.field) 1 (field_applied flat t c.args.field) c.frames.result.now.flat
@@ -100,8 +105,11 @@ returns-clause-step g c =
 pub returns-clause-sound : goal.returns-clause-sound
 returns-clause-sound g c tables k =
     let m = c.args.m.now in
-    let after : Machine g.row.K.Denot = record { world = m.world; stacks = with_stack m.stacks c.push_field.new.frames; turns = m.turns + 1; begun = m.begun; limits = m.limits } in
+    let after : Machine g.row.K.Denot
+    = record { world = m.world; stacks = with_stack m.stacks c.push_field.new.frames; turns = m.turns + 1; begun = m.begun; limits = m.limits } in
     let live = running_live tables (reach_of m.world []) m.stacks.table c.frames.result.now.flat c.frames.ensures.running k.stacks in
     let back = live_pop tables (reach_of m.world []) c.frames.result.now.flat c.pop-item.new.self.flat c.pop-item.result c.pop-item.ensures.flat live in
-    let here : IsLiveStack tables (reach_of m.world []) c.frames-2.result.now.flat = subst (λ (x : FlatStack). IsLiveStack tables (reach_of m.world []) x) (same_Some _ _ c.frames-2.ensures.running) back.rest in
-    sound_after m after tables c.push_field.new.frames.flat refl refl refl (items_all (reach_of m.world [])) (c.in_ok-push_field.ensures.live tables here) (record { bounds = refl; coexps = refl }) k
+    let here : IsLiveStack tables (reach_of m.world []) c.frames-2.result.now.flat
+    = subst (λ (x : FlatStack). IsLiveStack tables (reach_of m.world []) x) (same_Some _ _ c.frames-2.ensures.running) back.rest in
+    sound_after m after tables c.push_field.new.frames.flat refl refl refl (items_all (reach_of m.world []))
+    (c.in_ok-push_field.ensures.live tables here) (record { bounds = refl; coexps = refl }) k

@@ -33,7 +33,8 @@ pub returns-then-m-clause-step : goal.returns-then-m-clause-step
 returns-then-m-clause-step g c =
     let m = c.args.m.now in
     let t = tables_of c.args.code.now in
-    let after : Machine g.row.K.Denot = record { world = m.world; stacks = with_stack m.stacks c.take_two-two.new.frames; turns = m.turns; begun = m.begun; limits = m.limits } in
+    let after : Machine g.row.K.Denot
+    = record { world = m.world; stacks = with_stack m.stacks c.take_two-two.new.frames; turns = m.turns; begun = m.begun; limits = m.limits } in
     let none : nat_lt m.turns (heap_of m.world.heap).bounds.turns ≡ false
     = ap (λ (x : Bounds). nat_lt m.turns x.turns) c.requires.sound.1.bounds ∙ no_more m.turns m.limits.turns c.if-m.true in
     bound_performs m after t Instrs.Appl 2 (applied_to_elements flat t) c.frames.result.now.flat c.take_two-two.new.frames.flat
@@ -48,7 +49,9 @@ returns-then-m-clause-sound g c k =
     let t = tables_of c.args.code.now in
     record {
       stacks = stacks_on t (reach_of m.world []) m.stacks.table c.frames.result.now.flat c.take_two-two.new.frames.flat c.frames.ensures.running
-          (λ l. (live_taken t (reach_of m.world []) 2 c.frames.result.now.flat c.take_two-two.new.frames.flat (c.take_two-two.result.0 ∷ c.take_two-two.result.1 ∷ []) c.take_two-two.ensures l).rest) k.stacks;
+          (λ l. (live_taken t (reach_of m.world []) 2 c.frames.result.now.flat c.take_two-two.new.frames.flat
+          (c.take_two-two.result.0 ∷ c.take_two-two.result.1 ∷ []) c.take_two-two.ensures l).rest)
+          k.stacks;
       bounds = k.bounds;
       counts = k.counts;
       counted = record { results = k.counted.results; activators = k.counted.activators };
@@ -59,7 +62,8 @@ returns-then-m-clause-named g c =
     let m = c.args.m.now in
     let names = g.N.Names.known c.args.names.now in
     let all = extent_of m.world.heap in (
-      (taken_named names all 2 c.frames.result.now.flat c.take_two-two.new.frames.flat (c.take_two-two.result.0 ∷ c.take_two-two.result.1 ∷ []) c.take_two-two.ensures
+      (taken_named names all 2 c.frames.result.now.flat c.take_two-two.new.frames.flat (c.take_two-two.result.0 ∷ c.take_two-two.result.1 ∷ [])
+          c.take_two-two.ensures
           (subst (λ (o : Option FlatStack). StackNamed names (stack_in all (running_of o))) c.frames.ensures.running c.requires.stack_named)).1,
       c.requires.world_named,
     )
@@ -75,7 +79,8 @@ call_with_elements-requires-clause-stack g c =
     let m = c.args.m.now in
     let t = c.requires.sound.0 in
     let live = running_live t (reach_of m.world []) m.stacks.table c.frames.result.now.flat c.frames.ensures.running c.requires.sound.1.stacks in
-    let rest = live_taken t (reach_of m.world []) 2 c.frames.result.now.flat c.take_two-two.new.frames.flat (c.take_two-two.result.0 ∷ c.take_two-two.result.1 ∷ []) c.take_two-two.ensures live in
+    let rest = live_taken t (reach_of m.world []) 2 c.frames.result.now.flat c.take_two-two.new.frames.flat
+    (c.take_two-two.result.0 ∷ c.take_two-two.result.1 ∷ []) c.take_two-two.ensures live in
     (t, subst (λ (x : FlatStack). IsLiveStack t (reach_of m.world []) x) (same_Some _ _ c.frames-2.ensures.running) rest.rest)
 
 pub call_with_elements-requires-clause-callee : goal.call_with_elements-requires-clause-callee
@@ -83,28 +88,35 @@ call_with_elements-requires-clause-callee g c =
     let m = c.args.m.now in
     let t = c.requires.sound.0 in
     let live = running_live t (reach_of m.world []) m.stacks.table c.frames.result.now.flat c.frames.ensures.running c.requires.sound.1.stacks in
-    let rest = live_taken t (reach_of m.world []) 2 c.frames.result.now.flat c.take_two-two.new.frames.flat (c.take_two-two.result.0 ∷ c.take_two-two.result.1 ∷ []) c.take_two-two.ensures live in
+    let rest = live_taken t (reach_of m.world []) 2 c.frames.result.now.flat c.take_two-two.new.frames.flat
+    (c.take_two-two.result.0 ∷ c.take_two-two.result.1 ∷ []) c.take_two-two.ensures live in
     let reach : Reach = with_locals (held.local_count c.frames-2.result.now.flat) (reach_of m.world []) in
     All-head (IsLiveItem reach) c.take_two-two.result.0 (c.take_two-two.result.1 ∷ [])
-    (subst (λ (x : FlatStack). All (IsLiveItem (with_locals (held.local_count x) (reach_of m.world []))) (c.take_two-two.result.0 ∷ c.take_two-two.result.1 ∷ [])) (same_Some _ _ c.frames-2.ensures.running) rest.items_live)
+    (subst
+    (λ (x : FlatStack). All (IsLiveItem (with_locals (held.local_count x) (reach_of m.world []))) (c.take_two-two.result.0 ∷ c.take_two-two.result.1 ∷ []))
+    (same_Some _ _ c.frames-2.ensures.running) rest.items_live)
 
 pub call_with_elements-requires-clause-from : goal.call_with_elements-requires-clause-from
 call_with_elements-requires-clause-from g c =
     let m = c.args.m.now in
     let t = c.requires.sound.0 in
     let live = running_live t (reach_of m.world []) m.stacks.table c.frames.result.now.flat c.frames.ensures.running c.requires.sound.1.stacks in
-    let rest = live_taken t (reach_of m.world []) 2 c.frames.result.now.flat c.take_two-two.new.frames.flat (c.take_two-two.result.0 ∷ c.take_two-two.result.1 ∷ []) c.take_two-two.ensures live in
+    let rest = live_taken t (reach_of m.world []) 2 c.frames.result.now.flat c.take_two-two.new.frames.flat
+    (c.take_two-two.result.0 ∷ c.take_two-two.result.1 ∷ []) c.take_two-two.ensures live in
     let reach : Reach = with_locals (held.local_count c.frames-2.result.now.flat) (reach_of m.world []) in
     All-head (IsLiveItem reach) c.take_two-two.result.1 []
     (All-tail (IsLiveItem reach) c.take_two-two.result.0 (c.take_two-two.result.1 ∷ [])
-    (subst (λ (x : FlatStack). All (IsLiveItem (with_locals (held.local_count x) (reach_of m.world []))) (c.take_two-two.result.0 ∷ c.take_two-two.result.1 ∷ [])) (same_Some _ _ c.frames-2.ensures.running) rest.items_live))
+    (subst
+    (λ (x : FlatStack). All (IsLiveItem (with_locals (held.local_count x) (reach_of m.world []))) (c.take_two-two.result.0 ∷ c.take_two-two.result.1 ∷ []))
+    (same_Some _ _ c.frames-2.ensures.running) rest.items_live))
 
 pub call_with_elements-requires-clause-stack_named : goal.call_with_elements-requires-clause-stack_named
 call_with_elements-requires-clause-stack_named g c =
     let m = c.args.m.now in
     let names = g.N.Names.known c.args.names.now in
     let all = extent_of m.world.heap in
-    let both = taken_named names all 2 c.frames.result.now.flat c.take_two-two.new.frames.flat (c.take_two-two.result.0 ∷ c.take_two-two.result.1 ∷ []) c.take_two-two.ensures
+    let both = taken_named names all 2 c.frames.result.now.flat c.take_two-two.new.frames.flat (c.take_two-two.result.0 ∷ c.take_two-two.result.1 ∷ [])
+    c.take_two-two.ensures
     (subst (λ (o : Option FlatStack). StackNamed names (stack_in all (running_of o))) c.frames.ensures.running c.requires.stack_named) in
     subst (λ (x : FlatStack). StackNamed names (stack_in all x)) (same_Some _ _ c.frames-2.ensures.running) both.1
 
@@ -112,7 +124,14 @@ pub returns-clause-step : goal.returns-clause-step
 returns-clause-step g c =
     let m = c.args.m.now in
     let t = tables_of c.args.code.now in
-    let after : Machine g.row.K.Denot = record { world = c.call_with_elements.new.world; stacks = with_stack m.stacks c.call_with_elements.new.frames; turns = m.turns + 1; begun = m.begun; limits = m.limits } in
+    let after : Machine g.row.K.Denot
+    = record {
+      world = c.call_with_elements.new.world;
+      stacks = with_stack m.stacks c.call_with_elements.new.frames;
+      turns = m.turns + 1;
+      begun = m.begun;
+      limits = m.limits;
+    } in
     let more : nat_lt m.turns (heap_of m.world.heap).bounds.turns ≡ true
     = ap (λ (x : Bounds). nat_lt m.turns x.turns) c.requires.sound.1.bounds ∙ under m.turns m.limits.turns c.if-m.false in
     operands_perform m after c.requires.sound.0 t Instrs.Appl 2 (applied_to_elements flat t) c.frames.result.now.flat c.take_two-two.new.frames.flat
@@ -127,10 +146,19 @@ pub returns-clause-sound : goal.returns-clause-sound
 returns-clause-sound g c k =
     let m = c.args.m.now in
     let t = tables_of c.args.code.now in
-    let after : Machine g.row.K.Denot = record { world = c.call_with_elements.new.world; stacks = with_stack m.stacks c.call_with_elements.new.frames; turns = m.turns + 1; begun = m.begun; limits = m.limits } in
+    let after : Machine g.row.K.Denot
+    = record {
+      world = c.call_with_elements.new.world;
+      stacks = with_stack m.stacks c.call_with_elements.new.frames;
+      turns = m.turns + 1;
+      begun = m.begun;
+      limits = m.limits;
+    } in
     let live = running_live t (reach_of m.world []) m.stacks.table c.frames.result.now.flat c.frames.ensures.running k.stacks in
-    let rest = live_taken t (reach_of m.world []) 2 c.frames.result.now.flat c.take_two-two.new.frames.flat (c.take_two-two.result.0 ∷ c.take_two-two.result.1 ∷ []) c.take_two-two.ensures live in
-    let here : IsLiveStack t (reach_of m.world []) c.frames-2.result.now.flat = subst (λ (x : FlatStack). IsLiveStack t (reach_of m.world []) x) (same_Some _ _ c.frames-2.ensures.running) rest.rest in
+    let rest = live_taken t (reach_of m.world []) 2 c.frames.result.now.flat c.take_two-two.new.frames.flat
+    (c.take_two-two.result.0 ∷ c.take_two-two.result.1 ∷ []) c.take_two-two.ensures live in
+    let here : IsLiveStack t (reach_of m.world []) c.frames-2.result.now.flat
+    = subst (λ (x : FlatStack). IsLiveStack t (reach_of m.world []) x) (same_Some _ _ c.frames-2.ensures.running) rest.rest in
     both_on c.call_with_elements.result (IsLiveStack t (reach_of c.call_with_elements.new.world []) c.call_with_elements.new.frames.flat)
     (KeepsCounts m.world c.call_with_elements.new.world) (IsSound t after)
     (c.call_with_elements.ensures.live here) c.call_with_elements.ensures.counts
@@ -139,7 +167,14 @@ returns-clause-sound g c k =
 pub returns-clause-stack : goal.returns-clause-stack
 returns-clause-stack g c =
     let m = c.args.m.now in
-    let after : Machine g.row.K.Denot = record { world = c.call_with_elements.new.world; stacks = with_stack m.stacks c.call_with_elements.new.frames; turns = m.turns + 1; begun = m.begun; limits = m.limits } in
+    let after : Machine g.row.K.Denot
+    = record {
+      world = c.call_with_elements.new.world;
+      stacks = with_stack m.stacks c.call_with_elements.new.frames;
+      turns = m.turns + 1;
+      begun = m.begun;
+      limits = m.limits;
+    } in
     going_has_stack after c.call_with_elements.result c.call_with_elements.ensures.going refl
 
 pub returns-clause-store_named : goal.returns-clause-store_named

@@ -54,18 +54,24 @@ call_value-requires-clause-few g c =
     omega (arith, more, c.requires.few)
 
 pub call_value-requires-clause-stack : goal.call_value-requires-clause-stack
-call_value-requires-clause-stack g c =
-    (c.requires.stack.0, subst (λ (x : FlatStack). IsLiveStack c.requires.stack.0 (reach_of c.args.world.now []) x) (sym c.value_of.ensures.same) c.requires.stack.1)
+call_value-requires-clause-stack g c = (
+  c.requires.stack.0,
+  subst (λ (x : FlatStack). IsLiveStack c.requires.stack.0 (reach_of c.args.world.now []) x) (sym c.value_of.ensures.same)
+      c.requires.stack.1,
+)
 
 pub call_value-requires-clause-items : goal.call_value-requires-clause-items
 call_value-requires-clause-items g c =
     let live : Reach = with_locals (held.local_count c.args.frames.now.flat) (reach_of c.args.world.now []) in
-    let others : All (IsLiveItem live) c.in-Some.others.now = All-tail (IsLiveItem live) _ _ (subst (λ (xs : List Item). All (IsLiveItem live) xs) c.in-Some.ensures.cases.0 c.requires.items) in
-    subst (λ (x : FlatStack). All (IsLiveItem (with_locals (held.local_count x) (reach_of c.args.world.now []))) c.in-Some.others.now) (sym c.value_of.ensures.same) others
+    let others : All (IsLiveItem live) c.in-Some.others.now
+    = All-tail (IsLiveItem live) _ _ (subst (λ (xs : List Item). All (IsLiveItem live) xs) c.in-Some.ensures.cases.0 c.requires.items) in
+    subst (λ (x : FlatStack). All (IsLiveItem (with_locals (held.local_count x) (reach_of c.args.world.now []))) c.in-Some.others.now)
+    (sym c.value_of.ensures.same) others
 
 pub call_value-requires-clause-stack_named : goal.call_value-requires-clause-stack_named
 call_value-requires-clause-stack_named g c =
-    subst (λ (x : FlatStack). StackNamed (g.N.Names.known c.args.names.now) (stack_in (extent_of c.args.world.now.heap) x)) (sym c.value_of.ensures.same) c.requires.stack_named
+    subst (λ (x : FlatStack). StackNamed (g.N.Names.known c.args.names.now) (stack_in (extent_of c.args.world.now.heap) x))
+    (sym c.value_of.ensures.same) c.requires.stack_named
 
 pub call_value-requires-clause-items_named : goal.call_value-requires-clause-items_named
 call_value-requires-clause-items_named g c =
@@ -83,4 +89,5 @@ returns-clause-step g c =
 
 pub returns-clause-live : goal.returns-clause-live
 returns-clause-live g c k =
-    c.call_value.ensures.live (subst (λ (x : FlatStack). IsLiveStack (tables_of c.args.code.now) (reach_of c.args.world.now []) x) (sym c.value_of.ensures.same) k)
+    c.call_value.ensures.live
+    (subst (λ (x : FlatStack). IsLiveStack (tables_of c.args.code.now) (reach_of c.args.world.now []) x) (sym c.value_of.ensures.same) k)

@@ -41,19 +41,24 @@ returns-in_err-callee-clause-sized g c fits =
     c.from_residual.ensures.1
 
 pub value_of-requires-2-clause-stack : goal.value_of-requires-2-clause-stack
-value_of-requires-2-clause-stack g c =
-    (c.requires.stack.0, subst (λ (x : FlatStack). IsLiveStack c.requires.stack.0 (reach_of c.args.world.now []) x) (sym c.value_of.ensures.same) c.requires.stack.1)
+value_of-requires-2-clause-stack g c = (
+  c.requires.stack.0,
+  subst (λ (x : FlatStack). IsLiveStack c.requires.stack.0 (reach_of c.args.world.now []) x) (sym c.value_of.ensures.same)
+      c.requires.stack.1,
+)
 
 pub value_of-requires-2-clause-item : goal.value_of-requires-2-clause-item
 value_of-requires-2-clause-item g c =
-    subst (λ (x : FlatStack). IsLiveItem (with_locals (held.local_count x) (reach_of c.args.world.now [])) c.args.from) (sym c.value_of.ensures.same) c.requires.from
+    subst (λ (x : FlatStack). IsLiveItem (with_locals (held.local_count x) (reach_of c.args.world.now [])) c.args.from) (sym c.value_of.ensures.same)
+    c.requires.from
 
 pub returns-in_err-from-clause-step : goal.returns-in_err-from-clause-step
 returns-in_err-from-clause-step g c =
     from_stops (tables_of c.args.code.now) (all_names (tables_of c.args.code.now)) c.args.world.now c.args.frames.now.flat c.value_of-2.new.frames.flat
     c.args.callee c.args.from c.in_ok-callee.callee c.in_err-from.field-0.0 _
     c.from_residual-in_err-from.result c.from_residual-in_err-from.ensures.1 c.in_ok-callee.ensures.value
-    (found_at c.args.world.now c.args.frames.now.flat c.value_of.new.frames.flat c.args.from (Err c.in_err-from.field-0.0) c.value_of.ensures.same c.in_err-from.ensures.value)
+    (found_at c.args.world.now c.args.frames.now.flat c.value_of.new.frames.flat c.args.from (Err c.in_err-from.field-0.0) c.value_of.ensures.same
+    c.in_err-from.ensures.value)
 
 pub returns-in_err-from-clause-kept : goal.returns-in_err-from-clause-kept
 returns-in_err-from-clause-kept g c = items_all (reach_of c.args.world.now [])
@@ -74,7 +79,9 @@ returns-in_err-elements_of-clause-step g c =
     c.args.callee c.args.from c.in_ok-callee.callee c.in_ok-from.from
     c.elements_of.new.items.items c.in_err-elements_of.field-0.0 _ c.from_residual-in_err-elements_of.result c.from_residual-in_err-elements_of.ensures.1
     c.in_ok-callee.ensures.value
-    (found_at c.args.world.now c.args.frames.now.flat c.value_of.new.frames.flat c.args.from (Ok c.in_ok-from.from) c.value_of.ensures.same c.in_ok-from.ensures.value) c.in_err-elements_of.ensures.elements
+    (found_at c.args.world.now c.args.frames.now.flat c.value_of.new.frames.flat c.args.from (Ok c.in_ok-from.from) c.value_of.ensures.same
+    c.in_ok-from.ensures.value)
+    c.in_err-elements_of.ensures.elements
 
 pub returns-in_err-elements_of-clause-kept : goal.returns-in_err-elements_of-clause-kept
 returns-in_err-elements_of-clause-kept g c = items_all (reach_of c.args.world.now [])
@@ -90,8 +97,11 @@ returns-in_err-elements_of-clause-sized g c fits =
     (FitSizes (field_count (tables_of c.args.code.now)) (heap_of c.args.world.now.heap)) c.from_residual-in_err-elements_of.ensures.1
 
 pub call_value-requires-clause-stack : goal.call_value-requires-clause-stack
-call_value-requires-clause-stack g c =
-    (c.requires.stack.0, subst (λ (x : FlatStack). IsLiveStack c.requires.stack.0 (reach_of c.args.world.now []) x) (sym (c.value_of-2.ensures.same ∙ c.value_of.ensures.same)) c.requires.stack.1)
+call_value-requires-clause-stack g c = (
+  c.requires.stack.0,
+  subst (λ (x : FlatStack). IsLiveStack c.requires.stack.0 (reach_of c.args.world.now []) x)
+      (sym (c.value_of-2.ensures.same ∙ c.value_of.ensures.same)) c.requires.stack.1,
+)
 
 pub call_value-requires-clause-items : goal.call_value-requires-clause-items
 call_value-requires-clause-items g c =
@@ -103,7 +113,8 @@ call_value-requires-clause-few g c = subst (λ (xs : List Item). length xs < 2 ^
 
 pub call_value-requires-clause-stack_named : goal.call_value-requires-clause-stack_named
 call_value-requires-clause-stack_named g c =
-    subst (λ (x : FlatStack). StackNamed (g.N.Names.known c.args.names.now) (stack_in (extent_of c.args.world.now.heap) x)) (sym (c.value_of-2.ensures.same ∙ c.value_of.ensures.same)) c.requires.stack_named
+    subst (λ (x : FlatStack). StackNamed (g.N.Names.known c.args.names.now) (stack_in (extent_of c.args.world.now.heap) x))
+    (sym (c.value_of-2.ensures.same ∙ c.value_of.ensures.same)) c.requires.stack_named
 
 pub call_value-requires-clause-items_named : goal.call_value-requires-clause-items_named
 call_value-requires-clause-items_named g c =
@@ -125,4 +136,6 @@ returns-clause-step g c =
 
 pub returns-clause-live : goal.returns-clause-live
 returns-clause-live g c k =
-    c.call_value.ensures.live (subst (λ (x : FlatStack). IsLiveStack (tables_of c.args.code.now) (reach_of c.args.world.now []) x) (sym (c.value_of-2.ensures.same ∙ c.value_of.ensures.same)) k)
+    c.call_value.ensures.live
+    (subst (λ (x : FlatStack). IsLiveStack (tables_of c.args.code.now) (reach_of c.args.world.now []) x)
+    (sym (c.value_of-2.ensures.same ∙ c.value_of.ensures.same)) k)

@@ -36,20 +36,24 @@ pub returns-in_default-clause-step : goal.returns-in_default-clause-step
 returns-in_default-clause-step g c =
     let m = c.args.m.now in
     let t = tables_of c.args.code.now in
-    let after : Machine g.row.K.Denot = record { world = m.world; stacks = with_stack m.stacks c.take_operands.new.frames; turns = m.turns; begun = m.begun; limits = m.limits } in
+    let after : Machine g.row.K.Denot
+    = record { world = m.world; stacks = with_stack m.stacks c.take_operands.new.frames; turns = m.turns; begun = m.begun; limits = m.limits } in
     lacks_memory t (λ outside. does t outside (Instrs.Invoke c.args.count) m) after _
 
 pub returns-then-m-clause-step : goal.returns-then-m-clause-step
 returns-then-m-clause-step g c =
     let m = c.args.m.now in
     let t = tables_of c.args.code.now in
-    let after : Machine g.row.K.Denot = record { world = m.world; stacks = with_stack m.stacks c.take_operands.new.frames; turns = m.turns; begun = m.begun; limits = m.limits } in
+    let after : Machine g.row.K.Denot
+    = record { world = m.world; stacks = with_stack m.stacks c.take_operands.new.frames; turns = m.turns; begun = m.begun; limits = m.limits } in
     let none : nat_lt m.turns (heap_of m.world.heap).bounds.turns ≡ false
     = ap (λ (x : Bounds). nat_lt m.turns x.turns) c.requires.sound.1.bounds ∙ no_more m.turns m.limits.turns c.if-m.true in
     bound_performs m after t (Instrs.Invoke c.args.count) (suc c.args.count) (invoked_with flat t) c.frames.result.now.flat c.take_operands.new.frames.flat
     c.take_operands.new.items.items _
     (λ a st. refl) c.frames.ensures.running
-    (subst (λ (n : ℕ). taken n c.frames.result.now.flat ≡ Some (c.take_operands.new.items.items, c.take_operands.new.frames.flat)) (add-one c.args.count) c.in-Ok.ensures.taken) none
+    (subst (λ (n : ℕ). taken n c.frames.result.now.flat ≡ Some (c.take_operands.new.items.items, c.take_operands.new.frames.flat))
+    (add-one c.args.count) c.in-Ok.ensures.taken)
+    none
     (λ outside. refl)
 
 pub returns-then-m-clause-sound : goal.returns-then-m-clause-sound
@@ -58,7 +62,9 @@ returns-then-m-clause-sound g c k =
     let t = tables_of c.args.code.now in
     record {
       stacks = stacks_on t (reach_of m.world []) m.stacks.table c.frames.result.now.flat c.take_operands.new.frames.flat c.frames.ensures.running
-          (λ l. (live_taken t (reach_of m.world []) (c.args.count + 1) c.frames.result.now.flat c.take_operands.new.frames.flat c.take_operands.new.items.items c.in-Ok.ensures.taken l).rest) k.stacks;
+          (λ l. (live_taken t (reach_of m.world []) (c.args.count + 1) c.frames.result.now.flat c.take_operands.new.frames.flat
+          c.take_operands.new.items.items c.in-Ok.ensures.taken l).rest)
+          k.stacks;
       bounds = k.bounds;
       counts = k.counts;
       counted = record { results = k.counted.results; activators = k.counted.activators };
@@ -79,13 +85,15 @@ returns-then-m-clause-store_named g c outside h = record { world = h.world; coex
 
 pub call_first-requires-clause-some : goal.call_first-requires-clause-some
 call_first-requires-clause-some g c =
-    let count = taken_length (c.args.count + 1) c.frames.result.now.flat c.take_operands.new.frames.flat c.take_operands.new.items.items c.in-Ok.ensures.taken in
+    let count = taken_length (c.args.count + 1) c.frames.result.now.flat c.take_operands.new.frames.flat c.take_operands.new.items.items
+    c.in-Ok.ensures.taken in
     let same : length c.deref.result.now ≡ length c.take_operands.new.items.items = ap (λ (xs : List Item). length xs) c.deref.ensures.value in
     omega (arith, count, same)
 
 pub call_first-requires-clause-few : goal.call_first-requires-clause-few
 call_first-requires-clause-few g c =
-    let count = taken_length (c.args.count + 1) c.frames.result.now.flat c.take_operands.new.frames.flat c.take_operands.new.items.items c.in-Ok.ensures.taken in
+    let count = taken_length (c.args.count + 1) c.frames.result.now.flat c.take_operands.new.frames.flat c.take_operands.new.items.items
+    c.in-Ok.ensures.taken in
     let same : length c.deref.result.now ≡ length c.take_operands.new.items.items = ap (λ (xs : List Item). length xs) c.deref.ensures.value in
     let fits : Fits w32 c.args.count = search rules in
     omega (arith, count, same, fits)
@@ -98,7 +106,8 @@ call_first-requires-clause-stack g c =
     let m = c.args.m.now in
     let t = c.requires.sound.0 in
     let live = running_live t (reach_of m.world []) m.stacks.table c.frames.result.now.flat c.frames.ensures.running c.requires.sound.1.stacks in
-    let rest = live_taken t (reach_of m.world []) (c.args.count + 1) c.frames.result.now.flat c.take_operands.new.frames.flat c.take_operands.new.items.items c.in-Ok.ensures.taken live in
+    let rest = live_taken t (reach_of m.world []) (c.args.count + 1) c.frames.result.now.flat c.take_operands.new.frames.flat
+    c.take_operands.new.items.items c.in-Ok.ensures.taken live in
     (t, subst (λ (x : FlatStack). IsLiveStack t (reach_of m.world []) x) (same_Some _ _ c.frames-2.ensures.running) rest.rest)
 
 pub call_first-requires-clause-items : goal.call_first-requires-clause-items
@@ -106,17 +115,20 @@ call_first-requires-clause-items g c =
     let m = c.args.m.now in
     let t = c.requires.sound.0 in
     let live = running_live t (reach_of m.world []) m.stacks.table c.frames.result.now.flat c.frames.ensures.running c.requires.sound.1.stacks in
-    let rest = live_taken t (reach_of m.world []) (c.args.count + 1) c.frames.result.now.flat c.take_operands.new.frames.flat c.take_operands.new.items.items c.in-Ok.ensures.taken live in
+    let rest = live_taken t (reach_of m.world []) (c.args.count + 1) c.frames.result.now.flat c.take_operands.new.frames.flat
+    c.take_operands.new.items.items c.in-Ok.ensures.taken live in
     let reach : Reach = with_locals (held.local_count c.frames-2.result.now.flat) (reach_of m.world []) in
     subst (λ (xs : List Item). All (IsLiveItem reach) xs) (sym c.deref.ensures.value)
-    (subst (λ (x : FlatStack). All (IsLiveItem (with_locals (held.local_count x) (reach_of m.world []))) c.take_operands.new.items.items) (same_Some _ _ c.frames-2.ensures.running) rest.items_live)
+    (subst (λ (x : FlatStack). All (IsLiveItem (with_locals (held.local_count x) (reach_of m.world []))) c.take_operands.new.items.items)
+    (same_Some _ _ c.frames-2.ensures.running) rest.items_live)
 
 pub call_first-requires-clause-stack_named : goal.call_first-requires-clause-stack_named
 call_first-requires-clause-stack_named g c =
     let m = c.args.m.now in
     let names = g.N.Names.known c.args.names.now in
     let all = extent_of m.world.heap in
-    let both = taken_named names all (c.args.count + 1) c.frames.result.now.flat c.take_operands.new.frames.flat c.take_operands.new.items.items c.in-Ok.ensures.taken
+    let both = taken_named names all (c.args.count + 1) c.frames.result.now.flat c.take_operands.new.frames.flat c.take_operands.new.items.items
+    c.in-Ok.ensures.taken
     (subst (λ (o : Option FlatStack). StackNamed names (stack_in all (running_of o))) c.frames.ensures.running c.requires.stack_named) in
     subst (λ (x : FlatStack). StackNamed names (stack_in all x)) (same_Some _ _ c.frames-2.ensures.running) both.1
 
@@ -125,7 +137,8 @@ call_first-requires-clause-items_named g c =
     let m = c.args.m.now in
     let names = g.N.Names.known c.args.names.now in
     let all = extent_of m.world.heap in
-    let both = taken_named names all (c.args.count + 1) c.frames.result.now.flat c.take_operands.new.frames.flat c.take_operands.new.items.items c.in-Ok.ensures.taken
+    let both = taken_named names all (c.args.count + 1) c.frames.result.now.flat c.take_operands.new.frames.flat c.take_operands.new.items.items
+    c.in-Ok.ensures.taken
     (subst (λ (o : Option FlatStack). StackNamed names (stack_in all (running_of o))) c.frames.ensures.running c.requires.stack_named) in
     subst (λ (xs : List Item). All (ItemNamed names) (map (item_in all) xs)) (sym c.deref.ensures.value) both.0
 
@@ -133,13 +146,21 @@ pub returns-clause-step : goal.returns-clause-step
 returns-clause-step g c =
     let m = c.args.m.now in
     let t = tables_of c.args.code.now in
-    let after : Machine g.row.K.Denot = record { world = c.call_first.new.world; stacks = with_stack m.stacks c.call_first.new.frames; turns = m.turns + 1; begun = m.begun; limits = m.limits } in
+    let after : Machine g.row.K.Denot
+    = record {
+      world = c.call_first.new.world;
+      stacks = with_stack m.stacks c.call_first.new.frames;
+      turns = m.turns + 1;
+      begun = m.begun;
+      limits = m.limits;
+    } in
     let more : nat_lt m.turns (heap_of m.world.heap).bounds.turns ≡ true
     = ap (λ (x : Bounds). nat_lt m.turns x.turns) c.requires.sound.1.bounds ∙ under m.turns m.limits.turns c.if-m.false in
     operands_perform m after c.requires.sound.0 t (Instrs.Invoke c.args.count) (suc c.args.count) (invoked_with flat t) c.frames.result.now.flat
     c.take_operands.new.frames.flat c.frames-2.result.now.flat c.call_first.new.frames.flat
     c.take_operands.new.items.items c.deref.result.now _ _ c.call_first.result (λ a st. refl) c.frames.ensures.running
-    (subst (λ (n : ℕ). taken n c.frames.result.now.flat ≡ Some (c.take_operands.new.items.items, c.take_operands.new.frames.flat)) (add-one c.args.count) c.in-Ok.ensures.taken)
+    (subst (λ (n : ℕ). taken n c.frames.result.now.flat ≡ Some (c.take_operands.new.items.items, c.take_operands.new.frames.flat))
+    (add-one c.args.count) c.in-Ok.ensures.taken)
     (same_Some _ _ c.frames-2.ensures.running) c.deref.ensures.value more c.call_first.ensures.kept c.requires.sound.1.stacks (add-one m.turns) refl refl
     c.call_first.ensures.going c.call_first.ensures.step
 
@@ -147,10 +168,19 @@ pub returns-clause-sound : goal.returns-clause-sound
 returns-clause-sound g c k =
     let m = c.args.m.now in
     let t = tables_of c.args.code.now in
-    let after : Machine g.row.K.Denot = record { world = c.call_first.new.world; stacks = with_stack m.stacks c.call_first.new.frames; turns = m.turns + 1; begun = m.begun; limits = m.limits } in
+    let after : Machine g.row.K.Denot
+    = record {
+      world = c.call_first.new.world;
+      stacks = with_stack m.stacks c.call_first.new.frames;
+      turns = m.turns + 1;
+      begun = m.begun;
+      limits = m.limits;
+    } in
     let live = running_live t (reach_of m.world []) m.stacks.table c.frames.result.now.flat c.frames.ensures.running k.stacks in
-    let rest = live_taken t (reach_of m.world []) (c.args.count + 1) c.frames.result.now.flat c.take_operands.new.frames.flat c.take_operands.new.items.items c.in-Ok.ensures.taken live in
-    let here : IsLiveStack t (reach_of m.world []) c.frames-2.result.now.flat = subst (λ (x : FlatStack). IsLiveStack t (reach_of m.world []) x) (same_Some _ _ c.frames-2.ensures.running) rest.rest in
+    let rest = live_taken t (reach_of m.world []) (c.args.count + 1) c.frames.result.now.flat c.take_operands.new.frames.flat
+    c.take_operands.new.items.items c.in-Ok.ensures.taken live in
+    let here : IsLiveStack t (reach_of m.world []) c.frames-2.result.now.flat
+    = subst (λ (x : FlatStack). IsLiveStack t (reach_of m.world []) x) (same_Some _ _ c.frames-2.ensures.running) rest.rest in
     both_on c.call_first.result (IsLiveStack t (reach_of c.call_first.new.world []) c.call_first.new.frames.flat) (KeepsCounts m.world c.call_first.new.world)
     (IsSound t after)
     (c.call_first.ensures.live here) c.call_first.ensures.counts
@@ -159,7 +189,14 @@ returns-clause-sound g c k =
 pub returns-clause-stack : goal.returns-clause-stack
 returns-clause-stack g c =
     let m = c.args.m.now in
-    let after : Machine g.row.K.Denot = record { world = c.call_first.new.world; stacks = with_stack m.stacks c.call_first.new.frames; turns = m.turns + 1; begun = m.begun; limits = m.limits } in
+    let after : Machine g.row.K.Denot
+    = record {
+      world = c.call_first.new.world;
+      stacks = with_stack m.stacks c.call_first.new.frames;
+      turns = m.turns + 1;
+      begun = m.begun;
+      limits = m.limits;
+    } in
     going_has_stack after c.call_first.result c.call_first.ensures.going refl
 
 pub returns-clause-store_named : goal.returns-clause-store_named

@@ -35,7 +35,8 @@ returns-then-m-clause-step g c tables names =
     = ap (λ (x : Bounds). nat_lt m.turns x.turns) c.requires.sound.1.bounds ∙ no_more m.turns m.limits.turns c.if-m.true in
     performs_still _ _ _ _
     (λ was. op_is all tables m.stacks.table c.frames.result.now.flat k items c.args.op (store_seen tables was m) c.frames.ensures.running taken
-    ∙ turn_bound tables (store_seen tables was m) (store_in (all_names tables) was (world_of m.world) m.turns m.begun.items all (record m.stacks.table { running = Some k }))
+    ∙ turn_bound tables (store_seen tables was m)
+    (store_in (all_names tables) was (world_of m.world) m.turns m.begun.items all (record m.stacks.table { running = Some k }))
     (operated flat c.args.op (map (item_in all) items) (stack_in all k)) none refl)
 
 pub returns-then-m-clause-sound : goal.returns-then-m-clause-sound
@@ -58,7 +59,8 @@ returns-then-m-clause-named g c =
     let all = extent_of m.world.heap in
     let f = c.frames.result.now.flat in
     let k = c.take_operands.new.frames.flat in
-    let there = named_taken names all c.arity.result f k c.take_operands.new.items.items c.in-Ok.ensures.taken (named_running names all m.stacks.table f c.frames.ensures.running c.requires.stack_named) in
+    let there = named_taken names all c.arity.result f k c.take_operands.new.items.items c.in-Ok.ensures.taken
+    (named_running names all m.stacks.table f c.frames.ensures.running c.requires.stack_named) in
     (named.stack_out names (stack_in all k) there.rest, c.requires.world_named)
 
 pub perform-requires-clause-applicable : goal.perform-requires-clause-applicable
@@ -77,7 +79,8 @@ perform-requires-clause-stack g c =
     let f = c.frames.result.now.flat in
     let k = c.frames-2.result.now.flat in
     let items = c.take_operands.new.items.items in
-    let taken = taken_as c.arity.result c.arity.result f c.take_operands.new.frames.flat k items items c.in-Ok.ensures.taken refl c.frames-2.ensures.running refl in
+    let taken = taken_as c.arity.result c.arity.result f c.take_operands.new.frames.flat k items items c.in-Ok.ensures.taken refl
+    c.frames-2.ensures.running refl in
     (t, (live_taken t reach c.arity.result f k items taken (running_live t reach m.stacks.table f c.frames.ensures.running c.requires.sound.1.stacks)).rest)
 
 pub perform-requires-clause-items : goal.perform-requires-clause-items
@@ -88,7 +91,8 @@ perform-requires-clause-items g c =
     let f = c.frames.result.now.flat in
     let k = c.frames-2.result.now.flat in
     let xs = c.deref.result.now in
-    let taken = taken_as c.arity.result c.arity.result f c.take_operands.new.frames.flat k c.take_operands.new.items.items xs c.in-Ok.ensures.taken refl c.frames-2.ensures.running c.deref.ensures.value in
+    let taken = taken_as c.arity.result c.arity.result f c.take_operands.new.frames.flat k c.take_operands.new.items.items xs c.in-Ok.ensures.taken
+    refl c.frames-2.ensures.running c.deref.ensures.value in
     (live_taken t reach c.arity.result f k xs taken (running_live t reach m.stacks.table f c.frames.ensures.running c.requires.sound.1.stacks)).items_live
 
 pub perform-requires-clause-stack_named : goal.perform-requires-clause-stack_named
@@ -99,8 +103,10 @@ perform-requires-clause-stack_named g c =
     let f = c.frames.result.now.flat in
     let k = c.frames-2.result.now.flat in
     let items = c.take_operands.new.items.items in
-    let taken = taken_as c.arity.result c.arity.result f c.take_operands.new.frames.flat k items items c.in-Ok.ensures.taken refl c.frames-2.ensures.running refl in
-    let there = named_taken names all c.arity.result f k items taken (named_running names all m.stacks.table f c.frames.ensures.running c.requires.stack_named) in
+    let taken = taken_as c.arity.result c.arity.result f c.take_operands.new.frames.flat k items items c.in-Ok.ensures.taken refl
+    c.frames-2.ensures.running refl in
+    let there = named_taken names all c.arity.result f k items taken
+    (named_running names all m.stacks.table f c.frames.ensures.running c.requires.stack_named) in
     named.stack_out names (stack_in all k) there.rest
 
 pub perform-requires-clause-items_named : goal.perform-requires-clause-items_named
@@ -122,12 +128,17 @@ returns-clause-step g c tables names =
     let f = c.frames.result.now.flat in
     let k = c.frames-2.result.now.flat in
     let xs = c.deref.result.now in
-    let taken = taken_as c.arity.result (arity c.args.op) f c.take_operands.new.frames.flat k c.take_operands.new.items.items xs c.in-Ok.ensures.taken c.arity.ensures c.frames-2.ensures.running c.deref.ensures.value in
+    let taken = taken_as c.arity.result (arity c.args.op) f c.take_operands.new.frames.flat k c.take_operands.new.items.items xs c.in-Ok.ensures.taken
+    c.arity.ensures c.frames-2.ensures.running c.deref.ensures.value in
     let more : nat_lt m.turns (heap_of m.world.heap).bounds.turns ≡ true
     = ap (λ (x : Bounds). nat_lt m.turns x.turns) c.requires.sound.1.bounds ∙ under m.turns m.limits.turns c.if-m.false in
-    let after : Machine g.row.K.Denot = record { world = c.perform.new.world; stacks = with_stack m.stacks c.perform.new.frames; turns = m.turns + 1; begun = m.begun; limits = m.limits } in
-    performs_on after c.requires.sound.0 tables m.world m.turns m.stacks.table k c.perform.new.frames.flat row _ _ _ c.perform.result c.perform.ensures.kept c.requires.sound.1.stacks refl (add-one m.turns)
-    (λ was. operates tables (g.N.Names.known c.args.names.now) m.world m.stacks.table f k xs c.args.op after m.turns was c.requires.row c.frames.ensures.running taken more names) c.perform.ensures.row
+    let after : Machine g.row.K.Denot
+    = record { world = c.perform.new.world; stacks = with_stack m.stacks c.perform.new.frames; turns = m.turns + 1; begun = m.begun; limits = m.limits } in
+    performs_on after c.requires.sound.0 tables m.world m.turns m.stacks.table k c.perform.new.frames.flat row _ _ _ c.perform.result
+    c.perform.ensures.kept c.requires.sound.1.stacks refl (add-one m.turns)
+    (λ was. operates tables (g.N.Names.known c.args.names.now) m.world m.stacks.table f k xs c.args.op after m.turns was c.requires.row
+    c.frames.ensures.running taken more names)
+    c.perform.ensures.row
 
 pub returns-clause-sound : goal.returns-clause-sound
 returns-clause-sound g c tables s =
@@ -136,9 +147,11 @@ returns-clause-sound g c tables s =
     let f = c.frames.result.now.flat in
     let k = c.frames-2.result.now.flat in
     let items = c.take_operands.new.items.items in
-    let taken = taken_as c.arity.result c.arity.result f c.take_operands.new.frames.flat k items items c.in-Ok.ensures.taken refl c.frames-2.ensures.running refl in
+    let taken = taken_as c.arity.result c.arity.result f c.take_operands.new.frames.flat k items items c.in-Ok.ensures.taken refl
+    c.frames-2.ensures.running refl in
     let live = (live_taken tables reach c.arity.result f k items taken (running_live tables reach m.stacks.table f c.frames.ensures.running s.stacks)).rest in
-    let after : Machine g.row.K.Denot = record { world = c.perform.new.world; stacks = with_stack m.stacks c.perform.new.frames; turns = m.turns + 1; begun = m.begun; limits = m.limits } in
+    let after : Machine g.row.K.Denot
+    = record { world = c.perform.new.world; stacks = with_stack m.stacks c.perform.new.frames; turns = m.turns + 1; begun = m.begun; limits = m.limits } in
     both_ok c.perform.result _ _ _ (c.perform.ensures.live tables live) c.perform.ensures.counts
     (λ l counts. sound_after m after tables c.perform.new.frames.flat c.perform.ensures.kept refl refl refl s l counts)
 
@@ -146,5 +159,6 @@ pub returns-clause-stack : goal.returns-clause-stack
 returns-clause-stack g c =
     let m = c.args.m.now in
     let row = rows.apply (g.N.Names.known c.args.names.now) (rows.Operation c.args.op) (map (item_in (extent_of m.world.heap)) c.deref.result.now) in
-    let after : Machine g.row.K.Denot = record { world = c.perform.new.world; stacks = with_stack m.stacks c.perform.new.frames; turns = m.turns + 1; begun = m.begun; limits = m.limits } in
+    let after : Machine g.row.K.Denot
+    = record { world = c.perform.new.world; stacks = with_stack m.stacks c.perform.new.frames; turns = m.turns + 1; begun = m.begun; limits = m.limits } in
     has_stack after m.world c.frames-2.result.now.flat c.perform.new.frames.flat row _ _ c.perform.result refl c.perform.ensures.row

@@ -40,7 +40,8 @@ perform_again-requires-clause-rest g c =
 pub perform_again-requires-clause-stack_named : goal.perform_again-requires-clause-stack_named
 perform_again-requires-clause-stack_named g c =
     let m = c.args.m.now in
-    named_running (g.N.Names.known c.args.names.now) (extent_of m.world.heap) m.stacks.table c.frames.result.now.flat c.frames.ensures.running c.requires.stack_named
+    named_running (g.N.Names.known c.args.names.now) (extent_of m.world.heap) m.stacks.table c.frames.result.now.flat c.frames.ensures.running
+    c.requires.stack_named
 
 pub returns-clause-step : goal.returns-clause-step
 returns-clause-step g c tables =
@@ -49,14 +50,30 @@ returns-clause-step g c tables =
     let f = c.frames.result.now.flat in
     let more : nat_lt m.turns (heap_of m.world.heap).bounds.turns ≡ true
     = ap (λ (x : Bounds). nat_lt m.turns x.turns) c.requires.sound.1.bounds ∙ under m.turns m.limits.turns c.if-m.false in
-    let after : Machine g.row.K.Denot = record { world = c.perform_again.new.world; stacks = with_stack m.stacks c.perform_again.new.frames; turns = m.turns + 1; begun = m.begun; limits = m.limits } in
-    performs_on after c.requires.sound.0 tables m.world m.turns m.stacks.table f c.perform_again.new.frames.flat row _ _ _ c.perform_again.result c.perform_again.ensures.kept c.requires.sound.1.stacks refl (add-one m.turns)
-    (λ was. resumes tables m.world m.stacks.table f (residual_in (extent_of m.world.heap) c.args.rest) after m.turns was c.frames.ensures.running more) c.perform_again.ensures.row
+    let after : Machine g.row.K.Denot
+    = record {
+      world = c.perform_again.new.world;
+      stacks = with_stack m.stacks c.perform_again.new.frames;
+      turns = m.turns + 1;
+      begun = m.begun;
+      limits = m.limits;
+    } in
+    performs_on after c.requires.sound.0 tables m.world m.turns m.stacks.table f c.perform_again.new.frames.flat row _ _ _ c.perform_again.result
+    c.perform_again.ensures.kept c.requires.sound.1.stacks refl (add-one m.turns)
+    (λ was. resumes tables m.world m.stacks.table f (residual_in (extent_of m.world.heap) c.args.rest) after m.turns was c.frames.ensures.running more)
+    c.perform_again.ensures.row
 
 pub returns-clause-sound : goal.returns-clause-sound
 returns-clause-sound g c tables s =
     let m = c.args.m.now in
-    let after : Machine g.row.K.Denot = record { world = c.perform_again.new.world; stacks = with_stack m.stacks c.perform_again.new.frames; turns = m.turns + 1; begun = m.begun; limits = m.limits } in
+    let after : Machine g.row.K.Denot
+    = record {
+      world = c.perform_again.new.world;
+      stacks = with_stack m.stacks c.perform_again.new.frames;
+      turns = m.turns + 1;
+      begun = m.begun;
+      limits = m.limits;
+    } in
     let live = running_live tables (reach_of m.world []) m.stacks.table c.frames.result.now.flat c.frames.ensures.running s.stacks in
     both_ok c.perform_again.result _ _ _ (c.perform_again.ensures.live tables live) c.perform_again.ensures.counts
     (λ l counts. sound_after m after tables c.perform_again.new.frames.flat c.perform_again.ensures.kept refl refl refl s l counts)
@@ -65,5 +82,12 @@ pub returns-clause-stack : goal.returns-clause-stack
 returns-clause-stack g c =
     let m = c.args.m.now in
     let row = rows.again (residual_in (extent_of m.world.heap) c.args.rest) in
-    let after : Machine g.row.K.Denot = record { world = c.perform_again.new.world; stacks = with_stack m.stacks c.perform_again.new.frames; turns = m.turns + 1; begun = m.begun; limits = m.limits } in
+    let after : Machine g.row.K.Denot
+    = record {
+      world = c.perform_again.new.world;
+      stacks = with_stack m.stacks c.perform_again.new.frames;
+      turns = m.turns + 1;
+      begun = m.begun;
+      limits = m.limits;
+    } in
     has_stack after m.world c.frames.result.now.flat c.perform_again.new.frames.flat row _ _ c.perform_again.result refl c.perform_again.ensures.row

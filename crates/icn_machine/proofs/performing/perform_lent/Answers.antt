@@ -11,7 +11,9 @@ use Rattle.icn_machine.proofs.performing.perform_lent.Goals as goal
 pub invariant_of-own : goal.invariant_of-own
 invariant_of-own g c = record {
   lent = c.requires.lent;
-  same = subst (λ (x : FlatStack). flat.set_locals (flat.locals c.args.frames.now.flat) x ≡ c.args.frames.now.flat) (sym c.requires.earlier) c.local_count.ensures.same;
+  same =
+      subst (λ (x : FlatStack). flat.set_locals (flat.locals c.args.frames.now.flat) x ≡ c.args.frames.now.flat) (sym c.requires.earlier)
+      c.local_count.ensures.same;
 }
 
 pub apply-answer-requires-clause-applicable : goal.apply-answer-requires-clause-applicable

@@ -20,13 +20,16 @@ loop-first-init c =
           ∙ ap (map (global_value t)) c.as_slice-rest.ensures.value;
       live = λ all. All-same (IsLive all) _ _ c.new-vals.ensures.items (All-nil (IsLive all));
       fits =
-          subst (λ (xs : List Global). list_all (is_global (length t.strings) (length t.records) (length t.procs)) xs ≡ true) (sym c.as_slice-rest.ensures.value) (globals_fit t c.args.code.now.rules);
+          subst (λ (xs : List Global). list_all (is_global (length t.strings) (length t.records) (length t.procs)) xs ≡ true)
+          (sym c.as_slice-rest.ensures.value) (globals_fit t c.args.code.now.rules);
     }
 
 pub start_value-requires : goal.start_value-requires
 start_value-requires c =
     let t = tables_of c.args.code.now in
-    start_fits _ _ (first_fits (is_global (length t.strings) (length t.records) (length t.procs)) c.in-Some.first.now c.in-Some.others.now c.loop-first.rest.now c.in-Some.ensures.cases.0 c.loop-first.invariant.fits).0
+    start_fits _ _
+    (first_fits (is_global (length t.strings) (length t.records) (length t.procs)) c.in-Some.first.now c.in-Some.others.now c.loop-first.rest.now
+    c.in-Some.ensures.cases.0 c.loop-first.invariant.fits).0
 
 pub loop-first-preserved : goal.loop-first-preserved
 loop-first-preserved c =
@@ -39,7 +42,8 @@ loop-first-preserved c =
       live =
           λ all. All-same (IsLive all) _ _ c.in_ok-add.ensures (All-push (IsLive all) _ _ (c.loop-first.invariant.live all) (c.start_value.ensures.live all));
       fits =
-          (first_fits (is_global (length t.strings) (length t.records) (length t.procs)) c.in-Some.first.now c.in-Some.others.now c.loop-first.rest.now c.in-Some.ensures.cases.0 c.loop-first.invariant.fits).1;
+          (first_fits (is_global (length t.strings) (length t.records) (length t.procs)) c.in-Some.first.now c.in-Some.others.now c.loop-first.rest.now
+          c.in-Some.ensures.cases.0 c.loop-first.invariant.fits).1;
     }
 
 pub returns-clause-values : goal.returns-clause-values

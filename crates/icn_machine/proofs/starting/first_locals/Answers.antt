@@ -19,8 +19,11 @@ returns-in_err-frames-clause-step g c =
     c.from_residual.ensures.1 tt
 
 pub list_of-requires-clause-stack : goal.list_of-requires-clause-stack
-list_of-requires-clause-stack g c =
-    (any_tables, subst (λ (x : FlatStack). IsLiveStack any_tables (reach_of c.args.world.now []) x) (sym c.in_ok-frames.ensures) (bare_live (reach_of c.args.world.now [])))
+list_of-requires-clause-stack g c = (
+  any_tables,
+  subst (λ (x : FlatStack). IsLiveStack any_tables (reach_of c.args.world.now []) x) (sym c.in_ok-frames.ensures)
+      (bare_live (reach_of c.args.world.now [])),
+)
 
 pub list_of-requires-clause-vals : goal.list_of-requires-clause-vals
 list_of-requires-clause-vals g c = All-same (IsLive (extent_of c.args.world.now.heap)) _ _ c.deref.ensures.value c.requires.vals
@@ -29,8 +32,10 @@ pub returns-in_err-list-clause-step : goal.returns-in_err-list-clause-step
 returns-in_err-list-clause-step g c =
     begins_err c.from_residual-in_err-list.result (proc_of c.args.proc.now) c.args.world.now c.list_of.new.world c.args.vals.now.items c.args.vals.now.items
     c.in_err-list.field-0.0 c.from_residual-in_err-list.ensures.1
-    (list_stops (proc_of c.args.proc.now) c.args.world.now c.list_of.new.world c.in_ok-frames.frames.flat c.args.vals.now.items c.args.vals.now.items c.in_err-list.field-0.0 c.in_ok-frames.ensures
-    (makes_of c.args.world.now c.list_of.new.world c.in_ok-frames.frames.flat c.deref.result.now c.args.vals.now.items (Err c.in_err-list.field-0.0) c.deref.ensures.value c.in_err-list.ensures.made))
+    (list_stops (proc_of c.args.proc.now) c.args.world.now c.list_of.new.world c.in_ok-frames.frames.flat c.args.vals.now.items c.args.vals.now.items
+    c.in_err-list.field-0.0 c.in_ok-frames.ensures
+    (makes_of c.args.world.now c.list_of.new.world c.in_ok-frames.frames.flat c.deref.result.now c.args.vals.now.items (Err c.in_err-list.field-0.0)
+    c.deref.ensures.value c.in_err-list.ensures.made))
 
 pub returns-in_err-keep_one-clause-step : goal.returns-in_err-keep_one-clause-step
 returns-in_err-keep_one-clause-step g c =
@@ -41,8 +46,11 @@ pub take_parameters-requires-clause-count : goal.take_parameters-requires-clause
 take_parameters-requires-clause-count g c = c.requires.collects
 
 pub take_parameters-requires-clause-stack : goal.take_parameters-requires-clause-stack
-take_parameters-requires-clause-stack g c =
-    (any_tables, subst (λ (x : FlatStack). IsLiveStack any_tables (reach_of c.list_of.new.world []) x) (sym (c.list_of.ensures.same ∙ c.in_ok-frames.ensures)) (bare_live (reach_of c.list_of.new.world [])))
+take_parameters-requires-clause-stack g c = (
+  any_tables,
+  subst (λ (x : FlatStack). IsLiveStack any_tables (reach_of c.list_of.new.world []) x)
+      (sym (c.list_of.ensures.same ∙ c.in_ok-frames.ensures)) (bare_live (reach_of c.list_of.new.world [])),
+)
 
 pub take_parameters-requires-clause-vals : goal.take_parameters-requires-clause-vals
 take_parameters-requires-clause-vals g c =
@@ -56,7 +64,8 @@ returns-in_err-take_parameters-clause-step g c =
     let u = c.take_parameters.new.world in
     begins_err c.from_residual-in_err-take_parameters.result (proc_of c.args.proc.now) w u c.args.vals.now.items c.take_parameters.new.vals.items
     c.in_err-take_parameters.field-0.0 c.from_residual-in_err-take_parameters.ensures.1
-    (parameters_stop (proc_of c.args.proc.now) w v u c.in_ok-frames.frames.flat c.list_of.new.frames.flat c.args.vals.now.items c.keep_one.new.vals.items c.take_parameters.new.vals.items c.take_parameters.new.vals.items
+    (parameters_stop (proc_of c.args.proc.now) w v u c.in_ok-frames.frames.flat c.list_of.new.frames.flat c.args.vals.now.items
+    c.keep_one.new.vals.items c.take_parameters.new.vals.items c.take_parameters.new.vals.items
     c.in_ok-list.list c.in_err-take_parameters.field-0.0 c.in_ok-frames.ensures c.list_of.ensures.same c.in_ok-keep_one.ensures
     (makes_of w v c.in_ok-frames.frames.flat c.deref.result.now c.args.vals.now.items (Ok c.in_ok-list.list) c.deref.ensures.value c.in_ok-list.ensures.made)
     c.in_err-take_parameters.ensures.step

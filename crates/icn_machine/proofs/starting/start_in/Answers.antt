@@ -35,7 +35,8 @@ returns-clause-step g c outside =
     let t = tables_of c.args.code.now in
     let launch = launch_with c.args.words.now c.args.limits outside in
     starts_with_halt g.row.K.Denot t launch c.about_nothing.result _ c.about_nothing.ensures
-    (locals_stop g.row.K.Denot t launch c.args.main (proc_of c.args.proc.now) c.args.world c.first_locals.new.world c.args.vals.items c.first_locals.new.vals.items c.in-Err.stop c.requires.found c.requires.there c.requires.paid
+    (locals_stop g.row.K.Denot t launch c.args.main (proc_of c.args.proc.now) c.args.world c.first_locals.new.world c.args.vals.items
+    c.first_locals.new.vals.items c.in-Err.stop c.requires.found c.requires.there c.requires.paid
     c.requires.world c.requires.values c.in-Err.ensures.step)
 
 pub returns-in-Ok-machine_with-clause-step : goal.returns-in-Ok-machine_with-clause-step
@@ -46,8 +47,11 @@ returns-in-Ok-machine_with-clause-step g c outside =
     let locals = c.first_locals.new.vals.items in
     starts_as c.in-Ok-machine_with.m t launch c.args.main entry c.args.world c.args.vals.items locals (held.begin c.args.main locals 0) c.requires.found
     c.requires.there c.requires.paid c.requires.world c.requires.values
-    (subst (λ (u : World). BeginsWith {A = Unit} entry c.args.world c.args.vals.items u locals (Ok tt)) (sym c.in-Ok-machine_with.ensures.world) c.in-Ok.ensures.step) refl
-    (c.in-Ok-machine_with.ensures.table ∙ ap (λ (xs : List Val). first_table (held.begin c.args.main xs 0)) c.deref.ensures.value) c.in-Ok-machine_with.ensures.turns c.in-Ok-machine_with.ensures.begun
+    (subst (λ (u : World). BeginsWith {A = Unit} entry c.args.world c.args.vals.items u locals (Ok tt)) (sym c.in-Ok-machine_with.ensures.world)
+    c.in-Ok.ensures.step)
+    refl
+    (c.in-Ok-machine_with.ensures.table ∙ ap (λ (xs : List Val). first_table (held.begin c.args.main xs 0)) c.deref.ensures.value)
+    c.in-Ok-machine_with.ensures.turns c.in-Ok-machine_with.ensures.begun
 
 pub returns-in-Ok-machine_with-clause-sound : goal.returns-in-Ok-machine_with-clause-sound
 returns-in-Ok-machine_with-clause-sound g c =
@@ -59,9 +63,12 @@ returns-in-Ok-machine_with-clause-sound g c =
     let v = c.first_locals.new.world in
     let first : (heap_of c.args.world.heap).bounds ≡ limits_of c.args.limits = ap (λ (x : StoreWorld). x.heap.bounds) c.requires.world in
     let one : (heap_of c.args.world.heap).coexps ≡ 0 ∷ [] = ap (λ (x : StoreWorld). x.heap.coexps) c.requires.world in
-    start_sound c.in-Ok-machine_with.m t c.args.main locals (held.begin c.args.main locals 0) refl (c.in-Ok-machine_with.ensures.table ∙ ap (λ (xs : List Val). first_table (held.begin c.args.main xs 0)) c.deref.ensures.value)
-    c.in-Ok-machine_with.ensures.turns count (subst (λ (u : World). All (IsLive (extent_of u.heap)) locals) (sym c.in-Ok-machine_with.ensures.world) c.in-Ok.ensures.live)
-    (ap (λ (u : World). (heap_of u.heap).bounds) c.in-Ok-machine_with.ensures.world ∙ c.in-Ok.ensures.counts.bounds ∙ first ∙ ap limits_of (sym c.in-Ok-machine_with.ensures.limits))
+    start_sound c.in-Ok-machine_with.m t c.args.main locals (held.begin c.args.main locals 0) refl
+    (c.in-Ok-machine_with.ensures.table ∙ ap (λ (xs : List Val). first_table (held.begin c.args.main xs 0)) c.deref.ensures.value)
+    c.in-Ok-machine_with.ensures.turns count
+    (subst (λ (u : World). All (IsLive (extent_of u.heap)) locals) (sym c.in-Ok-machine_with.ensures.world) c.in-Ok.ensures.live)
+    (ap (λ (u : World). (heap_of u.heap).bounds) c.in-Ok-machine_with.ensures.world ∙ c.in-Ok.ensures.counts.bounds ∙ first ∙ ap limits_of
+    (sym c.in-Ok-machine_with.ensures.limits))
     (ap (λ (u : World). (heap_of u.heap).coexps) c.in-Ok-machine_with.ensures.world ∙ c.in-Ok.ensures.counts.coexps ∙ one)
 
 pub returns-in-Ok-machine_with-clause-stack : goal.returns-in-Ok-machine_with-clause-stack

@@ -23,7 +23,9 @@ pub returns-in_err-text-clause-step : goal.returns-in_err-text-clause-step
 returns-in_err-text-clause-step c =
     word_refused c.from_residual.result (heap_of c.args.heap.now) (heap_of c.loop-word.heap) (heap_of c.build.new.self) c.as_bytes.result.now
     (map string_bytes c.in-Some.others.now) (map string_bytes c.loop-word.rest.now)
-    (map string_bytes c.args.words.now) c.in_err-text.field-0.0 c.from_residual.ensures.1 (ap (map string_bytes) c.in-Some.ensures.cases.0 ∙ ap (λ (w : List ℕ). w ∷ map string_bytes c.in-Some.others.now) (sym c.as_bytes.ensures.value)) c.in_err-text.ensures.step c.loop-word.invariant.charged
+    (map string_bytes c.args.words.now) c.in_err-text.field-0.0 c.from_residual.ensures.1
+    (ap (map string_bytes) c.in-Some.ensures.cases.0 ∙ ap (λ (w : List ℕ). w ∷ map string_bytes c.in-Some.others.now) (sym c.as_bytes.ensures.value))
+    c.in_err-text.ensures.step c.loop-word.invariant.charged
 
 pub returns-in_err-add-clause-step : goal.returns-in_err-add-clause-step
 returns-in_err-add-clause-step c =
@@ -36,15 +38,19 @@ loop-word-preserved c =
     let new = extent_of c.build.new.self in
     record {
       live =
-          All-same (IsLive new) _ _ c.in_ok-add.ensures (All-push (IsLive new) _ _ (locals_grow old new c.loop-word.vals.items c.build.ensures.kept c.loop-word.invariant.live) (record { live = c.in_ok-text.ensures.live }));
+          All-same (IsLive new) _ _ c.in_ok-add.ensures
+          (All-push (IsLive new) _ _ (locals_grow old new c.loop-word.vals.items c.build.ensures.kept c.loop-word.invariant.live)
+          (record { live = c.in_ok-text.ensures.live }));
       values =
           one_word old new c.loop-word.vals.items c.add.new.vals.items c.in_ok-text.text c.as_bytes.result.now (map string_bytes c.in-Some.others.now)
           (map string_bytes c.loop-word.rest.now) (map string_bytes c.args.words.now)
-          (ap (map string_bytes) c.in-Some.ensures.cases.0 ∙ ap (λ (w : List ℕ). w ∷ map string_bytes c.in-Some.others.now) (sym c.as_bytes.ensures.value)) c.in_ok-add.ensures c.build.ensures.kept c.loop-word.invariant.live c.in_ok-text.ensures.bytes c.loop-word.invariant.values;
+          (ap (map string_bytes) c.in-Some.ensures.cases.0 ∙ ap (λ (w : List ℕ). w ∷ map string_bytes c.in-Some.others.now) (sym c.as_bytes.ensures.value))
+          c.in_ok-add.ensures c.build.ensures.kept c.loop-word.invariant.live c.in_ok-text.ensures.bytes c.loop-word.invariant.values;
       charged =
           one_word_charged (heap_of c.args.heap.now) (heap_of c.loop-word.heap) (heap_of c.build.new.self) c.as_bytes.result.now
           (map string_bytes c.in-Some.others.now) (map string_bytes c.loop-word.rest.now) (map string_bytes c.args.words.now)
-          (ap (map string_bytes) c.in-Some.ensures.cases.0 ∙ ap (λ (w : List ℕ). w ∷ map string_bytes c.in-Some.others.now) (sym c.as_bytes.ensures.value)) c.in_ok-text.ensures.step c.loop-word.invariant.charged;
+          (ap (map string_bytes) c.in-Some.ensures.cases.0 ∙ ap (λ (w : List ℕ). w ∷ map string_bytes c.in-Some.others.now) (sym c.as_bytes.ensures.value))
+          c.in_ok-text.ensures.step c.loop-word.invariant.charged;
     }
 
 pub returns-clause-values : goal.returns-clause-values

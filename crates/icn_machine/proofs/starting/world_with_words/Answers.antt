@@ -23,7 +23,8 @@ pub returns-in_err-vals-clause-step : goal.returns-in_err-vals-clause-step
 returns-in_err-vals-clause-step c =
     words_fit_err c.from_residual-in_err-vals.result (limits_of c.args.limits) (map string_bytes c.args.words.now) c.in_err-vals.field-0.0
     c.from_residual-in_err-vals.ensures.1
-    (words_fit Unit Unit (heap_of c.in_ok-heap.heap) (heap_of c.word_values.new.heap) (limits_of c.args.limits) (map string_bytes c.args.words.now) c.in_err-vals.field-0.0 c.in_ok-heap.ensures c.in_err-vals.ensures.step)
+    (words_fit Unit Unit (heap_of c.in_ok-heap.heap) (heap_of c.word_values.new.heap) (limits_of c.args.limits) (map string_bytes c.args.words.now)
+    c.in_err-vals.field-0.0 c.in_ok-heap.ensures c.in_err-vals.ensures.step)
 
 pub returns-in_err-globals-clause-step : goal.returns-in_err-globals-clause-step
 returns-in_err-globals-clause-step c =

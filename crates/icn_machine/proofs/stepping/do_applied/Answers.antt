@@ -77,12 +77,18 @@ pub appl-requires-clause-operands : goal.appl-requires-clause-operands
 appl-requires-clause-operands g c = appl_operands (tables_of c.args.code.now) c.args.m.now c.args.instr c.in-Appl.is c.requires.doing
 
 pub returns-in-Op-clause-step : goal.returns-in-Op-clause-step
-returns-in-Op-clause-step g c = applied_performs (tables_of c.args.code.now) c.args.m.now c.operate.new.m c.args.instr (Instrs.Op c.in-Op.op) _ _ c.operate.result c.in-Op.is (c.operate.ensures.step (tables_of c.args.code.now) (sym c.requires.known))
+returns-in-Op-clause-step g c =
+    applied_performs (tables_of c.args.code.now) c.args.m.now c.operate.new.m c.args.instr (Instrs.Op c.in-Op.op) _ _ c.operate.result c.in-Op.is
+    (c.operate.ensures.step (tables_of c.args.code.now) (sym c.requires.known))
 
 pub returns-in-Op-clause-ready : goal.returns-in-Op-clause-ready
 returns-in-Op-clause-ready g c =
-    done_ready (tables_of c.args.code.now) c.steps_keep_names.ensures.kept c.steps_keep_sizes.ensures.kept c.args.m.now c.operate.new.m c.args.instr c.operate.result (calls_as c.args.instr (Instrs.Op c.in-Op.op) c.in-Op.is (λ h. h)) c.requires.doing
-    (lands_by (tables_of c.args.code.now) (λ o. does (tables_of c.args.code.now) o c.args.instr c.args.m.now) _ c.operate.new.m _ c.operate.result (applied_performs (tables_of c.args.code.now) c.args.m.now c.operate.new.m c.args.instr (Instrs.Op c.in-Op.op) _ _ c.operate.result c.in-Op.is (c.operate.ensures.step (tables_of c.args.code.now) (sym c.requires.known)))) (c.operate.ensures.sound (tables_of c.args.code.now) c.requires.doing.sound) c.operate.ensures.stack
+    done_ready (tables_of c.args.code.now) c.steps_keep_names.ensures.kept c.steps_keep_sizes.ensures.kept c.args.m.now c.operate.new.m c.args.instr
+    c.operate.result (calls_as c.args.instr (Instrs.Op c.in-Op.op) c.in-Op.is (λ h. h)) c.requires.doing
+    (lands_by (tables_of c.args.code.now) (λ o. does (tables_of c.args.code.now) o c.args.instr
+    c.args.m.now) _ c.operate.new.m _ c.operate.result (applied_performs (tables_of c.args.code.now) c.args.m.now c.operate.new.m c.args.instr
+    (Instrs.Op c.in-Op.op) _ _ c.operate.result c.in-Op.is (c.operate.ensures.step (tables_of c.args.code.now) (sym c.requires.known))))
+    (c.operate.ensures.sound (tables_of c.args.code.now) c.requires.doing.sound) c.operate.ensures.stack
 
 pub returns-in-Op-clause-halt : goal.returns-in-Op-clause-halt
 returns-in-Op-clause-halt g c = c.operate.ensures.halt
@@ -91,12 +97,21 @@ pub returns-in-Op-clause-limits : goal.returns-in-Op-clause-limits
 returns-in-Op-clause-limits g c = c.operate.ensures.limits
 
 pub returns-in-Field-clause-step : goal.returns-in-Field-clause-step
-returns-in-Field-clause-step g c = applied_performs (tables_of c.args.code.now) c.args.m.now c.field.new.m c.args.instr (Instrs.Field c.in-Field.place) _ _ c.field.result c.in-Field.is (quietly_performs (tables_of c.args.code.now) (λ o. does (tables_of c.args.code.now) o (Instrs.Field c.in-Field.place) c.args.m.now) c.field.new.m _ c.field.result c.field.ensures.step)
+returns-in-Field-clause-step g c =
+    applied_performs (tables_of c.args.code.now) c.args.m.now c.field.new.m c.args.instr (Instrs.Field c.in-Field.place) _ _ c.field.result
+    c.in-Field.is
+    (quietly_performs (tables_of c.args.code.now) (λ o. does (tables_of c.args.code.now) o (Instrs.Field c.in-Field.place) c.args.m.now) c.field.new.m
+    _ c.field.result c.field.ensures.step)
 
 pub returns-in-Field-clause-ready : goal.returns-in-Field-clause-ready
 returns-in-Field-clause-ready g c =
-    done_ready (tables_of c.args.code.now) c.steps_keep_names.ensures.kept c.steps_keep_sizes.ensures.kept c.args.m.now c.field.new.m c.args.instr c.field.result (calls_as c.args.instr (Instrs.Field c.in-Field.place) c.in-Field.is (λ h. h)) c.requires.doing
-    (lands_quietly_by (tables_of c.args.code.now) (λ o. does (tables_of c.args.code.now) o c.args.instr c.args.m.now) c.field.new.m c.field.result (λ o. subst (λ (x : Instr). ComesTo (tables_of c.args.code.now) o (does (tables_of c.args.code.now) o x c.args.m.now) c.field.new.m c.field.result) (sym c.in-Field.is) (c.field.ensures.step o))) (c.field.ensures.sound (tables_of c.args.code.now) c.requires.doing.sound) c.field.ensures.stack
+    done_ready (tables_of c.args.code.now) c.steps_keep_names.ensures.kept c.steps_keep_sizes.ensures.kept c.args.m.now c.field.new.m c.args.instr
+    c.field.result (calls_as c.args.instr (Instrs.Field c.in-Field.place) c.in-Field.is (λ h. h)) c.requires.doing
+    (lands_quietly_by (tables_of c.args.code.now) (λ o. does (tables_of c.args.code.now) o c.args.instr
+    c.args.m.now) c.field.new.m c.field.result (λ o.
+    subst (λ (x : Instr). ComesTo (tables_of c.args.code.now) o (does (tables_of c.args.code.now) o x c.args.m.now) c.field.new.m c.field.result)
+    (sym c.in-Field.is) (c.field.ensures.step o)))
+    (c.field.ensures.sound (tables_of c.args.code.now) c.requires.doing.sound) c.field.ensures.stack
 
 pub returns-in-Field-clause-halt : goal.returns-in-Field-clause-halt
 returns-in-Field-clause-halt g c = c.field.ensures.halt
@@ -105,11 +120,16 @@ pub returns-in-Field-clause-limits : goal.returns-in-Field-clause-limits
 returns-in-Field-clause-limits g c = c.field.ensures.limits
 
 pub returns-in-Invoke-clause-step : goal.returns-in-Invoke-clause-step
-returns-in-Invoke-clause-step g c = applied_performs (tables_of c.args.code.now) c.args.m.now c.invoke.new.m c.args.instr (Instrs.Invoke c.in-Invoke.count) _ _ c.invoke.result c.in-Invoke.is (c.invoke.ensures.step)
+returns-in-Invoke-clause-step g c =
+    applied_performs (tables_of c.args.code.now) c.args.m.now c.invoke.new.m c.args.instr (Instrs.Invoke c.in-Invoke.count) _ _ c.invoke.result
+    c.in-Invoke.is (c.invoke.ensures.step)
 
 pub returns-in-Invoke-clause-ready : goal.returns-in-Invoke-clause-ready
 returns-in-Invoke-clause-ready g c =
-    called_ready _ (tables_of c.args.code.now) c.args.m.now c.invoke.new.m c.args.instr (Instrs.Invoke c.in-Invoke.count) c.invoke.result c.requires.known c.in-Invoke.is c.requires.doing (lands_by (tables_of c.args.code.now) (λ o. does (tables_of c.args.code.now) o (Instrs.Invoke c.in-Invoke.count) c.args.m.now) _ c.invoke.new.m _ c.invoke.result c.invoke.ensures.step)
+    called_ready _ (tables_of c.args.code.now) c.args.m.now c.invoke.new.m c.args.instr (Instrs.Invoke c.in-Invoke.count) c.invoke.result
+    c.requires.known c.in-Invoke.is c.requires.doing
+    (lands_by (tables_of c.args.code.now) (λ o. does (tables_of c.args.code.now) o (Instrs.Invoke c.in-Invoke.count) c.args.m.now) _ c.invoke.new.m _
+    c.invoke.result c.invoke.ensures.step)
     (c.invoke.ensures.sound c.requires.doing.sound) c.invoke.ensures.stack c.invoke.ensures.named c.invoke.ensures.store_named c.invoke.ensures.sized
 
 pub returns-in-Invoke-clause-halt : goal.returns-in-Invoke-clause-halt
@@ -119,11 +139,14 @@ pub returns-in-Invoke-clause-limits : goal.returns-in-Invoke-clause-limits
 returns-in-Invoke-clause-limits g c = c.invoke.ensures.limits
 
 pub returns-in-Appl-clause-step : goal.returns-in-Appl-clause-step
-returns-in-Appl-clause-step g c = applied_performs (tables_of c.args.code.now) c.args.m.now c.appl.new.m c.args.instr Instrs.Appl _ _ c.appl.result c.in-Appl.is (c.appl.ensures.step)
+returns-in-Appl-clause-step g c =
+    applied_performs (tables_of c.args.code.now) c.args.m.now c.appl.new.m c.args.instr Instrs.Appl _ _ c.appl.result c.in-Appl.is (c.appl.ensures.step)
 
 pub returns-in-Appl-clause-ready : goal.returns-in-Appl-clause-ready
 returns-in-Appl-clause-ready g c =
-    called_ready _ (tables_of c.args.code.now) c.args.m.now c.appl.new.m c.args.instr Instrs.Appl c.appl.result c.requires.known c.in-Appl.is c.requires.doing (lands_by (tables_of c.args.code.now) (λ o. does (tables_of c.args.code.now) o Instrs.Appl c.args.m.now) _ c.appl.new.m _ c.appl.result c.appl.ensures.step)
+    called_ready _ (tables_of c.args.code.now) c.args.m.now c.appl.new.m c.args.instr Instrs.Appl c.appl.result c.requires.known c.in-Appl.is
+    c.requires.doing
+    (lands_by (tables_of c.args.code.now) (λ o. does (tables_of c.args.code.now) o Instrs.Appl c.args.m.now) _ c.appl.new.m _ c.appl.result c.appl.ensures.step)
     (c.appl.ensures.sound c.requires.doing.sound) c.appl.ensures.stack c.appl.ensures.named c.appl.ensures.store_named c.appl.ensures.sized
 
 pub returns-in-Appl-clause-halt : goal.returns-in-Appl-clause-halt

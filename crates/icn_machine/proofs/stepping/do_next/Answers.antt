@@ -21,7 +21,9 @@ pub do_applied-requires-clause-doing : goal.do_applied-requires-clause-doing
 do_applied-requires-clause-doing g c = c.next_instr-instr.ensures.doing
 
 pub returns-then-is_applied-clause-steps : goal.returns-then-is_applied-clause-steps
-returns-then-is_applied-clause-steps g c = next_step (tables_of c.args.code.now) c.args.m.now c.next_instr-instr.new.m c.next_instr-instr.result _ c.do_applied.new.m _ c.do_applied.result c.next_instr-instr.ensures.step c.do_applied.ensures.step
+returns-then-is_applied-clause-steps g c =
+    next_step (tables_of c.args.code.now) c.args.m.now c.next_instr-instr.new.m c.next_instr-instr.result _ c.do_applied.new.m _ c.do_applied.result
+    c.next_instr-instr.ensures.step c.do_applied.ensures.step
 
 pub returns-then-is_applied-clause-ready : goal.returns-then-is_applied-clause-ready
 returns-then-is_applied-clause-ready g c = c.do_applied.ensures.ready
@@ -29,7 +31,8 @@ returns-then-is_applied-clause-ready g c = c.do_applied.ensures.ready
 pub returns-then-is_applied-clause-whole : goal.returns-then-is_applied-clause-whole
 returns-then-is_applied-clause-whole g c instr at whole =
     let same : instr ≡ c.next_instr-instr.result = same_Some _ _ (sym at ∙ c.next_instr-instr.ensures.instr) in
-    absurd (whole_applies_none c.next_instr-instr.result (subst (λ (x : Instr). is_whole x ≡ true) same whole) (sym c.is_applied.ensures ∙ c.if-is_applied.true))
+    absurd (whole_applies_none c.next_instr-instr.result (subst (λ (x : Instr). is_whole x ≡ true) same whole)
+    (sym c.is_applied.ensures ∙ c.if-is_applied.true))
 
 pub returns-then-is_applied-clause-halt : goal.returns-then-is_applied-clause-halt
 returns-then-is_applied-clause-halt g c = c.do_applied.ensures.halt
@@ -45,7 +48,10 @@ do_plain-requires-clause-doing g c = c.next_instr-instr.ensures.doing
 
 pub returns-clause-steps : goal.returns-clause-steps
 returns-clause-steps g c =
-    next_step (tables_of c.args.code.now) c.args.m.now c.next_instr-instr.new.m c.next_instr-instr.result _ c.do_plain.new.m _ c.do_plain.result c.next_instr-instr.ensures.step (quietly_performs (tables_of c.args.code.now) (λ o. does (tables_of c.args.code.now) o c.next_instr-instr.result c.next_instr-instr.new.m) c.do_plain.new.m _ c.do_plain.result c.do_plain.ensures.step)
+    next_step (tables_of c.args.code.now) c.args.m.now c.next_instr-instr.new.m c.next_instr-instr.result _ c.do_plain.new.m _ c.do_plain.result
+    c.next_instr-instr.ensures.step
+    (quietly_performs (tables_of c.args.code.now) (λ o. does (tables_of c.args.code.now) o c.next_instr-instr.result c.next_instr-instr.new.m)
+    c.do_plain.new.m _ c.do_plain.result c.do_plain.ensures.step)
 
 pub returns-clause-ready : goal.returns-clause-ready
 returns-clause-ready g c = c.do_plain.ensures.ready

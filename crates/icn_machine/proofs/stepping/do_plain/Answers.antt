@@ -32,11 +32,16 @@ returns-clause-step g c = c.do_instruction.ensures.step
 
 pub returns-clause-ready : goal.returns-clause-ready
 returns-clause-ready g c =
-    done_ready (tables_of c.args.code.now) c.steps_keep_names.ensures.kept c.steps_keep_sizes.ensures.kept c.args.m.now c.do_instruction.new.m c.args.instr c.do_instruction.result (calls_none c.args.instr c.requires.applied) c.requires.doing
-    (lands_quietly_by (tables_of c.args.code.now) (λ o. does (tables_of c.args.code.now) o c.args.instr c.args.m.now) c.do_instruction.new.m c.do_instruction.result c.do_instruction.ensures.step) c.do_instruction.ensures.sound c.do_instruction.ensures.stack
+    done_ready (tables_of c.args.code.now) c.steps_keep_names.ensures.kept c.steps_keep_sizes.ensures.kept c.args.m.now c.do_instruction.new.m
+    c.args.instr c.do_instruction.result (calls_none c.args.instr c.requires.applied) c.requires.doing
+    (lands_quietly_by (tables_of c.args.code.now) (λ o. does (tables_of c.args.code.now) o c.args.instr c.args.m.now) c.do_instruction.new.m
+    c.do_instruction.result c.do_instruction.ensures.step)
+    c.do_instruction.ensures.sound c.do_instruction.ensures.stack
 
 pub returns-clause-whole : goal.returns-clause-whole
-returns-clause-whole g c whole = whole_done (tables_of c.args.code.now) c.args.m.now c.do_instruction.new.m c.args.instr c.do_instruction.result whole c.do_instruction.ensures.step c.do_instruction.ensures.no_memory
+returns-clause-whole g c whole =
+    whole_done (tables_of c.args.code.now) c.args.m.now c.do_instruction.new.m c.args.instr c.do_instruction.result whole c.do_instruction.ensures.step
+    c.do_instruction.ensures.no_memory
 
 pub returns-clause-halt : goal.returns-clause-halt
 returns-clause-halt g c = c.do_instruction.ensures.halt

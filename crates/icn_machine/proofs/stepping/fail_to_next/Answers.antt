@@ -8,7 +8,9 @@ pub fail_through-requires : goal.fail_through-requires
 fail_through-requires g c = record { ready = ((tables_of c.args.code.now), (sym c.requires.known, c.requires.ready)) }
 
 pub returns-in_err-stage-clause-steps : goal.returns-in_err-stage-clause-steps
-returns-in_err-stage-clause-steps g c = staged_err (tables_of c.args.code.now) c.args.m.now c.args.from _ c.fail_through.new.m _ c.in_err-stage.field-0.0 c.from_residual.result c.from_residual.ensures.1 (c.in_err-stage.ensures.steps (tables_of c.args.code.now) (sym c.requires.known) c.requires.ready)
+returns-in_err-stage-clause-steps g c =
+    staged_err (tables_of c.args.code.now) c.args.m.now c.args.from _ c.fail_through.new.m _ c.in_err-stage.field-0.0 c.from_residual.result
+    c.from_residual.ensures.1 (c.in_err-stage.ensures.steps (tables_of c.args.code.now) (sym c.requires.known) c.requires.ready)
 
 pub returns-in_err-stage-clause-ready : goal.returns-in_err-stage-clause-ready
 returns-in_err-stage-clause-ready g c = no_answer c.from_residual.result _ _ c.from_residual.ensures.1

@@ -22,28 +22,60 @@ take_instr-requires g c =
     let tables : Tables = (tables_of c.args.code.now) in
     let o : Outside = outside_of [] in
     let d = never_running tables c.args.m.now c.requires.ready.kept o in
-    record { there = instr_within tables _ c.frames.result.now.flat (store_seen tables o c.args.m.now) (subst (λ (x : Option FlatStack). step flat tables (running (stack_in (extent_of c.args.m.now.world.heap) (running_of x)) (store_seen tables o c.args.m.now)) ≢ stuck) c.frames.ensures.running d) }
+    record {
+      there = instr_within tables _ c.frames.result.now.flat (store_seen tables o c.args.m.now) (subst (λ (x : Option FlatStack). step flat
+          tables (running (stack_in (extent_of c.args.m.now.world.heap) (running_of x)) (store_seen tables o c.args.m.now))
+          ≢ stuck) c.frames.ensures.running d);
+    }
 
 pub returns-clause-instr : goal.returns-clause-instr
 returns-clause-instr g c =
     let m = c.args.m.now in
-    let after : Machine g.row.K.Denot = record { world = m.world; stacks = with_stack m.stacks c.take_instr.new.frames; turns = m.turns; begun = m.begun; limits = m.limits } in
-    let moves : Moves m after c.frames.result.now.flat = record { runs = c.frames.ensures.running; world = refl; turns = refl; begun = refl; limits = refl; table = ap (λ (x : FlatStack). record m.stacks.table { running = Some x }) c.take_instr.ensures.flat } in
+    let after : Machine g.row.K.Denot
+    = record { world = m.world; stacks = with_stack m.stacks c.take_instr.new.frames; turns = m.turns; begun = m.begun; limits = m.limits } in
+    let moves : Moves m after c.frames.result.now.flat
+    = record {
+      runs = c.frames.ensures.running;
+      world = refl;
+      turns = refl;
+      begun = refl;
+      limits = refl;
+      table = ap (λ (x : FlatStack). record m.stacks.table { running = Some x }) c.take_instr.ensures.flat;
+    } in
     instr_here m after c.frames.result.now.flat moves (tables_of c.args.code.now) c.take_instr.result c.take_instr.ensures.instr
 
 pub returns-clause-step : goal.returns-clause-step
 returns-clause-step g c outside =
     let m = c.args.m.now in
-    let after : Machine g.row.K.Denot = record { world = m.world; stacks = with_stack m.stacks c.take_instr.new.frames; turns = m.turns; begun = m.begun; limits = m.limits } in
-    let moves : Moves m after c.frames.result.now.flat = record { runs = c.frames.ensures.running; world = refl; turns = refl; begun = refl; limits = refl; table = ap (λ (x : FlatStack). record m.stacks.table { running = Some x }) c.take_instr.ensures.flat } in
+    let after : Machine g.row.K.Denot
+    = record { world = m.world; stacks = with_stack m.stacks c.take_instr.new.frames; turns = m.turns; begun = m.begun; limits = m.limits } in
+    let moves : Moves m after c.frames.result.now.flat
+    = record {
+      runs = c.frames.ensures.running;
+      world = refl;
+      turns = refl;
+      begun = refl;
+      limits = refl;
+      table = ap (λ (x : FlatStack). record m.stacks.table { running = Some x }) c.take_instr.ensures.flat;
+    } in
     step_here m after c.frames.result.now.flat moves (tables_of c.args.code.now) c.take_instr.result c.take_instr.ensures.instr outside
 
 pub returns-clause-doing : goal.returns-clause-doing
 returns-clause-doing g c =
     let m = c.args.m.now in
-    let after : Machine g.row.K.Denot = record { world = m.world; stacks = with_stack m.stacks c.take_instr.new.frames; turns = m.turns; begun = m.begun; limits = m.limits } in
-    let moves : Moves m after c.frames.result.now.flat = record { runs = c.frames.ensures.running; world = refl; turns = refl; begun = refl; limits = refl; table = ap (λ (x : FlatStack). record m.stacks.table { running = Some x }) c.take_instr.ensures.flat } in
-    doing_here m after c.frames.result.now.flat moves (tables_of c.args.code.now) c.take_instr.result c.take_instr.ensures.instr c.args.code.now.rules c.requires.ready
+    let after : Machine g.row.K.Denot
+    = record { world = m.world; stacks = with_stack m.stacks c.take_instr.new.frames; turns = m.turns; begun = m.begun; limits = m.limits } in
+    let moves : Moves m after c.frames.result.now.flat
+    = record {
+      runs = c.frames.ensures.running;
+      world = refl;
+      turns = refl;
+      begun = refl;
+      limits = refl;
+      table = ap (λ (x : FlatStack). record m.stacks.table { running = Some x }) c.take_instr.ensures.flat;
+    } in
+    doing_here m after c.frames.result.now.flat moves (tables_of c.args.code.now) c.take_instr.result c.take_instr.ensures.instr c.args.code.now.rules
+    c.requires.ready
 
 pub returns-clause-limits : goal.returns-clause-limits
 returns-clause-limits g c = refl

@@ -12,13 +12,16 @@ pub do_next-requires-clause-ready : goal.do_next-requires-clause-ready
 do_next-requires-clause-ready g c = c.requires.ready
 
 pub returns-in_err-stage-clause-steps : goal.returns-in_err-stage-clause-steps
-returns-in_err-stage-clause-steps g c = advanced_err (tables_of c.args.code.now) c.args.m.now Stages.Runs _ c.do_next.new.m _ c.in_err-stage.field-0.0 c.from_residual.result c.from_residual.ensures.1 c.in_err-stage.ensures.steps
+returns-in_err-stage-clause-steps g c =
+    advanced_err (tables_of c.args.code.now) c.args.m.now Stages.Runs _ c.do_next.new.m _ c.in_err-stage.field-0.0 c.from_residual.result
+    c.from_residual.ensures.1 c.in_err-stage.ensures.steps
 
 pub returns-in_err-stage-clause-ready : goal.returns-in_err-stage-clause-ready
 returns-in_err-stage-clause-ready g c = no_answer c.from_residual.result _ _ c.from_residual.ensures.1
 
 pub returns-in_err-stage-clause-no_memory : goal.returns-in_err-stage-clause-no_memory
-returns-in_err-stage-clause-no_memory g c instr at whole = err_memory c.in_err-stage.field-0.0 c.from_residual.result c.from_residual.ensures.1 (c.in_err-stage.ensures.whole instr at whole)
+returns-in_err-stage-clause-no_memory g c instr at whole =
+    err_memory c.in_err-stage.field-0.0 c.from_residual.result c.from_residual.ensures.1 (c.in_err-stage.ensures.whole instr at whole)
 
 pub returns-in_err-stage-clause-halt : goal.returns-in_err-stage-clause-halt
 returns-in_err-stage-clause-halt g c = an_error c.from_residual.result c.in_err-stage.field-0.0 _ c.from_residual.ensures.1 c.in_err-stage.ensures.halt
@@ -33,13 +36,16 @@ pub fail_to_next-requires-clause-ready : goal.fail_to_next-requires-clause-ready
 fail_to_next-requires-clause-ready g c = c.in_ok-stage.ensures.ready
 
 pub returns-then-is_failing-clause-steps : goal.returns-then-is_failing-clause-steps
-returns-then-is_failing-clause-steps g c = then_fails (tables_of c.args.code.now) c.args.m.now Stages.Runs _ c.do_next.new.m c.in_ok-stage.stage _ c.fail_to_next.new.m _ _ (failing_goes c.in_ok-stage.stage (sym c.is_failing.ensures ∙ c.if-is_failing.true)) c.in_ok-stage.ensures.steps c.fail_to_next.ensures.steps
+returns-then-is_failing-clause-steps g c =
+    then_fails (tables_of c.args.code.now) c.args.m.now Stages.Runs _ c.do_next.new.m c.in_ok-stage.stage _ c.fail_to_next.new.m _ _
+    (failing_goes c.in_ok-stage.stage (sym c.is_failing.ensures ∙ c.if-is_failing.true)) c.in_ok-stage.ensures.steps c.fail_to_next.ensures.steps
 
 pub returns-then-is_failing-clause-ready : goal.returns-then-is_failing-clause-ready
 returns-then-is_failing-clause-ready g c = c.fail_to_next.ensures.ready
 
 pub returns-then-is_failing-clause-no_memory : goal.returns-then-is_failing-clause-no_memory
-returns-then-is_failing-clause-no_memory g c instr at whole = let bad : true ≡ false = sym (sym c.is_failing.ensures ∙ c.if-is_failing.true) ∙ c.in_ok-stage.ensures.whole instr at whole in absurd (cc)
+returns-then-is_failing-clause-no_memory g c instr at whole =
+    let bad : true ≡ false = sym (sym c.is_failing.ensures ∙ c.if-is_failing.true) ∙ c.in_ok-stage.ensures.whole instr at whole in absurd (cc)
 
 pub returns-then-is_failing-clause-halt : goal.returns-then-is_failing-clause-halt
 returns-then-is_failing-clause-halt g c = c.fail_to_next.ensures.halt
