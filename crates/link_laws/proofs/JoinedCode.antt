@@ -1,4 +1,4 @@
--- The linked code of the unit of a file that breaks no rule is the code of its declarations, table by table.
+-- The linked code of the units of files that break no rule is the code of their declarations, table by table.
 use Rattle.std.proofs.Common.{◌≡◌, ℕ, zero, suc, ◌+◌, ◌-◌, Bool, true, false, ◌&&◌, List, [], ◌∷◌, ◌++◌, length, map, filter, cond, not, Option, None, Some, refl, sym, ap, ◌∙◌, subst, append-nil, if◌then◌else◌, arith}
 use Rattle.std.specs.Prelude.{All}
 use Rattle.std.specs.List.{flat_map, list_all, list_any}
@@ -25,7 +25,8 @@ use Rattle.icn_link.specs.Joined as Linked
 use Rattle.icn_link.specs.Joined.{records_in, proc_entry, cset_of, joined_of, scope_of}
 use Rattle.icn_link.specs.Mentions.{Mentioned, mentioned, mention_of, mentioned_in, mentioned_by, set_in, global_in, record_names, declared}
 use Rattle.icn_link.specs.Mentions as Mentions
-use Rattle.icn_meaning.specs.Program.{texts, has_name, global_names, procedures_of, kinds_of, kind_names, routine_names, routine_of, routines_of, function_named, globals_of, statics_among, place_of, later}
+use Rattle.icn_link.specs.Units.{all_decls, all_procs}
+use Rattle.icn_meaning.specs.Program.{joined, texts, has_name, global_names, procedures_of, kinds_of, kind_names, routine_names, routine_of, routines_of, function_named, globals_of, statics_among, place_of, later}
 use Rattle.icn_run.specs.Step.{members_of}
 use Rattle.icn_simulation.specs.Faultless.{IsFaultless}
 use Rattle.icn_simulation.specs.Joined as Law
@@ -33,13 +34,14 @@ use Rattle.icn_simulation.specs.Joined.{IsCodeOf, Joined, code_with, names_in, r
 use Rattle.icn_simulation.specs.Mentions.{firsts}
 use Rattle.icn_simulation.proofs.Checked.{Each, IsSoundProcedure, sound_files}
 use Rattle.icn_translate.specs.Drafts.{name_place}
-use Rattle.icn_translate.specs.FileUnits.{proc_codes, item_text, lines_in, unit_decls, translated_unit}
+use Rattle.icn_translate.specs.FileUnits.{codes_in, proc_codes, item_text, lines_in, unit_decls, translated_unit}
 use Rattle.icn_translate.specs.ProcCodes.{texts_of, drafted, proc_code}
 use Rattle.icn_units.specs.Written.{file_fits, declaration_fits, procedure_fits, collects_fits, operand_fits}
 use Rattle.icn_units.proofs.CodeTexts.{code_operands_fit}
 use Rattle.icn_units.proofs.FileNames.{first_faultless, others_faultless}
 use Rattle.icn_units.proofs.WrittenFiles.{spelled_fits}
 use Rattle.icn_units.proofs.WrittenTrees.{first_of, second_of, both}
+use Rattle.link_laws.specs.TranslatedUnits.{translated_units}
 use Rattle.link_laws.proofs.CodeLaw.{code_is}
 use Rattle.link_laws.proofs.CodeNames.{AgreeOn}
 use Rattle.link_laws.proofs.FileTables.{Fit, codes_same, globals_same, records_same, procedures_same, function_same, table_globals, table_fields, table_integers, table_sets, table_strings}
@@ -276,20 +278,68 @@ faultless_fit file h = file_fit none_met file h.context
 written : (file : List Declaration) → IsFaultless file → file_fits file ≡ true
 written file h = ∥∥₁_elim h.spelled (hlevel Bool-set) (λ s. spelled_fits file s)
 
-file_joins : (file : List Declaration) → IsFaultless file → IsCodeOf file (joined_of (unit_decls file) (proc_codes file))
-file_joins file h =
-    let fit = faultless_fit file h in
-    let mentions = mentioned_by set_in (proc_codes file) in
+-- Files that break no rule
+
+fit_both : (file others : List Declaration) → Fit (procedures_of file) → Fit (procedures_of others) → Fit (procedures_of (file ++ others))
+fit_both [] others h g = g
+fit_both (Global place names ∷ rest) others h g = fit_both rest others h g
+fit_both (Link place items ∷ rest) others h g = fit_both rest others h g
+fit_both (Invocable place items ∷ rest) others h g = fit_both rest others h g
+fit_both (Record place name fields ∷ rest) others h g = fit_both rest others h g
+fit_both (ProcedureOf p ∷ rest) others h g = (h.0, fit_both rest others h.1 g)
+
+files_fit : (files : List (List Declaration)) → All IsFaultless files → Fit (procedures_of (joined files))
+files_fit [] h = tt
+files_fit (file ∷ files) h =
+    fit_both file (joined files) (faultless_fit file (h 0 file (omega arith))) (files_fit files (λ k d l. h (suc k) d (omega arith)))
+
+files_sets : (files : List (List Declaration)) → All IsFaultless files
+    → list_all set_fits (mentioned_by set_in (proc_codes (joined files))) ≡ true
+files_sets [] h = refl
+files_sets (file ∷ files) h =
+    let first = h 0 file (omega arith) in
+    ap (list_all set_fits) (ap (mentioned_by set_in) (flat_map-append codes_in file (joined files))
+    ∙ flat_map-append (mentioned_in set_in) (proc_codes file) (proc_codes (joined files)))
+    ∙ list_all-append set_fits (mentioned_by set_in (proc_codes file)) (mentioned_by set_in (proc_codes (joined files)))
+    ∙ both (file_sets none_met file first.context (written file first)) (files_sets files (λ k d l. h (suc k) d (omega arith)))
+
+files_join : (files : List (List Declaration)) → All IsFaultless files
+    → IsCodeOf (joined files) (joined_of (unit_decls (joined files)) (proc_codes (joined files)))
+files_join files h =
+    let fit = files_fit files h in
+    let mentions = mentioned_by set_in (proc_codes (joined files)) in
     record {
       csets = sets_back (with_texts [] mentions)
-          (ap (list_all set_fits) (texts_firsts mentions) ∙ firsts_fit set_fits mentions (file_sets none_met file h.context (written file h)))
-          ∙ table_sets file fit;
-      others = tables_same file fit;
+          (ap (list_all set_fits) (texts_firsts mentions) ∙ firsts_fit set_fits mentions (files_sets files h))
+          ∙ table_sets (joined files) fit;
+      others = tables_same (joined files) fit;
     }
 
+-- Their units
+
+decls_joined : (names : List (List ℕ)) (files : List (List Declaration)) → length names ≡ length files
+    → all_decls (translated_units names files) ≡ unit_decls (joined files)
+decls_joined [] [] e = refl
+decls_joined [] (file ∷ files) e = absurd (omega (arith, e))
+decls_joined (name ∷ names) [] e = absurd (omega (arith, e))
+decls_joined (name ∷ names) (file ∷ files) e =
+    ap (λ l. unit_decls file ++ l) (decls_joined names files (omega (arith, e))) ∙ sym (flat_map-append lines_in file (joined files))
+
+procs_joined : (names : List (List ℕ)) (files : List (List Declaration)) → length names ≡ length files
+    → all_procs (translated_units names files) ≡ proc_codes (joined files)
+procs_joined [] [] e = refl
+procs_joined [] (file ∷ files) e = absurd (omega (arith, e))
+procs_joined (name ∷ names) [] e = absurd (omega (arith, e))
+procs_joined (name ∷ names) (file ∷ files) e =
+    ap (λ l. proc_codes file ++ l) (procs_joined names files (omega (arith, e))) ∙ sym (flat_map-append codes_in file (joined files))
+
+pub units_join : (names : List (List ℕ)) (files : List (List Declaration)) → length names ≡ length files → All IsFaultless files
+    → Joined files (Linked.joined (translated_units names files))
+units_join names files same h =
+    let decls = decls_joined names files same in
+    let procs = procs_joined names files same in
+    subst (λ (tables : Tables). IsCodeOf (joined files) tables) (λ i. joined_of (sym decls i) (sym procs i)) (files_join files h)
+
+-- one file
 pub unit_joins : (name : List ℕ) (file : List Declaration) → IsFaultless file → Joined (file ∷ []) (Linked.joined (translated_unit name file ∷ []))
-unit_joins name file h =
-    let one : IsCodeOf file (Linked.joined (translated_unit name file ∷ [])) =
-    subst (λ (tables : Tables). IsCodeOf file tables)
-    (λ i. joined_of (sym (append-nil (unit_decls file)) i) (sym (append-nil (proc_codes file)) i)) (file_joins file h) in
-    subst (λ (declarations : List Declaration). IsCodeOf declarations (Linked.joined (translated_unit name file ∷ []))) (sym (append-nil file)) one
+unit_joins name file h = units_join (name ∷ []) (file ∷ []) refl (single file h)

@@ -1,10 +1,19 @@
-// What is linked from the unit of a file.
-ghost use Rattle.std.specs.Prelude.{ℕ, List, [], ◌∷◌};
+// What is linked from the units of files.
+ghost use Rattle.std.specs.Prelude.{◌≡◌, ℕ, All, List, [], ◌∷◌, length};
 ghost use Rattle.icn_tree.specs.Trees.{Declaration};
 ghost use Rattle.icn_translate.specs.FileUnits.{translated_unit};
 ghost use Rattle.icn_link.specs.Joined.{joined};
 ghost use Rattle.icn_simulation.specs.Faultless.{IsFaultless};
 ghost use Rattle.icn_simulation.specs.Joined.{Joined};
+ghost use Rattle.link_laws.specs.TranslatedUnits.{translated_units};
+
+/// The linked code of files that break no rule, from their translated units in the same order, is the code of which the first law
+/// speaks. Nothing is asked of the names but that there are as many as files, and nothing of what the linker refuses: a name that two
+/// files declare is resolved alike on both sides.
+pub fn translations_join()
+    ensures { (names : List (List ℕ)) (files : List (List Declaration)) → length names ≡ length files → All IsFaultless files
+        → Joined files (joined (translated_units names files)) }
+{}
 
 /// The linked code of a file that breaks no rule, from its translated unit, is the code of which the first law speaks.
 pub fn translated_units_join()

@@ -1,6 +1,6 @@
-//! What the linker makes of the translation of a file, and the code that the first law speaks of.
+//! What the linker makes of the translations of files, and the code that the first law speaks of.
 #![tactic(auto)]
 
 mod laws;
 
-pub use laws::translated_units_join;
+pub use laws::{translated_units_join, translations_join};
