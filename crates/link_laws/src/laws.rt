@@ -1,11 +1,15 @@
 // What is linked from the units of files.
-ghost use Rattle.std.specs.Prelude.{◌≡◌, ℕ, All, List, [], ◌∷◌, length};
+ghost use Rattle.std.specs.Prelude.{◌≡◌, ◌↔◌, ℕ, All, List, [], ◌∷◌, length};
 ghost use Rattle.icn_tree.specs.Trees.{Declaration};
 ghost use Rattle.icn_translate.specs.FileUnits.{translated_unit};
+ghost use Rattle.icn_defs.specs.Running.{Launch, Observed};
 ghost use Rattle.icn_link.specs.Joined.{joined};
 ghost use Rattle.icn_simulation.specs.Faultless.{IsFaultless};
 ghost use Rattle.icn_simulation.specs.Joined.{Joined};
+ghost use Rattle.icn_simulation.specs.Law.{FilesMean, RunsLinked, RunsFlat};
 ghost use Rattle.link_laws.specs.TranslatedUnits.{translated_units};
+
+use icn_simulation::same_ends;
 
 /// The linked code of files that break no rule, from their translated units in the same order, is the code of which the first law
 /// speaks. Nothing is asked of the names but that there are as many as files, and nothing of what the linker refuses: a name that two
@@ -14,6 +18,21 @@ pub fn translations_join()
     ensures { (names : List (List ℕ)) (files : List (List Declaration)) → length names ≡ length files → All IsFaultless files
         → Joined files (joined (translated_units names files)) }
 {}
+
+/// So files that break no rule mean, with some words, limits and input, what the linked code of their units comes to: how it ends,
+/// with its report, what is put on both outputs, the input that is left, and the readings that were made. On linked marks, and on
+/// the flat stacks that a machine has.
+pub fn translations_run()
+    ensures on_marks { (names : List (List ℕ)) (files : List (List Declaration)) (launch : Launch) (seen : Observed)
+        → length names ≡ length files → All IsFaultless files
+        → FilesMean files launch seen ↔ RunsLinked (joined (translated_units names files)) launch seen }
+    ensures on_stacks { (names : List (List ℕ)) (files : List (List Declaration)) (launch : Launch) (seen : Observed)
+        → length names ≡ length files → All IsFaultless files
+        → FilesMean files launch seen ↔ RunsFlat (joined (translated_units names files)) launch seen }
+{
+    translations_join();
+    same_ends();
+}
 
 /// The linked code of a file that breaks no rule, from its translated unit, is the code of which the first law speaks.
 pub fn translated_units_join()

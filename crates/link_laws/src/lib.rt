@@ -3,4 +3,4 @@
 
 mod laws;
 
-pub use laws::{translated_units_join, translations_join};
+pub use laws::{translated_units_join, translations_join, translations_run};
