@@ -2,3 +2,4 @@ pub mod Stores
 pub mod SinkSteps
 pub mod ReaderSteps
 pub mod LineSteps
+pub mod Putting

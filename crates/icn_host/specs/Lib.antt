@@ -1,8 +1,10 @@
 pub mod Buffers
+pub mod Counting
 pub mod Counts
 pub mod FileMaps
 pub mod Plans
+pub mod Puts
+pub mod Readers
 pub mod Sinks
 pub mod Sources
 pub mod Writers
-pub mod Readers

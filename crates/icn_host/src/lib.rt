@@ -1,5 +1,5 @@
 //! What the programs are handed from outside: a source of input, a sink for output and a store of files. Each stands
-//! here three times: over the real things, over memory, and over memory with faults at the calls that a list names.
+//! here three times: over the real things, over memory, and over memory with faults at the calls that a list names. Lines are put on a sink as far as it takes them.
 #![tactic(auto)]
 
 mod bytes;
@@ -9,6 +9,7 @@ mod fault;
 mod input;
 mod memory;
 mod output;
+mod put;
 mod retry;
 mod store;
 mod sure;
@@ -19,6 +20,7 @@ pub use fault::{Fault, Line, Look};
 pub use input::StdSource;
 pub use memory::{MemFiles, MemSink, MemSource};
 pub use output::StdSink;
+pub use put::{put_line, try_put};
 pub use store::Store;
 pub use sure::{SureFiles, SureSink, SureSource};
 pub use traits::{Files, Sink, Source};

@@ -2,7 +2,7 @@
 use Rattle.std.proofs.Common.{◌≡◌, ◌⊎◌, inl, inr, ℕ, ◌≤◌, List, Option, Result, Ok, Err, IsErrOf, refl, ap, subst, arith}
 use Rattle.icn_host.specs.Counts.{CountsOnce, HasCause, Rose, one_more}
 use Rattle.icn_host.specs.Sinks.{SinkState}
-use Rattle.icn_report.specs.Puts.{RunsShort}
+use Rattle.icn_host.specs.Puts.{RunsShort}
 use Rattle.icn_streams.specs.Handed.{Handed, handed, KeepsAllCounts, KeepsCounts, WantsMemory, uncounted, errors_want}
 use Rattle.icn_machine.specs.Stepping.{OutputFails, output_fails, errors_fail}
 use Rattle.icn_run.specs.declared.ending.Ending.{Ending}

@@ -3,8 +3,8 @@ use Rattle.std.proofs.Common.{◌≡◌, ◌⊎◌, inl, inr, ℕ, List, Option,
 use Rattle.icn_host.specs.Sinks.{Gains, SinkState}
 use Rattle.icn_host.proofs.SinkSteps.{gains_nothing}
 use Rattle.icn_host.specs.declared.fault.Fault.TheVariants.{Failed, NoMemory as Wants}
-use Rattle.icn_report.proofs.Putting.{leads_of, puts_nothing}
-use Rattle.icn_report.specs.Puts.{Puts, all}
+use Rattle.icn_host.proofs.Putting.{leads_of, puts_nothing}
+use Rattle.icn_host.specs.Puts.{Puts, all}
 use Rattle.icn_defs.specs.Running.{Observed}
 use Rattle.icn_streams.specs.Handed.{Handed, WantsMemory, uncounted, output_wants, errors_want}
 use Rattle.icn_machine.specs.Stepping.{OutputFails, output_fails, errors_fail}

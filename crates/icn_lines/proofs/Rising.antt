@@ -2,7 +2,7 @@
 use Rattle.std.proofs.Common.{◌≡◌, ◌≤◌, ◌<◌, ◌^◌, ℕ, List, arith}
 use Rattle.icn_host.specs.Counts.{one_more}
 use Rattle.icn_host.specs.Sinks.{SinkState}
-use Rattle.icn_report.specs.Puts.{Puts, all, part, broken, wanted}
+use Rattle.icn_host.specs.Puts.{Puts, all, part, broken, wanted}
 use Rattle.icn_streams.specs.Handed.{Handed, KeepsAllCounts, KeepsCounts, FailsOnce, WantsOnce, WantsMemory, uncounted, output_wants, errors_want}
 use Rattle.icn_machine.specs.Stepping.{InputFails, OutputFails, output_fails, errors_fail}
 use Rattle.icn_lines.specs.declared.answer.Answer.{Answer}

@@ -2,7 +2,7 @@
 use Rattle.std.specs.Prelude.{◌≡◌, ℕ, List}
 use Rattle.icn_host.specs.declared.fault.Fault.TheVariants as Faults
 use Rattle.icn_host.specs.Sinks.{SinkState}
-use Rattle.icn_report.specs.Puts.{BreaksOff, LeadsBy, Puts, PutsAll}
+use Rattle.icn_host.specs.Puts.{BreaksOff, LeadsBy, Puts, PutsAll}
 use Rattle.icn_lines.specs.declared.answer.Answer.{Answer}
 use Rattle.icn_lines.specs.declared.answer.Answer.TheVariants.{Wrote, Ran, Refused, Command, Missing, BadImage, FileFault, ReadFault, WriteFault, NoMemory}
 use Rattle.icn_lines.specs.Answers.{IsFault}

@@ -1,7 +1,7 @@
 -- What stands on the error output behind a call. Of what a run put, something is said where the input told its content before.
 use Rattle.std.specs.Prelude.{◌≡◌, ◌⊎◌, ℕ, List, Option, IfSome}
 use Rattle.icn_host.specs.Sinks.{Gains, SinkState}
-use Rattle.icn_report.specs.Puts.{Puts, Leads}
+use Rattle.icn_host.specs.Puts.{Puts, Leads}
 use Rattle.icn_streams.specs.Handed.{FailsOnce, KeepsCounts, WantsOnce}
 use Rattle.icn_run.specs.declared.ending.Ending.{Ending}
 use Rattle.icn_running.specs.declared.fault.RunFault.{RunFault}

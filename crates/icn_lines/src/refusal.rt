@@ -1,14 +1,13 @@
 // The line of an answer that no program ran for.
 ghost use Rattle.std.specs.Prelude.{◌≡◌, ◌≤◌, OnOk, IfErr};
-ghost use Rattle.icn_report.specs.Puts.{LeadsBy, PutsAll};
+ghost use Rattle.icn_host.specs.Puts.{LeadsBy, PutsAll};
 ghost use Rattle.icn_lines.specs.Answers.{IsFault};
 ghost use Rattle.icn_lines.specs.Lines.{line_of};
 ghost use Rattle.icn_lines.specs.Refusing.{PutsOwn, Refuses};
 
 use crate::answer::Answer;
 use crate::lines::{FILE_FAULT, NO_MEMORY, READ_FAULT, line_of};
-use icn_host::{Fault, Sink};
-use icn_report::{put_line, try_put};
+use icn_host::{Fault, Sink, put_line, try_put};
 use std::alloc::Global;
 
 /// Puts the line of an answer of a program with this usage line, where the image has this name, and gives the answer that stands

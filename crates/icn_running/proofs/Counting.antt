@@ -2,7 +2,7 @@
 use Rattle.std.proofs.Common.{◌≡◌, ◌⊎◌, inl, inr, List, ℕ, [], Some, None, Result, Ok, Err, refl, sym, ap, ◌∙◌, subst}
 use Rattle.icn_host.specs.Counts.{one_more}
 use Rattle.icn_host.specs.Sinks.{SinkState}
-use Rattle.icn_report.specs.Puts.{RunsShort}
+use Rattle.icn_host.specs.Puts.{RunsShort}
 use Rattle.icn_value.specs.Store.{Heap, Names}
 use Rattle.icn_heap.specs.Extents.{Extent}
 use Rattle.icn_heap.specs.Heaps.{heap_of}

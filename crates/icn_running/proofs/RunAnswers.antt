@@ -4,7 +4,7 @@ use Rattle.std.specs.Prelude.{IfErr, IfOk}
 use Rattle.std.specs.Option.{option_map}
 use Rattle.icn_host.specs.Sinks.{GainsPart, SinkState}
 use Rattle.icn_host.proofs.SinkSteps.{gains_then, part_nothing}
-use Rattle.icn_report.specs.Puts.{RunsShort}
+use Rattle.icn_host.specs.Puts.{RunsShort}
 use Rattle.icn_value.specs.Limited.{Bounds}
 use Rattle.icn_value.specs.Store.{Outside, outside_of}
 use Rattle.icn_heap.specs.Extents.{value_in}

@@ -2,7 +2,7 @@
 use Rattle.std.specs.Prelude.{◌≡◌, ◌⊎◌, ℕ, List, [], ◌++◌, Option, Some, None, Result, Ok, Err}
 use Rattle.std.specs.Option.{option_map}
 use Rattle.icn_host.specs.Sinks.{Gains, SinkState}
-use Rattle.icn_report.specs.Puts.{BreaksOff, PutsAll, RunsShort}
+use Rattle.icn_host.specs.Puts.{BreaksOff, PutsAll, RunsShort}
 use Rattle.icn_value.specs.Store.{Heap, Names}
 use Rattle.icn_value.specs.Values.{Value}
 use Rattle.icn_heap.specs.Extents.{Extent, value_in}

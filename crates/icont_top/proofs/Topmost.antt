@@ -10,8 +10,8 @@ use Rattle.icn_host.specs.FileMaps.{FileMap, Sets, SetsPart}
 use Rattle.icn_host.proofs.SinkSteps.{gains_nothing}
 use Rattle.icn_host.specs.Sinks.{SinkState}
 use Rattle.icn_host.specs.declared.fault.Fault.TheVariants.{Failed, NoMemory as Wants}
-use Rattle.icn_report.proofs.Putting.{leads_of, puts_nothing}
-use Rattle.icn_report.specs.Puts.{all, Leads}
+use Rattle.icn_host.proofs.Putting.{leads_of, puts_nothing}
+use Rattle.icn_host.specs.Puts.{all, Leads}
 use Rattle.icn_tree.specs.Trees.{Declaration}
 use Rattle.icn_code.specs.Codes.{Tables}
 use Rattle.icn_code.specs.Rules.{keeps_rules}

@@ -2,7 +2,7 @@
 use Rattle.std.specs.Prelude.{◌≡◌, ◌⊎◌, ◌≤◌, ℕ, List, [], ◌∷◌, Option, None, Some, Ok, Err, length}
 use Rattle.icn_host.specs.FileMaps.{FileMap, Sets, SetsPart}
 use Rattle.icn_host.specs.Sinks.{Gains, SinkState}
-use Rattle.icn_report.specs.Puts.{Stops, Puts}
+use Rattle.icn_host.specs.Puts.{Stops, Puts}
 use Rattle.icn_tree.specs.Trees.{Declaration}
 use Rattle.icn_code.specs.Codes.{Tables}
 use Rattle.icn_defs.specs.Running.{Observed}

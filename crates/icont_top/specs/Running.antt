@@ -1,7 +1,7 @@
 -- What a run leaves, as the code tells it.
 use Rattle.std.specs.Prelude.{◌≡◌, Err}
 use Rattle.icn_host.specs.Sinks.{SinkState}
-use Rattle.icn_report.specs.Puts.{Puts}
+use Rattle.icn_host.specs.Puts.{Puts}
 use Rattle.icn_code.specs.Codes.{Tables}
 use Rattle.icn_defs.specs.Running.{Launch}
 use Rattle.icn_run.specs.declared.ending.Ending.{Ending}

@@ -4,8 +4,8 @@ use Rattle.icn_host.specs.FileMaps.{FileMap}
 use Rattle.icn_host.proofs.SinkSteps.{gains_nothing}
 use Rattle.icn_host.specs.Sinks.{SinkState}
 use Rattle.icn_host.specs.declared.fault.Fault.TheVariants.{Failed, NoMemory as Wants}
-use Rattle.icn_report.proofs.Putting.{leads_of, puts_nothing}
-use Rattle.icn_report.specs.Puts.{all, Leads}
+use Rattle.icn_host.proofs.Putting.{leads_of, puts_nothing}
+use Rattle.icn_host.specs.Puts.{all, Leads}
 use Rattle.icn_value.specs.Limited.{Bounds}
 use Rattle.icn_value.specs.Store.{outside_of}
 use Rattle.icn_defs.specs.Running.{Launch}

@@ -2,7 +2,7 @@
 use Rattle.std.specs.Prelude.{◌≡◌, ◌⊎◌, ℕ, List, Some}
 use Rattle.icn_host.specs.FileMaps.{FileMap}
 use Rattle.icn_host.specs.Sinks.{Gains, SinkState}
-use Rattle.icn_report.specs.Puts.{Stops, Puts}
+use Rattle.icn_host.specs.Puts.{Stops, Puts}
 use Rattle.icn_defs.specs.Running.{Launch}
 use Rattle.icn_code.specs.Codes.{Tables}
 use Rattle.icn_running.specs.declared.fault.RunFault.{RunFault}

@@ -1,9 +1,10 @@
 // Puts of lines.
 ghost use Rattle.std.specs.Prelude.{◌≡◌, ◌≤◌, OnOk, IfErr, IsErrOf};
 ghost use Rattle.icn_host.specs.Counts.{CountsOnce};
-ghost use Rattle.icn_report.specs.Puts.{Puts, PutsAll, StopsBy};
+ghost use Rattle.icn_host.specs.Puts.{Puts, PutsAll, StopsBy};
 
-use icn_host::{Fault, Sink};
+use crate::fault::Fault;
+use crate::traits::Sink;
 
 /// Puts a line, if it is not empty.
 ///

@@ -1,5 +1,5 @@
-use Rattle.icn_report.proofs.Putting.{all_of, stops_by, puts_nothing}
-use Rattle.icn_report.proofs.put.put_line.Goals as goal
+use Rattle.icn_host.proofs.Putting.{all_of, stops_by, puts_nothing}
+use Rattle.icn_host.proofs.put.put_line.Goals as goal
 
 pub returns-clause-ok : goal.returns-clause-ok
 returns-clause-ok g c = all_of _ _ _ c.put.result c.put.ensures.ok c.put.ensures.cause c.put.ensures.want

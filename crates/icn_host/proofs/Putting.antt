@@ -5,7 +5,7 @@ use Rattle.icn_host.specs.declared.fault.Fault.TheVariants.{Failed, NoMemory}
 use Rattle.icn_host.specs.Counts.{CountsOnce}
 use Rattle.icn_host.specs.Sinks.{Gains, GainsPart, SinkState}
 use Rattle.icn_host.proofs.SinkSteps.{gains_nothing}
-use Rattle.icn_report.specs.Puts.{PutsAll, StopsBy, Stops, broken, wanted, Puts, all, part, Leads, LeadsBy}
+use Rattle.icn_host.specs.Puts.{PutsAll, StopsBy, Stops, broken, wanted, Puts, all, part, Leads, LeadsBy}
 
 -- what an answer is not
 
