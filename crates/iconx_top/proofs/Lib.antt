@@ -1,4 +1,3 @@
-pub mod Digits
 pub mod Optional
 pub mod Judging
 pub mod Refused

@@ -5,7 +5,7 @@ use Rattle.std.specs.Str.{bytes_eq}
 use Rattle.icn_value.specs.Limited.{Bounds, default_limits}
 use Rattle.iconx_top.specs.declared.words.Limit.{Limit}
 use Rattle.iconx_top.specs.declared.words.Limit.TheVariants.{Turns, Strings, Cells, Levels}
-use Rattle.iconx_top.specs.Numbers.{number_within}
+use Rattle.icn_words.specs.Numbers.{number_within}
 
 -- a run of an image under these limits with these arguments, or the way in which the first wrong word is wrong
 pub data Reading : Type 0 where

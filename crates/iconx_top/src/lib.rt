@@ -3,7 +3,6 @@
 
 mod laws;
 mod load;
-mod number;
 mod top;
 mod words;
 

@@ -5,8 +5,8 @@ ghost use Rattle.icn_value.specs.Limited.{default_limits, limits_of};
 ghost use Rattle.iconx_top.specs.Words.{asked, image_asked, is_dashed, limited, option_of, options};
 ghost use Rattle.iconx_top.specs.Asking.{reading_of};
 
-use crate::number::number_within;
 use icn_value::Limits;
+use icn_words::number_within;
 
 /// What the words ask for: a run of an image.
 #[derive(Clone, Copy)]

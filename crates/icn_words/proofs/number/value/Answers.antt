@@ -1,5 +1,5 @@
-use Rattle.iconx_top.proofs.Digits.{too_large}
-use Rattle.iconx_top.proofs.number.value.Goals as goal
+use Rattle.icn_words.proofs.Digits.{too_large}
+use Rattle.icn_words.proofs.number.value.Goals as goal
 
 pub returns-in_default-with_digit : goal.returns-in_default-with_digit
 returns-in_default-with_digit c =

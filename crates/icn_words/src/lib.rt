@@ -1,0 +1,6 @@
+//! Words of the commands.
+#![tactic(auto)]
+
+mod number;
+
+pub use number::number_within;
