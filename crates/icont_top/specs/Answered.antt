@@ -1,30 +1,43 @@
 -- Which answer the words and the files ask for.
-use Rattle.std.specs.Prelude.{◌≡◌, ◌⊎◌, ℕ, List, Option, None, Some, Ok, Err}
+use Rattle.std.specs.Prelude.{◌≡◌, ◌⊎◌, ℕ, true, List, None, Some, Ok}
+use Rattle.std.specs.Str.{is_utf8}
 use Rattle.icn_host.specs.FileMaps.{FileMap}
-use Rattle.icn_tree.specs.Trees.{Declaration}
+use Rattle.icn_code.specs.Codes.{Tables}
+use Rattle.icn_link.specs.declared.fault.LinkFault.TheVariants.{K2}
+use Rattle.icn_link.specs.LinkFaults.{missing}
 use Rattle.icn_run.specs.declared.ending.Ending.{Ending}
 use Rattle.icn_lines.specs.declared.answer.Answer.{Answer}
 use Rattle.icn_lines.specs.declared.answer.Answer.TheVariants.{Wrote, Ran, Command}
 use Rattle.icn_lines.specs.Answers.{IsFault}
-use Rattle.icont_top.specs.Translating.{ComesTo}
-use Rattle.icont_top.specs.Words.{Reading, Asks, Faulty, asked}
+use Rattle.icont_words.specs.Words.{Run, Task, Asks, Faulty, ComeTo}
+use Rattle.icont_units.specs.Units.{Member, units_of}
+use Rattle.icont_top.specs.Job.{IsPlanned, IsTranslated, Plan, Plans, Refuses}
 
 -- A fault; or what the words and the files ask for, where a run may have any ending.
 pub data IsAnswered (words : List (List ℕ)) (files : FileMap) : Answer → Type 0 where
   fault : (answer : Answer) → IsFault answer → IsAnswered words files answer
-  wrong_words : asked words ≡ Faulty → IsAnswered words files (Command 1)
-  refused : (name : List ℕ) (run : Option (List (List ℕ))) (answer : Answer) → asked words ≡ Asks name run
-      → ComesTo files name (Err answer) → IsAnswered words files answer
-  wrote : (name : List ℕ) (file : List Declaration) → asked words ≡ Asks name None → ComesTo files name (Ok file)
+  refused : (answer : Answer) → Refuses words files answer → IsAnswered words files answer
+  translated : (members : List Member) → IsTranslated words files (Ok members) → IsAnswered words files Wrote
+  wrote : (plan : Plan) (members : List Member) (tables : Tables) → IsPlanned words files plan members tables → plan.run ≡ None
       → IsAnswered words files Wrote
-  ran : (name : List ℕ) (arguments : List (List ℕ)) (file : List Declaration) (ending : Ending)
-      → asked words ≡ Asks name (Some arguments) → ComesTo files name (Ok file) → IsAnswered words files (Ran ending)
+  ran : (plan : Plan) (members : List Member) (tables : Tables) (run : Run) (ending : Ending)
+      → IsPlanned words files plan members tables → plan.run ≡ Some run → IsAnswered words files (Ran ending)
 
 abbrev pub IsCommand : Answer → Type 0
 IsCommand (Command kind) = Unit {0}
 IsCommand answer = ⊥
 
 -- faulty words are answered so, and no others are called faulty
-abbrev pub IsCommanded : Reading → Answer → Type 0
-IsCommanded Faulty answer = IsFault answer ⊎ (answer ≡ Command 1)
-IsCommanded (Asks name run) answer = IsCommand answer → ⊥
+pub record IsCommanded (words : List (List ℕ)) (answer : Answer) : Type 0 where
+  pub faulty : (kind : ℕ) → ComeTo words (Faulty kind) → IsFault answer ⊎ (answer ≡ Command kind)
+  pub taken : (task : Task) → ComeTo words (Asks task) → IsCommand answer → ⊥
+
+-- the first file that is linked and not there has a name that is a text
+pub record MissesText (words : List (List ℕ)) (files : FileMap) : Type 0 where
+  pub plan : Plan
+  pub members : List Member
+  pub unit : ℕ
+  pub name : List ℕ
+  pub plans : Plans words files plan (Ok members)
+  pub absent : missing (units_of members) ≡ Some (K2 unit name)
+  pub text : is_utf8 name ≡ true

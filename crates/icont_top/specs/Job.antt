@@ -1,72 +1,140 @@
 -- What the words, the files and the input ask for.
-use Rattle.std.specs.Prelude.{◌≡◌, ℕ, List, [], ◌∷◌, true, Option, None, Some, Ok, Err}
+use Rattle.std.specs.Prelude.{◌≡◌, ℕ, List, [], ◌∷◌, ◌++◌, map, Option, None, Some, Result, Ok, Err, unwrap_or}
+use Rattle.std.specs.List.{flat_map}
 use Rattle.icn_host.specs.FileMaps.{FileMap}
-use Rattle.icn_tree.specs.Trees.{Declaration}
-use Rattle.icn_value.specs.Limited.{default_limits}
-use Rattle.icn_code.specs.Rules.{keeps_rules}
-use Rattle.icn_defs.specs.Running.{Launch, Observed, launch_of}
-use Rattle.icn_simulation.specs.Law.{FilesMean}
+use Rattle.icn_value.specs.Limited.{Bounds, default_limits}
+use Rattle.icn_code.specs.Codes.{Tables}
+use Rattle.icn_image.specs.Spelling.{image_of}
+use Rattle.icn_defs.specs.Running.{Ending, Done, Exit, Errored, AtBound, Launch, Observed, launch_of}
 use Rattle.icn_lines.specs.declared.answer.Answer.{Answer}
 use Rattle.icn_lines.specs.declared.answer.Answer.TheVariants.{Wrote, Ran, Command}
 use Rattle.icn_lines.specs.Lines.{line_of}
 use Rattle.icn_lines.specs.Endings.{ending_held}
-use Rattle.icont_top.specs.Linking.{image, linked}
-use Rattle.icont_top.specs.Translating.{ComesTo}
+use Rattle.icont_words.specs.Words.{Run, Translate, Link, Generate, Asks, Faulty, ComeTo as WordsComeTo}
+use Rattle.icont_units.specs.Generated.{GeneratedComes, sizes_line}
+use Rattle.icont_units.specs.Files.{files_named, sources_in}
+use Rattle.icont_units.specs.Units.{Member, Come, Load, unit_texts, unit_of, units_of}
+use Rattle.icont_top.specs.Programs.{Behaves, Links}
 use Rattle.icont_top.specs.Usage.{usage}
-use Rattle.icont_top.specs.Words.{Asks, Faulty, asked, base_of}
 
 -- a file that is written: its name, and what it holds then
 pub record Written : Type 0 where
   pub name : List ℕ
   pub bytes : List ℕ
 
--- the answer, the file that is written, the input left after it, and what is added to the output and to the error output
+-- the answer, the files that are written, in their order, the input left after it, and what is added to the output and to the error
+-- output
 pub record Job : Type 0 where
   pub answer : Answer
-  pub written : Option Written
+  pub written : List Written
   pub left : List ℕ
   pub output : List ℕ
   pub errors : List ℕ
 
 -- nothing is done but to put the answer's own line
 abbrev pub refusal : List ℕ → Answer → Job
-refusal left answer = record { answer = answer; written = None; left = left; output = []; errors = line_of usage [] answer }
+refusal left answer = record { answer = answer; written = []; left = left; output = []; errors = line_of usage [] answer }
 
--- the image of the program of this file, under the file's base name
-abbrev pub image_file : List ℕ → List Declaration → Written
-image_file name file = record { name = base_of name; bytes = image (base_of name) file }
+-- files were written, and nothing else was done
+abbrev pub writing : List Written → List ℕ → Job
+writing written left = record { answer = Wrote; written = written; left = left; output = []; errors = [] }
 
--- the image was written
-abbrev pub writing : Written → List ℕ → Job
-writing written left = record { answer = Wrote; written = Some written; left = left; output = []; errors = [] }
-
--- the image was written, and then the program ran
-abbrev pub running : Written → Observed → Job
-running written seen = record {
+-- the image was written, and then the program ran, behind which this was put on the output
+abbrev pub running : Written → Observed → List ℕ → Job
+running image seen behind = record {
   answer = Ran (ending_held seen.ending);
-  written = Some written;
+  written = image ∷ [];
   left = seen.outside.left;
-  output = seen.outside.output;
+  output = seen.outside.output ++ behind;
   errors = seen.outside.errors;
 }
 
--- a program is begun with these arguments and this input, under the limits that stand where none are said
-abbrev pub launched : List (List ℕ) → List ℕ → Launch
-launched arguments left = launch_of arguments default_limits left
+-- Files that are written
+
+abbrev pub as_written : List ℕ × List ℕ → Written
+as_written text = record { name = text.0; bytes = text.1 }
+
+-- the two texts of each unit, in the order of the units
+abbrev pub ucode_files : List Member → List Written
+ucode_files members = map as_written (flat_map unit_texts (units_of members))
+
+abbrev pub first_base : List Member → List ℕ
+first_base [] = []
+first_base (member ∷ members) = (unit_of member).name
+
+-- the image has the name that is said, or else the first base
+abbrev pub image_name : Option (List ℕ) → List Member → List ℕ
+image_name name members = unwrap_or name (first_base members)
+
+abbrev pub image_file : Option (List ℕ) → List Member → Tables → Written
+image_file name members tables = record { name = image_name name members; bytes = image_of tables }
+
+-- Runs
+
+abbrev pub bounds_with : ℕ → Bounds
+bounds_with turns = record default_limits { turns = turns }
+
+-- with these arguments and this input, under this bound of turns and the other limits that stand where none are said
+abbrev pub launched : Run → List ℕ → Launch
+launched run left = launch_of run.arguments (bounds_with run.turns) left
+
+-- The program of a number
+
+-- its sizes follow where it is done
+abbrev pub sizes_behind : ℕ → Ending → List ℕ
+sizes_behind number Done = sizes_line number
+sizes_behind number (Exit status) = []
+sizes_behind number (Errored error) = []
+sizes_behind number AtBound = []
+
+-- What the words ask for
+
+-- a program that is to be linked: its units, its image, and how it is run
+pub record Plan : Type 0 where
+  pub image : Option (List ℕ)
+  pub run : Option Run
+  pub number : Option ℕ
+
+-- what was put behind a run's own output
+abbrev pub behind : Option ℕ → Ending → List ℕ
+behind None ending = []
+behind (Some number) ending = sizes_behind number ending
+
+-- The words ask for a program, and these are its units; or what refuses them.
+pub data Plans (words : List (List ℕ)) (files : FileMap) : Plan → Result (List Member) Answer → Type 0 where
+  of_files : (names : List (List ℕ)) (image : Option (List ℕ)) (run : Option Run) (result : Result (List Member) Answer)
+      → WordsComeTo words (Asks (Link names image run)) → Load files (files_named names) result
+      → Plans words files (record { image = image; run = run; number = None }) result
+  of_number : (number turns : ℕ) (result : Result (List Member) Answer) → WordsComeTo words (Asks (Generate number turns))
+      → GeneratedComes number result
+      → Plans words files (record { image = None; run = Some (record { arguments = []; turns = turns }); number = Some number }) result
+
+-- the words ask for a program, and it is one: its units, its code and its image
+pub record IsPlanned (words : List (List ℕ)) (files : FileMap) (plan : Plan) (members : List Member) (tables : Tables) : Type 0 where
+  pub plans : Plans words files plan (Ok members)
+  pub links : Links members (Ok tables)
+
+-- the words ask for units, and these are they
+pub record IsTranslated (words : List (List ℕ)) (files : FileMap) (result : Result (List Member) Answer) : Type 0 where
+  pub names : List (List ℕ)
+  pub asks : WordsComeTo words (Asks (Translate names))
+  pub come : Come files (sources_in (files_named names)) result
+
+-- what the words and the files are refused for
+pub data Refuses (words : List (List ℕ)) (files : FileMap) : Answer → Type 0 where
+  wrong_words : (kind : ℕ) → WordsComeTo words (Faulty kind) → Refuses words files (Command kind)
+  no_units : (answer : Answer) → IsTranslated words files (Err answer) → Refuses words files answer
+  no_members : (plan : Plan) (answer : Answer) → Plans words files plan (Err answer) → Refuses words files answer
+  no_program : (plan : Plan) (members : List Member) (answer : Answer) → Plans words files plan (Ok members)
+      → Links members (Err answer) → Refuses words files answer
 
 -- what the words, the files and the input ask for
 pub data IsJob (words : List (List ℕ)) (files : FileMap) (left : List ℕ) : Job → Type 0 where
-  wrong_words : asked words ≡ Faulty → IsJob words files left (refusal left (Command 1))
-  refuses : (name : List ℕ) (run : Option (List (List ℕ))) (answer : Answer) → asked words ≡ Asks name run
-      → ComesTo files name (Err answer) → IsJob words files left (refusal left answer)
-  writes : (name : List ℕ) (file : List Declaration) → asked words ≡ Asks name None → ComesTo files name (Ok file)
-      → IsJob words files left (writing (image_file name file) left)
-  runs : (name : List ℕ) (arguments : List (List ℕ)) (file : List Declaration) (seen : Observed)
-      → asked words ≡ Asks name (Some arguments) → ComesTo files name (Ok file)
-      → FilesMean (file ∷ []) (launched arguments left) seen → IsJob words files left (running (image_file name file) seen)
-
--- the code of the program that the words name, where they name one, keeps the limits of a code
-abbrev pub KeepsLimits : List (List ℕ) → FileMap → Type 0
-KeepsLimits words files = (name : List ℕ) (run : Option (List (List ℕ))) (file : List Declaration)
-    → asked words ≡ Asks name run → ComesTo files name (Ok file)
-    → keeps_rules (linked (base_of name) file) ≡ true
+  refuses : (answer : Answer) → Refuses words files answer → IsJob words files left (refusal left answer)
+  translates : (members : List Member) → IsTranslated words files (Ok members)
+      → IsJob words files left (writing (ucode_files members) left)
+  writes : (plan : Plan) (members : List Member) (tables : Tables) → IsPlanned words files plan members tables → plan.run ≡ None
+      → IsJob words files left (writing (image_file plan.image members tables ∷ []) left)
+  runs : (plan : Plan) (members : List Member) (tables : Tables) (run : Run) (seen : Observed)
+      → IsPlanned words files plan members tables → plan.run ≡ Some run → Behaves members (launched run left) seen
+      → IsJob words files left (running (image_file plan.image members tables) seen (behind plan.number seen.ending))

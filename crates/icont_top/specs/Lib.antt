@@ -1,11 +1,6 @@
-pub mod Words
 pub mod Usage
-pub mod Faults
-pub mod Sources
-pub mod Linking
-pub mod Translating
-pub mod Stages
-pub mod Loading
+pub mod Programs
+pub mod Making
 pub mod Job
 pub mod Outcomes
 pub mod Answered

@@ -1,17 +1,23 @@
 -- What a call comes to, where the objects tell their content.
-use Rattle.std.specs.Prelude.{◌≡◌, ◌⊎◌, ◌≤◌, ℕ, List, [], ◌∷◌, Option, None, Some, Ok, Err, length}
-use Rattle.icn_host.specs.FileMaps.{FileMap, Sets, SetsPart}
+use Rattle.std.specs.Prelude.{◌≡◌, ◌⊎◌, ◌≤◌, ℕ, List, [], ◌∷◌, ◌++◌, Option, Some, All, Ok, Err, length, take}
+use Rattle.std.specs.Map.{update}
+use Rattle.std.specs.Str.{bytes_eq}
+use Rattle.icn_host.specs.FileMaps.{FileMap, Follows, IsLeftBehind}
 use Rattle.icn_host.specs.Sinks.{Gains, SinkState}
+use Rattle.icn_host.specs.FileMaps.{FileMap, Follows, IsLeftBehind}
 use Rattle.icn_host.specs.Puts.{Stops, Puts}
-use Rattle.icn_tree.specs.Trees.{Declaration}
+use Rattle.icn_host.specs.Sinks.{Gains, SinkState}
 use Rattle.icn_code.specs.Codes.{Tables}
-use Rattle.icn_defs.specs.Running.{Observed}
+use Rattle.icn_defs.specs.Running.{Done, Launch, Observed}
+use Rattle.icn_unit.specs.UnitTexts.{decls_text, procs_text}
+use Rattle.icn_ucode.specs.UnitReading.{Whole, unit_read}
 use Rattle.icn_image.specs.Reading.{image_read}
 use Rattle.icn_verify.specs.Faults.{IsVerified}
-use Rattle.icn_simulation.specs.Law.{FilesMean}
+use Rattle.icn_simulation.specs.Law.{RunsFlat}
 use Rattle.icn_streams.specs.Handed.{Handed}
 use Rattle.icn_run.specs.declared.ending.Ending.{Ending}
 use Rattle.icn_running.specs.declared.fault.RunFault.{RunFault}
+use Rattle.icn_running.specs.declared.fault.RunFault.TheVariants as RunFaults
 use Rattle.icn_running.specs.Runs.{EndsAtFirst, LeavesBy}
 use Rattle.icn_lines.specs.declared.answer.Answer.{Answer}
 use Rattle.icn_lines.specs.declared.answer.Answer.TheVariants.{Wrote, Ran}
@@ -19,57 +25,96 @@ use Rattle.icn_lines.specs.Answers.{IsFault}
 use Rattle.icn_lines.specs.Faulting.{of_run}
 use Rattle.icn_lines.specs.Lines.{fault_line}
 use Rattle.icn_lines.specs.Telling.{Told, with_errors}
-use Rattle.icont_top.specs.Job.{Written, Job, IsJob, image_file, launched}
-use Rattle.icont_top.specs.Linking.{RunsAs}
-use Rattle.icont_top.specs.Translating.{ComesTo}
-use Rattle.icont_top.specs.Words.{Asks, asked, base_of}
+use Rattle.icont_words.specs.Words.{Run}
+use Rattle.icont_units.specs.Generated.{sizes_line}
+use Rattle.icont_units.specs.Units.{Member, unit_of}
+use Rattle.icont_top.specs.Programs.{Behaves}
+use Rattle.icont_top.specs.Job.{IsJob, IsPlanned, IsTranslated, Job, Plan, Written, image_file, launched, ucode_files}
 
--- the files are as they were, or this file was written and the others are as they were
-abbrev pub WithWritten : Option FileMap → Option FileMap → Option Written → Type 0
-WithWritten before after None = after ≡ before
-WithWritten before after (Some written) = Sets before after written.name written.bytes
+-- Files that are written
+
+-- each name holds its bytes, one file after the other, and the other names what they held
+abbrev pub written_over : FileMap → List Written → FileMap
+written_over files [] = files
+written_over files (next ∷ others) = written_over (update bytes_eq files next.name (Some next.bytes)) others
+
+-- all were written
+pub record WritesAll (before after : Option FileMap) (written : List Written) : Type 0 where
+  pub follows : Follows before after (λ old new. (q : List ℕ) → new q ≡ written_over old written q)
+
+-- Some first ones were written. The next name holds what a broken write may leave, and all others stand as they were.
+pub record WritesPart (before after : Option FileMap) (written : List Written) : Type 0 where
+  pub whole : List Written
+  pub torn : Written
+  pub others : List Written
+  pub are : written ≡ whole ++ torn ∷ others
+  pub follows : Follows before after (λ old new. (content : Option (List ℕ))
+      × IsLeftBehind (written_over old whole torn.name) torn.bytes content
+      × ((q : List ℕ) → new q ≡ update bytes_eq (written_over old whole) torn.name content q))
 
 -- the job was done
 pub record Completes (job : Job) (answer : Answer) (before after : Told) : Type 0 where
   pub answered : answer ≡ job.answer
-  pub files : WithWritten before.files after.files job.written
+  pub files : WritesAll before.files after.files job.written
   pub left : after.streams.left ≡ Some job.left
   pub output : Gains before.streams.output.held after.streams.output.held job.output
   pub errors : Gains before.streams.errors.held after.streams.errors.held job.errors
 
--- the words name a file that is a program, and ask for a run with these arguments, or for none
-pub record IsAsked (words : List (List ℕ)) (files : FileMap) (name : List ℕ) (run : Option (List (List ℕ))) (file : List Declaration) : Type 0 where
-  pub asks : asked words ≡ Asks name run
-  pub is : ComesTo files name (Ok file)
+-- What the words ask to be written, of files that break no rule
+pub data AreWritten (words : List (List ℕ)) (files : FileMap) : List Written → Type 0 where
+  ucode : (members : List Member) → IsTranslated words files (Ok members) → AreWritten words files (ucode_files members)
+  image : (plan : Plan) (members : List Member) (tables : Tables) → IsPlanned words files plan members tables
+      → AreWritten words files (image_file plan.image members tables ∷ [])
 
 -- the line of a job that writes no file was not begun, or a part of it was put
 abbrev pub Begins : (Job → Type 0) → SinkState → SinkState → Type 0
-Begins IsJobOf before between = (between ≡ before) ⊎ ((job : Job) × IsJobOf job × (job.written ≡ None) × Stops before between job.errors)
+Begins IsJobOf before between = (between ≡ before) ⊎ ((job : Job) × IsJobOf job × (job.written ≡ []) × Stops before between job.errors)
 
 -- What a fault leaves of a program that is run with this input: all is said of what is observed of it, as each program comes to an end.
-pub record MeaningBrokenOff (file : List Declaration) (arguments : List (List ℕ)) (left : List ℕ) (fault : RunFault) (before after : Handed) : Type 0 where
+pub record BrokenOff (members : List Member) (run : Run) (left : List ℕ) (fault : RunFault) (before after : Handed) : Type 0 where
   pub seen : Observed
-  pub means : FilesMean (file ∷ []) (launched arguments left) seen
+  pub behaves : Behaves members (launched run left) seen
   pub leaves : LeavesBy fault left seen before after
 
+-- what a put may be stopped by
+abbrev pub StopsPut : RunFault → Type 0
+StopsPut RunFaults.ReadFault = ⊥
+StopsPut RunFaults.WriteFault = Unit {0}
+StopsPut RunFaults.NoMemory = Unit {0}
+
+-- The program of a number was done, and the line of its sizes was put in part behind its output.
+pub record BrokenBehind (members : List Member) (run : Run) (number : ℕ) (left : List ℕ) (before after : Handed) : Type 0 where
+  pub seen : Observed
+  pub behaves : Behaves members (launched run left) seen
+  pub done : seen.ending ≡ Done
+  pub input : after.left ≡ Some seen.outside.left
+  pub count : ℕ
+  pub output : Gains before.output.held after.output.held (seen.outside.output ++ take count (sizes_line number))
+  pub errors : Gains before.errors.held after.errors.held seen.outside.errors
+
 -- What a fault leaves, with its own line behind, as far as the error output took it. Nothing was done but that a refusal's line may be
--- begun; or the image could not be written whole, so that its name holds nothing, what it held or a first part of the image; or the
--- image was written, and the program was broken off as it ran.
+-- begun; or a file could not be written whole; or the image was written, and the program was broken off as it ran, or the line behind
+-- its output was.
 pub data Faults (words : List (List ℕ)) (files : FileMap) (left : List ℕ) (answer : Answer) (before after : Told) : Type 0 where
   idle : (between : SinkState) → after.files ≡ before.files → after.streams.left ≡ before.streams.left
       → after.streams.output.held ≡ before.streams.output.held
       → Begins (IsJob words files left) before.streams.errors between
       → Puts between after.streams.errors (fault_line answer) → Faults words files left answer before after
-  torn : (name : List ℕ) (run : Option (List (List ℕ))) (file : List Declaration) → IsAsked words files name run file
-      → SetsPart before.files after.files (image_file name file).name (image_file name file).bytes
+  torn : (written : List Written) → AreWritten words files written → WritesPart before.files after.files written
       → after.streams.left ≡ before.streams.left
       → after.streams.output.held ≡ before.streams.output.held
       → Puts before.streams.errors after.streams.errors (fault_line answer) → Faults words files left answer before after
-  broke : (name : List ℕ) (arguments : List (List ℕ)) (file : List Declaration) (fault : RunFault) (between : SinkState)
-      → IsAsked words files name (Some arguments) file
-      → Sets before.files after.files (image_file name file).name (image_file name file).bytes → answer ≡ of_run fault
+  broke : (plan : Plan) (members : List Member) (tables : Tables) (run : Run) (fault : RunFault) (between : SinkState)
+      → IsPlanned words files plan members tables → plan.run ≡ Some run
+      → WritesAll before.files after.files (image_file plan.image members tables ∷ []) → answer ≡ of_run fault
       → EndsAtFirst {A = Ending} (Err fault) before.streams (with_errors between after.streams)
-      → MeaningBrokenOff file arguments left fault before.streams (with_errors between after.streams)
+      → BrokenOff members run left fault before.streams (with_errors between after.streams)
+      → Puts between after.streams.errors (fault_line answer) → Faults words files left answer before after
+  broke_behind : (plan : Plan) (members : List Member) (tables : Tables) (run : Run) (number : ℕ) (fault : RunFault) (between : SinkState)
+      → IsPlanned words files plan members tables → plan.run ≡ Some run → plan.number ≡ Some number
+      → WritesAll before.files after.files (image_file plan.image members tables ∷ []) → StopsPut fault → answer ≡ of_run fault
+      → EndsAtFirst {A = Ending} (Err fault) before.streams (with_errors between after.streams)
+      → BrokenBehind members run number left before.streams (with_errors between after.streams)
       → Puts between after.streams.errors (fault_line answer) → Faults words files left answer before after
 
 -- the job was done, or a fault is answered
@@ -77,33 +122,38 @@ pub data Outcome (words : List (List ℕ)) (files : FileMap) (left : List ℕ) (
   done : (job : Job) → IsJob words files left job → Completes job answer before after → Outcome words files left answer before after
   fault : IsFault answer → Faults words files left answer before after → Outcome words files left answer before after
 
--- an answer that an image was written
+-- an answer that files were written
 abbrev pub HasWritten : Answer → Type 0
 HasWritten Wrote = Unit {0}
 HasWritten (Ran ending) = Unit {0}
 HasWritten answer = ⊥
 
--- where the words name a file that breaks no rule, its image was written, or a fault is answered
+-- where the words and the files ask for files to be written, they were, or a fault is answered
 abbrev pub IsComplete : List (List ℕ) → FileMap → Answer → Type 0
-IsComplete words files answer = (name : List ℕ) (run : Option (List (List ℕ))) (file : List Declaration)
-    → asked words ≡ Asks name run → ComesTo files name (Ok file)
-    → IsFault answer ⊎ HasWritten answer
+IsComplete words files answer = (written : List Written) → AreWritten words files written → IsFault answer ⊎ HasWritten answer
 
--- These bytes are the image of a code that `iconx` reads and verifies, and its run means, with all words, limits and inputs, what the
--- file means.
-pub record IsImage (file : List Declaration) (bytes : List ℕ) : Type 0 where
+-- These bytes are the image of a code that `iconx` reads and verifies, and its run is, with all words, limits and inputs, what the
+-- program is: what its files mean, where all are sources.
+pub record IsImage (members : List Member) (bytes : List ℕ) : Type 0 where
   pub tables : Tables
   pub within : length bytes ≤ 1073741824
   pub read : image_read bytes ≡ Ok tables
   pub verified : IsVerified tables
-  pub runs : RunsAs file tables
+  pub runs : (launch : Launch) (seen : Observed) → (Behaves members launch seen → RunsFlat tables launch seen)
+      × (RunsFlat tables launch seen → Behaves members launch seen)
 
--- the words name a file that is a program, and its base name holds the program's image now
-pub record HoldsImage (words : List (List ℕ)) (files : FileMap) (after : Option FileMap) : Type 0 where
-  pub name : List ℕ
-  pub run : Option (List (List ℕ))
-  pub file : List Declaration
-  pub is : IsAsked words files name run file
-  pub bytes : List ℕ
-  pub there : (held : FileMap) × (after ≡ Some held) × (held (base_of name) ≡ Some bytes)
-  pub image : IsImage file bytes
+-- the two texts of each unit are read as that unit
+abbrev pub IsReadBack : Member → Type 0
+IsReadBack member = unit_read (unit_of member).name (procs_text (unit_of member).procs) (decls_text (unit_of member).decls) ≡ Whole (unit_of member)
+
+-- the name holds these bytes
+abbrev pub HoldsNow : Option FileMap → Written → Type 0
+HoldsNow after written = (held : FileMap) × (after ≡ Some held) × (held written.name ≡ Some written.bytes)
+
+-- What an answer that files were written says: the texts of each unit are there; or the image of the program is.
+pub data HoldsWritten (words : List (List ℕ)) (files : FileMap) (after : Option FileMap) : Type 0 where
+  ucode : (members : List Member) → IsTranslated words files (Ok members)
+      → WritesAll (Some files) after (ucode_files members) → All IsReadBack members → HoldsWritten words files after
+  image : (plan : Plan) (members : List Member) (tables : Tables) → IsPlanned words files plan members tables
+      → HoldsNow after (image_file plan.image members tables) → IsImage members (image_file plan.image members tables).bytes
+      → HoldsWritten words files after
