@@ -10,7 +10,7 @@ use Rattle.icn_running.specs.declared.fault.RunFault.{RunFault}
 use Rattle.icn_running.specs.declared.fault.RunFault.TheVariants as Runs
 use Rattle.icn_running.specs.Runs.{EndsAtFirst as RunEnds}
 use Rattle.icn_lines.specs.declared.answer.Answer.{Answer}
-use Rattle.icn_lines.specs.declared.answer.Answer.TheVariants.{Wrote, Ran, Refused, Command, Missing, BadImage, FileFault, ReadFault, WriteFault, NoMemory}
+use Rattle.icn_lines.specs.declared.answer.Answer.TheVariants.{Wrote, Ran, Refused, Command, Missing, BadUcode, BadImage, FileFault, ReadFault, WriteFault, NoMemory}
 use Rattle.icn_lines.specs.Answers.{IsFault}
 use Rattle.icn_lines.specs.Causes.{EndsAtFirst, IsFirstFaultOf, OutsideState, RunEndsAtFirst, outside}
 use Rattle.icn_lines.specs.Faulting.{of_run}
@@ -28,6 +28,7 @@ none_own (Ran ending) sink n = refl
 none_own (Refused file line rule) sink n = refl
 none_own (Command kind) sink n = refl
 none_own (Missing other) sink n = refl
+none_own (BadUcode other rule) sink n = refl
 none_own (BadImage rule) sink n = refl
 
 -- Where no count rose
@@ -47,6 +48,7 @@ none_first before after (Ran ending) n kept = kept
 none_first before after (Refused file line rule) n kept = kept
 none_first before after (Command kind) n kept = kept
 none_first before after (Missing other) n kept = kept
+none_first before after (BadUcode other rule) n kept = kept
 none_first before after (BadImage rule) n kept = kept
 none_first before after FileFault n kept = absurd (n refl)
 none_first before after ReadFault n kept = absurd (n refl)
@@ -61,6 +63,7 @@ still_first before after (Ran ending) w r kept = kept
 still_first before after (Refused file line rule) w r kept = kept
 still_first before after (Command kind) w r kept = kept
 still_first before after (Missing other) w r kept = kept
+still_first before after (BadUcode other rule) w r kept = kept
 still_first before after (BadImage rule) w r kept = kept
 still_first before after FileFault w r kept = kept
 still_first before after ReadFault w r kept = absurd (r refl)
@@ -210,4 +213,5 @@ faultless_of (Ran ending) ends f i o e is = absurd (no_fault (Ran ending) refl i
 faultless_of (Refused file line rule) ends f i o e is = absurd (no_fault (Refused file line rule) refl is)
 faultless_of (Command kind) ends f i o e is = absurd (no_fault (Command kind) refl is)
 faultless_of (Missing other) ends f i o e is = absurd (no_fault (Missing other) refl is)
+faultless_of (BadUcode other rule) ends f i o e is = absurd (no_fault (BadUcode other rule) refl is)
 faultless_of (BadImage rule) ends f i o e is = absurd (no_fault (BadImage rule) refl is)

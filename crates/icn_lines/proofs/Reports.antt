@@ -13,7 +13,7 @@ use Rattle.icn_running.specs.declared.fault.RunFault.{RunFault}
 use Rattle.icn_running.specs.declared.fault.RunFault.TheVariants as Runs
 use Rattle.icn_running.specs.Runs.{EndsAtFirst as RunEnds, LeavesBy}
 use Rattle.icn_lines.specs.declared.answer.Answer.{Answer}
-use Rattle.icn_lines.specs.declared.answer.Answer.TheVariants.{Wrote, Ran, Refused, Command, Missing, BadImage, FileFault, ReadFault, WriteFault, NoMemory}
+use Rattle.icn_lines.specs.declared.answer.Answer.TheVariants.{Wrote, Ran, Refused, Command, Missing, BadUcode, BadImage, FileFault, ReadFault, WriteFault, NoMemory}
 use Rattle.icn_lines.specs.Answers.{IsFault, is_fault}
 use Rattle.icn_lines.specs.Faulting.{of_run}
 use Rattle.icn_lines.specs.Lines.{fault_line, line_of}
@@ -49,6 +49,7 @@ puts_own before after (Ran ending) same = rw same (all (puts_nothing before))
 puts_own before after (Refused file line rule) same = rw same (all (puts_nothing before))
 puts_own before after (Command kind) same = rw same (all (puts_nothing before))
 puts_own before after (Missing other) same = rw same (all (puts_nothing before))
+puts_own before after (BadUcode other rule) same = rw same (all (puts_nothing before))
 puts_own before after (BadImage rule) same = rw same (all (puts_nothing before))
 
 -- the line of an answer that no program ran for stands where it was put
@@ -59,6 +60,7 @@ line_stands usage name left before after (Ran ending) n ran gains = absurd (ran 
 line_stands usage name left before after (Refused file line rule) n ran gains = gains
 line_stands usage name left before after (Command kind) n ran gains = gains
 line_stands usage name left before after (Missing other) n ran gains = gains
+line_stands usage name left before after (BadUcode other rule) n ran gains = gains
 line_stands usage name left before after (BadImage rule) n ran gains = gains
 line_stands usage name left before after FileFault n ran gains = absurd (n refl)
 line_stands usage name left before after ReadFault n ran gains = absurd (n refl)

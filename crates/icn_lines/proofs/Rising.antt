@@ -6,7 +6,7 @@ use Rattle.icn_host.specs.Puts.{Puts, all, part, broken, wanted}
 use Rattle.icn_streams.specs.Handed.{Handed, KeepsAllCounts, KeepsCounts, FailsOnce, WantsOnce, WantsMemory, uncounted, output_wants, errors_want}
 use Rattle.icn_machine.specs.Stepping.{InputFails, OutputFails, output_fails, errors_fail}
 use Rattle.icn_lines.specs.declared.answer.Answer.{Answer}
-use Rattle.icn_lines.specs.declared.answer.Answer.TheVariants.{Wrote, Ran, Refused, Command, Missing, BadImage, FileFault, ReadFault, WriteFault, NoMemory}
+use Rattle.icn_lines.specs.declared.answer.Answer.TheVariants.{Wrote, Ran, Refused, Command, Missing, BadUcode, BadImage, FileFault, ReadFault, WriteFault, NoMemory}
 use Rattle.icn_lines.specs.Causes.{IsFirstFaultOf, RunEndsAtFirst}
 use Rattle.icn_lines.specs.Falling.{HasBits, HaveBits, NoneFalls, SinkRises}
 use Rattle.icn_lines.specs.Lines.{fault_line}
@@ -88,6 +88,7 @@ first_goes before after (Ran ending) few first = all_keep before after few first
 first_goes before after (Refused file line rule) few first = all_keep before after few first
 first_goes before after (Command kind) few first = all_keep before after few first
 first_goes before after (Missing name) few first = all_keep before after few first
+first_goes before after (BadUcode name rule) few first = all_keep before after few first
 first_goes before after (BadImage rule) few first = all_keep before after few first
 first_goes before after FileFault few first = all_keep before after few first
 first_goes before after ReadFault few first = input_goes before after few first

@@ -2,7 +2,7 @@
 use Rattle.std.specs.Prelude.{ℕ, Bool, true, false, IsTrue, ⊤}
 use Rattle.icn_run.specs.declared.ending.Ending.TheVariants.{Done, Exit, Errored, AtBound}
 use Rattle.icn_lines.specs.declared.answer.Answer.{Answer}
-use Rattle.icn_lines.specs.declared.answer.Answer.TheVariants.{Wrote, Ran, Refused, Command, Missing, BadImage, FileFault, ReadFault, WriteFault, NoMemory}
+use Rattle.icn_lines.specs.declared.answer.Answer.TheVariants.{Wrote, Ran, Refused, Command, Missing, BadUcode, BadImage, FileFault, ReadFault, WriteFault, NoMemory}
 
 -- the status that the program ends with
 abbrev pub status_of : Answer → ℕ
@@ -14,6 +14,7 @@ status_of (Ran AtBound) = 3
 status_of (Refused file line rule) = 2
 status_of (Command kind) = 2
 status_of (Missing name) = 2
+status_of (BadUcode name rule) = 2
 status_of (BadImage rule) = 2
 status_of FileFault = 2
 status_of ReadFault = 2
@@ -27,6 +28,7 @@ is_fault (Ran ending) = false
 is_fault (Refused file line rule) = false
 is_fault (Command kind) = false
 is_fault (Missing name) = false
+is_fault (BadUcode name rule) = false
 is_fault (BadImage rule) = false
 is_fault FileFault = true
 is_fault ReadFault = true
@@ -43,6 +45,7 @@ IsRefusal (Ran ending) = ⊥
 IsRefusal (Refused file line rule) = ⊤
 IsRefusal (Command kind) = ⊤
 IsRefusal (Missing name) = ⊤
+IsRefusal (BadUcode name rule) = ⊤
 IsRefusal (BadImage rule) = ⊤
 IsRefusal FileFault = ⊥
 IsRefusal ReadFault = ⊥

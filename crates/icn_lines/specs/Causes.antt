@@ -5,7 +5,7 @@ use Rattle.icn_host.specs.Sinks.{SinkState}
 use Rattle.icn_streams.specs.Handed.{Handed, KeepsAllCounts, WantsMemory}
 use Rattle.icn_machine.specs.Stepping.{InputFails, OutputFails}
 use Rattle.icn_lines.specs.declared.answer.Answer.{Answer}
-use Rattle.icn_lines.specs.declared.answer.Answer.TheVariants.{Wrote, Ran, Refused, Command, Missing, BadImage, FileFault, ReadFault, WriteFault, NoMemory}
+use Rattle.icn_lines.specs.declared.answer.Answer.TheVariants.{Wrote, Ran, Refused, Command, Missing, BadUcode, BadImage, FileFault, ReadFault, WriteFault, NoMemory}
 use Rattle.icn_lines.specs.Refusing.{PutsOwn}
 use Rattle.icn_lines.specs.Telling.{with_errors}
 
@@ -17,6 +17,7 @@ IsFirstFaultOf (Ran ending) before after = KeepsAllCounts before after
 IsFirstFaultOf (Refused file line rule) before after = KeepsAllCounts before after
 IsFirstFaultOf (Command kind) before after = KeepsAllCounts before after
 IsFirstFaultOf (Missing name) before after = KeepsAllCounts before after
+IsFirstFaultOf (BadUcode name rule) before after = KeepsAllCounts before after
 IsFirstFaultOf (BadImage rule) before after = KeepsAllCounts before after
 IsFirstFaultOf FileFault before after = KeepsAllCounts before after
 IsFirstFaultOf ReadFault before after = InputFails before after

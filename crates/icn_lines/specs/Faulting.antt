@@ -3,7 +3,7 @@ use Rattle.std.specs.Prelude.{⊤}
 use Rattle.icn_running.specs.declared.fault.RunFault.{RunFault}
 use Rattle.icn_running.specs.declared.fault.RunFault.TheVariants as Faults
 use Rattle.icn_lines.specs.declared.answer.Answer.{Answer}
-use Rattle.icn_lines.specs.declared.answer.Answer.TheVariants.{Wrote, Ran, Refused, Command, Missing, BadImage, FileFault, ReadFault, WriteFault, NoMemory}
+use Rattle.icn_lines.specs.declared.answer.Answer.TheVariants.{Wrote, Ran, Refused, Command, Missing, BadUcode, BadImage, FileFault, ReadFault, WriteFault, NoMemory}
 
 abbrev pub of_run : RunFault → Answer
 of_run Faults.ReadFault = ReadFault
@@ -17,6 +17,7 @@ IsOfRun (Ran ending) = ⊤
 IsOfRun (Refused file line rule) = ⊥
 IsOfRun (Command kind) = ⊥
 IsOfRun (Missing name) = ⊥
+IsOfRun (BadUcode name rule) = ⊥
 IsOfRun (BadImage rule) = ⊥
 IsOfRun FileFault = ⊥
 IsOfRun ReadFault = ⊤

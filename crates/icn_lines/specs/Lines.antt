@@ -3,7 +3,7 @@ use Rattle.std.specs.Prelude.{ℕ, List, [], ◌++◌, codes, decimal, take}
 use Rattle.icn_tree.specs.declared.rule.Rule.{Rule}
 use Rattle.icn_tree.specs.Rules.{rule_text}
 use Rattle.icn_lines.specs.declared.answer.Answer.{Answer}
-use Rattle.icn_lines.specs.declared.answer.Answer.TheVariants.{Wrote, Ran, Refused, Command, Missing, BadImage, FileFault, ReadFault, WriteFault, NoMemory}
+use Rattle.icn_lines.specs.declared.answer.Answer.TheVariants.{Wrote, Ran, Refused, Command, Missing, BadUcode, BadImage, FileFault, ReadFault, WriteFault, NoMemory}
 
 -- the code of a rule
 abbrev pub rule_code : Rule → List ℕ
@@ -16,6 +16,7 @@ fault_line (Ran ending) = []
 fault_line (Refused file line rule) = []
 fault_line (Command kind) = []
 fault_line (Missing name) = []
+fault_line (BadUcode name rule) = []
 fault_line (BadImage rule) = []
 fault_line FileFault = codes "file fault\n"
 fault_line ReadFault = codes "read fault\n"
@@ -29,6 +30,7 @@ line_of usage name (Ran ending) = []
 line_of usage name (Refused file line rule) = file ++ codes ":" ++ decimal line ++ codes ": " ++ rule_text rule ++ codes "\n"
 line_of usage name (Command kind) = usage
 line_of usage name (Missing other) = other ++ codes ": not there\n"
+line_of usage name (BadUcode other rule) = other ++ codes ": bad ucode, " ++ rule_code rule ++ codes "\n"
 line_of usage name (BadImage rule) = name ++ codes ": bad image, " ++ rule_code rule ++ codes "\n"
 line_of usage name FileFault = fault_line FileFault
 line_of usage name ReadFault = fault_line ReadFault

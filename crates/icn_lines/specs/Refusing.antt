@@ -4,7 +4,7 @@ use Rattle.icn_host.specs.declared.fault.Fault.TheVariants as Faults
 use Rattle.icn_host.specs.Sinks.{SinkState}
 use Rattle.icn_host.specs.Puts.{BreaksOff, LeadsBy, Puts, PutsAll}
 use Rattle.icn_lines.specs.declared.answer.Answer.{Answer}
-use Rattle.icn_lines.specs.declared.answer.Answer.TheVariants.{Wrote, Ran, Refused, Command, Missing, BadImage, FileFault, ReadFault, WriteFault, NoMemory}
+use Rattle.icn_lines.specs.declared.answer.Answer.TheVariants.{Wrote, Ran, Refused, Command, Missing, BadUcode, BadImage, FileFault, ReadFault, WriteFault, NoMemory}
 use Rattle.icn_lines.specs.Answers.{IsFault}
 use Rattle.icn_lines.specs.Lines.{fault_line, line_of}
 
@@ -19,6 +19,7 @@ PutsOwn (Ran ending) before after = after ≡ before
 PutsOwn (Refused file line rule) before after = after ≡ before
 PutsOwn (Command kind) before after = after ≡ before
 PutsOwn (Missing other) before after = after ≡ before
+PutsOwn (BadUcode other rule) before after = after ≡ before
 PutsOwn (BadImage rule) before after = after ≡ before
 
 -- the line was put, and the answer stands; or a fault was answered before; or the line made it one

@@ -8,7 +8,7 @@ use Rattle.icn_running.specs.declared.fault.RunFault.{RunFault}
 use Rattle.icn_running.specs.declared.fault.RunFault.TheVariants as Faults
 use Rattle.icn_running.specs.Reported.{PutsReport, ending_seen}
 use Rattle.icn_lines.specs.declared.answer.Answer.{Answer}
-use Rattle.icn_lines.specs.declared.answer.Answer.TheVariants.{Wrote, Ran, Refused, Command, Missing, BadImage, FileFault, ReadFault, WriteFault, NoMemory}
+use Rattle.icn_lines.specs.declared.answer.Answer.TheVariants.{Wrote, Ran, Refused, Command, Missing, BadUcode, BadImage, FileFault, ReadFault, WriteFault, NoMemory}
 use Rattle.icn_lines.specs.Answers.{IsFault}
 use Rattle.icn_lines.specs.Faulting.{of_run}
 use Rattle.icn_lines.specs.Lines.{fault_line, line_of}
@@ -24,6 +24,7 @@ LineStands usage name left (Ran ending) before after = ReportStands left ending 
 LineStands usage name left (Refused file line rule) before after = Gains before.held after.held (line_of usage name (Refused file line rule))
 LineStands usage name left (Command kind) before after = Gains before.held after.held (line_of usage name (Command kind))
 LineStands usage name left (Missing other) before after = Gains before.held after.held (line_of usage name (Missing other))
+LineStands usage name left (BadUcode other rule) before after = Gains before.held after.held (line_of usage name (BadUcode other rule))
 LineStands usage name left (BadImage rule) before after = Gains before.held after.held (line_of usage name (BadImage rule))
 LineStands usage name left FileFault before after = ⊥
 LineStands usage name left ReadFault before after = ⊥

@@ -17,6 +17,8 @@ pub enum Answer {
     Command(u8),
     /// The file of this name is not there.
     Missing(Bytes),
+    /// A text of a unit, or the code that was linked with it, breaks this rule; the text of this name.
+    BadUcode { name: Bytes, rule: Rule },
     /// The image breaks this rule.
     BadImage(Rule),
     /// The store of files failed.
@@ -54,6 +56,7 @@ impl Answer {
             Answer::Refused { .. }
             | Answer::Command(_)
             | Answer::Missing(_)
+            | Answer::BadUcode { .. }
             | Answer::BadImage(_)
             | Answer::FileFault
             | Answer::ReadFault

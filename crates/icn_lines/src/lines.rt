@@ -1,6 +1,6 @@
 // The lines of answers.
 ghost use Rattle.std.specs.Prelude.{◌≡◌, [], IfOk};
-ghost use Rattle.icn_lines.specs.declared.answer.Answer.TheVariants.{BadImage, Missing, Refused};
+ghost use Rattle.icn_lines.specs.declared.answer.Answer.TheVariants.{BadImage, BadUcode, Missing, Refused};
 ghost use Rattle.icn_lines.specs.Lines.{line_of, rule_code};
 
 use crate::answer::Answer;
@@ -27,6 +27,7 @@ pub fn line_of(
         Answer::Refused { file, line, rule } => refusal_line(alloc, file, *line, *rule),
         Answer::Command(_) => Vec::from_slice(alloc, usage),
         Answer::Missing(missing) => missing_line(alloc, missing),
+        Answer::BadUcode { name, rule } => bad_ucode_line(alloc, name, *rule),
         Answer::BadImage(rule) => bad_image_line(alloc, name, *rule),
         Answer::FileFault => Vec::from_slice(alloc, FILE_FAULT),
         Answer::ReadFault => Vec::from_slice(alloc, READ_FAULT),
@@ -52,6 +53,16 @@ fn missing_line(alloc: Global, name: &Bytes) -> Result<Vec<u8>, AllocError>
 {
     let mut line = Vec::from_slice(alloc, name.as_slice())?;
     line.extend_from_slice(b": not there\n")?;
+    Ok(line)
+}
+
+fn bad_ucode_line(alloc: Global, name: &Bytes, rule: Rule) -> Result<Vec<u8>, AllocError>
+    ensures { IfOk result (λ line. line.items ≡ line_of [] [] (BadUcode name.now rule)) }
+{
+    let mut line = Vec::from_slice(alloc, name.as_slice())?;
+    line.extend_from_slice(b": bad ucode, ")?;
+    line.extend_from_slice(rule_code(rule))?;
+    line.push(b'\n')?;
     Ok(line)
 }
 

@@ -489,6 +489,7 @@ mod tests {
             Answer::Refused { .. } => "Refused",
             Answer::Command(_) => "Command",
             Answer::Missing(_) => "Missing",
+            Answer::BadUcode { .. } => "BadUcode",
             Answer::BadImage(_) => "BadImage",
             Answer::FileFault => "FileFault",
             Answer::ReadFault => "ReadFault",

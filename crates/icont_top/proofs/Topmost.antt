@@ -29,7 +29,7 @@ use Rattle.icn_running.specs.declared.fault.RunFault.{RunFault}
 use Rattle.icn_running.specs.Reported.{ending_seen}
 use Rattle.icn_running.specs.Runs.{EndsAtFirst as RunEnds, IsBrokenOff, RunsTo}
 use Rattle.icn_lines.specs.declared.answer.Answer.{Answer}
-use Rattle.icn_lines.specs.declared.answer.Answer.TheVariants.{Wrote, Ran, Refused, Command, Missing, BadImage, FileFault, ReadFault, WriteFault, NoMemory}
+use Rattle.icn_lines.specs.declared.answer.Answer.TheVariants.{Wrote, Ran, Refused, Command, Missing, BadUcode, BadImage, FileFault, ReadFault, WriteFault, NoMemory}
 use Rattle.icn_lines.specs.Answers.{IsFault}
 use Rattle.icn_lines.specs.Causes.{EndsAtFirst, outside}
 use Rattle.icn_lines.specs.Endings.{ending_held}
@@ -109,6 +109,7 @@ run_answered name arguments file Wrote e is o = absurd o
 run_answered name arguments file (Refused other line rule) e is o = absurd o
 run_answered name arguments file (Command kind) e is o = absurd o
 run_answered name arguments file (Missing other) e is o = absurd o
+run_answered name arguments file (BadUcode other rule) e is o = absurd o
 run_answered name arguments file (BadImage rule) e is o = absurd o
 run_answered name arguments file FileFault e is o = absurd o
 
