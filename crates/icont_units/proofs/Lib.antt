@@ -1,0 +1,4 @@
+pub mod ContextRules
+pub mod Matching
+pub mod Sourcing
+pub mod Staging

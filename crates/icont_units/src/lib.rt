@@ -1,0 +1,13 @@
+//! The units that a command names and those that they link: from sources, and from ucode.
+#![tactic(auto)]
+
+mod checking;
+mod files;
+mod program_fault;
+mod source;
+mod ucode;
+
+pub use files::{File, Kind, file_named, files_named, name_with};
+pub use icn_lines::Answer;
+pub use source::checked_source;
+pub use ucode::{linked_unit, named_unit};
