@@ -1,0 +1,4 @@
+pub mod ByteLists
+pub mod GivenLines
+pub mod Escapes
+pub mod ScannedTokens
