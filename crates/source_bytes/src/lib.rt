@@ -3,4 +3,4 @@
 
 mod laws;
 
-pub use laws::{lines_of_bytes, tokens_of_bytes};
+pub use laws::{lines_of_bytes, texts_of_bytes, tokens_of_bytes};
