@@ -1,6 +1,6 @@
 -- Each number of a label has one place: of each label, how often it is given a number, stands at its place, or waits for it in an
 -- open loop or case.
-use Rattle.std.proofs.Common.{◌≡◌, ℕ, false, zero, suc, ◌+◌, List, [], ◌∷◌, ◌++◌, Option, None, Some, refl, sym, ap, ◌∙◌, nat_eq, add-zero, Bool, if◌then◌else◌, arith}
+use Rattle.std.proofs.Common.{◌≡◌, ℕ, true, false, zero, suc, ◌+◌, List, [], ◌∷◌, ◌++◌, Option, None, Some, refl, sym, ap, ◌∙◌, nat_eq, add-zero, Bool, if◌then◌else◌, arith}
 use Rattle.icn_unit.specs.declared.unit.UnitInstr.{UnitInstr}
 use Rattle.icn_unit.specs.declared.unit.UnitInstr.TheVariants as I
 use Rattle.icn_unit.specs.UnitRules.{place_of}
@@ -306,6 +306,7 @@ sum_within Te Ti Tf Tg Ue Ui Uf Ug a b c h = omega arith
 pub balance : Keeps
 balance = record {
   asks = false;
+  passes = λ bytes. true;
   Leads = Balanced;
   Inside = λ n d. Unit {0};
   InCase = λ d. Unit {0};

@@ -19,7 +19,7 @@ pub record GoesTo (n : ℕ) (i : UnitInstr) : Type 0 where
   pub label : label_in i ≡ Some n
   pub place : place_of i ≡ None
   pub variable : variable_in i ≡ None
-  pub operand : operand_fits i ≡ true
+  pub operand : (passes : List ℕ → Bool) → operand_fits passes i ≡ true
 
 -- an instruction without a label, and of no name
 pub record IsPlain (i : UnitInstr) : Type 0 where
@@ -33,8 +33,9 @@ Told asked test = asked ≡ true → test ≡ true
 
 -- What is kept, and why each step of a form keeps it. Of labels that have a number and no place yet the newest stands first.
 pub record Keeps : Type 1 where
-  -- whether it asks for what the names and the literals of trees keep
+  -- whether it asks for what the names and the literals of trees keep, and with it the test of texts
   pub asks : Bool
+  pub passes : List ℕ → Bool
   pub Leads : Draft → Draft → List ℕ → Type 0
   -- so many loops are open; a case is open; an instruction may stand there
   pub Inside : ℕ → Draft → Type 0
@@ -42,7 +43,7 @@ pub record Keeps : Type 1 where
   pub May : Draft → UnitInstr → Type 0
   pub none : (d : Draft) → Leads d d []
   pub joined : (d e f : Draft) (ns : List ℕ) → Leads d e ns → Leads e f [] → Leads d f ns
-  pub plain : (d : Draft) (i : UnitInstr) → IsPlain i → Told asks (operand_fits i) → May d i
+  pub plain : (d : Draft) (i : UnitInstr) → IsPlain i → Told asks (operand_fits passes i) → May d i
   pub fresh : (d : Draft) (i : UnitInstr) → GoesTo (next_label d) i → May (with_label d) i
   pub may_later : (d e : Draft) (ns : List ℕ) (i : UnitInstr) → Leads d e ns → May d i → May e i
   pub may_behind : (d : Draft) (i j : UnitInstr) → May d i → May (put j d) i
@@ -100,7 +101,7 @@ on {K = K} {step = step} r {d = d} {e = e} {ns = ns} c =
     record { leads = K.joined d e (step e) ns c.leads (r.run e (here c)); inside = c.inside }
 
 pub plainly : {K : Keeps} {n : ℕ} (i : UnitInstr) → label_in i ≡ None → place_of i ≡ None → variable_in i ≡ None
-    → Told K.asks (operand_fits i) → {d e : Draft} {ns : List ℕ} → Chain K n d e ns → Chain K n d (put i e) ns
+    → Told K.asks (operand_fits K.passes i) → {d e : Draft} {ns : List ℕ} → Chain K n d e ns → Chain K n d (put i e) ns
 plainly {K = K} i l p v w {d = d} {e = e} {ns = ns} c =
     let plain : IsPlain i = record { label = l; place = p; variable = v } in
     record { leads = K.instr d e ns i (K.plain e i plain w) c.leads; inside = c.inside }

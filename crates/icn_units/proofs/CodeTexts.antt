@@ -1,5 +1,5 @@
 -- The names and the operands of the code of a procedure, where those of its trees are such as a unit has.
-use Rattle.std.proofs.Common.{◌≡◌, ℕ, true, ◌&&◌, List, [], ◌∷◌, ◌++◌, refl, sym, subst}
+use Rattle.std.proofs.Common.{◌≡◌, ℕ, Bool, true, ◌&&◌, List, [], ◌∷◌, ◌++◌, refl, sym, subst}
 use Rattle.std.specs.List.{flat_map, list_all}
 use Rattle.icn_tree.specs.declared.tree.Name.{Name}
 use Rattle.icn_tree.specs.Trees.{Locals, Procedure}
@@ -32,24 +32,24 @@ locals_fit (l ∷ locals) h =
     (texts_fit l.names (first_of (names_fit l.names) (all_locals_fit locals) h))
     (locals_fit locals (second_of (names_fit l.names) (all_locals_fit locals) h))
 
-module _ (met : Met) (procedure : Procedure) (faultless : procedure_faults met procedure ≡ [])
-    (written : procedure_fits procedure ≡ true) where
+module _ (passes : List ℕ → Bool) (met : Met) (procedure : Procedure) (faultless : procedure_faults met procedure ≡ [])
+    (written : procedure_fits passes procedure ≡ true) where
   declared_fit : list_all is_name (declared_texts procedure) ≡ true
   declared_fit =
       let named = name_fits procedure.name in
       let parameters = names_fit procedure.parameters in
       let locals = all_locals_fit procedure.locals in
-      let trees = initial_fits procedure.initial && trees_fit procedure.body in
+      let trees = initial_fits passes procedure.initial && trees_fit passes procedure.body in
       let rest = second_of named (parameters && (locals && trees)) written in
       all_behind (texts_of procedure.parameters) (flat_map local_texts procedure.locals)
       (texts_fit procedure.parameters (first_of parameters (locals && trees) rest))
       (locals_fit procedure.locals (first_of locals trees (second_of parameters (locals && trees) rest)))
 
-  kept : Kept (begun procedure) (drafted procedure) []
-  kept = are_kept (begun procedure) (drafted procedure) []
-      (told_leads texts met procedure faultless (told_texts (procedure_fits procedure) written))
+  kept : Kept passes (begun procedure) (drafted procedure) []
+  kept = are_kept passes (begun procedure) (drafted procedure) []
+      (told_leads (texts passes) met procedure faultless (told_texts passes (λ test. procedure_fits test procedure) written))
 
-  pub code_operands_fit : list_all operand_fits (proc_code procedure).instrs ≡ true
+  pub code_operands_fit : list_all (operand_fits passes) (proc_code procedure).instrs ≡ true
   code_operands_fit = kept.instrs refl
 
   pub code_names_fit : list_all is_name (entry_names (proc_code procedure).names) ≡ true

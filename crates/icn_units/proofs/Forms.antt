@@ -131,25 +131,25 @@ known_variable K.Source = refl
 known_variable K.Subject = refl
 known_variable K.Ucase = refl
 
-known_operand : (k : KeywordNamed) → operand_fits (known_keyword k) ≡ true
-known_operand K.Ascii = refl
-known_operand K.Cset = refl
-known_operand K.Current = refl
-known_operand K.Digits = refl
-known_operand K.Errout = refl
-known_operand K.Fail = refl
-known_operand K.Input = refl
-known_operand K.Lcase = refl
-known_operand K.Letters = refl
-known_operand K.Level = refl
-known_operand K.Main = refl
-known_operand K.Null = refl
-known_operand K.Output = refl
-known_operand K.Pos = refl
-known_operand K.Random = refl
-known_operand K.Source = refl
-known_operand K.Subject = refl
-known_operand K.Ucase = refl
+known_operand : (passes : List ℕ → Bool) (k : KeywordNamed) → operand_fits passes (known_keyword k) ≡ true
+known_operand passes K.Ascii = refl
+known_operand passes K.Cset = refl
+known_operand passes K.Current = refl
+known_operand passes K.Digits = refl
+known_operand passes K.Errout = refl
+known_operand passes K.Fail = refl
+known_operand passes K.Input = refl
+known_operand passes K.Lcase = refl
+known_operand passes K.Letters = refl
+known_operand passes K.Level = refl
+known_operand passes K.Main = refl
+known_operand passes K.Null = refl
+known_operand passes K.Output = refl
+known_operand passes K.Pos = refl
+known_operand passes K.Random = refl
+known_operand passes K.Source = refl
+known_operand passes K.Subject = refl
+known_operand passes K.Ucase = refl
 
 keyword_label : (k : Option KeywordNamed) → label_in (keyword_by k) ≡ None
 keyword_label None = refl
@@ -163,15 +163,15 @@ keyword_variable : (k : Option KeywordNamed) → variable_in (keyword_by k) ≡ 
 keyword_variable None = refl
 keyword_variable (Some k) = known_variable k
 
-keyword_operand : {asks : Bool} (k : Option KeywordNamed) → Told asks (operand_fits (keyword_by k))
-keyword_operand None h = refl
-keyword_operand (Some k) h = known_operand k
+keyword_operand : {asks : Bool} (passes : List ℕ → Bool) (k : Option KeywordNamed) → Told asks (operand_fits passes (keyword_by k))
+keyword_operand passes None h = refl
+keyword_operand passes (Some k) h = known_operand passes k
 
-literal_operand : {asks : Bool} (v : Literal) → Told asks (literal_fits v)
-    → Told asks (operand_fits (literal_instr v))
-literal_operand (Literals.Integer n) w = w
-literal_operand (Literals.Text bytes) w = w
-literal_operand (Literals.Cset members) w = w
+literal_operand : {asks : Bool} (passes : List ℕ → Bool) (v : Literal) → Told asks (literal_fits passes v)
+    → Told asks (operand_fits passes (literal_instr v))
+literal_operand passes (Literals.Integer n) w = w
+literal_operand passes (Literals.Text bytes) w = w
+literal_operand passes (Literals.Cset members) w = w
 
 -- both parts of a test
 pub first_told : {asks : Bool} (a b : Bool) → Told asks (a && b) → Told asks a
@@ -190,7 +190,7 @@ module _ (S : Keeps) where
   nothing_runs = record { run = λ d h. S.none d }
 
   put_runs : {n : ℕ} (i : UnitInstr) → label_in i ≡ None → place_of i ≡ None → variable_in i ≡ None
-      → Told S.asks (operand_fits i) → Runs S n (put i)
+      → Told S.asks (operand_fits S.passes i) → Runs S n (put i)
   put_runs i l p v w = record { run = λ d h. (from d h ▸ plainly i l p v w).leads }
 
   then_runs : {n : ℕ} {s t : Draft → Draft} → Runs S n s → Runs S n t → Runs S n (λ d. t (s d))
@@ -211,15 +211,15 @@ module _ (S : Keeps) where
   bounded_runs : {n : ℕ} {s : Draft → Draft} → Runs S n s → Runs S n (bounded s)
   bounded_runs r = record {
     run = λ d h. (from d h ▸ labelled I.Mark
-        (λ l. record { label = refl; place = refl; variable = refl; operand = refl }) ▸ on r
+        (λ l. record { label = refl; place = refl; variable = refl; operand = λ passes. refl }) ▸ on r
         ▸ plainly I.Unmark refl refl refl (λ h. refl) ▸ placed).leads;
   }
 
   created_runs : {n : ℕ} {s : Draft → Draft} → Runs S 0 s → Runs S n (created s)
   created_runs r = record {
     run = λ d h. (from d h ▸ labelled I.Create
-        (λ l. record { label = refl; place = refl; variable = refl; operand = refl })
-        ▸ labelled I.Mark (λ l. record { label = refl; place = refl; variable = refl; operand = refl })
+        (λ l. record { label = refl; place = refl; variable = refl; operand = λ passes. refl })
+        ▸ labelled I.Mark (λ l. record { label = refl; place = refl; variable = refl; operand = λ passes. refl })
         ▸ on (outer_runs r)
         ▸ plainly I.Coret refl refl refl (λ h. refl)
         ▸ plainly I.Efail refl refl refl (λ h. refl) ▸ placed
@@ -254,7 +254,7 @@ module _ (S : Keeps) where
         ▸ on r in
         let may = S.may_later e _ [] (I.Chfail m) inner.leads
         (S.may_behind (with_label d) (I.Chfail m) (I.Lab m)
-        (S.fresh d (I.Chfail m) (record { label = refl; place = refl; variable = refl; operand = refl }))) in
+        (S.fresh d (I.Chfail m) (record { label = refl; place = refl; variable = refl; operand = λ passes. refl }))) in
         let all = S.joined d e _ [] c.leads inner.leads in
         S.instr d _ [] I.Esusp (S.plain _ I.Esusp (record { label = refl; place = refl; variable = refl })
         (λ h. refl))
@@ -288,9 +288,9 @@ module _ (S : Keeps) where
   plain_runs Either a m b = record {
     run =
         λ d h. (from d h ▸ labelled I.Mark (λ l. record
-        { label = refl; place = refl; variable = refl; operand = refl }) ▸ on m
+        { label = refl; place = refl; variable = refl; operand = λ passes. refl }) ▸ on m
         ▸ plainly I.Esusp refl refl refl (λ h. refl)
-        ▸ labelled I.Goto (λ l. record { label = refl; place = refl; variable = refl; operand = refl })
+        ▸ labelled I.Goto (λ l. record { label = refl; place = refl; variable = refl; operand = λ passes. refl })
         ▸ second_placed ▸ on b
         ▸ placed).leads;
   }
@@ -311,7 +311,7 @@ module _ (S : Keeps) where
       { run = λ d h. (from d h ▸ on a ▸ on b ▸ plainly (I.Op op) refl refl refl (λ h. refl)).leads }
 
   update_runs : {n : ℕ} (i : UnitInstr) → label_in i ≡ None → place_of i ≡ None → variable_in i ≡ None
-      → Told S.asks (operand_fits i)
+      → Told S.asks (operand_fits S.passes i)
       → {a b : Draft → Draft} → Runs S n a
       → Runs S n b → Runs S n (update i a b)
   update_runs i l p v w a b = record {
@@ -366,7 +366,7 @@ module _ (S : Keeps) where
         let f = inner (in_loop unmentioned e) in
         let within = r.run (in_loop unmentioned e) (S.inside_loop e unmentioned n (here c)) in
         let first = S.may_behind (with_label d) (I.Loop m) (I.Lab m)
-        (S.fresh d (I.Loop m) (record { label = refl; place = refl; variable = refl; operand = refl })) in
+        (S.fresh d (I.Loop m) (record { label = refl; place = refl; variable = refl; operand = λ passes. refl })) in
         S.loop d e f [] (I.Loop m) c.leads within
         (S.may_later (in_loop unmentioned e) f [] (I.Loop m) within (S.may_inside e unmentioned (I.Loop m) first));
   }
@@ -383,7 +383,7 @@ module _ (S : Keeps) where
   kinds_run Until c p = loop_runs
       (record {
         run = λ d h. (from d h ▸ labelled I.Mark
-            (λ l. record { label = refl; place = refl; variable = refl; operand = refl })
+            (λ l. record { label = refl; place = refl; variable = refl; operand = λ passes. refl })
             ▸ on c ▸ plainly I.Unmark refl refl refl (λ h. refl)
             ▸ plainly I.Efail refl refl refl (λ h. refl) ▸ placed ▸ on p).leads;
       })
@@ -441,7 +441,7 @@ module _ (S : Keeps) where
         let m = next_label d in
         let c : Chain S n d (b (put I.Pop (put I.Unmark
         (put (I.Op O.Equivalent) (s (put I.Ccase (put (I.Mark m) (with_label d)))))))) (m ∷ []) =
-        from d h ▸ labelled I.Mark (λ l. record { label = refl; place = refl; variable = refl; operand = refl })
+        from d h ▸ labelled I.Mark (λ l. record { label = refl; place = refl; variable = refl; operand = λ passes. refl })
         ▸ plainly I.Ccase refl refl refl (λ h. refl) ▸ on r
         ▸ plainly (I.Op O.Equivalent) refl refl refl (λ h. refl) ▸ plainly I.Unmark refl refl refl (λ h. refl)
         ▸ plainly I.Pop refl refl refl (λ h. refl) ▸ on q in
@@ -459,16 +459,16 @@ module _ (S : Keeps) where
   -- Forms
 
   mutual
-    tree_runs : (o : Open) (c : Context) (e : Tree) → faults c e ≡ [] → Told S.asks (tree_fits e)
+    tree_runs : (o : Open) (c : Context) (e : Tree) → faults c e ≡ [] → Told S.asks (tree_fits S.passes e)
         → Runs S (length c.loops) (translate o e)
     tree_runs o c Empty x w = put_runs I.Pnull refl refl refl (λ h. refl)
     tree_runs o c (Constant place v) x w = put_runs (literal_instr v) (literal_label v) (literal_place v)
-        (literal_variable v) (literal_operand v w)
+        (literal_variable v) (literal_operand S.passes v w)
     tree_runs o c (Identifier name) x w = record { run = λ d h. S.variable d d [] name.text w (S.none d) }
     tree_runs o c (Keyword place name) x w =
         put_runs (keyword_instr name.text) (keyword_label (keyword_of name.text))
         (keyword_place (keyword_of name.text)) (keyword_variable (keyword_of name.text))
-        (keyword_operand (keyword_of name.text))
+        (keyword_operand S.passes (keyword_of name.text))
     tree_runs o c (Parentheses place es) x w = conjunction_runs o c es x w
     tree_runs o c (Listing place es) x w = then_runs (arguments_run o c es x w)
         (put_runs (I.Llist (elements es)) refl refl refl (λ h. refl))
@@ -491,14 +491,14 @@ module _ (S : Keeps) where
         (tree_runs o c j (none_behind _ _ (none_behind _ _ x)) (second_told _ _ (second_told _ _ w))))
         (put_runs (I.Op (section_op kind)) refl refl refl (λ h. refl))
     tree_runs o c (Field place e name) x w =
-        then_runs (tree_runs o c e x (first_told (tree_fits e) (name_fits name) w))
-        (put_runs (I.Field name.text) refl refl refl (second_told (tree_fits e) (name_fits name) w))
+        then_runs (tree_runs o c e x (first_told (tree_fits S.passes e) (name_fits name) w))
+        (put_runs (I.Field name.text) refl refl refl (second_told (tree_fits S.passes e) (name_fits name) w))
     tree_runs o c (Prefix place operator e) x w =
         prefix_runs (prefix_form operator) (tree_runs o c e x w) (tree_runs (Marked o) c e x w)
     tree_runs o c (Not place e) x w = let r = tree_runs (Marked o) c e x w in
         record {
           run = λ d h. (from d h ▸ labelled I.Mark
-              (λ l. record { label = refl; place = refl; variable = refl; operand = refl })
+              (λ l. record { label = refl; place = refl; variable = refl; operand = λ passes. refl })
               ▸ on r ▸ plainly I.Unmark refl refl refl (λ h. refl) ▸ plainly I.Efail refl refl refl (λ h. refl)
               ▸ placed
               ▸ plainly I.Pnull refl refl refl (λ h. refl)).leads;
@@ -537,7 +537,7 @@ module _ (S : Keeps) where
     tree_runs o c (Return place e) x w = let r = tree_runs (Marked o) c e (none_behind _ _ x) w in
         record {
           run = λ d h. (from d h ▸ labelled I.Mark
-              (λ l. record { label = refl; place = refl; variable = refl; operand = refl })
+              (λ l. record { label = refl; place = refl; variable = refl; operand = λ passes. refl })
               ▸ on r ▸ plainly I.Pret refl refl refl (λ h. refl) ▸ placed
               ▸ plainly I.Pfail refl refl refl (λ h. refl)).leads;
         }
@@ -548,26 +548,26 @@ module _ (S : Keeps) where
         (suspended_part_runs (Marked (Marked o)) c b (none_behind _ _ (none_behind _ _ x)) (second_told _ _ w)))
         (put_runs I.Efail refl refl refl (λ h. refl))
 
-    operands_run : (o : Open) (c : Context) (es : Trees) → all_faults c es ≡ [] → Told S.asks (trees_fit es)
+    operands_run : (o : Open) (c : Context) (es : Trees) → all_faults c es ≡ [] → Told S.asks (trees_fit S.passes es)
         → Runs S (length c.loops) (operands o es)
     operands_run o c NoTrees x w = nothing_runs
     operands_run o c (More e es) x w = then_runs (tree_runs o c e (none_before _ _ x) (first_told _ _ w))
         (operands_run o c es (none_behind _ _ x) (second_told _ _ w))
 
-    arguments_run : (o : Open) (c : Context) (es : Trees) → all_faults c es ≡ [] → Told S.asks (trees_fit es)
+    arguments_run : (o : Open) (c : Context) (es : Trees) → all_faults c es ≡ [] → Told S.asks (trees_fit S.passes es)
         → Runs S (length c.loops) (arguments o es)
     arguments_run o c NoTrees x w = nothing_runs
     arguments_run o c (More e es) x w = if_runs (is_no_element (More e es))
         (then_runs (tree_runs o c e (none_before _ _ x) (first_told _ _ w))
         (operands_run o c es (none_behind _ _ x) (second_told _ _ w)))
 
-    conjunction_runs : (o : Open) (c : Context) (es : Trees) → all_faults c es ≡ [] → Told S.asks (trees_fit es)
+    conjunction_runs : (o : Open) (c : Context) (es : Trees) → all_faults c es ≡ [] → Told S.asks (trees_fit S.passes es)
         → Runs S (length c.loops) (conjunction o es)
     conjunction_runs o c NoTrees x w = nothing_runs
     conjunction_runs o c (More e es) x w = then_runs (tree_runs o c e (none_before _ _ x) (first_told _ _ w))
         (conjuncts_run o c es (none_behind _ _ x) (second_told _ _ w))
 
-    conjuncts_run : (o : Open) (c : Context) (es : Trees) → all_faults c es ≡ [] → Told S.asks (trees_fit es)
+    conjuncts_run : (o : Open) (c : Context) (es : Trees) → all_faults c es ≡ [] → Told S.asks (trees_fit S.passes es)
         → Runs S (length c.loops) (conjuncts o es)
     conjuncts_run o c NoTrees x w = nothing_runs
     conjuncts_run o c (More e es) x w = then_runs
@@ -575,7 +575,7 @@ module _ (S : Keeps) where
         (tree_runs o c e (none_before _ _ x) (first_told _ _ w)))
         (conjuncts_run o c es (none_behind _ _ x) (second_told _ _ w))
 
-    compound_runs : (o : Open) (c : Context) (es : Trees) → all_faults c es ≡ [] → Told S.asks (trees_fit es)
+    compound_runs : (o : Open) (c : Context) (es : Trees) → all_faults c es ≡ [] → Told S.asks (trees_fit S.passes es)
         → Runs S (length c.loops) (compound o es)
     compound_runs o c NoTrees x w = nothing_runs
     compound_runs o c (More e es) x w = then_runs
@@ -583,21 +583,21 @@ module _ (S : Keeps) where
         (unless_runs e (bounded_runs (tree_runs (Marked o) c e (none_before _ _ x) (first_told _ _ w)))))
         (compound_runs o c es (none_behind _ _ x) (second_told _ _ w))
 
-    creations_run : {n : ℕ} (es : Trees) → all_faults created_context es ≡ [] → Told S.asks (trees_fit es)
+    creations_run : {n : ℕ} (es : Trees) → all_faults created_context es ≡ [] → Told S.asks (trees_fit S.passes es)
         → Runs S n (creations es)
     creations_run NoTrees x w = nothing_runs
     creations_run (More e es) x w = if_runs (is_no_element (More e es))
         (then_runs (created_runs (tree_runs Outermost created_context e (none_before _ _ x) (first_told _ _ w)))
         (other_creations_run es (none_behind _ _ x) (second_told _ _ w)))
 
-    other_creations_run : {n : ℕ} (es : Trees) → all_faults created_context es ≡ [] → Told S.asks (trees_fit es)
+    other_creations_run : {n : ℕ} (es : Trees) → all_faults created_context es ≡ [] → Told S.asks (trees_fit S.passes es)
         → Runs S n (other_creations es)
     other_creations_run NoTrees x w = nothing_runs
     other_creations_run (More e es) x w = then_runs
         (created_runs (tree_runs Outermost created_context e (none_before _ _ x) (first_told _ _ w)))
         (other_creations_run es (none_behind _ _ x) (second_told _ _ w))
 
-    subscripts_run : (o : Open) (c : Context) (es : Trees) → all_faults c es ≡ [] → Told S.asks (trees_fit es)
+    subscripts_run : (o : Open) (c : Context) (es : Trees) → all_faults c es ≡ [] → Told S.asks (trees_fit S.passes es)
         → Runs S (length c.loops) (subscripts o es)
     subscripts_run o c NoTrees x w = nothing_runs
     subscripts_run o c (More e es) x w = then_runs
@@ -605,12 +605,12 @@ module _ (S : Keeps) where
         (put_runs (I.Op O.Subscript) refl refl refl (λ h. refl)))
         (subscripts_run o c es (none_behind _ _ x) (second_told _ _ w))
 
-    to_step_runs : (o : Open) (c : Context) (by : MaybeTree) → maybe_faults c by ≡ [] → Told S.asks (maybe_fits by)
+    to_step_runs : (o : Open) (c : Context) (by : MaybeTree) → maybe_faults c by ≡ [] → Told S.asks (maybe_fits S.passes by)
         → Runs S (length c.loops) (to_step o by)
     to_step_runs o c Absent x w = put_runs _ refl refl refl (λ h. refl)
     to_step_runs o c (Present e) x w = tree_runs o c e x w
 
-    branches_run : (o : Open) (c : Context) (b : MaybeTree) → maybe_faults c b ≡ [] → Told S.asks (maybe_fits b)
+    branches_run : (o : Open) (c : Context) (b : MaybeTree) → maybe_faults c b ≡ [] → Told S.asks (maybe_fits S.passes b)
         → {condition first : Draft → Draft} → Runs S (length c.loops) condition → Runs S (length c.loops) first
         → Runs S (length c.loops) (λ d. d ▹ if_mark b ▹ condition ▹ put I.Unmark ▹ first
         ▹ otherwise o b (next_label d))
@@ -622,28 +622,28 @@ module _ (S : Keeps) where
     branches_run o c (Present b) x w r q = let p = tree_runs o c b x w in
         record {
           run = λ d h. (from d h ▸ labelled I.Mark
-              (λ l. record { label = refl; place = refl; variable = refl; operand = refl })
+              (λ l. record { label = refl; place = refl; variable = refl; operand = λ passes. refl })
               ▸ on r
               ▸ plainly I.Unmark refl refl refl (λ h. refl) ▸ on q
-              ▸ labelled I.Goto (λ l. record { label = refl; place = refl; variable = refl; operand = refl })
+              ▸ labelled I.Goto (λ l. record { label = refl; place = refl; variable = refl; operand = λ passes. refl })
               ▸ second_placed ▸ on p
               ▸ placed).leads;
         }
 
     looped_part_runs : (o : Open) (c : Context) (b : MaybeTree) → maybe_faults (looped true c) b ≡ []
-        → Told S.asks (maybe_fits b)
+        → Told S.asks (maybe_fits S.passes b)
         → Runs S (suc (length c.loops)) (looped_part o b)
     looped_part_runs o c Absent x w = nothing_runs
     looped_part_runs o c (Present b) x w = looped_runs (tree_runs o (looped true c) b x w)
 
     suspended_part_runs : (o : Open) (c : Context) (b : MaybeTree) → maybe_faults c b ≡ []
-        → Told S.asks (maybe_fits b)
+        → Told S.asks (maybe_fits S.passes b)
         → Runs S (length c.loops) (suspended_part o b)
     suspended_part_runs o c Absent x w = record { run = λ d h. (from d h ▸ label ▸ placed).leads }
     suspended_part_runs o c (Present b) x w = bounded_runs (tree_runs o c b x w)
 
     guarded_run : (o : Open) (c : Context) (has : Bool) (clauses : Clauses) → clauses_faults c has clauses ≡ []
-        → Told S.asks (clauses_fit clauses)
+        → Told S.asks (clauses_fit S.passes clauses)
         → CaseRuns (length c.loops) (guarded o clauses)
     guarded_run o c has NoClauses x w = record { run = λ d h w. S.none d }
     guarded_run o c has (MoreClauses clause clauses) x w =
@@ -651,7 +651,7 @@ module _ (S : Keeps) where
         (guarded_run o c (is_default has clause) clauses (none_behind _ _ x) (second_told _ _ w))
 
     guarded_clause_runs : (o : Open) (c : Context) (has : Bool) (clause : Clause) → clause_faults c has clause ≡ []
-        → Told S.asks (clause_fits clause)
+        → Told S.asks (clause_fits S.passes clause)
         → CaseRuns (length c.loops) (guarded_clause o clause)
     guarded_clause_runs o c has (Default place e) x w = record { run = λ d h w. S.none d }
     guarded_clause_runs o c has (Guarded place s b) x w =
@@ -660,14 +660,14 @@ module _ (S : Keeps) where
 
     default_part_runs : (o : Open) (c : Context) (has : Bool) (clauses : Clauses) → clauses_faults c has clauses
         ≡ []
-        → Told S.asks (clauses_fit clauses) → Runs S (length c.loops) (default_part o clauses)
+        → Told S.asks (clauses_fit S.passes clauses) → Runs S (length c.loops) (default_part o clauses)
     default_part_runs o c has NoClauses x w = put_runs I.Efail refl refl refl (λ h. refl)
     default_part_runs o c has (MoreClauses clause clauses) x w =
         default_clause_runs o c has clause (none_before _ _ x) (first_told _ _ w)
         (default_part_runs o c (is_default has clause) clauses (none_behind _ _ x) (second_told _ _ w))
 
     default_clause_runs : (o : Open) (c : Context) (has : Bool) (clause : Clause) → clause_faults c has clause ≡ []
-        → Told S.asks (clause_fits clause)
+        → Told S.asks (clause_fits S.passes clause)
         → {later : Draft → Draft} → Runs S (length c.loops) later
         → Runs S (length c.loops) (default_clause o clause later)
     default_clause_runs o c has (Default place e) x w r = tree_runs o c e (none_behind _ _ x) w
@@ -675,22 +675,22 @@ module _ (S : Keeps) where
 
   -- Procedures
 
-  pub initially_runs : (initial : Initial) → initial_faults initial ≡ [] → Told S.asks (initial_fits initial)
+  pub initially_runs : (initial : Initial) → initial_faults initial ≡ [] → Told S.asks (initial_fits S.passes initial)
       → Runs S 0 (initially initial)
   initially_runs NoInitial x w = nothing_runs
   initially_runs (Initially place e) x w = let r = tree_runs Outermost outermost e x w in record {
     run = λ d h.
         let m = next_label d in
         let c = from d h ▸ labelled I.Init (λ l. record
-        { label = refl; place = refl; variable = refl; operand = refl }) in
+        { label = refl; place = refl; variable = refl; operand = λ passes. refl }) in
         let may = S.may_behind (with_label d) (I.Mark m) (I.Init m)
-        (S.fresh d (I.Mark m) (record { label = refl; place = refl; variable = refl; operand = refl })) in
+        (S.fresh d (I.Mark m) (record { label = refl; place = refl; variable = refl; operand = λ passes. refl })) in
         let begun : Chain S 0 d (put (I.Mark m) (put (I.Init m) (with_label d))) (m ∷ []) =
         record { leads = S.instr d _ (m ∷ []) (I.Mark m) may c.leads; inside = h } in
         (begun ▸ on r ▸ plainly I.Unmark refl refl refl (λ h. refl) ▸ placed).leads;
   }
 
-  pub body_runs : (es : Trees) → all_faults outermost es ≡ [] → Told S.asks (trees_fit es) → Runs S 0 (body es)
+  pub body_runs : (es : Trees) → all_faults outermost es ≡ [] → Told S.asks (trees_fit S.passes es) → Runs S 0 (body es)
   body_runs NoTrees x w = nothing_runs
   body_runs (More e es) x w = then_runs (unless_runs e
       (bounded_runs (tree_runs Outermost outermost e (none_before _ _ x) (first_told _ _ w))))

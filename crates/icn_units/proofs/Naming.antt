@@ -204,6 +204,7 @@ then_same d e f ns p h = names_then d e f ns [] p (same_names e f [] h)
 pub naming : Keeps
 naming = record {
   asks = false;
+  passes = λ bytes. true;
   Leads = Names;
   Inside = λ n d. Unit {0};
   InCase = λ d. Unit {0};

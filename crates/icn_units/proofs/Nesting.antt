@@ -1,5 +1,5 @@
 -- Loops and cases end as they began: as many are open behind a step as before it.
-use Rattle.std.proofs.Common.{◌≡◌, ◌≤◌, ℕ, false, suc, List, [], ◌∷◌, length, Option, None, Some, refl, ap, ◌∙◌, arith}
+use Rattle.std.proofs.Common.{◌≡◌, ◌≤◌, ℕ, true, false, suc, List, [], ◌∷◌, length, Option, None, Some, refl, ap, ◌∙◌, arith}
 use Rattle.icn_unit.specs.declared.unit.UnitInstr.{UnitInstr}
 use Rattle.icn_unit.specs.declared.unit.UnitInstr.TheVariants as I
 use Rattle.icn_translate.specs.declared.builder.Ways.{Ways}
@@ -146,6 +146,7 @@ deep_less {n = n} {a = a} {b = b} h g = omega arith
 pub nesting : Keeps
 nesting = record {
   asks = false;
+  passes = λ bytes. true;
   Leads = Level;
   Inside = Deep;
   InCase = HasCase;

@@ -1,5 +1,5 @@
 -- What an instruction goes to, and what open loops and cases wait for, has a number, and there are no fewer numbers later.
-use Rattle.std.proofs.Common.{◌≡◌, ◌≤◌, ◌<◌, ℕ, false, suc, List, [], ◌∷◌, ◌++◌, Option, None, Some, refl, sym, subst, arith}
+use Rattle.std.proofs.Common.{◌≡◌, ◌≤◌, ◌<◌, ℕ, true, false, suc, List, [], ◌∷◌, ◌++◌, Option, None, Some, refl, sym, subst, arith}
 use Rattle.icn_unit.specs.declared.unit.UnitInstr.{UnitInstr}
 use Rattle.icn_unit.specs.declared.unit.UnitInstr.TheVariants as I
 use Rattle.icn_unit.specs.UnitRules.{label_in}
@@ -302,6 +302,7 @@ plain_among n k h = subst (λ k. Among n k) (sym h) tt
 pub numbers : Keeps
 numbers = record {
   asks = false;
+  passes = λ bytes. true;
   Leads = Grows;
   Inside = λ n d. Unit {0};
   InCase = λ d. Unit {0};

@@ -23,7 +23,7 @@ use Rattle.icn_units.proofs.Nesting.{nesting, nesting_asks, is_level}
 
 -- The whole draft of a procedure goes on from the one that it begins with.
 pub told_leads : (K : Keeps) (met : Met) (procedure : Procedure) → procedure_faults met procedure ≡ []
-    → Told K.asks (procedure_fits procedure) → K.Leads (begun procedure) (drafted procedure) []
+    → Told K.asks (procedure_fits K.passes procedure) → K.Leads (begun procedure) (drafted procedure) []
 told_leads K met procedure x w =
     let many = too_many (length (declared_names procedure)) procedure.name in
     let owned = repeated C8 met procedure.name in
@@ -36,8 +36,8 @@ told_leads K met procedure x w =
     let named = name_fits procedure.name in
     let parameters = names_fit procedure.parameters in
     let locals = all_locals_fit procedure.locals in
-    let initial = initial_fits procedure.initial in
-    let body = trees_fit procedure.body in
+    let initial = initial_fits K.passes procedure.initial in
+    let body = trees_fit K.passes procedure.body in
     let written = second_told locals (initial && body)
     (second_told parameters (locals && (initial && body))
     (second_told named (parameters && (locals && (initial && body))) w)) in
@@ -53,7 +53,7 @@ not_told asks t e h = absurd (cc)
 pub procedure_leads : (K : Keeps) → K.asks ≡ false → (met : Met) (procedure : Procedure)
     → procedure_faults met procedure ≡ []
     → K.Leads (begun procedure) (drafted procedure) []
-procedure_leads K h met procedure x = told_leads K met procedure x (not_told K.asks (procedure_fits procedure) h)
+procedure_leads K h met procedure x = told_leads K met procedure x (not_told K.asks (procedure_fits K.passes procedure) h)
 
 -- Numbers
 

@@ -26,7 +26,7 @@ use Rattle.icn_translate.specs.FileUnits.{proc_codes, item_text, lines_in, unit_
 use Rattle.icn_translate.specs.ProcCodes.{entry_of, texts_of, local_entries, declared_entries, undeclared, proc_code}
 use Rattle.icn_units.specs.CodeNames.{variable_is_named, fields_differ}
 use Rattle.icn_units.specs.TypeBounds.{number_fits, numbers_fit, bytes_fit}
-use Rattle.icn_units.specs.Written.{name_fits, names_fit, item_fits, operand_fits, procedure_fits, collects_fits, declaration_fits, file_fits, all_locals_fit, initial_fits, trees_fit}
+use Rattle.icn_units.specs.Written.{is_short, name_fits, names_fit, item_fits, operand_fits, procedure_fits, collects_fits, declaration_fits, file_fits, all_locals_fit, initial_fits, trees_fit}
 use Rattle.icn_units.proofs.Forms.{none_before}
 use Rattle.icn_units.proofs.WrittenTrees.{both, first_of, second_of, le_test}
 use Rattle.icn_units.proofs.WrittenFiles.{spelled_fits}
@@ -60,7 +60,7 @@ short_set [] a h = refl
 short_set (b ∷ members) a h = let few = few_bytes b members a h in
     le_test (suc (length members)) 65535 (omega arith)
 
-operand_kept : (names : ℕ) (i : UnitInstr) → operand_fits i ≡ true → number_fits i ≡ true
+operand_kept : (names : ℕ) (i : UnitInstr) → operand_fits is_short i ≡ true → number_fits i ≡ true
     → variable_is_named names i ≡ true → keeps_operand names i ≡ true
 operand_kept names (I.Int n) o n' v = o
 operand_kept names (I.Str bytes) o n v = both n o
@@ -81,15 +81,15 @@ operand_kept names (I.Create label) o n v = n
 operand_kept names (I.Lab label) o n v = n
 operand_kept names i o n v = refl
 
-operands_kept : (names : ℕ) (is : List UnitInstr) → list_all operand_fits is ≡ true → list_all number_fits is ≡ true
+operands_kept : (names : ℕ) (is : List UnitInstr) → list_all (operand_fits is_short) is ≡ true → list_all number_fits is ≡ true
     → list_all (variable_is_named names) is ≡ true
     → list_all (keeps_operand names) is ≡ true
 operands_kept names [] o n v = refl
 operands_kept names (i ∷ is) o n v =
-    both (operand_kept names i (first_of (operand_fits i) (list_all operand_fits is) o)
+    both (operand_kept names i (first_of (operand_fits is_short i) (list_all (operand_fits is_short) is) o)
     (first_of (number_fits i) (list_all number_fits is) n)
     (first_of (variable_is_named names i) (list_all (variable_is_named names) is) v))
-    (operands_kept names is (second_of (operand_fits i) (list_all operand_fits is) o)
+    (operands_kept names is (second_of (operand_fits is_short i) (list_all (operand_fits is_short) is) o)
     (second_of (number_fits i) (list_all number_fits is) n)
     (second_of (variable_is_named names i) (list_all (variable_is_named names) is) v))
 
@@ -127,7 +127,7 @@ some_counted (name ∷ names) locals others h =
     (entry_of Parameter name.text) rest in
     omega arith
 
-some_params : (procedure : Procedure) → collects_fits procedure ≡ true
+pub some_params : (procedure : Procedure) → collects_fits procedure ≡ true
     → (not procedure.is_variadic || nat_lt 0 (params_in (proc_code procedure).names)) ≡ true
 some_params procedure h = by procedure.is_variadic h
   where
@@ -141,7 +141,7 @@ some_params procedure h = by procedure.is_variadic h
 -- A procedure
 
 module _ (met : Met) (procedure : Procedure) (faultless : procedure_faults met procedure ≡ [])
-    (written : procedure_fits procedure ≡ true)
+    (written : procedure_fits is_short procedure ≡ true)
     (collects : collects_fits procedure ≡ true) (numbers : numbers_fit (proc_code procedure) ≡ true) where
   few_params : is_number (params_in (proc_code procedure).names) ≡ true
   few_params =
@@ -165,41 +165,41 @@ module _ (met : Met) (procedure : Procedure) (faultless : procedure_faults met p
       let proc = proc_code procedure in
       let named = first_of (name_fits procedure.name)
       (names_fit procedure.parameters && (all_locals_fit procedure.locals &&
-      (initial_fits procedure.initial && trees_fit procedure.body))) written in
+      (initial_fits is_short procedure.initial && trees_fit is_short procedure.body))) written in
       both (both (both (both named few_params) (some_params procedure collects))
-      (both (both (code_names_fit met procedure faultless written) (code_names_differ met procedure faultless))
+      (both (both (code_names_fit is_short met procedure faultless written) (code_names_differ met procedure faultless))
       (code_names_in_order met procedure faultless)))
       (both (both (operands_kept (length proc.names) proc.instrs
-      (code_operands_fit met procedure faultless written) numbers
+      (code_operands_fit is_short met procedure faultless written) numbers
       (code_variables_named met procedure faultless))
       (differ met procedure faultless)) (are_placed met procedure faultless))
 
 -- A whole text
 
-codes_kept : (met : Met) (file : List Declaration) → declarations_faults met file ≡ [] → file_fits file ≡ true
+codes_kept : (met : Met) (file : List Declaration) → declarations_faults met file ≡ [] → file_fits is_short file ≡ true
     → list_all numbers_fit (proc_codes file) ≡ true
     → list_all keeps_proc (proc_codes file) ≡ true
 codes_kept met [] f w n = refl
 codes_kept met (Global place names ∷ others) f w n =
     codes_kept met others (others_faultless met (Global place names) others f)
-    (second_of (declaration_fits (Global place names)) (file_fits others) w) n
+    (second_of (declaration_fits is_short (Global place names)) (file_fits is_short others) w) n
 codes_kept met (Link place items ∷ others) f w n =
     codes_kept met others (others_faultless met (Link place items) others f)
-    (second_of (declaration_fits (Link place items)) (file_fits others) w) n
+    (second_of (declaration_fits is_short (Link place items)) (file_fits is_short others) w) n
 codes_kept met (Invocable place items ∷ others) f w n =
     codes_kept met others (others_faultless met (Invocable place items) others f)
-    (second_of true (file_fits others) w) n
+    (second_of true (file_fits is_short others) w) n
 codes_kept met (Record place name fields ∷ others) f w n =
     codes_kept (names_after met (Record place name fields)) others
     (others_faultless met (Record place name fields) others f)
-    (second_of (declaration_fits (Record place name fields)) (file_fits others) w) n
+    (second_of (declaration_fits is_short (Record place name fields)) (file_fits is_short others) w) n
 codes_kept met (ProcedureOf p ∷ others) f w n =
-    let here = first_of (declaration_fits (ProcedureOf p)) (file_fits others) w in
+    let here = first_of (declaration_fits is_short (ProcedureOf p)) (file_fits is_short others) w in
     both (proc_kept met p (first_faultless met (ProcedureOf p) others f)
-    (first_of (procedure_fits p) (collects_fits p) here) (second_of (procedure_fits p) (collects_fits p) here)
+    (first_of (procedure_fits is_short p) (collects_fits p) here) (second_of (procedure_fits is_short p) (collects_fits p) here)
     (first_of (numbers_fit (proc_code p)) (list_all numbers_fit (proc_codes others)) n))
     (codes_kept (names_after met (ProcedureOf p)) others (others_faultless met (ProcedureOf p) others f)
-    (second_of (declaration_fits (ProcedureOf p)) (file_fits others) w)
+    (second_of (declaration_fits is_short (ProcedureOf p)) (file_fits is_short others) w)
     (second_of (numbers_fit (proc_code p)) (list_all numbers_fit (proc_codes others)) n))
 
 short_name : (text : List ℕ) → is_name text ≡ true → nat_le (length text) 65535 ≡ true
@@ -207,7 +207,7 @@ short_name [] h = absurd (cc)
 short_name (b ∷ rest) h = let k = le_by (length rest) 65534 (second_of _ (nat_le (length rest) 65534) h) in
     le_test (suc (length rest)) 65535 (omega arith)
 
-short_item : (item : Item) → item_fits item ≡ true → nat_le (length (item_text item)) 65535 ≡ true
+short_item : (item : Item) → item_fits is_short item ≡ true → nat_le (length (item_text item)) 65535 ≡ true
 short_item (Items.Identifier name) h = short_name name.text h
 short_item (Items.Text name) h = h
 
@@ -217,18 +217,18 @@ globals_kept [] h = refl
 globals_kept (name ∷ names) h = both (first_of (name_fits name) (names_fit names) h)
     (globals_kept names (second_of (name_fits name) (names_fit names) h))
 
-links_kept : (items : List Item) → list_all item_fits items ≡ true
+links_kept : (items : List Item) → list_all (item_fits is_short) items ≡ true
     → list_all bytes_fit (map (λ (item : Item). LinkLine (item_text item)) items) ≡ true
     → list_all keeps_decl (map (λ (item : Item). LinkLine (item_text item)) items) ≡ true
 links_kept [] h b = refl
 links_kept (item ∷ items) h b =
     let rest = list_all bytes_fit (map (λ (item : Item). LinkLine (item_text item)) items) in
     both (both (first_of (list_all is_byte (item_text item)) rest b)
-    (short_item item (first_of (item_fits item) (list_all item_fits items) h)))
-    (links_kept items (second_of (item_fits item) (list_all item_fits items) h)
+    (short_item item (first_of (item_fits is_short item) (list_all (item_fits is_short) items) h)))
+    (links_kept items (second_of (item_fits is_short item) (list_all (item_fits is_short) items) h)
     (second_of (list_all is_byte (item_text item)) rest b))
 
-lines_kept : (declaration : Declaration) → declaration_fits declaration ≡ true
+lines_kept : (declaration : Declaration) → declaration_fits is_short declaration ≡ true
     → list_all fields_differ (lines_in declaration) ≡ true → list_all bytes_fit (lines_in declaration) ≡ true
     → list_all keeps_decl (lines_in declaration) ≡ true
 lines_kept (Global place names) h f b = globals_kept names h
@@ -240,8 +240,8 @@ lines_kept (Record place name fields) h f b =
     (first_of (names_differ (texts_of fields)) true f)) refl
 lines_kept (ProcedureOf p) h f b =
     both (first_of (name_fits p.name) (names_fit p.parameters &&
-    (all_locals_fit p.locals && (initial_fits p.initial && trees_fit p.body)))
-    (first_of (procedure_fits p) (collects_fits p) h)) refl
+    (all_locals_fit p.locals && (initial_fits is_short p.initial && trees_fit is_short p.body)))
+    (first_of (procedure_fits is_short p) (collects_fits p) h)) refl
 
 -- both parts of a list
 front_all : {A : Type 0} (test : A → Bool) (xs ys : List A) → list_all test (xs ++ ys) ≡ true → list_all test xs
@@ -252,7 +252,7 @@ back_all : {A : Type 0} (test : A → Bool) (xs ys : List A) → list_all test (
     ≡ true
 back_all test xs ys h = second_of (list_all test xs) (list_all test ys) (sym (list_all-append test xs ys) ∙ h)
 
-decls_kept : (file : List Declaration) → file_fits file ≡ true → list_all fields_differ (unit_decls file) ≡ true
+decls_kept : (file : List Declaration) → file_fits is_short file ≡ true → list_all fields_differ (unit_decls file) ≡ true
     → list_all bytes_fit (unit_decls file) ≡ true
     → list_all keeps_decl (unit_decls file) ≡ true
 decls_kept [] w f b = refl
@@ -260,9 +260,9 @@ decls_kept (declaration ∷ others) w f b =
     let here = lines_in declaration in
     let later = unit_decls others in
     list_all-append keeps_decl here later
-    ∙ both (lines_kept declaration (first_of (declaration_fits declaration) (file_fits others) w)
+    ∙ both (lines_kept declaration (first_of (declaration_fits is_short declaration) (file_fits is_short others) w)
     (front_all fields_differ here later f) (front_all bytes_fit here later b))
-    (decls_kept others (second_of (declaration_fits declaration) (file_fits others) w)
+    (decls_kept others (second_of (declaration_fits is_short declaration) (file_fits is_short others) w)
     (back_all fields_differ here later f) (back_all bytes_fit here later b))
 
 pub unit_keeps_rules : (file : List Declaration) → IsSpelled file → context_faults file ≡ []

@@ -185,6 +185,7 @@ variable_vars name d =
 pub variables : Keeps
 variables = record {
   asks = false;
+  passes = λ bytes. true;
   Leads = Vars;
   Inside = λ n d. Unit {0};
   InCase = λ d. Unit {0};

@@ -1,6 +1,8 @@
 -- What the names and the literals of a text keep, as a unit asks it of them.
-use Rattle.std.specs.Prelude.{Bool, true, not, ◌&&◌, ◌||◌, nat_le, nat_lt, List, length}
+use Rattle.std.specs.Prelude.{◌≡◌, ℕ, Bool, true, not, ◌&&◌, ◌||◌, nat_le, nat_lt, List, length}
 use Rattle.std.specs.List.{list_all}
+use Rattle.icn_tree.specs.declared.token.Kind.{Kind}
+use Rattle.icn_tree.specs.declared.token.Kind.TheVariants.{Text as TextToken}
 use Rattle.icn_tree.specs.declared.tree.Literal.{Literal}
 use Rattle.icn_tree.specs.declared.tree.Literal.TheVariants.{Integer, Text, Cset}
 use Rattle.icn_tree.specs.declared.tree.Name.{Name}
@@ -15,95 +17,111 @@ use Rattle.icn_unit.specs.UnitRules.{is_byte, is_integer}
 abbrev pub name_fits : Name → Bool
 name_fits name = is_name name.text
 
--- an integer, a text and a set of bytes; that the bytes of a text are bytes, its type says
-abbrev pub literal_fits : Literal → Bool
-literal_fits (Integer n) = is_integer n
-literal_fits (Text bytes) = nat_le (length bytes) 65535
-literal_fits (Cset members) = list_all is_byte members && ascends members
+-- Texts are told apart by a test that is asked of them: that they are short, as a token's size says, or that they are short and their
+-- bytes are bytes (`is_byte_text`), which is so of the tokens of files.
+abbrev pub is_short : List ℕ → Bool
+is_short bytes = nat_le (length bytes) 65535
+
+-- an integer, a text that passes the test, and a set of bytes
+abbrev pub literal_fits : (List ℕ → Bool) → Literal → Bool
+literal_fits passes (Integer n) = is_integer n
+literal_fits passes (Text bytes) = passes bytes
+literal_fits passes (Cset members) = list_all is_byte members && ascends members
 
 abbrev mutual
-  pub tree_fits : Tree → Bool
-  tree_fits Empty = true
-  tree_fits (Constant place value) = literal_fits value
-  tree_fits (Identifier name) = name_fits name
-  tree_fits (Keyword place name) = true
-  tree_fits (Parentheses place elements) = trees_fit elements
-  tree_fits (Listing place elements) = trees_fit elements
-  tree_fits (Compound place exprs) = trees_fit exprs
-  tree_fits (Call place callee arguments) = tree_fits callee && trees_fit arguments
-  tree_fits (CoCall place callee arguments) = tree_fits callee && trees_fit arguments
-  tree_fits (Subscript place subject subscripts) = tree_fits subject && trees_fit subscripts
-  tree_fits (Section place kind subject from to) = tree_fits subject && (tree_fits from && tree_fits to)
-  tree_fits (Field place subject name) = tree_fits subject && name_fits name
-  tree_fits (Prefix place operator operand) = tree_fits operand
-  tree_fits (Not place operand) = tree_fits operand
-  tree_fits (Binary place operator first second) = tree_fits first && tree_fits second
-  tree_fits (To place from to by) = tree_fits from && (tree_fits to && maybe_fits by)
-  tree_fits (If place condition first second) = tree_fits condition && (tree_fits first && maybe_fits second)
-  tree_fits (Case place subject clauses) = tree_fits subject && clauses_fit clauses
-  tree_fits (Loop place kind control body) = tree_fits control && maybe_fits body
-  tree_fits (Repeat place body) = tree_fits body
-  tree_fits (Create place body) = tree_fits body
-  tree_fits (Next place) = true
-  tree_fits (Fail place) = true
-  tree_fits (Break place value) = tree_fits value
-  tree_fits (Return place value) = tree_fits value
-  tree_fits (Suspend place value body) = tree_fits value && maybe_fits body
+  pub tree_fits : (List ℕ → Bool) → Tree → Bool
+  tree_fits passes Empty = true
+  tree_fits passes (Constant place value) = literal_fits passes value
+  tree_fits passes (Identifier name) = name_fits name
+  tree_fits passes (Keyword place name) = true
+  tree_fits passes (Parentheses place elements) = trees_fit passes elements
+  tree_fits passes (Listing place elements) = trees_fit passes elements
+  tree_fits passes (Compound place exprs) = trees_fit passes exprs
+  tree_fits passes (Call place callee arguments) = tree_fits passes callee && trees_fit passes arguments
+  tree_fits passes (CoCall place callee arguments) = tree_fits passes callee && trees_fit passes arguments
+  tree_fits passes (Subscript place subject subscripts) = tree_fits passes subject && trees_fit passes subscripts
+  tree_fits passes (Section place kind subject from to) = tree_fits passes subject && (tree_fits passes from && tree_fits passes to)
+  tree_fits passes (Field place subject name) = tree_fits passes subject && name_fits name
+  tree_fits passes (Prefix place operator operand) = tree_fits passes operand
+  tree_fits passes (Not place operand) = tree_fits passes operand
+  tree_fits passes (Binary place operator first second) = tree_fits passes first && tree_fits passes second
+  tree_fits passes (To place from to by) = tree_fits passes from && (tree_fits passes to && maybe_fits passes by)
+  tree_fits passes (If place condition first second) = tree_fits passes condition && (tree_fits passes first && maybe_fits passes second)
+  tree_fits passes (Case place subject clauses) = tree_fits passes subject && clauses_fit passes clauses
+  tree_fits passes (Loop place kind control body) = tree_fits passes control && maybe_fits passes body
+  tree_fits passes (Repeat place body) = tree_fits passes body
+  tree_fits passes (Create place body) = tree_fits passes body
+  tree_fits passes (Next place) = true
+  tree_fits passes (Fail place) = true
+  tree_fits passes (Break place value) = tree_fits passes value
+  tree_fits passes (Return place value) = tree_fits passes value
+  tree_fits passes (Suspend place value body) = tree_fits passes value && maybe_fits passes body
 
-  pub maybe_fits : MaybeTree → Bool
-  maybe_fits Absent = true
-  maybe_fits (Present tree) = tree_fits tree
+  pub maybe_fits : (List ℕ → Bool) → MaybeTree → Bool
+  maybe_fits passes Absent = true
+  maybe_fits passes (Present tree) = tree_fits passes tree
 
-  pub trees_fit : Trees → Bool
-  trees_fit NoTrees = true
-  trees_fit (More tree trees) = tree_fits tree && trees_fit trees
+  pub trees_fit : (List ℕ → Bool) → Trees → Bool
+  trees_fit passes NoTrees = true
+  trees_fit passes (More tree trees) = tree_fits passes tree && trees_fit passes trees
 
-  pub clause_fits : Clause → Bool
-  clause_fits (Default place value) = tree_fits value
-  clause_fits (Guarded place guard value) = tree_fits guard && tree_fits value
+  pub clause_fits : (List ℕ → Bool) → Clause → Bool
+  clause_fits passes (Default place value) = tree_fits passes value
+  clause_fits passes (Guarded place guard value) = tree_fits passes guard && tree_fits passes value
 
-  pub clauses_fit : Clauses → Bool
-  clauses_fit NoClauses = true
-  clauses_fit (MoreClauses clause clauses) = clause_fits clause && clauses_fit clauses
+  pub clauses_fit : (List ℕ → Bool) → Clauses → Bool
+  clauses_fit passes NoClauses = true
+  clauses_fit passes (MoreClauses clause clauses) = clause_fits passes clause && clauses_fit passes clauses
 
 abbrev pub names_fit : List Name → Bool
 names_fit names = list_all name_fits names
 
-abbrev pub initial_fits : Initial → Bool
-initial_fits NoInitial = true
-initial_fits (Initially place value) = tree_fits value
+abbrev pub initial_fits : (List ℕ → Bool) → Initial → Bool
+initial_fits passes NoInitial = true
+initial_fits passes (Initially place value) = tree_fits passes value
 
 -- a linked file is named by an identifier or a text
-abbrev pub item_fits : Item → Bool
-item_fits (Items.Identifier name) = name_fits name
-item_fits (Items.Text name) = nat_le (length name.text) 65535
+abbrev pub item_fits : (List ℕ → Bool) → Item → Bool
+item_fits passes (Items.Identifier name) = name_fits name
+item_fits passes (Items.Text name) = passes name.text
 
 abbrev pub all_locals_fit : List Locals → Bool
 all_locals_fit locals = list_all (λ (l : Locals). names_fit l.names) locals
 
-abbrev pub procedure_fits : Procedure → Bool
-procedure_fits procedure = name_fits procedure.name &&
+abbrev pub procedure_fits : (List ℕ → Bool) → Procedure → Bool
+procedure_fits passes procedure = name_fits procedure.name &&
     (names_fit procedure.parameters && (all_locals_fit procedure.locals
-    && (initial_fits procedure.initial && trees_fit procedure.body)))
+    && (initial_fits passes procedure.initial && trees_fit passes procedure.body)))
 
 -- the last parameter collects only where there is one
 abbrev pub collects_fits : Procedure → Bool
 collects_fits procedure = not procedure.is_variadic || nat_lt 0 (length procedure.parameters)
 
-abbrev pub declaration_fits : Declaration → Bool
-declaration_fits (Global place names) = names_fit names
-declaration_fits (Link place items) = list_all item_fits items
-declaration_fits (Invocable place items) = true
-declaration_fits (Record place name fields) = name_fits name && names_fit fields
-declaration_fits (ProcedureOf procedure) = procedure_fits procedure && collects_fits procedure
+abbrev pub declaration_fits : (List ℕ → Bool) → Declaration → Bool
+declaration_fits passes (Global place names) = names_fit names
+declaration_fits passes (Link place items) = list_all (item_fits passes) items
+declaration_fits passes (Invocable place items) = true
+declaration_fits passes (Record place name fields) = name_fits name && names_fit fields
+declaration_fits passes (ProcedureOf procedure) = procedure_fits passes procedure && collects_fits procedure
 
-abbrev pub file_fits : List Declaration → Bool
-file_fits file = list_all declaration_fits file
+abbrev pub file_fits : (List ℕ → Bool) → List Declaration → Bool
+file_fits passes file = list_all (declaration_fits passes) file
 
 -- what an instruction has of a name or a literal
-abbrev pub operand_fits : UnitInstr → Bool
-operand_fits (I.Int n) = is_integer n
-operand_fits (I.Str bytes) = nat_le (length bytes) 65535
-operand_fits (I.Cset members) = list_all is_byte members && ascends members
-operand_fits (I.Field name) = is_name name
-operand_fits _ = true
+abbrev pub operand_fits : (List ℕ → Bool) → UnitInstr → Bool
+operand_fits passes (I.Int n) = is_integer n
+operand_fits passes (I.Str bytes) = passes bytes
+operand_fits passes (I.Cset members) = list_all is_byte members && ascends members
+operand_fits passes (I.Field name) = is_name name
+operand_fits passes _ = true
+
+-- Tokens
+
+-- the text of a token passes the test
+abbrev pub TextPasses : (List ℕ → Bool) → Kind → Type 0
+TextPasses passes (TextToken bytes) = passes bytes ≡ true
+TextPasses passes _ = Unit {0}
+
+-- the bytes of a token's text are bytes
+abbrev pub HasBytes : Kind → Type 0
+HasBytes kind = TextPasses (list_all is_byte) kind

@@ -1,5 +1,5 @@
 // Laws of the codes of procedures.
-ghost use Rattle.std.specs.Prelude.{◌≡◌, [], true, List};
+ghost use Rattle.std.specs.Prelude.{◌≡◌, ℕ, All, Bool, [], true, List};
 ghost use Rattle.std.specs.List.{list_all};
 ghost use Rattle.icn_tree.specs.Trees.{Declaration, Procedure};
 ghost use Rattle.icn_decls.specs.Faults.{context_faults, procedure_faults, Met};
@@ -8,10 +8,10 @@ ghost use Rattle.icn_translate.specs.FileUnits.{proc_codes, unit_decls};
 ghost use Rattle.icn_translate.specs.ProcCodes.{proc_code};
 ghost use Rattle.icn_unit.specs.PlainUnits.{entry_names, owned_names, proc_names};
 ghost use Rattle.icn_unit.specs.UnitOperands.{is_name};
-ghost use Rattle.icn_unit.specs.UnitRules.{in_order, labels_differ, labels_placed, keeps_rules, names_differ, placed, same_names};
+ghost use Rattle.icn_unit.specs.UnitRules.{in_order, is_byte_text, labels_differ, labels_placed, keeps_rules, names_differ, placed, same_names};
 ghost use Rattle.icn_units.specs.CodeNames.{fields_differ, variables_are_named};
 ghost use Rattle.icn_units.specs.TypeBounds.{bytes_fit, numbers_fit};
-ghost use Rattle.icn_units.specs.Written.{file_fits, operand_fits, procedure_fits};
+ghost use Rattle.icn_units.specs.Written.{HasBytes, file_fits, is_short, operand_fits, procedure_fits};
 
 /// In the code of a procedure that breaks no context rule no label has two places, and each label that an instruction goes to
 /// has one.
@@ -43,17 +43,19 @@ pub fn file_names_differ()
 {}
 
 /// The names of a text that breaks no rule of its tokens are such as a unit has, its literals are within their bounds, and the
-/// last parameter of a procedure collects only where there is one.
+/// last parameter of a procedure collects only where there is one. Where the texts of its tokens hold bytes, so do its own.
 pub fn names_and_literals_fit()
-    ensures { (file : List Declaration) → IsSpelled file → file_fits file ≡ true }
+    ensures short { (file : List Declaration) → IsSpelled file → file_fits is_short file ≡ true }
+    ensures bytes { (file : List Declaration) (spelled : IsSpelled file) → All (λ token. HasBytes token.kind) spelled.tokens
+        → file_fits is_byte_text file ≡ true }
 {}
 
-/// Where the names and the literals of a procedure are such, so are those of its code.
+/// Where the names and the literals of a procedure are such, so are those of its code, for any test of texts.
 pub fn code_texts_fit()
-    ensures names { (met : Met) (procedure : Procedure) → procedure_faults met procedure ≡ [] → procedure_fits procedure ≡ true
-        → list_all is_name (entry_names (proc_code procedure).names) ≡ true }
-    ensures operands { (met : Met) (procedure : Procedure) → procedure_faults met procedure ≡ [] → procedure_fits procedure ≡ true
-        → list_all operand_fits (proc_code procedure).instrs ≡ true }
+    ensures names { (passes : List ℕ → Bool) (met : Met) (procedure : Procedure) → procedure_faults met procedure ≡ []
+        → procedure_fits passes procedure ≡ true → list_all is_name (entry_names (proc_code procedure).names) ≡ true }
+    ensures operands { (passes : List ℕ → Bool) (met : Met) (procedure : Procedure) → procedure_faults met procedure ≡ []
+        → procedure_fits passes procedure ≡ true → list_all (operand_fits passes) (proc_code procedure).instrs ≡ true }
 {}
 
 /// The unit of a text that breaks no rule keeps the rules of units, where the numbers of its instructions have 32 bits and the

@@ -9,6 +9,7 @@ mod Stacking
 mod Entering
 mod Looking
 mod Tables
+mod Rising
 mod Bounding
 mod Checking
 mod Lawful

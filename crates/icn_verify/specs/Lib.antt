@@ -8,3 +8,4 @@ pub mod Passing
 pub mod Refusals
 pub mod Entries
 pub mod Stacks
+pub mod Counting

@@ -3,7 +3,8 @@ ghost use Rattle.std.specs.Prelude.{◌≡◌, ◌+◌, ◌<◌, ◌≤◌, ◌^
 ghost use Rattle.std.specs.Option.{ForSome};
 ghost use Rattle.icn_verify.specs.declared.shape.Level.{Level as OneLevel};
 ghost use Rattle.icn_verify.specs.Shapes.{with_mark};
-ghost use Rattle.icn_verify.specs.Rows.{changed, after, next_by, forward_by, back_by, strays_by};
+ghost use Rattle.icn_verify.specs.Rows.{changed, after, next_by, forward_by, back_by, row_of, strays_by};
+ghost use Rattle.icn_verify.specs.Counting.{FindsRoom, HasRoom, IsLowTable};
 ghost use Rattle.icn_verify.specs.Passing.{misses, rule_of_one, rule_at, sent, seen_at, rule_at_end, first_table, judged, fault_of, one};
 ghost use Rattle.icn_verify.specs.Stacks.{shape_in, table_in, sent_in, seen_in, IsHeld, AreKept, Grows};
 
@@ -57,11 +58,11 @@ fn with_operands(flat: Flat, operands: u32) -> Flat
     }
 }
 
-// What a change leaves of the levels. More open scans than 32 bits count can't come, since a procedure has fewer instructions;
-// they would be want of memory.
+// What a change leaves of the levels.
 fn changed(arena: &mut Arena, change: Change, flat: Flat) -> Result<Flat, AllocError>
     requires held { IsHeld arena.old flat }
     requires room { length arena.old < 2 ^ 32 }
+    requires scans { flat.inner.scans + 1 < 2 ^ 32 }
     ensures grows { OnOk result (Grows arena.old arena.new) }
     ensures more { OnOk result (length arena.new ≤ length arena.old + 1) }
     ensures held { IfOk result (λ left. IsHeld arena.new left) }
@@ -75,19 +76,16 @@ fn changed(arena: &mut Arena, change: Change, flat: Flat) -> Result<Flat, AllocE
             Some(before) => Ok(before),
             None => Ok(flat),
         },
-        Change::OpensScan => {
-            let scans = flat.inner.scans.checked_add(1).ok_or(AllocError)?;
-            Ok(with_scans(flat, scans))
-        }
+        Change::OpensScan => Ok(with_scans(flat, flat.inner.scans + 1)),
         Change::ClosesScan => Ok(with_scans(flat, flat.inner.scans.saturating_sub(1))),
     }
 }
 
-// The shape that an instruction leaves. More operands than 32 bits count can't come, since a procedure has fewer instructions;
-// they would be want of memory.
+// The shape that an instruction leaves.
 fn after(arena: &mut Arena, row: Row, flat: Flat) -> Result<Flat, AllocError>
     requires held { IsHeld arena.old flat }
     requires room { length arena.old < 2 ^ 32 }
+    requires counts { HasRoom row (shape_in arena.old flat) }
     ensures grows { OnOk result (Grows arena.old arena.new) }
     ensures more { OnOk result (length arena.new ≤ length arena.old + 1) }
     ensures held { IfOk result (λ left. IsHeld arena.new left) }
@@ -95,12 +93,7 @@ fn after(arena: &mut Arena, row: Row, flat: Flat) -> Result<Flat, AllocError>
 {
     let kept = u64::from(flat.inner.operands).saturating_sub(row.takes);
     let flat = changed(arena, row.change, with_operands(flat, kept as u32))?;
-    let operands = flat
-        .inner
-        .operands
-        .checked_add(row.leaves)
-        .ok_or(AllocError)?;
-    Ok(with_operands(flat, operands))
+    Ok(with_operands(flat, flat.inner.operands + row.leaves))
 }
 
 // The next instruction, if the code goes on there, and the shape there.
@@ -227,6 +220,7 @@ fn send_one(
     requires held { IsHeld arena.old flat }
     requires room { place < 2 ^ 32 }
     requires few { length arena.old < 2 ^ 32 }
+    requires counts { HasRoom (row_of instr) (shape_in arena.old flat) }
     ensures more { OnOk result (length arena.new ≤ length arena.old + 1) }
     ensures table { OnOk result (table_in arena.new slots.new ≡ sent (table_in arena.old slots.old) place instr (one (shape_in arena.old flat))) }
     ensures kept { OnOk result (AreKept arena.new slots.new) }
@@ -243,6 +237,7 @@ fn send(arena: &mut Arena, slots: &mut [Slot], place: usize, instr: Instr) -> Re
     requires kept { AreKept arena.old slots.old }
     requires room { place < 2 ^ 32 }
     requires few { length arena.old < 2 ^ 32 }
+    requires counts { FindsRoom instr (seen_at (table_in arena.old slots.old) place) }
     ensures more { OnOk result (length arena.new ≤ length arena.old + 1) }
     ensures table { OnOk result (table_in arena.new slots.new ≡ sent (table_in arena.old slots.old) place instr (seen_at (table_in arena.old slots.old) place)) }
     ensures kept { OnOk result (AreKept arena.new slots.new) }
@@ -283,6 +278,7 @@ fn judge(
     requires kept { AreKept arena.old slots.old }
     requires few { length arena.old ≤ 1 }
     requires room { length instrs.now < 2 ^ 32 }
+    requires low { IsLowTable 0 (table_in arena.old slots.old) }
     ensures { IfOk result (λ found. found ≡ judged (table_in arena.old slots.old) 0 instrs.now) }
 {
     for (place, instr) in instrs.iter().enumerate() {

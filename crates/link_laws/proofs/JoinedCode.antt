@@ -36,7 +36,7 @@ use Rattle.icn_simulation.proofs.Checked.{Each, IsSoundProcedure, sound_files}
 use Rattle.icn_translate.specs.Drafts.{name_place}
 use Rattle.icn_translate.specs.FileUnits.{codes_in, proc_codes, item_text, lines_in, unit_decls, translated_unit}
 use Rattle.icn_translate.specs.ProcCodes.{texts_of, drafted, proc_code}
-use Rattle.icn_units.specs.Written.{file_fits, declaration_fits, procedure_fits, collects_fits, operand_fits}
+use Rattle.icn_units.specs.Written.{is_short, file_fits, declaration_fits, procedure_fits, collects_fits, operand_fits}
 use Rattle.icn_units.proofs.CodeTexts.{code_operands_fit}
 use Rattle.icn_units.proofs.FileNames.{first_faultless, others_faultless}
 use Rattle.icn_units.proofs.WrittenFiles.{spelled_fits}
@@ -221,36 +221,36 @@ firsts_fit test [] h = refl
 firsts_fit test (x ∷ xs) h = both (first_of (test x) (list_all test xs) h)
     (some_fit test (λ y. not (bytes_eq x y)) (firsts bytes_eq xs) (firsts_fit test xs (second_of (test x) (list_all test xs) h)))
 
-operand_sets : (i : UnitInstr) → operand_fits i ≡ true → list_all set_fits (set_in (mention_of i)) ≡ true
+operand_sets : (i : UnitInstr) → operand_fits is_short i ≡ true → list_all set_fits (set_in (mention_of i)) ≡ true
 operand_sets (I.Cset members) h = both h refl
 operand_sets i h = refl
 
-instrs_sets : (is : List UnitInstr) → list_all operand_fits is ≡ true → list_all set_fits (flat_map (λ i. set_in (mention_of i)) is) ≡ true
+instrs_sets : (is : List UnitInstr) → list_all (operand_fits is_short) is ≡ true → list_all set_fits (flat_map (λ i. set_in (mention_of i)) is) ≡ true
 instrs_sets [] h = refl
 instrs_sets (i ∷ is) h =
     list_all-append set_fits (set_in (mention_of i)) (flat_map (λ i. set_in (mention_of i)) is)
-    ∙ both (operand_sets i (first_of (operand_fits i) (list_all operand_fits is) h))
-    (instrs_sets is (second_of (operand_fits i) (list_all operand_fits is) h))
+    ∙ both (operand_sets i (first_of (operand_fits is_short i) (list_all (operand_fits is_short) is) h))
+    (instrs_sets is (second_of (operand_fits is_short i) (list_all (operand_fits is_short) is) h))
 
-file_sets : (met : Met) (file : List Declaration) → declarations_faults met file ≡ [] → file_fits file ≡ true
+file_sets : (met : Met) (file : List Declaration) → declarations_faults met file ≡ [] → file_fits is_short file ≡ true
     → list_all set_fits (mentioned_by set_in (proc_codes file)) ≡ true
 file_sets met [] f w = refl
 file_sets met (Global place names ∷ others) f w = file_sets met others (others_faultless met (Global place names) others f)
-    (second_of (declaration_fits (Global place names)) (file_fits others) w)
+    (second_of (declaration_fits is_short (Global place names)) (file_fits is_short others) w)
 file_sets met (Link place items ∷ others) f w = file_sets met others (others_faultless met (Link place items) others f)
-    (second_of (declaration_fits (Link place items)) (file_fits others) w)
+    (second_of (declaration_fits is_short (Link place items)) (file_fits is_short others) w)
 file_sets met (Invocable place items ∷ others) f w = file_sets met others (others_faultless met (Invocable place items) others f)
-    (second_of true (file_fits others) w)
+    (second_of true (file_fits is_short others) w)
 file_sets met (Record place name fields ∷ others) f w =
     file_sets (names_after met (Record place name fields)) others (others_faultless met (Record place name fields) others f)
-    (second_of (declaration_fits (Record place name fields)) (file_fits others) w)
+    (second_of (declaration_fits is_short (Record place name fields)) (file_fits is_short others) w)
 file_sets met (ProcedureOf p ∷ others) f w =
-    let here = first_of (declaration_fits (ProcedureOf p)) (file_fits others) w in
+    let here = first_of (declaration_fits is_short (ProcedureOf p)) (file_fits is_short others) w in
     list_all-append set_fits (mentioned_in set_in (proc_code p)) (mentioned_by set_in (proc_codes others))
-    ∙ both (instrs_sets (proc_code p).instrs (code_operands_fit met p (first_faultless met (ProcedureOf p) others f)
-    (first_of (procedure_fits p) (collects_fits p) here)))
+    ∙ both (instrs_sets (proc_code p).instrs (code_operands_fit is_short met p (first_faultless met (ProcedureOf p) others f)
+    (first_of (procedure_fits is_short p) (collects_fits p) here)))
     (file_sets (names_after met (ProcedureOf p)) others (others_faultless met (ProcedureOf p) others f)
-    (second_of (declaration_fits (ProcedureOf p)) (file_fits others) w))
+    (second_of (declaration_fits is_short (ProcedureOf p)) (file_fits is_short others) w))
 
 -- A file that breaks no rule
 
@@ -275,7 +275,7 @@ faultless_fit : (file : List Declaration) → IsFaultless file → Fit (procedur
 faultless_fit file h = file_fit none_met file h.context
     (subst (λ (f : List Declaration). Each IsSoundProcedure (procedures_of f)) (append-nil file) (sound_files (file ∷ []) (single file h)))
 
-written : (file : List Declaration) → IsFaultless file → file_fits file ≡ true
+written : (file : List Declaration) → IsFaultless file → file_fits is_short file ≡ true
 written file h = ∥∥₁_elim h.spelled (hlevel Bool-set) (λ s. spelled_fits file s)
 
 -- Files that break no rule

@@ -1,0 +1,366 @@
+-- Each line that a named file gives is bytes, where files hold bytes: lines are cut from files, and the texts of names from lines.
+use Rattle.std.proofs.Common.{◌≡◌, ℕ, zero, suc, Bool, true, false, cond, List, [], ◌∷◌, ◌++◌, take, reverse, length, Option, None, Some, Result, Ok, Err, refl, ◌∙◌, subst, ◌&&◌, ◌==◌}
+use Rattle.std.specs.Prelude.{MatchResult, nat_lt, not}
+use Rattle.std.specs.List.{prefix_len}
+use Rattle.std.specs.Map.{update}
+use Rattle.std.specs.Str.{bytes_eq}
+use Rattle.std.proofs.lemmas.Bool.{and_from}
+use Rattle.std.proofs.lemmas.List.Folds.{list_all-append}
+use Rattle.std.proofs.lemmas.Option.{none-some, same_Some}
+use Rattle.icn_host.specs.FileMaps.{FileMap}
+use Rattle.icn_tree.specs.declared.lines.SourceLine.{SourceLine}
+use Rattle.icn_tree.specs.SourceTexts.{joined_len}
+use Rattle.icn_prep.specs.declared.fault.PrepFault.{PrepFault}
+use Rattle.icn_prep.specs.declared.keyword.Keyword.{Keyword}
+use Rattle.icn_prep.specs.declared.keyword.Keyword.TheVariants.{Define, Undef, Include, Ifdef, Ifndef, Else, Endif, Line, Error}
+use Rattle.icn_prep.specs.declared.literal.LiteralState.{LiteralState}
+use Rattle.icn_prep.specs.declared.literal.LiteralState.TheVariants.{Outside}
+use Rattle.icn_prep.specs.declared.place.Conditional.{Conditional}
+use Rattle.icn_prep.specs.Directives.{is_directive, is_comment, uncommented, directive_text, directive_name, names_file, operand, keyword_of}
+use Rattle.icn_prep.specs.FileLines.{begins_with, put_before, lines_of}
+use Rattle.icn_prep.specs.LiteralStates.{after, after_in as state_in, carried}
+use Rattle.icn_prep.specs.Operands.{is_empty, name_operand, define_operand, file_operand, line_operand}
+use Rattle.icn_prep.specs.Outcomes.{◌>>=◌}
+use Rattle.icn_prep.specs.Places.{Place, start_of, next_line}
+use Rattle.icn_prep.specs.Replacement.{Read, behind, begins_word, as_it_stands, read_from, word_read, replaced}
+use Rattle.icn_prep.specs.SourceLines.{State, Source, Outcome, Step, first_state, Including, given, left_empty, passed, text_line, define_again, define_line, undef_line, include_line, if_line, else_line, endif_line, renumbered, line_line, where_taken, directive_line, line_read, ended, lines_read, file_read, too_deep, found, included, named_file, source_of, source_lines}
+use Rattle.icn_prep.specs.Texts.{TextOf, without, with_text, undefined, undefined_by}
+use Rattle.icn_prep.specs.Words.{is_name, is_word_byte, is_blank, first_word, behind_word, trimmed, trimmed_start}
+use Rattle.source_bytes.specs.Bytes.{HoldBytes}
+use Rattle.source_bytes.specs.LineBytes.{line_is_of_bytes, lines_are_of_bytes}
+use Rattle.source_bytes.proofs.ByteLists.{AreBytes, no_bytes, with_first, first_byte, other_bytes, bytes_joined, bytes_taken, bytes_dropped, bytes_reversed, bytes_chosen, bytes_held}
+
+-- The lines of a file
+
+abbrev AreLines : List (List ℕ) → Type 0
+AreLines [] = Unit {0}
+AreLines (line ∷ lines) = AreBytes line × AreLines lines
+
+line_put : (b : ℕ) (rest : List ℕ) (lines : List (List ℕ)) → AreBytes (b ∷ rest) → AreLines lines
+    → AreLines (put_before b lines)
+line_put b rest [] h g = (with_first (first_byte h) no_bytes, tt)
+line_put b rest (line ∷ lines) h g = (with_first (first_byte h) g.0, g.1)
+
+lines_chosen : (test : Bool) (a b : List (List ℕ)) → AreLines a → AreLines b → AreLines (cond test a b)
+lines_chosen true a b h g = h
+lines_chosen false a b h g = g
+
+lines_cut : (bytes : List ℕ) → AreBytes bytes → AreLines (lines_of bytes)
+lines_cut [] h = tt
+lines_cut (b ∷ rest) h =
+    let later = lines_cut rest (other_bytes h) in
+    lines_chosen (b == 10) _ _ (no_bytes, later)
+    (lines_chosen ((b == 13) && begins_with 10 rest) _ _ later (line_put b rest (lines_of rest) h later))
+
+-- What stands in a directive
+
+uncommented_bytes : (is_name : Bool) (state : LiteralState) (bytes : List ℕ) → AreBytes bytes
+    → AreBytes (uncommented is_name state bytes)
+uncommented_bytes is_name state [] h = no_bytes
+uncommented_bytes is_name state (b ∷ rest) h = bytes_chosen (is_comment (state_in is_name state b)) no_bytes
+    (with_first (first_byte h) (uncommented_bytes is_name (state_in is_name state b) rest (other_bytes h)))
+
+start_trimmed : (bytes : List ℕ) → AreBytes bytes → AreBytes (trimmed_start bytes)
+start_trimmed bytes h = bytes_dropped (prefix_len is_blank bytes) bytes h
+
+both_trimmed : (bytes : List ℕ) → AreBytes bytes → AreBytes (trimmed bytes)
+both_trimmed bytes h =
+    let start = trimmed_start bytes in
+    bytes_reversed (trimmed_start (reverse start))
+    (start_trimmed (reverse start) (bytes_reversed start (start_trimmed bytes h)))
+
+word_passed : (bytes : List ℕ) → AreBytes bytes → AreBytes (behind_word bytes)
+word_passed bytes h = bytes_dropped (prefix_len is_word_byte bytes) bytes h
+
+operand_bytes : (line : List ℕ) → AreBytes line → AreBytes (operand line)
+operand_bytes line h =
+    let text = directive_text line in
+    both_trimmed _ (uncommented_bytes (names_file (directive_name line)) Outside (behind_word text)
+    (word_passed text (start_trimmed _ (bytes_dropped 1 line h))))
+
+-- Texts of names
+
+-- each text of a name is bytes
+pub record HaveBytes (texts : TextOf) : Type 0 where
+  pub text : (name text : List ℕ) → texts name ≡ Some text → AreBytes text
+
+texts_updated : (texts : TextOf) (name : List ℕ) (held : Option (List ℕ)) → HaveBytes texts
+    → ((text : List ℕ) → held ≡ Some text → AreBytes text) → HaveBytes (update bytes_eq texts name held)
+texts_updated texts name held h g = record { text = λ other text e. by (bytes_eq name other) other text e }
+  where
+    by : (test : Bool) (other text : List ℕ) → cond test held (texts other) ≡ Some text → AreBytes text
+    by true other text e = g text e
+    by false other text e = h.text other text e
+
+texts_without : (texts : TextOf) (name : List ℕ) → HaveBytes texts → HaveBytes (without texts name)
+texts_without texts name h = texts_updated texts name None h (λ text e. absurd (none-some text e))
+
+texts_with : (texts : TextOf) (name text : List ℕ) → HaveBytes texts → AreBytes text
+    → HaveBytes (update bytes_eq texts name (Some text))
+texts_with texts name text h g = texts_updated texts name (Some text) h
+    (λ other e. subst AreBytes (same_Some text other e) g)
+
+-- A line with its words replaced
+
+read_chosen : (test : Bool) (a b : Read) → AreBytes a.bytes → AreBytes b.bytes → AreBytes (cond test a b).bytes
+read_chosen true a b h g = h
+read_chosen false a b h g = g
+
+read_bytes : (becomes : List ℕ → Read) → ((word : List ℕ) → AreBytes word → AreBytes (becomes word).bytes)
+    → (taken : ℕ) (state : LiteralState) (bytes : List ℕ) → AreBytes bytes
+    → AreBytes (read_from becomes taken state bytes).bytes
+read_bytes becomes r taken state [] h = no_bytes
+read_bytes becomes r (suc n) state (b ∷ rest) h = read_bytes becomes r n state rest (other_bytes h)
+read_bytes becomes r zero state (b ∷ rest) h =
+    let count = prefix_len is_word_byte rest in
+    let word = becomes (b ∷ take count rest) in
+    read_chosen (begins_word state b)
+    (behind word.bytes (read_from becomes count word.state rest))
+    (behind (b ∷ []) (read_from becomes zero (after state b) rest))
+    (bytes_joined (r _ (with_first (first_byte h) (bytes_taken count rest (other_bytes h))))
+    (read_bytes becomes r count word.state rest (other_bytes h)))
+    (bytes_joined (with_first (first_byte h) no_bytes)
+    (read_bytes becomes r zero (after state b) rest (other_bytes h)))
+
+word_bytes : (reads : TextOf → LiteralState → List ℕ → Read)
+    → ((texts : TextOf) → HaveBytes texts → (state : LiteralState) (bytes : List ℕ) → AreBytes bytes
+    → AreBytes (reads texts state bytes).bytes)
+    → (texts : TextOf) → HaveBytes texts → (word : List ℕ) (held : Option (List ℕ)) → texts word ≡ held
+    → AreBytes word
+    → AreBytes (word_read reads texts word held).bytes
+word_bytes reads r texts h word None e g = g
+word_bytes reads r texts h word (Some text) e g = r (without texts word)
+    (texts_without texts word h) Outside text (h.text word text e)
+
+replaced_bytes : (n : ℕ) (texts : TextOf) → HaveBytes texts → (state : LiteralState) (bytes : List ℕ)
+    → AreBytes bytes
+    → AreBytes (replaced n texts state bytes).bytes
+replaced_bytes zero texts h state bytes g = read_bytes as_it_stands (λ word w. w) zero state bytes g
+replaced_bytes (suc n) texts h state bytes g = read_bytes
+    (λ word. word_read (replaced n) texts word (texts word))
+    (λ word w. word_bytes (replaced n) (λ t k s b q. replaced_bytes n t k s b q) texts h word
+    (texts word) refl w) zero state bytes g
+
+-- What reading has come to
+
+pub record Known (s : State) : Type 0 where
+  pub lines : lines_are_of_bytes s.lines ≡ true
+  pub texts : HaveBytes s.texts.text_of
+
+-- where reading goes on, this is known
+record Gives {A : Type 0} (state : A → State) (outcome : Result A PrepFault) : Type 0 where
+  known : MatchResult outcome (λ a. Known (state a)) (λ fault. Unit {0})
+
+abbrev of_outcome : State → State
+of_outcome s = s
+
+abbrev of_step : State × Place → State
+of_step after = after.0
+
+breaks : {A : Type 0} {state : A → State} (fault : PrepFault) → Gives state (Err fault)
+breaks fault = record { known = tt }
+
+abbrev IncludesKnown : Including → Type 0
+IncludesKnown includes = (name : List ℕ) (s : State) (place : Place) → Known s
+    → Gives of_outcome (includes name s place)
+
+then_known : {A B : Type 0} {at : A → State} {state : B → State} (a : Result A PrepFault)
+    (f : A → Result B PrepFault)
+    → Gives at a → ((x : A) → Known (at x) → Gives state (f x)) → Gives state (a >>= f)
+then_known (Ok a) f h g = g a h.known
+then_known (Err e) f h g = record { known = tt }
+
+either : {A : Type 0} {state : A → State} (b : Bool) (x y : Result A PrepFault) → Gives state x → Gives state y
+    → Gives state (cond b x y)
+either true x y h g = h
+either false x y h g = g
+
+line_more : (lines : List SourceLine) (line : SourceLine) → lines_are_of_bytes lines ≡ true
+    → AreBytes line.bytes
+    → lines_are_of_bytes (lines ++ line ∷ []) ≡ true
+line_more lines line h g = list_all-append line_is_of_bytes lines (line ∷ [])
+    ∙ and_from _ _ h (and_from _ _ g.are refl)
+
+given_known : (s : State) (place : Place) (bytes : List ℕ) (literal : LiteralState) → Known s → AreBytes bytes
+    → Gives of_outcome (given s place bytes literal)
+given_known s place bytes literal k h =
+    let line : SourceLine = record { bytes = bytes; file = place.file; number = place.line } in
+    let more : lines_are_of_bytes (s.lines ++ line ∷ []) ≡ true = line_more s.lines line k.lines h in
+    either (nat_lt 16777216 (joined_len (s.lines ++ line ∷ []))) _
+    (Ok (record s { lines = s.lines ++ line ∷ []; literal = literal })) (breaks _)
+    (record { known = record { lines = more; texts = k.texts } })
+
+passed_known : (s : State) (place onward : Place) → Known s → Gives of_step (passed s place onward)
+passed_known s place onward k = then_known (left_empty s place) _ (given_known s place [] _ k no_bytes)
+    (λ s' w. record { known = w })
+
+taken_known : (s : State) (place : Place) (step : Step) → Known s → Gives of_step step
+    → Gives of_step (where_taken s place step)
+taken_known s place step k h = either place.taken _ _ h (passed_known s place (next_line place) k)
+
+again_known : (s : State) (place : Place) (name text : List ℕ) (old : Option (List ℕ)) → Known s → AreBytes text
+    → Gives of_step (define_again s place name text old)
+again_known s place name text None k h =
+    passed_known (record s { texts = with_text s.texts name text }) place (next_line place)
+    (record { lines = k.lines; texts = texts_with s.texts.text_of name text k.texts h })
+again_known s place name text (Some old) k h = either _ _ _ (passed_known s place (next_line place) k)
+    (breaks _)
+
+define_known : (s : State) (place : Place) (test : Bool) (name text : List ℕ) → Known s → AreBytes text
+    → Gives of_step (define_line s place (cond test (Some (name, text)) None))
+define_known s place false name text k h = breaks _
+define_known s place true name text k h = again_known s place name text (s.texts.text_of name) k h
+
+operand_known : (s : State) (place : Place) (text : List ℕ) → Known s → AreBytes text
+    → Gives of_step (define_line s place (define_operand text))
+operand_known s place text k h = define_known s place
+    (is_name (first_word text) && not (begins_with 40 (behind_word text)))
+    (first_word text) (trimmed (behind_word text)) k (both_trimmed (behind_word text) (word_passed text h))
+
+undefined_known : (s : State) (name : List ℕ) (old : Option (List ℕ)) → Known s
+    → HaveBytes (undefined_by s.texts name old).text_of
+undefined_known s name None k = k.texts
+undefined_known s name (Some text) k = texts_without s.texts.text_of name k.texts
+
+undef_known : (s : State) (place : Place) (name : Option (List ℕ)) → Known s
+    → Gives of_step (undef_line s place name)
+undef_known s place None k = breaks _
+undef_known s place (Some name) k = passed_known (record s { texts = undefined s.texts name }) place
+    (next_line place)
+    (record { lines = k.lines; texts = undefined_known s name (s.texts.text_of name) k })
+
+include_known : (includes : Including) → IncludesKnown includes
+    → (s : State) (place : Place) (name : Option (List ℕ)) → Known s
+    → Gives of_step (include_line includes s place name)
+include_known includes h s place None k = breaks _
+include_known includes h s place (Some name) k = then_known (includes name s place) _ (h name s place k)
+    (λ s' w. record { known = w })
+
+if_known : (s : State) (place : Place) (wanted : Bool) (name : Option (List ℕ)) → Known s
+    → Gives of_step (if_line s place wanted name)
+if_known s place wanted None k = breaks _
+if_known s place wanted (Some name) k = passed_known s place _ k
+
+else_known : (s : State) (place : Place) (conditionals : List Conditional) → Known s
+    → Gives of_step (else_line s place conditionals)
+else_known s place [] k = breaks _
+else_known s place (innermost ∷ others) k = either innermost.in_else _ _ (breaks _) (passed_known s place _ k)
+
+endif_known : (s : State) (place : Place) (conditionals : List Conditional) → Known s
+    → Gives of_step (endif_line s place conditionals)
+endif_known s place [] k = breaks _
+endif_known s place (innermost ∷ others) k = passed_known s place _ k
+
+renumbered_known : (s : State) (place : Place) (number : ℕ) (name : Option (List ℕ)) → Known s
+    → Gives of_step (renumbered s place number name)
+renumbered_known s place number None k = passed_known s place (record place { line = number }) k
+renumbered_known s place number (Some name) k = passed_known (record s { names = s.names ++ name ∷ [] }) place
+    (record place { file = length s.names; line = number }) (record { lines = k.lines; texts = k.texts })
+
+line_known : (s : State) (place : Place) (numbered : Option (ℕ × Option (List ℕ))) → Known s
+    → Gives of_step (line_line s place numbered)
+line_known s place None k = breaks _
+line_known s place (Some numbered) k = renumbered_known s place numbered.0 numbered.1 k
+
+directive_known : (includes : Including) → IncludesKnown includes
+    → (s : State) (place : Place) (keyword : Option Keyword) (text : List ℕ)
+    → Known s → AreBytes text → Gives of_step (directive_line includes s place keyword text)
+directive_known includes h s place None text k w = taken_known s place _ k (breaks _)
+directive_known includes h s place (Some Define) text k w = taken_known s place _ k
+    (operand_known s place text k w)
+directive_known includes h s place (Some Undef) text k w = taken_known s place _ k
+    (undef_known s place (name_operand text) k)
+directive_known includes h s place (Some Include) text k w = taken_known s place _ k
+    (include_known includes h s place (file_operand text) k)
+directive_known includes h s place (Some Ifdef) text k w = if_known s place true (name_operand text) k
+directive_known includes h s place (Some Ifndef) text k w = if_known s place false (name_operand text) k
+directive_known includes h s place (Some Else) text k w = either (is_empty text) _ _
+    (else_known s place place.conditionals k) (breaks _)
+directive_known includes h s place (Some Endif) text k w = either (is_empty text) _ _
+    (endif_known s place place.conditionals k) (breaks _)
+directive_known includes h s place (Some Line) text k w = taken_known s place _ k
+    (line_known s place (line_operand text) k)
+directive_known includes h s place (Some Error) text k w = taken_known s place _ k (breaks _)
+
+text_known : (s : State) (place : Place) (read : Read) → Known s → AreBytes read.bytes
+    → Gives of_step (text_line s place read)
+text_known s place read k h = then_known (given s place read.bytes (carried read.state)) _
+    (given_known s place read.bytes (carried read.state) k h) (λ s' w. record { known = w })
+
+read_known : (includes : Including) → IncludesKnown includes → (s : State) (place : Place) (line : List ℕ)
+    → Known s → AreBytes line
+    → Gives of_step (line_read includes s place line)
+read_known includes h s place line k w =
+    either (is_directive s.literal line) _ _
+    (directive_known includes h s place (keyword_of (directive_name line)) (operand line) k
+    (operand_bytes line w))
+    (taken_known s place _ k (text_known s place (replaced s.texts.count s.texts.text_of s.literal line) k
+    (replaced_bytes s.texts.count s.texts.text_of k.texts s.literal line w)))
+
+ended_known : (s : State) (conditionals : List Conditional) → Known s → Gives of_outcome (ended s conditionals)
+ended_known s [] k = record { known = k }
+ended_known s (innermost ∷ others) k = breaks _
+
+lines_known : (includes : Including) → IncludesKnown includes
+    → (s : State) (place : Place) (lines : List (List ℕ)) → Known s → AreLines lines
+    → Gives of_outcome (lines_read includes s place lines)
+lines_known includes h s place [] k w = ended_known s place.conditionals k
+lines_known includes h s place (line ∷ rest) k w = then_known (line_read includes s place line) _
+    (read_known includes h s place line k w.0)
+    (λ after v. lines_known includes h after.0 after.1 rest v w.1)
+
+file_known : (includes : Including) → IncludesKnown includes → (name : List ℕ) (s : State) (bytes : List ℕ)
+    → Known s → AreBytes bytes
+    → Gives of_outcome (file_read includes name s bytes)
+file_known includes h name s bytes k w = lines_known includes h (record s { names = s.names ++ name ∷ [] })
+    (start_of (length s.names)) (lines_of bytes)
+    (record { lines = k.lines; texts = k.texts }) (lines_cut bytes w)
+
+-- Files
+
+deep_known : (name : List ℕ) (s : State) (place : Place) (content : Option (List ℕ))
+    → Gives of_outcome (too_deep name s place content)
+deep_known name s place None = breaks _
+deep_known name s place (Some bytes) = breaks _
+
+module _ (files : FileMap) (hold : HoldBytes files) where
+  content_bytes : (name bytes : List ℕ) → files name ≡ Some bytes → AreBytes bytes
+  content_bytes name bytes e = bytes_held bytes (hold name bytes e)
+
+  found_known : (includes : Including) → IncludesKnown includes
+      → (name : List ℕ) (s : State) (place : Place) (content : Option (List ℕ))
+      → files name ≡ content → Known s → Gives of_outcome (found includes name s place content)
+  found_known includes h name s place None e k = breaks _
+  found_known includes h name s place (Some bytes) e k = either _ _ _ (breaks _)
+      (then_known (left_empty s place) _ (given_known s place [] _ k no_bytes)
+      (λ s' w. file_known includes h name s' bytes w (content_bytes name bytes e)))
+
+  included_known : (n : ℕ) → IncludesKnown (included files n)
+  included_known zero name s place k = deep_known name s place (files name)
+  included_known (suc n) name s place k = found_known (included files n) (included_known n) name s place
+      (files name) refl k
+
+  named_known : (name : List ℕ) (content : Option (List ℕ)) → files name ≡ content
+      → Gives of_outcome (named_file files name content)
+  named_known name None e = breaks _
+  named_known name (Some bytes) e = either _ _ _ (breaks _)
+      (file_known (included files 32) (included_known 32) name first_state bytes
+      (record { lines = refl; texts = record { text = λ other text none. absurd (none-some text none) } })
+      (content_bytes name bytes e))
+
+source_known : (outcome : Outcome) (source : Source) → Gives of_outcome outcome → source_of outcome ≡ Ok source
+    → lines_are_of_bytes source.lines ≡ true
+source_known (Ok s) source h is = subst (λ (lines : List SourceLine). lines_are_of_bytes lines ≡ true)
+    (same_lines s source is) h.known.lines where
+      same_lines : (s : State) (source : Source)
+          → ◌≡◌ {A = Result Source PrepFault} (Ok (record { names = s.names; lines = s.lines })) (Ok source)
+          → s.lines ≡ source.lines
+      same_lines s source e = cc
+source_known (Err e) source h is = absurd (let no = is in cc)
+
+-- the lines that the definition gives are bytes
+pub lines_are_bytes : (files : FileMap) (name : List ℕ) (source : Source) → HoldBytes files
+    → source_lines files name ≡ Ok source
+    → lines_are_of_bytes source.lines ≡ true
+lines_are_bytes files name source hold is = source_known (named_file files name (files name)) source
+    (named_known files hold name (files name) refl) is
