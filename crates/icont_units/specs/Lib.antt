@@ -4,4 +4,5 @@ pub mod Translating
 pub mod Stages
 pub mod Files
 pub mod Units
+pub mod Generated
 pub mod Fetching

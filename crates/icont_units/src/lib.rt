@@ -4,10 +4,12 @@
 mod checking;
 mod files;
 mod program_fault;
+mod program_lines;
 mod source;
 mod ucode;
 
 pub use files::{File, Kind, file_named, files_named, name_with};
 pub use icn_lines::Answer;
+pub use program_lines::sizes_line;
 pub use source::checked_source;
 pub use ucode::{linked_unit, named_unit};

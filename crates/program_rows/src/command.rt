@@ -34,7 +34,7 @@ pub fn outcome(
 }
 
 // Each line of a text, behind this mark.
-fn push_lines(
+pub fn push_lines(
     alloc: Global,
     shown: &mut String,
     mark: &str,

@@ -1,5 +1,5 @@
 // The rows, a line at a time.
-use crate::command::outcome;
+use crate::command::{outcome, push_lines};
 use icn_host::{Files, SureFiles};
 use std::alloc::{AllocError, Global};
 use std::collections::BTreeMap;
@@ -45,6 +45,7 @@ impl Row {
             "<" => push_line(&mut self.input, text)?,
             "<<" => self.input.push_str(text)?,
             "$" => return self.run(alloc, line, text),
+            "?" => return self.show(alloc, line, text),
             _ => {}
         }
         if mark == "=" || mark == "#" || mark.is_empty() {
@@ -105,6 +106,18 @@ impl Row {
         let outcome = outcome(alloc, words, &mut self.files, self.input.as_bytes())?;
         self.input = String::new(alloc);
         format!(in alloc; "{line}\n{outcome}")
+    }
+
+    // The lines of a file of the row, or that it is not there.
+    fn show(&mut self, alloc: Global, line: &str, name: &str) -> Result<String, AllocError> {
+        self.end(alloc)?;
+        let mut bytes = Vec::new(alloc);
+        if self.files.read(name, MOST, &mut bytes).is_err() {
+            return format!(in alloc; "{line}\nnot there\n");
+        }
+        let mut shown = format!(in alloc; "{line}\n")?;
+        push_lines(alloc, &mut shown, "| ", &bytes)?;
+        Ok(shown)
     }
 }
 
