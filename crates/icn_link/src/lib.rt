@@ -17,3 +17,4 @@ mod variable;
 
 pub use fault::{DeclPlace, LinkFault};
 pub use linking::link;
+pub use missing::base_of;

@@ -6,3 +6,4 @@ pub mod Files
 pub mod Units
 pub mod Generated
 pub mod Fetching
+pub mod Loading

@@ -3,6 +3,8 @@
 
 mod checking;
 mod files;
+mod members;
+mod members_linked;
 mod program_fault;
 mod program_lines;
 mod source;
@@ -10,6 +12,7 @@ mod ucode;
 
 pub use files::{File, Kind, file_named, files_named, name_with};
 pub use icn_lines::Answer;
+pub use members::{Members, come, load};
 pub use program_lines::sizes_line;
 pub use source::checked_source;
 pub use ucode::{linked_unit, named_unit};

@@ -1,0 +1,166 @@
+// The units of a command.
+ghost use Rattle.std.specs.Prelude.{◌≡◌, ◌≤◌, ◌⊎◌, List, Err, IfSome, IfOk, IfErr, IsErrOf, OnOk, OnErr};
+ghost use Rattle.icn_host.specs.Counts.{CountsOnce, HasCause};
+ghost use Rattle.icn_tree.specs.TreeOf.{declarations_of};
+ghost use Rattle.icn_link.specs.Units.{unit_seen};
+ghost use Rattle.icn_translate.specs.FileUnits.{translated_unit};
+ghost use Rattle.icont_units.specs.Fetching.{file_seen, files_seen, IsOfLoading};
+ghost use Rattle.icont_units.specs.Files.{source, ucode};
+ghost use Rattle.icont_units.specs.Loading.{AreSought, IsCome, IsLoaded, IsRead, IsSound, Stands, kept_of, with_source, with_ucode};
+ghost use Rattle.icont_units.specs.Sources.{IsErrOfAbsence};
+ghost use Rattle.icont_units.specs.Units.{Member};
+
+use crate::files::{File, Kind};
+use crate::members_linked::gather;
+use crate::source::checked_source;
+use crate::ucode::named_unit;
+use icn_host::Files;
+use icn_lines::Answer;
+use icn_unit::Unit;
+use icn_units::unit;
+use std::alloc::Global;
+
+/// The units of a command, the named ones first. What each was made of is not kept: the contracts tell of a list of members that the
+/// units stand for.
+#[derive(Drop)]
+pub struct Members {
+    pub units: Vec<Unit>,
+    /// The place of the first that was read as ucode.
+    pub first_ucode: Option<usize>,
+}
+
+/// The units of named files, and of those that they link: each base once, and what a unit links behind what was linked before.
+///
+/// # Errors
+///
+/// `Missing` where a named file is not there, `Refused` with the first rule that a source breaks, `BadUcode` with the first that the
+/// texts of a unit break, `FileFault` where the store failed, `NoMemory`. A linked file that is not there is no error here.
+#[tactic(none)]
+pub fn load<F: Files>(alloc: Global, named: &[File<'_>], files: &mut F) -> Result<Members, Answer>
+    ensures loaded { IfSome (F.held files.old) (λ held. IsLoaded held (files_seen named.now) result) }
+    ensures sound { IfOk result IsSound }
+    ensures absent { IfOk result (λ members. AreSought (F.absences files.old) (F.absences files.new) (kept_of members).units) }
+    ensures others { IfErr result IsOfLoading }
+    ensures files { F.held files.new ≡ F.held files.old }
+    ensures file_fault { CountsOnce (F.faults files.old) (F.faults files.new) (IsErrOf result Answer.FileFault) }
+    ensures absence { HasCause (F.absences files.old) (F.absences files.new) (IsErrOfAbsence result) }
+{
+    let mut members = come(alloc, named, files)?;
+    gather(alloc, &mut members, files)?;
+    Ok(members)
+}
+
+/// The units of named files alone, in their order: the first that is refused refuses all.
+///
+/// # Errors
+///
+/// Those of `load`.
+#[tactic(none)]
+pub fn come<F: Files>(alloc: Global, named: &[File<'_>], files: &mut F) -> Result<Members, Answer>
+    ensures come { IfSome (F.held files.old) (λ held. IsCome held (files_seen named.now) result) }
+    ensures sound { IfOk result IsSound }
+    ensures others { IfErr result IsOfLoading }
+    ensures files { F.held files.new ≡ F.held files.old }
+    ensures file_fault { CountsOnce (F.faults files.old) (F.faults files.new) (IsErrOf result Answer.FileFault) }
+    ensures absence { HasCause (F.absences files.old) (F.absences files.new) (IsErrOfAbsence result) }
+{
+    let mut members = Members {
+        units: Vec::new(alloc),
+        first_ucode: None,
+    };
+    for file in named {
+        add_file(alloc, file, &mut members, files)?;
+    }
+    Ok(members)
+}
+
+// Adds the unit of a named file.
+#[tactic(none)]
+fn add_file<F: Files>(
+    alloc: Global,
+    file: &File<'_>,
+    members: &mut Members,
+    files: &mut F,
+) -> Result<(), Answer>
+    ensures read { IfSome (F.held files.old) (λ held. (before : List Member) → Stands members.old before
+        → IsRead held (file_seen file.now) before members.new result) }
+    ensures sound { IsSound members.old → OnOk result (IsSound members.new) }
+    ensures others { IfErr result IsOfLoading }
+    ensures files { F.held files.new ≡ F.held files.old }
+    ensures file_fault { CountsOnce (F.faults files.old) (F.faults files.new) (IsErrOf result Answer.FileFault) }
+    ensures absence { HasCause (F.absences files.old) (F.absences files.new) (IsErrOfAbsence result) }
+{
+    match file.kind {
+        Kind::Source => add_source(alloc, file.base, members, files),
+        Kind::Ucode => add_named(alloc, file.base, members, files),
+    }
+}
+
+// Adds the unit of the source of this base name.
+#[tactic(none)]
+fn add_source<F: Files>(
+    alloc: Global,
+    base: &str,
+    members: &mut Members,
+    files: &mut F,
+) -> Result<(), Answer>
+    ensures read { IfSome (F.held files.old) (λ held. (before : List Member) → Stands members.old before
+        → IsRead held (source base.now) before members.new result) }
+    ensures sound { IsSound members.old → OnOk result (IsSound members.new) }
+    ensures others { IfErr result IsOfLoading }
+    ensures files { F.held files.new ≡ F.held files.old }
+    ensures file_fault { CountsOnce (F.faults files.old) (F.faults files.new) (IsErrOf result Answer.FileFault) }
+    ensures absence { HasCause (F.absences files.old) (F.absences files.new) (IsErrOfAbsence result) }
+{
+    let checked = checked_source(alloc, base, files)?;
+    match unit(alloc, base.as_bytes(), &checked) {
+        Ok(unit) => push_source(members, unit),
+        Err(_) => Err(Answer::NoMemory),
+    }
+}
+
+// Adds the unit of this base name that is there as ucode.
+#[tactic(none)]
+fn add_named<F: Files>(
+    alloc: Global,
+    base: &str,
+    members: &mut Members,
+    files: &mut F,
+) -> Result<(), Answer>
+    ensures read { IfSome (F.held files.old) (λ held. (before : List Member) → Stands members.old before
+        → IsRead held (ucode base.now) before members.new result) }
+    ensures sound { IsSound members.old → OnOk result (IsSound members.new) }
+    ensures others { IfErr result IsOfLoading }
+    ensures files { F.held files.new ≡ F.held files.old }
+    ensures file_fault { CountsOnce (F.faults files.old) (F.faults files.new) (IsErrOf result Answer.FileFault) }
+    ensures absence { HasCause (F.absences files.old) (F.absences files.new) (IsErrOfAbsence result) }
+{
+    let unit = named_unit(alloc, base, files)?;
+    push_ucode(members, unit)
+}
+
+// Adds the unit of a source.
+#[tactic(none)]
+fn push_source(members: &mut Members, unit: Unit) -> Result<(), Answer>
+    ensures added { OnOk result (kept_of members.new ≡ with_source (kept_of members.old) (unit_seen unit)) }
+    ensures others { IfErr result (λ answer. answer ≡ Answer.NoMemory) }
+{
+    match members.units.push(unit) {
+        Ok(()) => Ok(()),
+        Err(_) => Err(Answer::NoMemory),
+    }
+}
+
+/// Adds a unit that was read as ucode.
+#[tactic(none)]
+pub fn push_ucode(members: &mut Members, unit: Unit) -> Result<(), Answer>
+    ensures added { OnOk result (kept_of members.new ≡ with_ucode (kept_of members.old) (unit_seen unit)) }
+    ensures others { IfErr result (λ answer. answer ≡ Answer.NoMemory) }
+{
+    let place = members.first_ucode.unwrap_or(members.units.len());
+    members.first_ucode = Some(place);
+    match members.units.push(unit) {
+        Ok(()) => Ok(()),
+        Err(_) => Err(Answer::NoMemory),
+    }
+}
