@@ -1,7 +1,8 @@
 -- How the code tells which files are named, and what it made of one.
-use Rattle.std.specs.Prelude.{◌≡◌, ◌⊎◌, ℕ, true, List, map, take, Option, Some, None, Result, Ok, Err, IfOk, Vec}
+use Rattle.std.specs.Prelude.{◌≡◌, ◌⊎◌, ℕ, ◌+◌, true, List, [], ◌∷◌, ◌++◌, map, take, if◌then◌else◌, Option, Some, None, Result, Ok, Err, IfOk, Vec}
 use Rattle.std.specs.Borrow.{Bor}
-use Rattle.std.specs.Str.{is_utf8}
+use Rattle.std.specs.List.{list_any}
+use Rattle.std.specs.Str.{bytes_eq, is_utf8}
 use Rattle.icn_host.specs.FileMaps.{FileMap}
 use Rattle.icn_tree.specs.TreeOf.{declarations_of}
 use Rattle.icn_tree.specs.declared.rule.Rule.{Rule}
@@ -13,6 +14,7 @@ use Rattle.icn_lines.specs.declared.answer.Answer.{Answer}
 use Rattle.icn_lines.specs.declared.answer.Answer.TheVariants.{Missing, BadUcode, Refused, FileFault, NoMemory}
 use Rattle.icn_lines.specs.Answers.{IsFault}
 use Rattle.icont_units.specs.declared.files.File.{File as HeldFile}
+use Rattle.icont_units.specs.declared.ucode.UnitTexts.{UnitTexts}
 use Rattle.icont_units.specs.Files.{File, source, ucode}
 use Rattle.icont_units.specs.Sources.{Scan, refused_at}
 use Rattle.icont_units.specs.Translating.{Become}
@@ -29,6 +31,12 @@ file_seen file = record { kind = file.kind; base = file.base.now }
 abbrev pub files_seen : List HeldFile → List File
 files_seen files = map file_seen files
 
+-- those of these files whose base is not known yet, each once
+abbrev pub new_files : List (List ℕ) → List File → List File
+new_files known [] = []
+new_files known (file ∷ files) =
+    if list_any (bytes_eq file.base) known then new_files known files else file ∷ new_files (known ++ file.base ∷ []) files
+
 -- Sources
 
 -- the source of this base is these declarations, or what refuses it is answered, or a fault
@@ -44,9 +52,20 @@ AreFile scan (Err answer) = (answer ≡ NoMemory)
 
 -- Texts
 
--- the first bytes of a text, one more than it may have: by their number it is seen whether it has more
+-- the first bytes of a text, one more than it may have: their number tells whether it has more
 abbrev pub first_bytes : List ℕ → List ℕ
-first_bytes text = take 268435457 text
+first_bytes text = take (268435456 + 1) text
+
+-- the text of this name has these first bytes, or it is not there, or a fault
+abbrev pub IsText : {Z : Type 0} → Option (List ℕ) → List ℕ → Result (Vec ℕ Z) Answer → Type 0
+IsText held name (Ok text) = (bytes : List ℕ) × ((held ≡ Some bytes) × (text.items ≡ first_bytes bytes))
+IsText held name (Err answer) = IsFault answer ⊎ ((held ≡ None) × (answer ≡ Missing name))
+
+-- both texts have these first bytes, or one is not there, or a fault
+abbrev pub AreTexts : Result (List ℕ × List ℕ) (List ℕ) → Result UnitTexts Answer → Type 0
+AreTexts held (Ok texts) = (first : List ℕ) × ((second : List ℕ) × ((held ≡ Ok (first, second))
+    × ((texts.first.items ≡ first_bytes first) × (texts.second.items ≡ first_bytes second))))
+AreTexts held (Err answer) = IsFault answer ⊎ ((name : List ℕ) × ((held ≡ Err name) × (answer ≡ Missing name)))
 
 -- Units
 
@@ -86,6 +105,19 @@ IsLost base (Ok None) = is_utf8 base ≡ true
 IsLost base (Err answer) = ⊥
 
 -- Which answers there are
+
+-- why a text was not had
+abbrev pub IsOfTexts : Answer → Type 0
+IsOfTexts (Missing name) = Unit {0}
+IsOfTexts FileFault = Unit {0}
+IsOfTexts NoMemory = Unit {0}
+IsOfTexts _ = ⊥
+
+-- what refuses two texts, or want of memory
+abbrev pub IsOfJudged : Answer → Type 0
+IsOfJudged (BadUcode name rule) = Unit {0}
+IsOfJudged NoMemory = Unit {0}
+IsOfJudged _ = ⊥
 
 -- what refuses a unit that is linked, or a fault
 abbrev pub IsOfLinked : Answer → Type 0

@@ -1,6 +1,7 @@
 -- The files that the words name.
-use Rattle.std.specs.Prelude.{ℕ, ◌-◌, Bool, true, false, List, ◌++◌, filter, map, length, take, codes, nat_eq, if◌then◌else◌}
+use Rattle.std.specs.Prelude.{ℕ, ◌-◌, Bool, true, false, List, ◌++◌, filter, map, length, take, codes, nat_eq, if◌then◌else◌, Option, Some, None}
 use Rattle.std.specs.List.{ends_with}
+use Rattle.std.specs.Option.{option_map_or}
 use Rattle.std.specs.Str.{bytes_eq}
 use Rattle.icn_simulation.specs.Mentions.{firsts}
 use Rattle.icont_units.specs.declared.files.Kind.{Kind}
@@ -11,11 +12,9 @@ pub record File : Type 0 where
   pub kind : Kind
   pub base : List ℕ
 
-abbrev pub has_suffix : List ℕ → List ℕ → Bool
-has_suffix name suffix = ends_with nat_eq name suffix
-
-abbrev pub without : ℕ → List ℕ → List ℕ
-without count name = take (length name - count) name
+-- what stands before a suffix, where a name has it
+abbrev pub base_before : List ℕ → List ℕ → Option (List ℕ)
+base_before name suffix = if ends_with nat_eq name suffix then Some (take (length name - length suffix) name) else None
 
 abbrev pub source : List ℕ → File
 source base = record { kind = Source; base = base }
@@ -23,12 +22,12 @@ source base = record { kind = Source; base = base }
 abbrev pub ucode : List ℕ → File
 ucode base = record { kind = Ucode; base = base }
 
--- a name without a suffix is the base of a source
+-- of a name that does not end in `.icn`: without any suffix it is the base of a source
+abbrev pub file_without_icn : List ℕ → File
+file_without_icn name = option_map_or ucode (base_before name (codes ".u1")) (option_map_or ucode (base_before name (codes ".u2")) (source name))
+
 abbrev pub file_named : List ℕ → File
-file_named name =
-    if has_suffix name (codes ".icn") then source (without 4 name)
-    else (if has_suffix name (codes ".u1") then ucode (without 3 name)
-    else (if has_suffix name (codes ".u2") then ucode (without 3 name) else source name))
+file_named name = option_map_or source (base_before name (codes ".icn")) (file_without_icn name)
 
 abbrev pub same_base : File → File → Bool
 same_base a b = bytes_eq a.base b.base

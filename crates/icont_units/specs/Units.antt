@@ -54,6 +54,9 @@ abbrev pub unit_found : List ℕ → UnitOutcome → Result UnitRead Answer
 unit_found base (Whole unit) = Ok unit
 unit_found base (Faulty rule second) = Err (BadUcode (faulty_name base second) rule)
 
+abbrev pub is_too_long : List ℕ → Bool
+is_too_long text = nat_lt 268435456 (length text)
+
 -- What two texts come to. Neither has over 268435456 bytes, which is looked at before both are read.
 pub data AreJudged (base first second : List ℕ) : Result UnitRead Answer → Type 0 where
   first_too_long : 268435456 < length first → AreJudged base first second (Err (BadUcode (first_name base) U8))

@@ -10,7 +10,7 @@ mod program_lines;
 mod source;
 mod ucode;
 
-pub use files::{File, Kind, file_named, files_named, name_with};
+pub use files::{File, Kind, file_named, files_named, name_with, sources_in};
 pub use icn_lines::Answer;
 pub use members::{Members, come, load};
 pub use program_lines::sizes_line;

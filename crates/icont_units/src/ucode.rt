@@ -1,13 +1,28 @@
 // Units that are there as ucode.
-ghost use Rattle.std.specs.Prelude.{◌≡◌, IfSome, IfErr, IsErrOf};
-ghost use Rattle.icn_host.specs.Counts.{CountsOnce};
+ghost use Rattle.std.specs.Prelude.{◌≡◌, ◌⊎◌, ◌++◌, IfSome, IfErr, IsErrOf};
+ghost use Rattle.icn_host.specs.Counts.{CountsOnce, HasCause};
+ghost use Rattle.icn_lines.specs.declared.answer.Answer.TheVariants.{BadUcode};
+ghost use Rattle.icont_units.specs.Fetching.{AreTexts, IsJudged, IsLinkedUnit, IsLost, IsNamedUnit, IsOfJudged, IsOfLinked, IsOfNamed, IsOfTexts, IsText, IsUnitOf, IsUnitOfSome};
 ghost use Rattle.icont_units.specs.Sources.{IsErrOfAbsence};
-ghost use Rattle.icont_units.specs.Fetching.{IsLinkedUnit, IsLost, IsNamedUnit, IsOfLinked, IsOfNamed, IsUnitOf, IsUnitOfSome};
+ghost use Rattle.icont_units.specs.Units.{faulty_name, is_too_long, texts_held};
 
-use icn_host::Files;
+use crate::files::name_with;
+use icn_host::{Files, Look};
 use icn_lines::Answer;
-use icn_unit::Unit;
+use icn_tree::{Bytes, Rule};
+use icn_ucode::read_unit;
+use icn_unit::{UcodeFault, Unit};
 use std::alloc::Global;
+
+/// How many bytes a text of a unit may have.
+const LONGEST: u64 = 268_435_456;
+
+/// The two texts of a unit: of each so many bytes that one too many is seen.
+#[derive(Drop)]
+pub struct UnitTexts {
+    pub first: Vec<u8>,
+    pub second: Vec<u8>,
+}
 
 /// The unit of this base name, which the words of a command name: both texts are fetched before either is judged.
 ///
@@ -15,16 +30,18 @@ use std::alloc::Global;
 ///
 /// `Missing` with the name of the first text that is not there, `BadUcode` with that of the first that breaks a rule, `FileFault`
 /// where the store failed, `NoMemory` where memory ran out.
-#[tactic(none)]
 pub fn named_unit<F: Files>(alloc: Global, base: &str, files: &mut F) -> Result<Unit, Answer>
     ensures comes { IfSome (F.held files.old) (λ held. IsNamedUnit held base.now result) }
     ensures name { IsUnitOf base.now result }
     ensures others { IfErr result IsOfNamed }
     ensures files { F.held files.new ≡ F.held files.old }
     ensures file_fault { CountsOnce (F.faults files.old) (F.faults files.new) (IsErrOf result Answer.FileFault) }
-    ensures absence { CountsOnce (F.absences files.old) (F.absences files.new) (IsErrOfAbsence result) }
+    ensures absence { HasCause (F.absences files.old) (F.absences files.new) (IsErrOfAbsence result) }
 {
-    unreachable!()
+    match both_texts(alloc, base, files) {
+        Ok(texts) => unit_read(alloc, base, &texts),
+        Err(answer) => Err(answer),
+    }
 }
 
 /// The unit of this base name, which another unit links; none where it is no text, or where a text of it is not there.
@@ -32,7 +49,6 @@ pub fn named_unit<F: Files>(alloc: Global, base: &str, files: &mut F) -> Result<
 /// # Errors
 ///
 /// `BadUcode` with the name of the first text that breaks a rule, `FileFault` where the store failed, `NoMemory` where memory ran out.
-#[tactic(none)]
 pub fn linked_unit<F: Files>(
     alloc: Global,
     base: &[u8],
@@ -43,7 +59,89 @@ pub fn linked_unit<F: Files>(
     ensures others { IfErr result IsOfLinked }
     ensures files { F.held files.new ≡ F.held files.old }
     ensures file_fault { CountsOnce (F.faults files.old) (F.faults files.new) (IsErrOf result Answer.FileFault) }
-    ensures absence { CountsOnce (F.absences files.old) (F.absences files.new) (IsLost base.now result) }
+    ensures absence { HasCause (F.absences files.old) (F.absences files.new) (IsLost base.now result) }
 {
-    unreachable!()
+    let Ok(base) = str::from_utf8(base) else {
+        return Ok(None);
+    };
+    match both_texts(alloc, base, files) {
+        Ok(texts) => match unit_read(alloc, base, &texts) {
+            Ok(unit) => Ok(Some(unit)),
+            Err(answer) => Err(answer),
+        },
+        Err(Answer::Missing(_)) => Ok(None),
+        Err(answer) => Err(answer),
+    }
+}
+
+// The unit of two texts: whether either is too long is looked at before both are read.
+fn unit_read(alloc: Global, base: &str, texts: &UnitTexts) -> Result<Unit, Answer>
+    ensures judged { IsJudged base.now texts.now.first.items texts.now.second.items result }
+    ensures name { IsUnitOf base.now result }
+    ensures others { IfErr result IsOfJudged }
+{
+    if is_too_long(&texts.first) {
+        return Err(bad_ucode(alloc, base, false, Rule::U8));
+    }
+    if is_too_long(&texts.second) {
+        return Err(bad_ucode(alloc, base, true, Rule::U8));
+    }
+    match read_unit(alloc, base, &texts.first, &texts.second) {
+        Ok(unit) => Ok(unit),
+        Err(UcodeFault::Broken { rule, second }) => Err(bad_ucode(alloc, base, second, rule)),
+        Err(UcodeFault::NoMemory) => Err(Answer::NoMemory),
+    }
+}
+
+fn is_too_long(text: &[u8]) -> bool
+    ensures { result ≡ is_too_long text.now }
+{
+    text.len() as u64 > LONGEST
+}
+
+// The answer that the first or the second text of a unit breaks a rule.
+fn bad_ucode(alloc: Global, base: &str, second: bool, rule: Rule) -> Answer
+    ensures { (result ≡ BadUcode (faulty_name base.now second) rule) ⊎ (result ≡ Answer.NoMemory) }
+{
+    let suffix = if second { ".u2" } else { ".u1" };
+    match name_with(alloc, base, suffix) {
+        Ok(name) => Answer::BadUcode {
+            name: Bytes::new(name.into_bytes()),
+            rule,
+        },
+        Err(_) => Answer::NoMemory,
+    }
+}
+
+// Both texts of the unit of this base name, or the answer that the first that is not there has.
+fn both_texts<F: Files>(alloc: Global, base: &str, files: &mut F) -> Result<UnitTexts, Answer>
+    ensures texts { IfSome (F.held files.old) (λ held. AreTexts (texts_held held base.now) result) }
+    ensures others { IfErr result IsOfTexts }
+    ensures files { F.held files.new ≡ F.held files.old }
+    ensures file_fault { CountsOnce (F.faults files.old) (F.faults files.new) (IsErrOf result Answer.FileFault) }
+    ensures absence { HasCause (F.absences files.old) (F.absences files.new) (IsErrOfAbsence result) }
+{
+    let first = text(alloc, base, ".u1", files)?;
+    let second = text(alloc, base, ".u2", files)?;
+    Ok(UnitTexts { first, second })
+}
+
+// The text of this base name and this suffix.
+fn text<F: Files>(alloc: Global, base: &str, suffix: &str, files: &mut F) -> Result<Vec<u8>, Answer>
+    ensures text { IfSome (F.held files.old) (λ held. IsText (held (base.now ++ suffix.now)) (base.now ++ suffix.now) result) }
+    ensures others { IfErr result IsOfTexts }
+    ensures files { F.held files.new ≡ F.held files.old }
+    ensures file_fault { CountsOnce (F.faults files.old) (F.faults files.new) (IsErrOf result Answer.FileFault) }
+    ensures absence { HasCause (F.absences files.old) (F.absences files.new) (IsErrOfAbsence result) }
+{
+    let Ok(name) = name_with(alloc, base, suffix) else {
+        return Err(Answer::NoMemory);
+    };
+    let mut text = Vec::new(alloc);
+    match files.read(&name, LONGEST, &mut text) {
+        Ok(()) => Ok(text),
+        Err(Look::NotThere) => Err(Answer::Missing(Bytes::new(name.into_bytes()))),
+        Err(Look::Failed) => Err(Answer::FileFault),
+        Err(Look::NoMemory) => Err(Answer::NoMemory),
+    }
 }
