@@ -1,4 +1,4 @@
--- The joined code of units that keep their rules, and are not too large, keeps the rules of codes.
+-- The joined code of joinable units that are not too large keeps the rules of codes.
 use Rattle.std.proofs.Common.{◌≡◌, ℕ, ℤ, pos, negsuc, zero, suc, ◌≤◌, Bool, true, false, cond, ◌||◌, not, List, [], ◌∷◌, ◌++◌, length, map, if◌then◌else◌, Option, Some, None, refl, sym, ap, ◌∙◌, arith}
 use Rattle.std.specs.Prelude.{nat_lt, nat_le, find}
 use Rattle.std.specs.List.{flat_map, list_all, list_any, sum_by}
@@ -15,9 +15,10 @@ use Rattle.icn_code.specs.Rules as Rules
 use Rattle.icn_code.specs.Rules.{keeps_rules}
 use Rattle.icn_unit.specs.declared.unit.UnitInstr.{UnitInstr}
 use Rattle.icn_unit.specs.PlainUnits.{Proc, Decl, Global as GlobalDecl, Procedure, Link, Record, proc_names}
-use Rattle.icn_unit.specs.UnitRules.{is_integer, keeps_proc}
+use Rattle.icn_unit.specs.UnitRules.{is_integer}
 use Rattle.icn_link.specs.Gathering.{with_text, with_texts, text_place}
 use Rattle.icn_link.specs.Joined.{cset_of, global_entry, is_among, joined_of, place_of, proc_entry, records_in, start_by}
+use Rattle.icn_link.specs.JoinableUnits.{is_joinable_proc}
 use Rattle.icn_link.specs.LinkFaults.{over, count_fault, field_counts, record_sizes, size_of, local_counts, static_counts}
 use Rattle.icn_link.specs.Mentions.{Mention, NoMention, AnInteger, AText, ASet, AField, Operands, Mentioned, declared, field_in, fields, fields_in, function_named, functions_in, global_in, globals, integer_in, mention_of, mentioned, mentioned_by, mentioned_in, operands_in, record_name_in, record_names, set_in, string_mentions, strings, text_in}
 use Rattle.icn_link.specs.Views.{Joinable}
@@ -192,7 +193,7 @@ procs_mention M (proc ∷ procs) a b c d e =
     (all_in_flat _ (λ i. operands_in (mention_of i)) proc.instrs t.0))
     (procs_mention M procs p.1 q.1 r.1 s.1 t.1)
 
-procs_fit : (M : Mentioned) (T : Tables) → Long M T → (procs : List Proc) → list_all keeps_proc procs ≡ true
+procs_fit : (M : Mentioned) (T : Tables) → Long M T → (procs : List Proc) → list_all is_joinable_proc procs ≡ true
     → list_all (λ (proc : Proc). list_all (λ i. has_mention M (mention_of i)) proc.instrs) procs ≡ true
     → list_all (has_place M.strings) (proc_names procs) ≡ true
     → list_all (λ n. nat_le n 65535) (local_counts M.globals procs) ≡ true
@@ -294,7 +295,7 @@ joined_kept decls procs J =
     let csets : list_all Rules.is_cset T.csets ≡ true =
     all_mapped Rules.is_cset cset_of M.sets (all_then (λ x. true) (λ x. Rules.is_cset (cset_of x)) (λ x h. cset_kept x) M.sets (all_true M.sets)) in
     let integers : list_all Rules.is_integer T.integers ≡ true =
-    all_then is_integer Rules.is_integer unit_integer M.integers (integers_kept decls procs J.kept_decls J.kept_procs) in
+    all_then is_integer Rules.is_integer unit_integer M.integers (integers_kept decls procs J.joinable_decls J.joinable_procs) in
     let named : list_all (λ name. nat_lt name (length T.strings)) T.fields ≡ true =
     all_mapped (λ name. nat_lt name (length M.strings)) (text_place M.strings) M.fields (placed M.fields t1.0) in
     let records : list_all (Rules.is_record (length T.strings) (length T.fields)) T.records ≡ true =
@@ -311,7 +312,7 @@ joined_kept decls procs J =
     ap Rules.names_differ (names_back M (proc_names procs) (record_names decls) M.globals t3.0)
     ∙ texts_differ (declared decls) (flat_map functions_in procs) (texts_differ [] (flat_map global_in decls) refl) in
     let fit : list_all (Rules.is_proc T) T.procs ≡ true =
-    procs_fit M T long procs J.kept_procs mention (placed (proc_names procs) t4.0)
+    procs_fit M T long procs J.joinable_procs mention (placed (proc_names procs) t4.0)
     (all_within 65535 (local_counts (globals decls procs) procs) J.locals) (all_within 65535 (static_counts (globals decls procs) procs) J.statics)
     (sizes_within 16777216 procs (within 16777216 (sum_by size_of procs) [] J.instrs).0) in
-    both (both (both (both (both (both (both (both counts (strings_kept decls procs J.kept_decls J.kept_procs)) csets) integers) named) records) entries) differ) fit
+    both (both (both (both (both (both (both (both counts (strings_kept decls procs J.joinable_decls J.joinable_procs)) csets) integers) named) records) entries) differ) fit

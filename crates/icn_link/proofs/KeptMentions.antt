@@ -1,5 +1,5 @@
--- The joined code of units that keep their rules, and are not too large, keeps the rules of codes.
-use Rattle.std.proofs.Common.{◌≡◌, ℕ, ◌<◌, Bool, true, false, ◌&&◌, ◌||◌, List, [], ◌∷◌, ◌++◌, length, if◌then◌else◌, refl, ◌∙◌, arith}
+-- What joinable units mention in tables keeps the rules of codes.
+use Rattle.std.proofs.Common.{◌≡◌, ℕ, ◌<◌, Bool, true, false, ◌||◌, List, [], ◌∷◌, ◌++◌, length, if◌then◌else◌, refl, ◌∙◌, arith}
 use Rattle.std.specs.Prelude.{◌==◌, nat_le, is_some}
 use Rattle.std.specs.List.{flat_map, list_all}
 use Rattle.std.proofs.lemmas.Bool.{and_parts, le-leb, lt-ltb, leb-true}
@@ -12,9 +12,10 @@ use Rattle.icn_unit.specs.declared.unit.UnitInstr.TheVariants as U
 use Rattle.icn_unit.specs.declared.unit.NameKind.{NameKind}
 use Rattle.icn_unit.specs.declared.unit.NameKind.TheVariants as Kinds
 use Rattle.icn_unit.specs.PlainUnits.{Proc, Decl, Global as GlobalDecl, Procedure, Link, Record, proc_names}
-use Rattle.icn_unit.specs.UnitOperands.{ascends, is_name}
-use Rattle.icn_unit.specs.UnitRules.{is_byte, is_byte_text, is_integer, is_number, keeps_decl, keeps_operand, keeps_proc}
-use Rattle.icn_link.specs.Mentions.{Mention, NoMention, AnInteger, AText, ASet, AField, Operands, mention_of, mentioned_in, mentioned_by, integer_in, text_in, set_in, field_in, global_in, fields_in, record_name_in, record_names, function_by, function_in, function_named, functions_in, declared, globals, fields, strings, string_mentions, sets, integers}
+use Rattle.icn_unit.specs.UnitOperands.{is_name}
+use Rattle.icn_unit.specs.UnitRules.{is_byte, is_byte_text, is_integer}
+use Rattle.icn_link.specs.JoinableUnits.{is_joinable_decl, is_joinable_instr, is_joinable_proc}
+use Rattle.icn_link.specs.Mentions.{Mention, NoMention, AnInteger, AText, ASet, AField, Operands, mention_of, mentioned_in, mentioned_by, integer_in, text_in, field_in, global_in, fields_in, record_name_in, record_names, function_by, function_in, function_named, functions_in, declared, globals, fields, strings, string_mentions, integers}
 use Rattle.icn_link.proofs.Each.{both, all_of_flat, all_then, all_mapped, all_unmapped, texts_keep, integers_keep}
 
 -- Names and byte texts are strings
@@ -54,24 +55,24 @@ keeps_mention : Mention → Bool
 keeps_mention NoMention = true
 keeps_mention (AnInteger n) = is_integer n
 keeps_mention (AText bytes) = is_byte_text bytes
-keeps_mention (ASet members) = is_byte_text members && ascends members
+keeps_mention (ASet members) = true
 keeps_mention (AField name) = is_name name
-keeps_mention (Operands count) = is_number count
+keeps_mention (Operands count) = true
 
-mention_kept : (names : ℕ) (instr : UnitInstr) → keeps_operand names instr ≡ true → keeps_mention (mention_of instr) ≡ true
+mention_kept : (names : ℕ) (instr : UnitInstr) → is_joinable_instr names instr ≡ true → keeps_mention (mention_of instr) ≡ true
 unfolding keeps_mention
 mention_kept names U.Pnull h = refl
 mention_kept names (U.Int n) h = h
 mention_kept names (U.Str bytes) h = h
-mention_kept names (U.Cset members) h = h
+mention_kept names (U.Cset members) h = refl
 mention_kept names (U.Var k) h = refl
 mention_kept names (U.Keywd keyword) h = refl
 mention_kept names U.Pop h = refl
 mention_kept names U.Dup h = refl
 mention_kept names (U.Op op) h = refl
-mention_kept names (U.Llist n) h = h
+mention_kept names (U.Llist n) h = refl
 mention_kept names (U.Field name) h = h
-mention_kept names (U.Invoke n) h = h
+mention_kept names (U.Invoke n) h = refl
 mention_kept names U.Appl h = refl
 mention_kept names (U.Mark label) h = refl
 mention_kept names U.Mark0 h = refl
@@ -97,15 +98,13 @@ mention_kept names U.Coret h = refl
 mention_kept names U.Cofail h = refl
 mention_kept names (U.Lab label) h = refl
 
-instrs_kept : (proc : Proc) → keeps_proc proc ≡ true → list_all (λ instr. keeps_mention (mention_of instr)) proc.instrs ≡ true
+instrs_kept : (proc : Proc) → is_joinable_proc proc ≡ true → list_all (λ instr. keeps_mention (mention_of instr)) proc.instrs ≡ true
 instrs_kept proc h =
-    let code = (and_parts _ _ h).1 in
-    let operands = (and_parts _ _ (and_parts _ _ code).0).0 in
-    all_then _ _ (mention_kept (length proc.names)) proc.instrs operands
+    all_then _ _ (mention_kept (length proc.names)) proc.instrs (and_parts _ _ h).1
 
 -- of one kind, in a procedure and in all
 mentions_in : {A : Type 0} (p : A → Bool) (kind : Mention → List A)
-    → ((m : Mention) → keeps_mention m ≡ true → list_all p (kind m) ≡ true) → (proc : Proc) → keeps_proc proc ≡ true
+    → ((m : Mention) → keeps_mention m ≡ true → list_all p (kind m) ≡ true) → (proc : Proc) → is_joinable_proc proc ≡ true
     → list_all p (mentioned_in kind proc) ≡ true
 mentions_in p kind leads proc h =
     all_of_flat p (λ instr. kind (mention_of instr)) proc.instrs
@@ -113,7 +112,7 @@ mentions_in p kind leads proc h =
 
 mentions_keep : {A : Type 0} (p : A → Bool) (kind : Mention → List A)
     → ((m : Mention) → keeps_mention m ≡ true → list_all p (kind m) ≡ true) → (procs : List Proc)
-    → list_all keeps_proc procs ≡ true → list_all p (mentioned_by kind procs) ≡ true
+    → list_all is_joinable_proc procs ≡ true → list_all p (mentioned_by kind procs) ≡ true
 mentions_keep p kind leads procs h =
     all_of_flat p (mentioned_in kind) procs (all_then _ _ (mentions_in p kind leads) procs h)
 
@@ -135,15 +134,6 @@ text_kept (ASet members) h = refl
 text_kept (AField name) h = refl
 text_kept (Operands count) h = refl
 
-set_kept : (m : Mention) → keeps_mention m ≡ true → list_all is_byte_text (set_in m) ≡ true
-unfolding keeps_mention
-set_kept NoMention h = refl
-set_kept (AnInteger n) h = refl
-set_kept (AText bytes) h = refl
-set_kept (ASet members) h = both (and_parts _ _ h).0 refl
-set_kept (AField name) h = refl
-set_kept (Operands count) h = refl
-
 field_kept : (m : Mention) → keeps_mention m ≡ true → list_all is_name (field_in m) ≡ true
 unfolding keeps_mention
 field_kept NoMention h = refl
@@ -155,23 +145,23 @@ field_kept (Operands count) h = refl
 
 -- Declarations and names
 
-decl_fields : (decl : Decl) → keeps_decl decl ≡ true → list_all is_name (fields_in decl) ≡ true
+decl_fields : (decl : Decl) → is_joinable_decl decl ≡ true → list_all is_name (fields_in decl) ≡ true
 decl_fields (GlobalDecl name) h = refl
 decl_fields (Procedure name) h = refl
 decl_fields (Link text) h = refl
-decl_fields (Record name fields) h = (and_parts _ _ (and_parts _ _ h).0).1
+decl_fields (Record name fields) h = (and_parts _ _ h).1
 
-decl_global : (decl : Decl) → keeps_decl decl ≡ true → list_all is_name (global_in decl) ≡ true
+decl_global : (decl : Decl) → is_joinable_decl decl ≡ true → list_all is_name (global_in decl) ≡ true
 decl_global (GlobalDecl name) h = both h refl
 decl_global (Procedure name) h = both h refl
 decl_global (Link text) h = refl
-decl_global (Record name fields) h = both (and_parts _ _ (and_parts _ _ h).0).0 refl
+decl_global (Record name fields) h = both (and_parts _ _ h).0 refl
 
-decl_record : (decl : Decl) → keeps_decl decl ≡ true → list_all is_name (record_name_in decl) ≡ true
+decl_record : (decl : Decl) → is_joinable_decl decl ≡ true → list_all is_name (record_name_in decl) ≡ true
 decl_record (GlobalDecl name) h = refl
 decl_record (Procedure name) h = refl
 decl_record (Link text) h = refl
-decl_record (Record name fields) h = both (and_parts _ _ (and_parts _ _ h).0).0 refl
+decl_record (Record name fields) h = both (and_parts _ _ h).0 refl
 
 function_name : (test : Bool) (name : List ℕ) → is_name name ≡ true → list_all is_name (if test then name ∷ [] else []) ≡ true
 function_name true name h = both h refl
@@ -183,34 +173,33 @@ function_kept Kinds.Parameter name h = refl
 function_kept Kinds.Local name h = refl
 function_kept Kinds.Static name h = refl
 
-functions_kept : (proc : Proc) → keeps_proc proc ≡ true → list_all is_name (functions_in proc) ≡ true
+functions_kept : (proc : Proc) → is_joinable_proc proc ≡ true → list_all is_name (functions_in proc) ≡ true
 functions_kept proc h =
-    let names = (and_parts _ _ (and_parts _ _ (and_parts _ _ h).0).1).0 in
-    let entries = (and_parts _ _ names).0 in
+    let entries = (and_parts _ _ (and_parts _ _ h).0).1 in
     all_of_flat is_name function_in proc.names
     (all_then _ _ (λ entry. function_kept entry.kind entry.name) proc.names (all_unmapped is_name (λ entry. entry.name) proc.names entries))
 
-proc_named : (proc : Proc) → keeps_proc proc ≡ true → is_name proc.name ≡ true
-proc_named proc h = (and_parts _ _ (and_parts _ _ (and_parts _ _ (and_parts _ _ h).0).0).0).0
+proc_named : (proc : Proc) → is_joinable_proc proc ≡ true → is_name proc.name ≡ true
+proc_named proc h = (and_parts _ _ (and_parts _ _ (and_parts _ _ h).0).0).0
 
 -- The tables
 
-module _ (decls : List Decl) (procs : List Proc) (kept_decls : list_all keeps_decl decls ≡ true) (kept_procs : list_all keeps_proc procs ≡ true) where
+module _ (decls : List Decl) (procs : List Proc) (joinable_decls : list_all is_joinable_decl decls ≡ true) (joinable_procs : list_all is_joinable_proc procs ≡ true) where
   fields_named : list_all is_name (fields decls procs) ≡ true
   fields_named = texts_keep is_name [] (flat_map fields_in decls ++ mentioned_by field_in procs) refl
       (list_all-append is_name (flat_map fields_in decls) (mentioned_by field_in procs)
-      ∙ both (all_of_flat is_name fields_in decls (all_then _ _ decl_fields decls kept_decls)) (mentions_keep is_name field_in field_kept procs kept_procs))
+      ∙ both (all_of_flat is_name fields_in decls (all_then _ _ decl_fields decls joinable_decls)) (mentions_keep is_name field_in field_kept procs joinable_procs))
 
   records_named : list_all is_name (record_names decls) ≡ true
-  records_named = all_of_flat is_name record_name_in decls (all_then _ _ decl_record decls kept_decls)
+  records_named = all_of_flat is_name record_name_in decls (all_then _ _ decl_record decls joinable_decls)
 
   globals_named : list_all is_name (globals decls procs) ≡ true
   globals_named = texts_keep is_name (declared decls) (flat_map functions_in procs)
-      (texts_keep is_name [] (flat_map global_in decls) refl (all_of_flat is_name global_in decls (all_then _ _ decl_global decls kept_decls)))
-      (all_of_flat is_name functions_in procs (all_then _ _ functions_kept procs kept_procs))
+      (texts_keep is_name [] (flat_map global_in decls) refl (all_of_flat is_name global_in decls (all_then _ _ decl_global decls joinable_decls)))
+      (all_of_flat is_name functions_in procs (all_then _ _ functions_kept procs joinable_procs))
 
   procs_named : list_all is_name (proc_names procs) ≡ true
-  procs_named = all_mapped is_name (λ proc. proc.name) procs (all_then _ _ proc_named procs kept_procs)
+  procs_named = all_mapped is_name (λ proc. proc.name) procs (all_then _ _ proc_named procs joinable_procs)
 
   named : (names : List (List ℕ)) → list_all is_name names ≡ true → list_all Rules.is_string names ≡ true
   named names h = all_then is_name Rules.is_string name_string names h
@@ -226,10 +215,7 @@ module _ (decls : List Decl) (procs : List Proc) (kept_decls : list_all keeps_de
       (list_all-append Rules.is_string (record_names decls) r2 ∙ both (named (record_names decls) records_named)
       (list_all-append Rules.is_string (globals decls procs) r3 ∙ both (named (globals decls procs) globals_named)
       (list_all-append Rules.is_string (proc_names procs) r4 ∙ both (named (proc_names procs) procs_named)
-      (mentions_keep Rules.is_string text_in text_kept procs kept_procs)))))
-
-  pub sets_kept : list_all is_byte_text (sets procs) ≡ true
-  sets_kept = texts_keep is_byte_text [] (mentioned_by set_in procs) refl (mentions_keep is_byte_text set_in set_kept procs kept_procs)
+      (mentions_keep Rules.is_string text_in text_kept procs joinable_procs)))))
 
   pub integers_kept : list_all is_integer (integers procs) ≡ true
-  integers_kept = integers_keep is_integer [] (mentioned_by integer_in procs) refl (mentions_keep is_integer integer_in integer_kept procs kept_procs)
+  integers_kept = integers_keep is_integer [] (mentioned_by integer_in procs) refl (mentions_keep is_integer integer_in integer_kept procs joinable_procs)

@@ -15,13 +15,14 @@ use Rattle.icn_unit.specs.declared.unit.ProcCode.{ProcCode}
 use Rattle.icn_unit.specs.declared.unit.UnitInstr.{UnitInstr}
 use Rattle.icn_unit.specs.declared.unit.UnitInstr.TheVariants as U
 use Rattle.icn_unit.specs.declared.unit.UnitName.{UnitName}
-use Rattle.icn_unit.specs.PlainUnits.{Proc, is_parameter, params_in}
+use Rattle.icn_unit.specs.PlainUnits.{Proc, entry_names, is_parameter, params_in}
 use Rattle.icn_unit.specs.UnitOperands.{is_name}
-use Rattle.icn_unit.specs.UnitRules.{is_number, keeps_code, keeps_head, keeps_names, keeps_operand, keeps_proc, labels_differ, labels_placed, place_of, placed}
+use Rattle.icn_unit.specs.UnitRules.{place_of}
 use Rattle.icn_unit.specs.UnitViews.{proc_seen}
 use Rattle.icn_link.specs.declared.variable.Variable.{Variable}
 use Rattle.icn_link.specs.declared.variable.Variable.TheVariants.{Local, Static, Global}
 use Rattle.icn_link.specs.Joined.{entry_of, proc_entry, scope_of, scope_with, variable_by, variable_of, variable_instr, locals_behind, statics_behind, variables, variable_at, is_local, is_static, locals_in, statics_in}
+use Rattle.icn_link.specs.JoinableUnits.{is_joinable_instr, is_joinable_proc}
 use Rattle.icn_link.specs.LinkFaults.{is_instruction, size_of}
 use Rattle.icn_link.specs.Gathering.{integer_place, text_place}
 use Rattle.icn_link.specs.Mentions.{Mention, NoMention, AnInteger, AText, ASet, AField, Operands, Mentioned, mention_of}
@@ -232,14 +233,14 @@ record There (T : Tables) (proc : ProcEntry) (V : List Instr) (L : ℕ → ℕ) 
   label : (l : ℕ) → nat_le (L l) (length proc.instrs) ≡ true
 
 instr_fits : (M : Mentioned) (T : Tables) (proc : ProcEntry) (V : List Instr) (L : ℕ → ℕ) (names : ℕ) → Long M T
-    → There T proc V L names → (instr : UnitInstr) → has_mention M (mention_of instr) ≡ true → keeps_operand names instr ≡ true
+    → There T proc V L names → (instr : UnitInstr) → has_mention M (mention_of instr) ≡ true → is_joinable_instr names instr ≡ true
     → list_all (Rules.is_instr T proc) (resolved_one (scope_with M V L) instr) ≡ true
 unfolding has_mention
 instr_fits M T proc V L names F G U.Pnull m o = both refl refl
 instr_fits M T proc V L names F G (U.Int n) m o = both (ap (nat_lt (integer_place M.integers n)) F.integers ∙ m) refl
 instr_fits M T proc V L names F G (U.Str bytes) m o = both (ap (nat_lt (text_place M.strings bytes)) F.strings ∙ m) refl
 instr_fits M T proc V L names F G (U.Cset members) m o = both (ap (nat_lt (text_place M.sets members)) F.sets ∙ m) refl
-instr_fits M T proc V L names F G (U.Var k) m o = both (G.variable k (and_parts _ _ o).0) refl
+instr_fits M T proc V L names F G (U.Var k) m o = both (G.variable k o) refl
 instr_fits M T proc V L names F G (U.Keywd keyword) m o = both refl refl
 instr_fits M T proc V L names F G U.Pop m o = both refl refl
 instr_fits M T proc V L names F G U.Dup m o = both refl refl
@@ -290,20 +291,17 @@ params_local globals (entry ∷ entries) =
     let rest = params_local globals entries in
     omega (arith, a, b, one, rest)
 
-pub proc_fits : (M : Mentioned) (T : Tables) → Long M T → (proc : Proc) → keeps_proc proc ≡ true
+pub proc_fits : (M : Mentioned) (T : Tables) → Long M T → (proc : Proc) → is_joinable_proc proc ≡ true
     → list_all (λ instr. has_mention M (mention_of instr)) proc.instrs ≡ true → has_place M.strings proc.name ≡ true
     → locals_in M.globals proc.names ≤ 65535 → statics_in M.globals proc.names ≤ 65535 → size_of proc ≤ 16777216
     → Rules.is_proc T (proc_entry M proc) ≡ true
 proc_fits M T F proc kept mentions name locals statics size =
     let entry = proc_entry M proc in
-    let h = keeps_head proc.name (params_in proc.names) proc.collects in
-    let n = keeps_names proc.names in
-    let k = keeps_code (length proc.names) proc.instrs in
-    let rules = and_parts (h && n) k kept in
-    let head : h ≡ true = (and_parts h n rules.0).0 in
-    let o = list_all (λ instr. keeps_operand (length proc.names) instr) proc.instrs in
-    let d = labels_differ (placed proc.instrs) in
-    let operands : o ≡ true = (and_parts o d (and_parts (o && d) (labels_placed proc.instrs) rules.1).0).0 in
+    let collects = not proc.collects || nat_lt 0 (params_in proc.names) in
+    let names = list_all is_name (entry_names proc.names) in
+    let operands = list_all (λ instr. is_joinable_instr (length proc.names) instr) proc.instrs in
+    let asked = and_parts (is_name proc.name && collects && names) operands kept in
+    let head = (and_parts (is_name proc.name && collects) names asked.0).0 in
     let few = params_local M.globals proc.names in
     let long : length entry.instrs ≡ size_of proc = resolved_length (scope_of M proc) proc.instrs in
     let there : There T entry (variables M.globals 0 0 proc.names) (λ label. label_place label proc.instrs) (length proc.names) =
@@ -313,10 +311,10 @@ proc_fits M T F proc kept mentions name locals statics size =
     } in
     both
     (both (both (both (both (ap (λ n. nat_lt (text_place M.strings proc.name) n) F.strings ∙ name)
-    (and_parts (is_name proc.name && is_number (params_in proc.names)) (not proc.collects || nat_lt 0 (params_in proc.names)) head).1)
+    (and_parts (is_name proc.name) collects head).1)
     (le-leb _ _ (omega (arith, few, locals)))) (le-leb _ _ statics)) (lt-ltb _ _ (omega (arith, long, size))))
     (all_of_flat (Rules.is_instr T entry) (resolved_one (scope_of M proc)) proc.instrs
-    (all_with _ _ _ (λ instr. instr_fits M T entry _ _ (length proc.names) F there instr) proc.instrs mentions operands))
+    (all_with _ _ _ (λ instr. instr_fits M T entry _ _ (length proc.names) F there instr) proc.instrs mentions asked.1))
 
 -- The entry of a procedure
 

@@ -2,6 +2,7 @@ pub mod Each
 pub mod Exits
 pub mod FunctionNames
 pub mod ImageLengths
+pub mod JoinedUnits
 pub mod Kept
 pub mod KeptCsets
 pub mod KeptMentions

@@ -7,7 +7,7 @@ use Rattle.icn_code.specs.Codes.{Tables}
 use Rattle.icn_code.specs.Seen.{tables_of}
 use Rattle.icn_image.specs.Spelling.{image_of}
 use Rattle.icn_unit.specs.PlainUnits.{Proc, Decl, UnitRead}
-use Rattle.icn_unit.specs.UnitRules.{keeps_decl, keeps_proc}
+use Rattle.icn_link.specs.JoinableUnits.{is_joinable_decl, is_joinable_proc}
 use Rattle.icn_link.specs.declared.fault.LinkFault.{LinkFault}
 use Rattle.icn_link.specs.Joined.{joined, joined_of}
 use Rattle.icn_link.specs.LinkFaults.{IsFault, first_fault, local_counts, missing, over, record_sizes, repeated, size_of, static_counts, table_sizes, too_large, too_large_of}
@@ -127,11 +127,11 @@ module _ (M : Mentioned) (D : List Decl) (P : List Proc) (is : M ≡ mentioned D
       (both_kept records behind_records d (both_kept locals behind_locals (sym locals_same ∙ e) (both_kept statics behind_statics (sym statics_same ∙ f)
       (ap (λ (U : Tables). over 1073741824 (length (image_of U) ∷ [])) (sym t) ∙ h))))))
 
-  pub are_joinable : list_all keeps_decl D ≡ true → list_all keeps_proc P ≡ true → instrs ≡ None → tables_found ≡ None → operands ≡ None
+  pub are_joinable : list_all is_joinable_decl D ≡ true → list_all is_joinable_proc P ≡ true → instrs ≡ None → tables_found ≡ None → operands ≡ None
       → records ≡ None → locals_found ≡ None → statics_found ≡ None → Joinable D P
   are_joinable k l a b c d e f = record {
-    kept_decls = k;
-    kept_procs = l;
+    joinable_decls = k;
+    joinable_procs = l;
     instrs = a;
     tables = sym tables_same ∙ b;
     operands = c;

@@ -4,5 +4,6 @@ pub mod Mentions
 pub mod Resolving
 pub mod Joined
 pub mod LinkFaults
+pub mod JoinableUnits
 pub mod Views
 pub mod ImageSizes

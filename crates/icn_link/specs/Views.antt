@@ -9,13 +9,13 @@ use Rattle.icn_unit.specs.declared.unit.ProcCode.{ProcCode}
 use Rattle.icn_unit.specs.declared.unit.UnitDecl.{UnitDecl}
 use Rattle.icn_unit.specs.declared.unit.UnitInstr.{UnitInstr}
 use Rattle.icn_unit.specs.PlainUnits.{Proc, Decl}
-use Rattle.icn_unit.specs.UnitRules.{keeps_decl, keeps_proc}
 use Rattle.icn_unit.specs.UnitViews.{decl_seen, proc_seen}
 use Rattle.icn_link.specs.declared.gathered.Gathered.{Gathered}
 use Rattle.icn_link.specs.declared.labels.Labels.{Labels}
 use Rattle.icn_link.specs.declared.mention.Mention.{Mention as KeptMention}
 use Rattle.icn_link.specs.declared.mention.Mention.TheVariants as Kept
 use Rattle.icn_link.specs.declared.repeats.Owner.{Owner as KeptOwner}
+use Rattle.icn_link.specs.JoinableUnits.{is_joinable_decl, is_joinable_proc}
 use Rattle.icn_link.specs.LinkFaults.{Owner, over, size_of, table_sizes, record_sizes, local_counts, static_counts}
 use Rattle.icn_link.specs.Resolving.{label_place}
 use Rattle.icn_link.specs.Mentions.{Mentioned, mentioned, mentioned_by, operands_in, globals, Mention, NoMention, AnInteger, AText, ASet, AField, Operands}
@@ -70,10 +70,10 @@ pub record AreFew (tables : Mentioned) : Type 0 where
   pub fields : length tables.fields ≤ 65535
   pub globals : length tables.globals ≤ 65535
 
--- Declarations and procedures that keep the rules of units, and are not too large but for the bytes of the image.
+-- Declarations and procedures of units that can be joined, and that are not too large but for the bytes of the image.
 pub record Joinable (decls : List Decl) (procs : List Proc) : Type 0 where
-  pub kept_decls : list_all keeps_decl decls ≡ true
-  pub kept_procs : list_all keeps_proc procs ≡ true
+  pub joinable_decls : list_all is_joinable_decl decls ≡ true
+  pub joinable_procs : list_all is_joinable_proc procs ≡ true
   pub instrs : over 16777216 (sum_by size_of procs ∷ []) ≡ None
   pub tables : over 65535 (table_sizes (mentioned decls procs) decls procs) ≡ None
   pub operands : over 65535 (mentioned_by operands_in procs) ≡ None

@@ -5,6 +5,7 @@ mod fault;
 mod gathered;
 mod image_size;
 mod labels;
+mod laws;
 mod linking;
 mod lists;
 mod mention;
@@ -16,5 +17,6 @@ mod sizes;
 mod variable;
 
 pub use fault::{DeclPlace, LinkFault};
+pub use laws::{joined_keeps_rules, units_are_joinable};
 pub use linking::link;
 pub use missing::base_of;

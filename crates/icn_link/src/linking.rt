@@ -7,11 +7,11 @@ ghost use Rattle.icn_code.specs.Codes.{proc_of, procs_of, record_of, records_of}
 ghost use Rattle.icn_code.specs.Seen.{tables_of};
 ghost use Rattle.icn_image.specs.Spelling.{image_of};
 ghost use Rattle.icn_unit.specs.PlainUnits.{params_in, proc_names};
-ghost use Rattle.icn_unit.specs.UnitRules.{keeps_decl, keeps_proc};
 ghost use Rattle.icn_unit.specs.UnitViews.{decl_seen, proc_seen};
 ghost use Rattle.icn_link.specs.declared.fault.LinkFault.TheVariants.{NoMemory};
 ghost use Rattle.icn_link.specs.Gathering.{text_place};
 ghost use Rattle.icn_link.specs.Joined.{cset_of, entry_of, global_entry, global_with, is_among, joined, joined_of, locals_in, place_of, proc_entry, record_entry, records_in, start_by, statics_in, tables_with, with_bit, with_bits};
+ghost use Rattle.icn_link.specs.JoinableUnits.{is_joinable_decl, is_joinable_proc};
 ghost use Rattle.icn_link.specs.LinkFaults.{first_fault, over, size_of, too_large_of, IsFault};
 ghost use Rattle.icn_link.specs.Mentions.{function_named, mentioned, record_name_in, record_names};
 ghost use Rattle.icn_link.specs.Units.{units_seen};
@@ -64,8 +64,8 @@ pub fn link(alloc: Global, units: &[Unit]) -> Result<Code, LinkFault>
 
 // The joined code of all declarations and procedures.
 fn join(alloc: Global, decls: &[&UnitDecl], procs: &[&ProcCode]) -> Result<Code, LinkFault>
-    requires decls { list_all keeps_decl (decls_seen decls.now) ≡ true }
-    requires procs { list_all keeps_proc (procs_seen procs.now) ≡ true }
+    requires decls { list_all is_joinable_decl (decls_seen decls.now) ≡ true }
+    requires procs { list_all is_joinable_proc (procs_seen procs.now) ≡ true }
     ensures joined { IfOk result (λ code. tables_of code ≡ joined_of (decls_seen decls.now) (procs_seen procs.now)) }
     ensures fits { OnOk result (too_large_of (decls_seen decls.now) (procs_seen procs.now) ≡ None) }
     ensures fault { IfErr result (IsFault (too_large_of (decls_seen decls.now) (procs_seen procs.now))) }
@@ -83,8 +83,8 @@ fn join_with(
     procs: &[&ProcCode],
 ) -> Result<Code, LinkFault>
     requires tables { gathered_seen tables.now ≡ mentioned (decls_seen decls.now) (procs_seen procs.now) }
-    requires decls { list_all keeps_decl (decls_seen decls.now) ≡ true }
-    requires procs { list_all keeps_proc (procs_seen procs.now) ≡ true }
+    requires decls { list_all is_joinable_decl (decls_seen decls.now) ≡ true }
+    requires procs { list_all is_joinable_proc (procs_seen procs.now) ≡ true }
     requires instrs { over 16777216 (sum_by size_of (procs_seen procs.now) ∷ []) ≡ None }
     ensures joined { IfOk result (λ code. tables_of code ≡ joined_of (decls_seen decls.now) (procs_seen procs.now)) }
     ensures fits { OnOk result (too_large_of (decls_seen decls.now) (procs_seen procs.now) ≡ None) }

@@ -96,7 +96,7 @@ fn missing(alloc: Global, place: u64, name: &[u8]) -> LinkFault
     }
 }
 
-/// The base name that a text of `link` names: it loses a suffix `.u1` or `.u2`.
+/// The base name that a text of `link` names: the text without a suffix `.u1` or `.u2`.
 pub fn base_of(text: &[u8]) -> &[u8]
     ensures { result.now ≡ base_of text.now }
 {

@@ -14,3 +14,4 @@ pub mod CodeForms
 pub mod CodeLabels
 pub mod CodeLaw
 pub mod JoinedCode
+pub mod JoinableFiles

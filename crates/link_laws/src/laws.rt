@@ -1,9 +1,12 @@
 // What is linked from the units of files.
-ghost use Rattle.std.specs.Prelude.{◌≡◌, ◌↔◌, ℕ, All, List, [], ◌∷◌, length};
+ghost use Rattle.std.specs.Prelude.{◌≡◌, ◌↔◌, ℕ, All, List, [], ◌∷◌, length, true};
 ghost use Rattle.icn_tree.specs.Trees.{Declaration};
 ghost use Rattle.icn_translate.specs.FileUnits.{translated_unit};
+ghost use Rattle.icn_unit.specs.UnitRules.{is_byte_text};
+ghost use Rattle.icn_units.specs.Written.{file_fits};
 ghost use Rattle.icn_defs.specs.Running.{Launch, Observed};
 ghost use Rattle.icn_link.specs.Joined.{joined};
+ghost use Rattle.icn_link.specs.JoinableUnits.{is_joinable};
 ghost use Rattle.icn_simulation.specs.Faultless.{IsFaultless};
 ghost use Rattle.icn_simulation.specs.Joined.{Joined};
 ghost use Rattle.icn_simulation.specs.Law.{FilesMean, RunsLinked, RunsFlat};
@@ -37,4 +40,11 @@ pub fn translations_run()
 /// The linked code of a file that breaks no rule, from its translated unit, is the code of which the first law speaks.
 pub fn translated_units_join()
     ensures { (name : List ℕ) (file : List Declaration) → IsFaultless file → Joined (file ∷ []) (joined (translated_unit name file ∷ [])) }
+{}
+
+/// The translated unit of a file that breaks no rule can be joined, where the texts of the file are bytes. Nothing is asked of how many
+/// labels it has.
+pub fn translations_are_joinable()
+    ensures { (name : List ℕ) (file : List Declaration) → IsFaultless file → file_fits is_byte_text file ≡ true
+        → is_joinable (translated_unit name file) ≡ true }
 {}

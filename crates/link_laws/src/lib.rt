@@ -3,4 +3,6 @@
 
 mod laws;
 
-pub use laws::{translated_units_join, translations_join, translations_run};
+pub use laws::{
+    translated_units_join, translations_are_joinable, translations_join, translations_run,
+};

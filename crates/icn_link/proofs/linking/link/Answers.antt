@@ -1,11 +1,11 @@
 use Rattle.std.proofs.Common.{ap, ◌∙◌}
 use Rattle.std.specs.List.{list_all}
-use Rattle.icn_unit.specs.UnitRules.{keeps_decl, keeps_proc}
+use Rattle.icn_link.specs.JoinableUnits.{is_joinable_decl, is_joinable_proc}
 use Rattle.icn_link.specs.LinkFaults.{IsFault, first_fault}
 use Rattle.icn_link.specs.Units.{units_seen}
 use Rattle.icn_link.specs.Views.{decls_seen, procs_seen}
 use Rattle.icn_link.proofs.Exits.{err_is}
-use Rattle.icn_link.proofs.KeptUnits.{units_decls, units_procs}
+use Rattle.icn_link.proofs.KeptUnits.{units_decls, units_joinable, units_procs}
 use Rattle.icn_link.proofs.Stages.{missing_exit, repeated_exit, units_fault, units_joined, units_kept}
 use Rattle.icn_link.proofs.linking.link.Goals as goal
 
@@ -20,10 +20,10 @@ returns-in_err-check_owners-clause-fault c =
     (repeated_exit (units_seen c.args.units.now) c.in_err-check_owners.field-0.0 c.in_ok-check_links.ensures.none c.in_err-check_owners.ensures.fault)
 
 pub join-requires-clause-decls : goal.join-requires-clause-decls
-join-requires-clause-decls c = ap (list_all keeps_decl) (ap decls_seen c.deref.ensures.value ∙ c.in_ok-decls.ensures) ∙ units_decls c.args.units.now
+join-requires-clause-decls c = ap (list_all is_joinable_decl) (ap decls_seen c.deref.ensures.value ∙ c.in_ok-decls.ensures) ∙ units_decls (units_seen c.args.units.now) (units_joinable c.args.units.now)
 
 pub join-requires-clause-procs : goal.join-requires-clause-procs
-join-requires-clause-procs c = ap (list_all keeps_proc) (ap procs_seen c.deref-2.ensures.value ∙ c.in_ok-procs.ensures) ∙ units_procs c.args.units.now
+join-requires-clause-procs c = ap (list_all is_joinable_proc) (ap procs_seen c.deref-2.ensures.value ∙ c.in_ok-procs.ensures) ∙ units_procs (units_seen c.args.units.now) (units_joinable c.args.units.now)
 
 pub returns-clause-joined : goal.returns-clause-joined
 returns-clause-joined c =
