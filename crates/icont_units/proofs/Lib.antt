@@ -4,3 +4,11 @@ pub mod Sourcing
 pub mod Staging
 pub mod LineSizes
 pub mod ProgramLines
+pub mod Verdicts
+pub mod OneLoading
+pub mod ShortTexts
+pub mod SomeLoading
+pub mod SoundMembers
+pub mod GivenLines
+pub mod FaultlessFiles
+pub mod NoFaults
