@@ -8,3 +8,11 @@ mod Named
 mod Sourcing
 mod Staging
 mod Topmost
+mod Completing
+mod FewNumbers
+mod GeneratedBytes
+mod LinkingRules
+mod OneJob
+mod SomeJob
+mod SoundSources
+mod UnitsAgain

@@ -6,3 +6,4 @@ pub mod Outcomes
 pub mod Answered
 pub mod Asking
 pub mod Running
+pub mod Relinking

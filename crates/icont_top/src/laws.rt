@@ -1,29 +1,65 @@
 // Laws of the definitions that contracts cite.
-ghost use Rattle.std.specs.Prelude.{◌≡◌, ℕ, List, Ok};
+ghost use Rattle.std.specs.Prelude.{◌≡◌, ℕ, All, List, Ok};
 ghost use Rattle.icn_host.specs.FileMaps.{FileMap};
 ghost use Rattle.icn_tree.specs.declared.token.Token.{Token};
 ghost use Rattle.icn_tree.specs.Trees.{Declaration};
+ghost use Rattle.icn_code.specs.Codes.{Tables};
+ghost use Rattle.source_bytes.specs.Bytes.{HoldBytes};
 ghost use Rattle.icn_lines.specs.Answers.{IsFault};
-ghost use Rattle.icont_top.specs.Job.{Job, IsJob, KeepsLimits};
-ghost use Rattle.icont_top.specs.Translating.{Become};
+ghost use Rattle.icont_units.specs.Files.{File};
+ghost use Rattle.icont_units.specs.Translating.{Become};
+ghost use Rattle.icont_units.specs.Units.{Come, Gather, Load, Member, units_of};
+ghost use Rattle.icont_top.specs.Job.{IsJob, Job};
+ghost use Rattle.icont_top.specs.Outcomes.{IsReadBack};
+ghost use Rattle.icont_top.specs.Programs.{Links, linked};
+ghost use Rattle.icont_top.specs.Relinking.{AreHeld, GathersAlike, HoldTheOthers, LinksAlike, ucode_members, ucode_named};
 
 use icn_adequacy::programs_mean;
+use icn_code_sound::joined_code_is_verified;
+use icn_link::{joined_keeps_rules, units_are_joinable};
 use icn_meaning::one_observation;
-use link_laws::translated_units_join;
+use icn_run_safe::runs_end;
+use icn_ucode::one_spelling;
+use icn_verify::one_fault;
+use icont_words::one_reading;
+use link_laws::{translations_are_joinable, translations_join};
+use source_bytes::{lines_of_bytes, texts_of_bytes};
 
 /// A list of tokens is at most one program.
 pub fn one_program()
     ensures { (tokens : List Token) (a b : List Declaration) → Become tokens (Ok a) → Become tokens (Ok b) → a ≡ b }
 {}
 
-/// The words, the files and the input ask for a job, where the code of the program that they name keeps the limits of a code; and for
-/// one alone, which answers no fault.
+/// The words, the files and the input ask for a job, where the files hold bytes, and for one alone, which answers no fault.
 pub fn one_job()
-    ensures some { (words : List (List ℕ)) (files : FileMap) (left : List ℕ) → KeepsLimits words files → (job : Job) × IsJob words files left job }
+    ensures some { (words : List (List ℕ)) (files : FileMap) (left : List ℕ) → HoldBytes files → (job : Job) × IsJob words files left job }
     ensures one { (words : List (List ℕ)) (files : FileMap) (left : List ℕ) (a b : Job) → IsJob words files left a → IsJob words files left b → a ≡ b }
     ensures faultless { (words : List (List ℕ)) (files : FileMap) (left : List ℕ) (job : Job) → IsJob words files left job → IsFault job.answer → ⊥ }
 {
+    one_reading();
     one_observation();
+    one_fault();
+    one_spelling();
+    joined_keeps_rules();
+    units_are_joinable();
+    translations_join();
+    translations_are_joinable();
+    joined_code_is_verified();
     programs_mean();
-    translated_units_join();
+    runs_end();
+    lines_of_bytes();
+    texts_of_bytes();
 }
+
+/// Units that were written as ucode and have no text over 268435456 bytes are read as the same units, so what they link is the same, their
+/// code is, and the image of a program that is made of it has the same name and the same bytes.
+pub fn units_link_alike()
+    ensures come { (members : List Member) (files : FileMap) → All IsReadBack members → AreHeld files members
+        → Come files (ucode_named members) (Ok (ucode_members members)) }
+    ensures gather { (before after : FileMap) (a b : List Member) (mentioned : List (List ℕ)) (more : List Member) → units_of b ≡ units_of a
+        → HoldTheOthers a before after → Gather before a mentioned (Ok more) → GathersAlike after b mentioned more }
+    ensures linked { (a b : List Member) → units_of a ≡ units_of b → linked a ≡ linked b }
+    ensures program { (before after : FileMap) (named : List File) (members more : List Member) (tables : Tables) → Come before named (Ok members)
+        → All IsReadBack members → AreHeld after members → HoldTheOthers members before after → Load before named (Ok more)
+        → Links more (Ok tables) → LinksAlike after (ucode_named members) more tables }
+{}

@@ -1,4 +1,4 @@
-use Rattle.icont_top.proofs.Deciding.{one_program}
+use Rattle.icont_units.proofs.Verdicts.{one_program}
 use Rattle.icont_top.proofs.laws.one_program.Goals as goal
 
 pub returns : goal.returns
