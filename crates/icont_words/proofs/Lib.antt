@@ -1,5 +1,10 @@
 pub mod LeftToRight
 pub mod Taken
+pub mod Seen
+pub mod Parting
+pub mod Arguments
+pub mod Holding
+pub mod Outcomes
 pub mod Uses
 pub mod Walking
 pub mod Flags

@@ -28,5 +28,8 @@ file_rule = record (new_rule (codes "file")) { range = Some (record { start_incl
 abbrev pub no_help : App → App
 no_help app = on_top (λ shape. record shape { disable_help_flag = true }) app
 
+abbrev pub with_options : App → App
+with_options app = with_rule (with_rule (with_rule app image_rule) turns_rule) number_rule
+
 abbrev pub icont_app : App
-icont_app = with_rule (with_rule (with_rule (with_rule (with_rule (no_help (new_app (codes "icont"))) units_rule) image_rule) turns_rule) number_rule) file_rule
+icont_app = with_rule (with_options (with_rule (no_help (new_app (codes "icont"))) units_rule)) file_rule
