@@ -12,3 +12,4 @@ pub mod SoundMembers
 pub mod GivenLines
 pub mod FaultlessFiles
 pub mod NoFaults
+pub mod GeneratedUnit

@@ -7,3 +7,4 @@ pub mod Units
 pub mod Generated
 pub mod Fetching
 pub mod Loading
+pub mod Generating

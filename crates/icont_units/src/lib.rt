@@ -3,6 +3,7 @@
 
 mod checking;
 mod files;
+mod generating;
 mod members;
 mod members_linked;
 mod program_fault;
@@ -11,6 +12,7 @@ mod source;
 mod ucode;
 
 pub use files::{File, Kind, file_named, files_named, name_with, sources_in};
+pub use generating::generated;
 pub use icn_lines::Answer;
 pub use members::{Members, come, load};
 pub use program_lines::sizes_line;

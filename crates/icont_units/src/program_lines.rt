@@ -54,7 +54,8 @@ fn source_lines(alloc: Global, count: u32) -> Result<Vec<SourceLine>, AllocError
 // Adds the procedures, in front of whatever follows.
 fn add_procedures(alloc: Global, count: u32, lines: &mut Vec<SourceLine>) -> Result<(), AllocError>
     requires few { count < 65536 }
-    ensures { OnOk result ((later : List (List ℕ)) → lines.new.items ++ numbered (3 * count + 1) later ≡ lines.old.items ++ numbered 1 (flat_map procedure_lines (numbers count) ++ later)) }
+    ensures { OnOk result ((later : List (List ℕ)) → lines.new.items ++ numbered (3 * count + 1) later
+        ≡ lines.old.items ++ numbered 1 (flat_map procedure_lines (numbers count) ++ later)) }
 {
     for i in 0..count {
         add_procedure(alloc, i + 1, 3 * i + 1, lines)?;
@@ -80,7 +81,8 @@ fn add_procedure(
 // Adds the lines of the sum, in front of whatever follows.
 fn add_sums(alloc: Global, count: u32, lines: &mut Vec<SourceLine>) -> Result<(), AllocError>
     requires few { count < 65536 }
-    ensures { OnOk result ((later : List (List ℕ)) → lines.new.items ++ numbered (4 * count + 3) later ≡ lines.old.items ++ numbered (3 * count + 3) (map sum_line (numbers count) ++ later)) }
+    ensures { OnOk result ((later : List (List ℕ)) → lines.new.items ++ numbered (4 * count + 3) later
+        ≡ lines.old.items ++ numbered (3 * count + 3) (map sum_line (numbers count) ++ later)) }
 {
     for i in 0..count {
         let line = line_of(
