@@ -16,3 +16,4 @@ mod OneJob
 mod SomeJob
 mod SoundSources
 mod UnitsAgain
+mod WrittenUnits

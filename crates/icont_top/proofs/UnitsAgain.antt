@@ -28,7 +28,7 @@ use Rattle.icont_top.specs.Relinking.{AreHeld, GathersAlike, HoldTheOthers, Hold
 judged_again : (unit : UnitRead) (files : FileMap) → HoldsUnit files unit → unit_read unit.name (procs_text unit.procs) (decls_text unit.decls) ≡ Whole unit
     → AreJudged unit.name (procs_text unit.procs) (decls_text unit.decls) (Ok unit)
 judged_again unit files h e = subst (λ result. AreJudged unit.name (procs_text unit.procs) (decls_text unit.decls) result) (ap (unit_found unit.name) e)
-    (AreJudged.read h.first_fits h.second_fits)
+    (AreJudged.read h.fits.first h.fits.second)
 
 comes_again : (unit : UnitRead) (files : FileMap) → HoldsUnit files unit → unit_read unit.name (procs_text unit.procs) (decls_text unit.decls) ≡ Whole unit
     → Comes files (ucode unit.name) (Ok (FromUcode unit))

@@ -9,12 +9,19 @@ use Rattle.icont_units.specs.Units.{Member, FromUcode, Gather, Load, is_there, t
 use Rattle.icont_top.specs.Job.{image_file}
 use Rattle.icont_top.specs.Programs.{Links}
 
--- Both texts of the unit stand under its names, and neither is too long to be read again.
+-- Neither text of the unit is too long to be read again.
+pub record FitsTexts (unit : UnitRead) : Type 0 where
+  pub first : length (procs_text unit.procs) ≤ 268435456
+  pub second : length (decls_text unit.decls) ≤ 268435456
+
+abbrev pub AllFit : List Member → Type 0
+AllFit members = All (λ member. FitsTexts (unit_of member)) members
+
+-- Both texts of the unit stand under its names, and can be read again.
 pub record HoldsUnit (files : FileMap) (unit : UnitRead) : Type 0 where
   pub first : files (first_name unit.name) ≡ Some (procs_text unit.procs)
   pub second : files (second_name unit.name) ≡ Some (decls_text unit.decls)
-  pub first_fits : length (procs_text unit.procs) ≤ 268435456
-  pub second_fits : length (decls_text unit.decls) ≤ 268435456
+  pub fits : FitsTexts unit
 
 abbrev pub AreHeld : FileMap → List Member → Type 0
 AreHeld files members = All (λ member. HoldsUnit files (unit_of member)) members
@@ -29,6 +36,11 @@ ucode_members members = map (λ member. FromUcode (unit_of member)) members
 -- two stores have the same texts of all units but those of these members
 abbrev pub HoldTheOthers : List Member → FileMap → FileMap → Type 0
 HoldTheOthers members before after = (base : List ℕ) → is_there members base ≡ false → texts_held after base ≡ texts_held before base
+
+-- the units of members stand in a later store, and all others as they did
+pub record StandAgain (members : List Member) (before after : FileMap) : Type 0 where
+  pub held : AreHeld after members
+  pub others : HoldTheOthers members before after
 
 -- these members gather others of the same units as more
 pub record GathersAlike (files : FileMap) (members : List Member) (mentioned : List (List ℕ)) (more : List Member) : Type 0 where

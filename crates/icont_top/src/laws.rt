@@ -1,5 +1,5 @@
 // Laws of the definitions that contracts cite.
-ghost use Rattle.std.specs.Prelude.{◌≡◌, ℕ, All, List, Ok};
+ghost use Rattle.std.specs.Prelude.{◌≡◌, ℕ, All, List, Some, Ok};
 ghost use Rattle.icn_host.specs.FileMaps.{FileMap};
 ghost use Rattle.icn_tree.specs.declared.token.Token.{Token};
 ghost use Rattle.icn_tree.specs.Trees.{Declaration};
@@ -9,10 +9,10 @@ ghost use Rattle.icn_lines.specs.Answers.{IsFault};
 ghost use Rattle.icont_units.specs.Files.{File};
 ghost use Rattle.icont_units.specs.Translating.{Become};
 ghost use Rattle.icont_units.specs.Units.{Come, Gather, Load, Member, units_of};
-ghost use Rattle.icont_top.specs.Job.{IsJob, Job};
-ghost use Rattle.icont_top.specs.Outcomes.{IsReadBack};
+ghost use Rattle.icont_top.specs.Job.{IsJob, IsTranslated, Job, ucode_files};
+ghost use Rattle.icont_top.specs.Outcomes.{IsReadBack, WritesAll};
 ghost use Rattle.icont_top.specs.Programs.{Links, linked};
-ghost use Rattle.icont_top.specs.Relinking.{AreHeld, GathersAlike, HoldTheOthers, LinksAlike, ucode_members, ucode_named};
+ghost use Rattle.icont_top.specs.Relinking.{AllFit, AreHeld, GathersAlike, HoldTheOthers, LinksAlike, StandAgain, ucode_members, ucode_named};
 
 use icn_adequacy::programs_mean;
 use icn_code_sound::joined_code_is_verified;
@@ -54,6 +54,8 @@ pub fn one_job()
 /// Units that were written as ucode and have no text over 268435456 bytes are read as the same units, so what they link is the same, their
 /// code is, and the image of a program that is made of it has the same name and the same bytes.
 pub fn units_link_alike()
+    ensures written { (words : List (List ℕ)) (before after : FileMap) (members : List Member) → IsTranslated words before (Ok members)
+        → WritesAll (Some before) (Some after) (ucode_files members) → AllFit members → StandAgain members before after }
     ensures come { (members : List Member) (files : FileMap) → All IsReadBack members → AreHeld files members
         → Come files (ucode_named members) (Ok (ucode_members members)) }
     ensures gather { (before after : FileMap) (a b : List Member) (mentioned : List (List ℕ)) (more : List Member) → units_of b ≡ units_of a
@@ -62,4 +64,6 @@ pub fn units_link_alike()
     ensures program { (before after : FileMap) (named : List File) (members more : List Member) (tables : Tables) → Come before named (Ok members)
         → All IsReadBack members → AreHeld after members → HoldTheOthers members before after → Load before named (Ok more)
         → Links more (Ok tables) → LinksAlike after (ucode_named members) more tables }
-{}
+{
+    one_spelling();
+}

@@ -1,5 +1,9 @@
 use Rattle.icont_top.proofs.UnitsAgain.{come_again, gather_again, program_alike, same_linked}
+use Rattle.icont_top.proofs.WrittenUnits.{stand_again}
 use Rattle.icont_top.proofs.laws.units_link_alike.Goals as goal
+
+pub returns-clause-written : goal.returns-clause-written
+returns-clause-written c = stand_again c.one_spelling.ensures.spelled
 
 pub returns-clause-come : goal.returns-clause-come
 returns-clause-come c = come_again
