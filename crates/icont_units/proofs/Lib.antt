@@ -1,5 +1,7 @@
 pub mod ContextRules
+pub mod Judging
 pub mod Matching
+pub mod Naming
 pub mod Sourcing
 pub mod Staging
 pub mod LineSizes
