@@ -120,10 +120,11 @@ pub fn task_of(order: Order<'_>) -> Task<'_>
     }
 }
 
-fn number_of(text: Option<&str>) -> Option<u64>
+fn number_of(text: Option<&str>) -> Option<u16>
     ensures { result ≡ option_and_then (number_within 1 2000) (text_of text.entry) }
 {
-    number_within(text?.as_bytes(), 1, MOST_NUMBER)
+    let number = number_within(text?.as_bytes(), 1, MOST_NUMBER)?;
+    u16::try_from(number).ok()
 }
 
 fn files_task(order: Order<'_>, turns: u64) -> Task<'_>

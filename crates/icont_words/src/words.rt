@@ -29,7 +29,7 @@ pub enum Task<'a> {
     },
     /// The program of this number, from 1 to 2000, run under this bound of turns.
     Generate {
-        number: u64,
+        number: u16,
         turns: u64,
     },
 }
