@@ -24,13 +24,11 @@ mod tests {
     const NO_PROGRAM: &[u8] = b"f.icn:0: S1 not a program\n";
 
     // A form that is left out, on a line of the named file.
-    const LEFT_OUT_1: &[u8] = b"f.icn:1: S4 form not in this profile\n";
-
-    const LEFT_OUT_3: &[u8] = b"f.icn:3: S4 form not in this profile\n";
-
     const LEFT_OUT_4: &[u8] = b"f.icn:4: S4 form not in this profile\n";
 
     const TOO_LARGE: &[u8] = b"f:0: K3 program too large\n";
+
+    const NOT_LINKED: &[u8] = b"f:0: K2 linked file not there\n";
 
     // The files beside the one that is named.
     const BESIDE: [(&str, &[u8]); 6] = [
@@ -260,7 +258,7 @@ mod tests {
     ];
 
     // Texts with a form that this profile does not have, with the line of the refusal.
-    const LEFT_OUT: [(&[u8], &[u8]); 5] = [
+    const LEFT_OUT: [(&[u8], &[u8]); 2] = [
         // in the middle of a longer file, and before context rules
         (
             b"procedure main()\nend\n\ninvocable all\nglobal g\n",
@@ -270,13 +268,16 @@ mod tests {
             b"procedure main()\nbreak\nend\ninvocable\nall\n",
             LEFT_OUT_4,
         ),
-        // other files are linked behind all rules of this one
-        (b"procedure main()\nend\nlink\nx\nrecord r()\n", LEFT_OUT_3),
+    ];
+
+    // Texts that link a file that is not there, which is told behind all other rules of this one.
+    const LINKS: [(&[u8], &[u8]); 3] = [
+        (b"procedure main()\nend\nlink\nx\nrecord r()\n", NOT_LINKED),
         (
             b"link \"a\"\nprocedure main()\nbreak\nend\n",
             b"f.icn:3: C2 break outside a loop\n",
         ),
-        (b"link \"a\"\nprocedure main()\nend\n", LEFT_OUT_1),
+        (b"link \"a\"\nprocedure main()\nend\n", NOT_LINKED),
     ];
 
     // Texts whose tree breaks another rule, with the line of the refusal.
@@ -552,6 +553,15 @@ mod tests {
     }
 
     #[test]
+    fn files_that_are_not_there_are_not_linked(rt: HostRuntime) -> Result<(), Fail> {
+        let alloc = rt.alloc();
+        for (source, errors) in LINKS {
+            refused(&rt, alloc, source, errors)?;
+        }
+        Ok(())
+    }
+
+    #[test]
     fn broken_trees_are_refused(rt: HostRuntime) -> Result<(), Fail> {
         let alloc = rt.alloc();
         for (source, errors) in BROKEN {
@@ -701,44 +711,59 @@ mod tests {
         Ok(())
     }
 
+    // Words, with the answer, its status and its line.
+    const WORDS: [(&[&str], &str, u8, &[u8]); 19] = [
+        (&["icont", "f.icn", "-x"], "Ran(Done)", 0, b""),
+        (&["", "f.icn", "-x"], "Ran(Done)", 0, b""),
+        (&["icont", "f", "-x"], "Ran(Done)", 0, b""),
+        (&["icont", "f.icn", "-x", "a"], "Ran(Done)", 0, b""),
+        (
+            &["icont", "f.icn", "-x", "-x", "f.icn"],
+            "Ran(Done)",
+            0,
+            b"",
+        ),
+        (&["icont", "f.icn"], "Wrote", 0, b""),
+        (&["", "f.icn"], "Wrote", 0, b""),
+        (&["icont", "f"], "Wrote", 0, b""),
+        (
+            &["icont", "nofile.icn"],
+            "Missing",
+            2,
+            b"nofile.icn: not there\n",
+        ),
+        (
+            &["icont", "nofile.icn", "-x"],
+            "Missing",
+            2,
+            b"nofile.icn: not there\n",
+        ),
+        (&["icont", ".icn", "-x"], "Missing", 2, b".icn: not there\n"),
+        (
+            &["icont", "f.icn", "x"],
+            "Missing",
+            2,
+            b"x.icn: not there\n",
+        ),
+        // a procedure of two files
+        (
+            &["icont", "f.icn", "g.icn"],
+            "Refused",
+            2,
+            b"g:0: K1 inconsistent redeclaration\n",
+        ),
+        (&[], "Command", 2, USAGE),
+        (&["icont"], "Command", 2, USAGE),
+        (&["icont", "-x", "f.icn"], "Command", 2, USAGE),
+        (&["icont", "f.icn", "-X"], "Command", 2, USAGE),
+        (&["icont", "-c", "f.icn", "-x"], "Command", 2, USAGE),
+        (&["icont", "-n", "f.icn"], "Command", 2, USAGE),
+    ];
+
     #[test]
     fn words_are_taken_as_they_stand(rt: HostRuntime) -> Result<(), Fail> {
         let alloc = rt.alloc();
-        let rows: [(&[&str], &str, u8, &[u8]); 17] = [
-            (&["icont", "f.icn", "-x"], "Ran(Done)", 0, b""),
-            (&["", "f.icn", "-x"], "Ran(Done)", 0, b""),
-            (&["icont", "f.icn", "-x", "a"], "Ran(Done)", 0, b""),
-            (
-                &["icont", "f.icn", "-x", "-x", "f.icn"],
-                "Ran(Done)",
-                0,
-                b"",
-            ),
-            (&["icont", "f.icn"], "Wrote", 0, b""),
-            (&["", "f.icn"], "Wrote", 0, b""),
-            (
-                &["icont", "nofile.icn"],
-                "Missing",
-                2,
-                b"nofile.icn: not there\n",
-            ),
-            (
-                &["icont", "nofile.icn", "-x"],
-                "Missing",
-                2,
-                b"nofile.icn: not there\n",
-            ),
-            (&["icont", ".icn", "-x"], "Missing", 2, b".icn: not there\n"),
-            (&[], "Command", 2, USAGE),
-            (&["icont"], "Command", 2, USAGE),
-            (&["icont", "f"], "Command", 2, USAGE),
-            (&["icont", "f", "-x"], "Command", 2, USAGE),
-            (&["icont", "f.icn", "-X"], "Command", 2, USAGE),
-            (&["icont", "f.icn", "x"], "Command", 2, USAGE),
-            (&["icont", "-x", "f.icn"], "Command", 2, USAGE),
-            (&["icont", "f.icn", "g.icn"], "Command", 2, USAGE),
-        ];
-        for (words, name, status, errors) in rows {
+        for (words, name, status, errors) in WORDS {
             let row = icont(alloc, words, HI, NONE)?;
             assert_eq!(rt; name_of(&row.answer), name, "at {words:?}");
             assert_eq!(rt; row.answer.code(), status, "at {words:?}");
@@ -993,82 +1018,88 @@ mod tests {
         Ok(())
     }
 
-    // Runs that end otherwise: where there is no `main`, and by the limits.
+    const NO_MAIN: &[u8] = b"Run-time error 117\nmissing main procedure\n";
+
+    const NO_STRINGS: &[u8] = b"Run-time error 306\ninadequate space in string region\n";
+
+    const NO_CELLS: &[u8] = b"Run-time error 307\ninadequate space in block region\n";
+
+    const AT_BOUND: &[u8] = b"turn bound reached\n";
+
+    // Runs that end otherwise, where there is no `main` and by the limits: the source and the words, the answer and its status, and
+    // what was put on both outputs.
+    const ENDINGS: [(&[u8], &[&str], &str, u8, &[u8], &[u8]); 9] = [
+        (
+            b"",
+            &["icont", "f.icn", "-x"],
+            "Ran(Errored)",
+            1,
+            b"",
+            NO_MAIN,
+        ),
+        (b"\n", &["iconx", "f"], "Ran(Errored)", 1, b"", NO_MAIN),
+        (
+            b"",
+            &["iconx", "-s", "0", "-b", "0", "f", "a"],
+            "Ran(Errored)",
+            1,
+            b"",
+            NO_MAIN,
+        ),
+        (
+            TWO,
+            &["iconx", "-s", "2", "f", "abc"],
+            "Ran(Errored)",
+            1,
+            b"",
+            NO_STRINGS,
+        ),
+        (
+            TWO,
+            &["iconx", "-b", "0", "f"],
+            "Ran(Errored)",
+            1,
+            b"",
+            NO_CELLS,
+        ),
+        (
+            TWO,
+            &["iconx", "-n", "0", "f"],
+            "Ran(AtBound)",
+            3,
+            b"",
+            AT_BOUND,
+        ),
+        (
+            TWO,
+            &["iconx", "-n", "1", "f"],
+            "Ran(AtBound)",
+            3,
+            b"a\n",
+            AT_BOUND,
+        ),
+        (
+            TWO,
+            &["iconx", "-n", "2", "f"],
+            "Ran(Done)",
+            0,
+            b"a\n2\n",
+            b"",
+        ),
+        (
+            b"procedure main()\nend\n",
+            &["iconx", "-n", "0", "f"],
+            "Ran(Done)",
+            0,
+            b"",
+            b"",
+        ),
+    ];
+
     #[test]
     fn runs_end_with_their_reports(rt: HostRuntime) -> Result<(), Fail> {
         let alloc = rt.alloc();
-        let missing: &[u8] = b"Run-time error 117\nmissing main procedure\n";
-        let strings: &[u8] = b"Run-time error 306\ninadequate space in string region\n";
-        let cells: &[u8] = b"Run-time error 307\ninadequate space in block region\n";
-        let bound: &[u8] = b"turn bound reached\n";
-        let rows: [(&[u8], &[&str], &str, u8, &[u8], &[u8]); 9] = [
-            (
-                b"",
-                &["icont", "f.icn", "-x"],
-                "Ran(Errored)",
-                1,
-                b"",
-                missing,
-            ),
-            (b"\n", &["iconx", "f"], "Ran(Errored)", 1, b"", missing),
-            (
-                b"",
-                &["iconx", "-s", "0", "-b", "0", "f", "a"],
-                "Ran(Errored)",
-                1,
-                b"",
-                missing,
-            ),
-            (
-                TWO,
-                &["iconx", "-s", "2", "f", "abc"],
-                "Ran(Errored)",
-                1,
-                b"",
-                strings,
-            ),
-            (
-                TWO,
-                &["iconx", "-b", "0", "f"],
-                "Ran(Errored)",
-                1,
-                b"",
-                cells,
-            ),
-            (
-                TWO,
-                &["iconx", "-n", "0", "f"],
-                "Ran(AtBound)",
-                3,
-                b"",
-                bound,
-            ),
-            (
-                TWO,
-                &["iconx", "-n", "1", "f"],
-                "Ran(AtBound)",
-                3,
-                b"a\n",
-                bound,
-            ),
-            (
-                TWO,
-                &["iconx", "-n", "2", "f"],
-                "Ran(Done)",
-                0,
-                b"a\n2\n",
-                b"",
-            ),
-            (
-                b"procedure main()\nend\n",
-                &["iconx", "-n", "0", "f"],
-                "Ran(Done)",
-                0,
-                b"",
-                b"",
-            ),
-        ];
-        for (source, words, name, status, output, errors) in rows {
+        for (source, words, name, status, output, errors) in ENDINGS {
             let mut files = files_of(alloc, source)?;
             let (wrote, _, _) = command(alloc, &["icont", "f.icn"], &mut files)?;
             let (answer, out, err) = command(alloc, words, &mut files)?;
