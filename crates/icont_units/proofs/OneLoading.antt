@@ -1,5 +1,5 @@
 -- What files and units come to is one thing alone.
-use Rattle.std.proofs.Common.{◌≡◌, ℕ, ◌≤◌, ◌<◌, Bool, true, false, List, [], ◌∷◌, ◌++◌, nat_lt, length, Result, Ok, Err, refl, sym, ap, subst, ◌∙◌, arith}
+use Rattle.std.proofs.Common.{◌≡◌, ℕ, ◌≤◌, ◌<◌, Bool, true, false, List, [], ◌∷◌, ◌++◌, length, Result, Ok, Err, refl, sym, ap, subst, ◌∙◌, arith}
 use Rattle.std.specs.Str.{is_utf8}
 use Rattle.std.proofs.lemmas.Bool.Decides.{nat_tests}
 use Rattle.icn_host.specs.FileMaps.{FileMap}
@@ -15,7 +15,7 @@ use Rattle.icont_units.specs.Files.{File, source_name, first_name, second_name}
 use Rattle.icont_units.specs.Generated.{GeneratedComes, generated_base, generated_lines, generated_name}
 use Rattle.icont_units.specs.Sources.{Scan, refused_at, source_read}
 use Rattle.icont_units.specs.Translating.{Become}
-use Rattle.icont_units.specs.Units.{Member, FromSource, FromUcode, texts_held, unit_found, AreJudged, Comes, Come, IsAbsent, IsHeld, is_there, links_of, links_in, Gather, Load}
+use Rattle.icont_units.specs.Units.{Member, FromSource, FromUcode, is_too_long, texts_held, unit_found, AreJudged, Comes, Come, IsAbsent, IsHeld, is_there, links_of, links_in, Gather, Load}
 use Rattle.icont_units.proofs.Matching.{same_Ok, same_Err, ok-err}
 use Rattle.icont_units.proofs.Verdicts.{Verdict, one_become, whole_file}
 
@@ -26,28 +26,23 @@ judged_by base first second true long = Err (BadUcode (first_name base) U8)
 judged_by base first second false true = Err (BadUcode (second_name base) U8)
 judged_by base first second false false = unit_found base (unit_read base first second)
 
-is_long : List ℕ → Bool
-is_long text = nat_lt 268435456 (length text)
-
 judged : List ℕ → List ℕ → List ℕ → Result UnitRead Answer
-judged base first second = judged_by base first second (is_long first) (is_long second)
+judged base first second = judged_by base first second (is_too_long first) (is_too_long second)
 
-when_long : (text : List ℕ) → 268435456 < length text → is_long text ≡ true
-unfolding is_long
+when_long : (text : List ℕ) → 268435456 < length text → is_too_long text ≡ true
 when_long text l = grind (arith, nat_tests)
 
-when_short : (text : List ℕ) → length text ≤ 268435456 → is_long text ≡ false
-unfolding is_long
+when_short : (text : List ℕ) → length text ≤ 268435456 → is_too_long text ≡ false
 when_short text l = grind (arith, nat_tests)
 
 -- what they come to is computed
 of_texts : {base first second : List ℕ} (result : Result UnitRead Answer) → AreJudged base first second result → result ≡ judged base first second
 unfolding judged
-of_texts {base} {first} {second} _ (AreJudged.first_too_long l) = sym (ap (λ test. judged_by base first second test (is_long second)) (when_long first l))
+of_texts {base} {first} {second} _ (AreJudged.first_too_long l) = sym (ap (λ test. judged_by base first second test (is_too_long second)) (when_long first l))
 of_texts {base} {first} {second} _ (AreJudged.second_too_long s l) =
-    sym (ap (λ test. judged_by base first second test (is_long second)) (when_short first s) ∙ ap (judged_by base first second false) (when_long second l))
+    sym (ap (λ test. judged_by base first second test (is_too_long second)) (when_short first s) ∙ ap (judged_by base first second false) (when_long second l))
 of_texts {base} {first} {second} _ (AreJudged.read s l) =
-    sym (ap (λ test. judged_by base first second test (is_long second)) (when_short first s) ∙ ap (judged_by base first second false) (when_short second l))
+    sym (ap (λ test. judged_by base first second test (is_too_long second)) (when_short first s) ∙ ap (judged_by base first second false) (when_short second l))
 
 pub one_judged : (base first second : List ℕ) (a b : Result UnitRead Answer) → AreJudged base first second a → AreJudged base first second b → a ≡ b
 one_judged base first second a b x y = of_texts a x ∙ sym (of_texts b y)
