@@ -1,5 +1,5 @@
 -- What the texts of a unit come to.
-use Rattle.std.proofs.Common.{◌≡◌, ◌⊎◌, inl, inr, ℕ, ◌+◌, ◌<◌, ◌≤◌, min, nat_lt, Bool, true, false, List, length, Some, IsUtf8, Result, Ok, Err, refl, sym, ap, subst, ◌∙◌, arith}
+use Rattle.std.proofs.Common.{◌≡◌, ◌⊎◌, inl, inr, ℕ, ◌+◌, ◌<◌, ◌≤◌, min, Bool, true, false, List, length, Some, IsUtf8, Result, Ok, Err, refl, sym, ap, subst, ◌∙◌, arith}
 use Rattle.std.specs.Str.{is_utf8}
 use Rattle.std.proofs.lemmas.Bool.{false≢true}
 use Rattle.std.proofs.lemmas.Bool.Decides.{nat_tests}
@@ -20,9 +20,9 @@ use Rattle.icn_lines.specs.declared.answer.Answer.{Answer}
 use Rattle.icn_lines.specs.declared.answer.Answer.TheVariants.{BadUcode, Missing, NoMemory}
 use Rattle.icn_lines.specs.Answers.{IsFault}
 use Rattle.icont_units.specs.declared.ucode.UnitTexts.{UnitTexts}
-use Rattle.icont_units.specs.Fetching.{AreTexts, HeldAre, IsJudged, IsLinkedUnit, IsNamedUnit, first_bytes}
+use Rattle.icont_units.specs.Fetching.{AreTexts, HeldAre, IsJudged, IsNamedUnit, first_bytes}
 use Rattle.icont_units.specs.Files.{first_name, second_name, ucode}
-use Rattle.icont_units.specs.Units.{AreJudged, Comes, FromUcode, IsAbsent, IsHeld, both_texts, faulty_name, is_too_long, second_text, texts_held, unit_found}
+use Rattle.icont_units.specs.Units.{AreJudged, Comes, IsAbsent, both_texts, faulty_name, is_too_long, second_text, texts_held, unit_found}
 use Rattle.icont_units.proofs.Matching.{same_Err, ok-err}
 
 -- Both texts

@@ -1,3 +1,4 @@
+pub mod CheckedSources
 pub mod ContextRules
 pub mod Judging
 pub mod Matching

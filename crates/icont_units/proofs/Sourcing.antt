@@ -18,7 +18,7 @@ use Rattle.icn_prep.proofs.Faults.{fault_of_text}
 use Rattle.icn_lines.specs.declared.answer.Answer.{Answer}
 use Rattle.icn_lines.specs.declared.answer.Answer.TheVariants.{Refused, FileFault, NoMemory}
 use Rattle.icn_lines.specs.Answers.{IsFault}
-use Rattle.icont_units.specs.Sources.{name_at, refused_at, tokens_read, fault_answer, lines_read, IsAbsence}
+use Rattle.icont_units.specs.Sources.{refused_at, tokens_read, fault_answer, lines_read, IsAbsence}
 use Rattle.icont_units.proofs.Matching.{same_Err, ok-err}
 
 no_scan_rule : (rule : Rule) → IsScanRule rule → rule ≡ P6 → ⊥

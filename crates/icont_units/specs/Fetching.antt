@@ -18,7 +18,7 @@ use Rattle.icont_units.specs.declared.ucode.UnitTexts.{UnitTexts}
 use Rattle.icont_units.specs.Files.{File, source, ucode}
 use Rattle.icont_units.specs.Sources.{Scan, refused_at}
 use Rattle.icont_units.specs.Translating.{Become}
-use Rattle.icont_units.specs.Units.{Comes, FromSource, FromUcode, AreJudged, IsAbsent, IsHeld, texts_held}
+use Rattle.icont_units.specs.Units.{Comes, FromSource, FromUcode, AreJudged, IsAbsent, IsHeld}
 
 -- Files that are named
 

@@ -1,8 +1,6 @@
-use Rattle.std.proofs.Common.{Ok, ap, subst}
 use Rattle.std.proofs.lemmas.Result.{err_from_is_err_and}
-use Rattle.icn_tree.specs.declared.tree.File.{File}
 use Rattle.icn_tree.specs.TreeOf.{declarations_of}
-use Rattle.icont_units.specs.Translating.{Become, is_file}
+use Rattle.icont_units.proofs.CheckedSources.{are_checked}
 use Rattle.icont_units.proofs.Staging.{parse_stops, context_stops}
 use Rattle.icont_units.proofs.checking.checked.Goals as goal
 
@@ -14,3 +12,6 @@ pub returns-in_err-checked : goal.returns-in_err-checked
 returns-in_err-checked c =
     let p = err_from_is_err_and c.from_residual-in_err-checked.result c.from_residual-in_err-checked.ensures.1 in
     rw (p.1, p.2) (context_stops c.args.tokens.now (declarations_of c.in_ok-file.file) _ c.in_ok-file.ensures.exact c.in_err-checked.ensures.first)
+
+pub returns : goal.returns
+returns c = are_checked c.args.tokens.now c.in_ok-checked.checked c.in_ok-file.file c.in_ok-file.ensures.exact c.in_ok-checked.ensures.same

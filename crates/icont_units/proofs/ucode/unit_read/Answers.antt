@@ -1,5 +1,3 @@
-use Rattle.std.proofs.Common.{◌≡◌, ◌⊎◌, Err, Some, refl}
-use Rattle.icn_unit.specs.declared.fault.UcodeFault.{UcodeFault}
 use Rattle.icn_ucode.specs.UnitReading.{UnitOutcome, Faulty, Whole, unit_read}
 use Rattle.icn_link.specs.Units.{unit_seen}
 use Rattle.icont_units.proofs.Judging.{fault_is, first_long, found, read_fault, second_long, unit_is}
