@@ -56,4 +56,5 @@ pub member_comes : (number : ℕ) (scan : Scan) (result : Result Members Answer)
 member_comes number scan (Ok held) read (file, (become, stands)) = (FromSource generated_base file ∷ [], (made scan.tokens file read.tokens become, stands))
 member_comes number scan (Err answer) read (inl none) = inl (subst IsFault (sym none) refl)
 member_comes number scan (Err answer) read (inr (rule, (place, (become, e)))) =
-    inr (subst (λ a. GeneratedComes number (Err a)) (sym (e ∙ ap (λ names. refused_at names rule place) read.names)) (broken scan.tokens rule place read.tokens become))
+    inr (subst (λ a. GeneratedComes number (Err a)) (sym (e ∙ ap (λ names. refused_at names rule place) read.names))
+    (broken scan.tokens rule place read.tokens become))

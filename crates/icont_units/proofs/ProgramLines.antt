@@ -49,7 +49,8 @@ same_number i count l r = omega (arith, l, r)
 
 two_put : (old x y : List SourceLine) (a b c d : SourceLine) → x ≡ old ++ a ∷ [] → y ≡ x ++ b ∷ [] → a ≡ c → b ≡ d → y ≡ old ++ (c ∷ d ∷ [])
 two_put old x y a b c d one two first second =
-    two ∙ (ap (λ xs. xs ++ b ∷ []) one ∙ (append_assoc old (a ∷ []) (b ∷ []) ∙ (ap (λ line. old ++ (line ∷ b ∷ [])) first ∙ ap (λ line. old ++ (c ∷ line ∷ [])) second)))
+    two ∙ (ap (λ xs. xs ++ b ∷ []) one ∙ (append_assoc old (a ∷ []) (b ∷ [])
+    ∙ (ap (λ line. old ++ (line ∷ b ∷ [])) first ∙ ap (λ line. old ++ (c ∷ line ∷ [])) second)))
 
 -- the lines of a procedure
 pub procedure_put : (old x y z : List SourceLine) (a b c : SourceLine) (n second third i : ℕ) → second ≡ suc n → third ≡ suc second
@@ -123,7 +124,8 @@ all_lines count first second third fourth fifth procedures x head sums y done a 
     let begun : head ≡ procedures ++ (main ∷ start ∷ []) =
     two_put procedures x head a b main start one two is_a (is_b ∙ ap (λ k. line_at k (codes "t := 0")) next) in
     let ended : done ≡ sums ++ numbered fourth ends =
-    two_put sums y done c d (line_at fourth (codes "write(t)")) (line_at (suc fourth) (codes "end")) three four is_c (is_d ∙ ap (λ k. line_at k (codes "end")) last) in
+    two_put sums y done c d (line_at fourth (codes "write(t)")) (line_at (suc fourth) (codes "end")) three four is_c
+    (is_d ∙ ap (λ k. line_at k (codes "end")) last) in
     ended ∙ (added ends ∙ (ap (λ k. head ++ numbered k rest) (after ∙ ap suc next) ∙ (ap (λ xs. xs ++ numbered (suc (suc first)) rest) begun
     ∙ (append_assoc procedures (main ∷ start ∷ []) (numbered (suc (suc first)) rest) ∙ (made (codes "procedure main()" ∷ codes "t := 0" ∷ rest)
     ∙ ap (numbered 1) (sym (append_assoc procs (codes "procedure main()" ∷ codes "t := 0" ∷ map sum_line (numbers count)) ends)))))))

@@ -5,12 +5,14 @@ use Rattle.icont_units.proofs.ProgramLines.{none_done, procedure_step, procedure
 use Rattle.icont_units.proofs.program_lines.add_procedures.Goals as goal
 
 pub loop-i-init : goal.loop-i-init
-loop-i-init c = record { is = λ later. ap (λ n. c.args.lines.now.items ++ numbered 1 (flat_map procedure_lines (range_with_len 1 n) ++ later)) (none_done c.args.count) }
+loop-i-init c = record {
+  is = λ later. ap (λ n. c.args.lines.now.items ++ numbered 1 (flat_map procedure_lines (range_with_len 1 n) ++ later)) (none_done c.args.count);
+}
 
 pub loop-i-preserved : goal.loop-i-preserved
 loop-i-preserved c = record {
-  is = λ later. procedure_step c.loop-i.lines.items c.add_procedure.new.lines.items _ (3 * c.loop-i.i + 1) (3 * (c.loop-i.i + 1) + 1) c.loop-i.i c.args.count later
-      c.loop-i-test.true (three_more c.loop-i.i) c.in_ok-add_procedure.ensures (c.loop-i.invariant.is later);
+  is = λ later. procedure_step c.loop-i.lines.items c.add_procedure.new.lines.items _ (3 * c.loop-i.i + 1) (3 * (c.loop-i.i + 1) + 1)
+      c.loop-i.i c.args.count later c.loop-i-test.true (three_more c.loop-i.i) c.in_ok-add_procedure.ensures (c.loop-i.invariant.is later);
 }
 
 pub returns : goal.returns

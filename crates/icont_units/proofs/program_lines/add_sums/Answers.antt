@@ -12,8 +12,9 @@ loop-i-init c = record {
 
 pub loop-i-preserved : goal.loop-i-preserved
 loop-i-preserved c = record {
-  is = λ later. sum_step c.loop-i.lines.items c.push.new.self.items _ c.in_ok-line.line (3 * c.args.count + 3 + c.loop-i.i) (3 * c.args.count + 3 + (c.loop-i.i + 1))
-      c.loop-i.i c.args.count later c.loop-i-test.true (one_more (3 * c.args.count + 3) c.loop-i.i) c.in_ok-line.ensures c.in_ok-push.ensures.items (c.loop-i.invariant.is later);
+  is = λ later. sum_step c.loop-i.lines.items c.push.new.self.items _ c.in_ok-line.line (3 * c.args.count + 3 + c.loop-i.i)
+      (3 * c.args.count + 3 + (c.loop-i.i + 1)) c.loop-i.i c.args.count later c.loop-i-test.true (one_more (3 * c.args.count + 3) c.loop-i.i)
+      c.in_ok-line.ensures c.in_ok-push.ensures.items (c.loop-i.invariant.is later);
 }
 
 pub returns : goal.returns
