@@ -1,102 +1,88 @@
--- What is made of a file.
-use Rattle.std.proofs.Common.{◌≡◌, ◌⊎◌, inl, inr, ℕ, List, [], ◌∷◌, IfErr, IsErrOf, Option, None, Some, Result, Ok, Err, refl, sym, ap, ◌∙◌}
+-- What is made of units.
+use Rattle.std.proofs.Common.{◌≡◌, ◌⊎◌, inl, inr, ℕ, List, Option, None, Some, Ok, Err, refl, sym, ap, ◌∙◌, subst}
 use Rattle.std.specs.Option.{option_and_then}
-use Rattle.icn_host.specs.FileMaps.{FileMap}
+use Rattle.std.proofs.lemmas.Option.{none-some}
 use Rattle.icn_tree.specs.declared.rule.Rule.{Rule}
-use Rattle.icn_tree.specs.declared.rule.Rule.TheVariants.{P6}
-use Rattle.icn_tree.specs.declared.tree.Place.{Place}
 use Rattle.icn_tree.specs.Trees.{Declaration}
 use Rattle.icn_code.specs.Codes.{Tables}
 use Rattle.icn_code.specs.Seen.{tables_of}
 use Rattle.icn_image.specs.Spelling.{image_of}
-use Rattle.icn_unit.specs.declared.unit.Unit.{Unit}
-use Rattle.icn_translate.specs.FileUnits.{translated_unit}
+use Rattle.icn_unit.specs.PlainUnits.{UnitRead}
+use Rattle.icn_unit.specs.declared.unit.Unit.{Unit as HeldUnit}
 use Rattle.icn_link.specs.declared.fault.LinkFault.{LinkFault}
+use Rattle.icn_link.specs.Joined.{joined}
 use Rattle.icn_link.specs.LinkFaults.{first_fault, IsFault as IsLinkFault}
-use Rattle.icn_link.specs.Units.{unit_seen, units_seen}
+use Rattle.icn_link.specs.Units.{units_seen}
+use Rattle.icn_verify.specs.Faults.{IsFirstFault, IsVerified}
 use Rattle.icn_simulation.specs.Law.{IsLinked}
 use Rattle.icn_lines.specs.declared.answer.Answer.{Answer}
-use Rattle.icn_lines.specs.declared.answer.Answer.TheVariants.{Refused, FileFault, NoMemory}
-use Rattle.icn_lines.specs.Answers.{IsFault}
-use Rattle.icont_top.specs.declared.making.Made.{Made}
-use Rattle.icont_top.specs.Linking.{image, linked, rule_of, units_of}
-use Rattle.icont_top.specs.Loading.{IsLoaded, IsMade, Makes, MakesTokens, RefusesLink}
-use Rattle.icont_top.specs.Sources.{Scan, refused_at, source_read, IsErrOfAbsence, IsOfRead, IsOfTokens, IsTreeRule}
-use Rattle.icont_top.specs.Translating.{Become, ComesTo, no_tokens, refused, not_linked, translated}
-use Rattle.icont_top.specs.Words.{base_of}
+use Rattle.icn_lines.specs.declared.answer.Answer.TheVariants.{BadUcode, NoMemory}
+use Rattle.icont_units.specs.declared.members.Members.{Members}
+use Rattle.icont_units.specs.Files.{first_name}
+use Rattle.icont_units.specs.Loading.{IsSound, Stands}
+use Rattle.icont_units.specs.Units.{Member, link_answer, unit_named, units_of}
+use Rattle.icont_top.specs.declared.programs.Made.{Made}
+use Rattle.icont_top.specs.Making.{IsMade, Makes, RefusesCode, RefusesLink, wants, breaks}
+use Rattle.icont_top.specs.Programs.{Links, is_program, linked, not_linked, unverified}
+use Rattle.icont_top.proofs.SourceUnits.{AllJoin, all_files, first_named, sources_join}
 
 -- Linking
 
--- what is linked is the unit of the file alone
-pub units_are : (base given : List ℕ) (file : List Declaration) (unit : Unit) → unit_seen unit ≡ translated_unit given file → given ≡ base → units_seen (unit ∷ []) ≡ units_of base file
-units_are base given file unit e same = ap (λ u. u ∷ []) (e ∙ ap (λ name. translated_unit name file) same)
+pub refuses_link : (units : List UnitRead) (fault : LinkFault) (answer : Answer) → IsLinkFault (first_fault units) fault
+    → (answer ≡ NoMemory) ⊎ (link_answer units fault ≡ Some answer) → RefusesLink units answer
+refuses_link units fault answer is (inl e) = inl e
+refuses_link units fault answer (inl want) (inr e) = absurd (none-some answer (sym (ap (link_answer units) want) ∙ e))
+refuses_link units fault answer (inr first) (inr e) = inr (ap (option_and_then (link_answer units)) first ∙ e)
 
--- the code and the image of a program that was linked
-pub made_of : (base : List ℕ) (file : List Declaration) (made : Made) (tables : Tables) → tables ≡ linked base file → tables_of made.code.code ≡ tables → made.image.items ≡ image_of tables
-    → first_fault (units_of base file) ≡ None → IsLinked (file ∷ []) (linked base file) → IsMade base file made
-made_of base file made tables t code bytes fits joins = record { code = code ∙ t; bytes = bytes ∙ ap image_of t; fits = fits; joins = joins }
+abbrev pub AllVerified : Type 0
+AllVerified = (files : List (List Declaration)) (tables : Tables) → IsLinked files tables → IsVerified tables
 
-pub refuses_link : (base : List ℕ) (file : List Declaration) (fault : LinkFault) (answer : Answer) → IsLinkFault (first_fault (units_of base file)) fault
-    → (answer ≡ NoMemory) ⊎ ((rule : Rule) × ((answer ≡ Refused base 0 rule) × (rule_of fault ≡ Some rule))) → RefusesLink base file answer
-refuses_link base file fault answer is (inl e) = inl e
-refuses_link base file fault answer (inl want) (inr broken) = absurd (no_rule broken.0 (sym (ap rule_of want) ∙ broken.1.1)) where
-  no_rule : (rule : Rule) → ◌≡◌ {A = Option Rule} None (Some rule) → ⊥
-  no_rule rule e = cc
-refuses_link base file fault answer (inr first) (inr broken) = inr (broken.0, (broken.1.0, ap (option_and_then rule_of) first ∙ broken.1.1))
+-- where no unit was read as ucode, the code breaks no rule of verified code
+pub sources_verified : AllJoin → AllVerified → (held : Members) (tables : Tables) → IsSound held → tables ≡ joined (units_seen held.units.items)
+    → held.first_ucode ≡ None → IsVerified tables
+sources_verified joins verifies held tables sound e none =
+    let stands = sound.stands in
+    let all = all_files sound.members (sym stands.place ∙ none) in
+    let same : linked sound.members ≡ tables = sym (e ∙ ap joined stands.units) in
+    subst IsVerified same (verifies all.0 (linked sound.members) (sources_join joins sound.members stands.faultless all.0 all.1))
 
--- Tokens
+-- What the units stand for
 
-pub tokens_made : (base : List ℕ) (scan : Scan) (file : List Declaration) (result : Result Made Answer) → Become scan.tokens (Ok file) → Makes base file result → MakesTokens base scan result
-tokens_made base scan file (Ok made) is makes = (file, (is, makes))
-tokens_made base scan file (Err answer) is refuses = inr (inr (file, (is, refuses)))
+pub link_refused : (held : Members) (members : List Member) (answer : Answer) → Stands held members → RefusesLink (units_seen held.units.items) answer
+    → (answer ≡ NoMemory) ⊎ Links members (Err answer)
+link_refused held members answer stands (inl e) = inl e
+link_refused held members answer stands (inr e) =
+    inr (not_linked answer (subst (λ units. option_and_then (link_answer units) (first_fault units) ≡ Some answer) stands.units e))
 
-pub tokens_refused : (base : List ℕ) (scan : Scan) (rule : Rule) (place : Place) (answer : Answer) → Become scan.tokens (Err (rule, place)) → (answer ≡ refused_at scan.names rule place) ⊎ (answer ≡ NoMemory) → MakesTokens base scan (Err answer)
-tokens_refused base scan rule place answer x (inr e) = inl e
-tokens_refused base scan rule place answer x (inl e) = inr (inl (rule, (place, (x, e))))
+pub code_refused : (held : Members) (members : List Member) (tables : Tables) (answer : Answer) → Stands held members
+    → tables ≡ joined (units_seen held.units.items) → first_fault (units_seen held.units.items) ≡ None
+    → RefusesCode (units_seen held.units.items) held.first_ucode tables answer → (answer ≡ NoMemory) ⊎ Links members (Err answer)
+code_refused held members tables answer stands e fits (wants same) = inl same
+code_refused held members tables answer stands e fits (breaks first rule number place at fault same) =
+    let base = unit_named (units_of members) first in
+    let fits_all : first_fault (units_of members) ≡ None = subst (λ units. first_fault units ≡ None) stands.units fits in
+    let code : tables ≡ linked members = e ∙ ap joined stands.units in
+    let told : answer ≡ BadUcode (first_name base) rule =
+        subst (λ units. answer ≡ BadUcode (first_name (unit_named units first)) rule) stands.units same in
+    inr (subst (λ (a : Answer). Links members (Err a)) (sym told) (unverified base rule number place fits_all
+    (first_named members first (sym stands.place ∙ at)) (rw code at fault)))
 
--- Files
+pub made_of : AllJoin → (held : Members) (members : List Member) (made : Made) (tables : Tables) → Stands held members
+    → tables ≡ joined (units_seen held.units.items) → first_fault (units_seen held.units.items) ≡ None → IsVerified tables
+    → tables_of made.code.code ≡ tables → made.image.items ≡ image_of tables → IsMade members made
+made_of joins held members made tables stands e fits verified code bytes =
+    let same : tables ≡ linked members = e ∙ ap joined stands.units in
+    record {
+      code = code ∙ same;
+      bytes = bytes ∙ ap image_of same;
+      links = is_program (subst (λ units. first_fault units ≡ None) stands.units fits) (subst IsVerified same verified);
+      joins = sources_join joins members stands.faultless;
+    }
 
-fault_as : (answer other : Answer) → answer ≡ other → IsFault other → IsFault answer
-fault_as answer other e is = rw e is
-
-comes_as : {files : FileMap} {name : List ℕ} (answer other : Answer) → answer ≡ other → ComesTo files name (Err other) → ComesTo files name (Err answer)
-comes_as answer other e is = rw e is
-
-pub file_made : (files : FileMap) (name : List ℕ) (scan : Scan) (result : Result Made Answer) → source_read files name ≡ Ok scan → MakesTokens (base_of name) scan result → IsLoaded files name result
-file_made files name scan (Ok made) e makes = (makes.0, (translated scan makes.0 e makes.1.0 makes.1.1.fits, makes.1.1))
-file_made files name scan (Err answer) e (inl same) = inl (fault_as answer NoMemory same refl)
-file_made files name scan (Err answer) e (inr (inl told)) = inr (comes_as answer (refused_at scan.names told.0 told.1.0) told.1.1.1 (refused scan told.0 told.1.0 e told.1.1.0))
-file_made files name scan (Err answer) e (inr (inr refuses)) = of_link refuses.1.1 where
-  of_link : RefusesLink (base_of name) refuses.0 answer → IsFault answer ⊎ ComesTo files name (Err answer)
-  of_link (inl same) = inl (fault_as answer NoMemory same refl)
-  of_link (inr broken) = inr (comes_as answer (Refused (base_of name) 0 broken.0) broken.1.0 (not_linked scan refuses.0 broken.0 e refuses.1.0 broken.1.1))
-
-pub file_read : (files : FileMap) (name : List ℕ) (answer : Answer) → IsFault answer ⊎ (source_read files name ≡ Err answer) → let result : Result Made Answer = Err answer in IsLoaded files name result
-file_read files name answer (inl fault) = inl fault
-file_read files name answer (inr e) = inr (no_tokens answer e)
-
--- Which answers there are
-
-pub of_read : (result : Result Made Answer) → IfErr result IsOfTokens → IfErr result IsOfRead
-of_read (Ok made) h = tt
-of_read (Err answer) h = of_answer answer h where
-  of_answer : (answer : Answer) → IsOfTokens answer → IsOfRead answer
-  of_answer (Refused file line rule) h = tt
-  of_answer NoMemory h = tt
-  of_answer _ h = absurd h
-
-pub no_file_fault : (result : Result Made Answer) → IfErr result IsOfTokens → IsErrOf result FileFault → ⊥
-no_file_fault (Ok made) h is = cc
-no_file_fault (Err answer) h is = let same : answer ≡ FileFault = cc in not_fault answer h same where
-  not_fault : (answer : Answer) → IsOfTokens answer → answer ≡ FileFault → ⊥
-  not_fault (Refused file line rule) h e = cc
-  not_fault NoMemory h e = cc
-  not_fault _ h e = h
-
-pub no_absence : (result : Result Made Answer) → IfErr result IsOfTokens → IsErrOfAbsence result → ⊥
-no_absence (Ok made) h is = is
-no_absence (Err (Refused file line rule)) h is = not_absent rule h is where
-  not_absent : (rule : Rule) → IsTreeRule rule → rule ≡ P6 → ⊥
-  not_absent rule h e = rw e at h
-no_absence (Err NoMemory) h is = is
-no_absence (Err _) h is = h
+-- the code breaks a rule, which is told of the unit at a place
+pub code_breaks : (units given : List HeldUnit) (first : Option ℕ) (tables : Tables) (place : ℕ) (rule : Rule) (number at : ℕ) (answer : Answer)
+    → given ≡ units → first ≡ Some place → IsFirstFault tables.procs rule number at
+    → (answer ≡ NoMemory) ⊎ (answer ≡ BadUcode (first_name (unit_named (units_seen given) place)) rule) → RefusesCode (units_seen units) first tables answer
+code_breaks units given first tables place rule number at answer same e fault (inl want) = wants want
+code_breaks units given first tables place rule number at answer same e fault (inr told) =
+    breaks place rule number at e fault (subst (λ us. answer ≡ BadUcode (first_name (unit_named (units_seen us) place)) rule) same told)

@@ -1,59 +1,51 @@
 -- What the words, the files and the input ask for, and what became of it.
-use Rattle.std.proofs.Common.{◌≡◌, ◌⊎◌, ◌↔◌, inl, inr, ℕ, true, List, [], ◌∷◌, map, Bor, Option, None, Some, IfSome, Ok, Err, refl, sym, ap, ◌∙◌, subst}
-use Rattle.std.specs.Prelude.{String, string_bytes}
+use Rattle.std.proofs.Common.{◌≡◌, ◌⊎◌, ◌↔◌, inl, inr, ℕ, List, [], ◌∷◌, Option, None, Some, IfSome, Ok, Err, Result, refl, sym, ap, ◌∙◌, subst}
+use Rattle.std.specs.Prelude.{All, true}
 use Rattle.std.specs.Option.{option_map}
-use Rattle.std.proofs.Common.{Global}
 use Rattle.std.specs.Str.{bytes_eq}
 use Rattle.std.proofs.lemmas.Bool.{cond-true}
 use Rattle.std.proofs.lemmas.Slice.Eq.{bytes_eq-Decides}
 use Rattle.icn_host.specs.FileMaps.{FileMap, Sets, SetsPart}
+use Rattle.icn_host.proofs.Putting.{leads_of, puts_nothing}
 use Rattle.icn_host.proofs.SinkSteps.{gains_nothing}
+use Rattle.icn_host.specs.Puts.{all, Leads}
 use Rattle.icn_host.specs.Sinks.{SinkState}
 use Rattle.icn_host.specs.declared.fault.Fault.TheVariants.{Failed, NoMemory as Wants}
-use Rattle.icn_host.proofs.Putting.{leads_of, puts_nothing}
-use Rattle.icn_host.specs.Puts.{all, Leads}
 use Rattle.icn_tree.specs.Trees.{Declaration}
 use Rattle.icn_code.specs.Codes.{Tables}
 use Rattle.icn_code.specs.Rules.{keeps_rules}
 use Rattle.icn_code.specs.Seen.{tables_of}
-use Rattle.icn_value.specs.Limited.{Bounds, default_limits}
-use Rattle.icn_defs.specs.Running.{Launch, Observed, launch_of, Done, Exit, Errored, AtBound, Ending as SeenEnding}
+use Rattle.icn_defs.specs.Running.{Launch, Observed}
+use Rattle.icn_link.specs.LinkFaults.{first_fault}
 use Rattle.icn_verify.specs.Faults.{IsVerified}
 use Rattle.icn_image.specs.Reading.{image_read}
 use Rattle.icn_image.specs.Spelling.{image_of}
-use Rattle.icn_run.specs.declared.ending.Ending.{Ending}
-use Rattle.icn_run.specs.declared.ending.Ending.TheVariants as HeldEndings
 use Rattle.icn_simulation.specs.Law.{IsLinked, FilesMean, RunsFlat}
 use Rattle.icn_streams.specs.Handed.{Handed, handed}
-use Rattle.icn_running.specs.declared.fault.RunFault.{RunFault}
-use Rattle.icn_running.specs.Reported.{ending_seen}
-use Rattle.icn_running.specs.Runs.{EndsAtFirst as RunEnds, IsBrokenOff, RunsTo}
 use Rattle.icn_lines.specs.declared.answer.Answer.{Answer}
 use Rattle.icn_lines.specs.declared.answer.Answer.TheVariants.{Wrote, Ran, Refused, Command, Missing, BadUcode, BadImage, FileFault, ReadFault, WriteFault, NoMemory}
 use Rattle.icn_lines.specs.Answers.{IsFault}
-use Rattle.icn_lines.specs.Causes.{EndsAtFirst, outside}
-use Rattle.icn_lines.specs.Endings.{ending_held}
-use Rattle.icn_lines.specs.Faulting.{IsOfRun, of_run}
+use Rattle.icn_lines.specs.Faulting.{IsOfRun}
 use Rattle.icn_lines.specs.Lines.{line_of}
-use Rattle.icn_lines.specs.Refusing.{PutsOwn, Refuses, put, own, write_fault, want}
-use Rattle.icn_lines.specs.Reporting.{PutsSome}
-use Rattle.icn_lines.specs.Telling.{Told, told, with_errors}
-use Rattle.icn_lines.proofs.Counted.{no_cause, refused_ends, unmoved}
-use Rattle.icn_lines.proofs.Reports.{broken_puts, is_run_fault, puts_own, ran_no_fault, wrote_no_fault}
-use Rattle.icont_top.specs.declared.making.Made.{Made}
-use Rattle.icont_top.specs.declared.words.FileAsked.{FileAsked}
-use Rattle.icont_top.specs.Answered.{IsAnswered, IsCommand, fault as answered_fault, refused as answered_refused, ran as answered_ran}
-use Rattle.icont_top.specs.Asking.{asking}
-use Rattle.icont_top.specs.Job.{refusal, writing, running, image_file, launched, IsJob, refuses, writes, runs}
-use Rattle.icont_top.specs.Linking.{image, linked, units_of}
-use Rattle.icont_top.specs.Loading.{IsMade}
-use Rattle.icont_top.specs.Outcomes.{Begins, Outcome, done, fault, idle, torn, broke, HasWritten, HoldsImage, IsImage}
-use Rattle.icont_top.specs.Running.{IsRanOrBroken, ran, broken}
-use Rattle.icont_top.specs.Sources.{IsAbsence, IsOfRead}
-use Rattle.icont_top.specs.Translating.{ComesTo}
+use Rattle.icn_lines.specs.Refusing.{PutsOwn, Refuses as PutsRefusal, put, own, write_fault, want}
+use Rattle.icn_lines.specs.Telling.{Told, told}
+use Rattle.icn_lines.proofs.Reports.{is_run_fault, puts_own}
+use Rattle.icont_words.specs.Asking.{run_seen}
+use Rattle.icont_words.specs.Words.{Run, Translate, Asks, ComeTo}
+use Rattle.icont_units.specs.Files.{files_named, sources_in}
+use Rattle.icont_units.specs.Units.{Come, Member, units_of}
+use Rattle.icont_top.specs.declared.loading.Program.{Program}
+use Rattle.icont_top.specs.declared.top.Plan.{Plan as PlanHeld}
+use Rattle.icont_top.specs.Answered.{IsAnswered, fault as answered_fault, refused as answered_refused, translated as answered_translated, wrote as answered_wrote, ran as answered_ran}
+use Rattle.icont_top.specs.Answering.{IsDone}
+use Rattle.icont_top.specs.Asking.{IsProgram, IsProgramOf, IsReady, plan_seen}
+use Rattle.icont_top.specs.Job.{IsJob, IsPlanned, IsTranslated, Plan, Plans, Refuses, Written, behind, image_file, image_name, launched, no_members, no_program, no_units, refusal, refuses, running, runs, translates, ucode_files, writes, writing}
+use Rattle.icont_top.specs.Outcomes.{AreWritten, Begins, HasWritten, HoldsNow, HoldsWritten, IsImage, IsReadBack, Outcome, WritesAll, WritesPart, broke, broke_behind, done, fault, idle, torn}
+use Rattle.icont_top.specs.Programs.{Behaves, Links, RunsBy, files_of, is_program, linked, not_linked, unverified}
+use Rattle.icont_top.specs.Running.{HasRun, has_ended, was_broken, was_broken_behind}
 use Rattle.icont_top.specs.Usage.{usage}
-use Rattle.icont_top.specs.Words.{Asks, asked, base_of}
-use Rattle.icont_top.proofs.Composed.{image_within}
+use Rattle.icont_top.proofs.LinkingRules.{image_within}
+use Rattle.icont_top.proofs.WrittenTexts.{writes_none}
 
 pub if_some : {T : Type 0} (o : Option T) (P : T → Type 0) → ((x : T) → o ≡ Some x → P x) → IfSome o P
 if_some None P f = tt
@@ -64,255 +56,274 @@ at_some P o x e h = rw e at h
 
 -- Refusals
 
--- an answer is the job's refusal, or a fault
-abbrev pub Asked : List (List ℕ) → FileMap → List ℕ → Answer → Type 0
-Asked words files left answer = IsFault answer ⊎ IsJob words files left (refusal left answer)
+-- an answer is what refuses the words and the files, or a fault
+abbrev pub Asked : List (List ℕ) → FileMap → Answer → Type 0
+Asked words files answer = IsFault answer ⊎ Refuses words files answer
 
-begins_of : {words : List (List ℕ)} {files : FileMap} {left : List ℕ} (answer : Answer) (before between : SinkState) → IsJob words files left (refusal left answer) → Leads before between (line_of usage [] answer)
-    → Begins (IsJob words files left) before between
+begins_of : {words : List (List ℕ)} {files : FileMap} {left : List ℕ} (answer : Answer) (before between : SinkState)
+    → Refuses words files answer → Leads before between (line_of usage [] answer) → Begins (IsJob words files left) before between
 begins_of answer before between is (inl same) = inl same
-begins_of {left = left} answer before between is (inr stops) = inr (refusal left answer, is, refl, stops)
+begins_of {left = left} answer before between is (inr stops) = inr (refusal left answer, refuses answer is, refl, stops)
 
 -- nothing was done but to put a line
-pub refused : {words : List (List ℕ)} {files : FileMap} {left : List ℕ} (answer given : Answer) (held held' : Option FileMap) (left' : Option (List ℕ)) (input : ℕ) (out before after : SinkState) → Asked words files left answer
-    → held' ≡ held → left' ≡ Some left → Refuses usage [] answer before after given → Outcome words files left given (told held (handed left' input out before)) (told held' (handed left' input out after))
+refused : {words : List (List ℕ)} {files : FileMap} {left : List ℕ} (answer given : Answer) (held held' : Option FileMap) (left' : Option (List ℕ))
+    (input : ℕ) (out before after : SinkState) → Asked words files answer → held' ≡ held → left' ≡ Some left
+    → PutsRefusal usage [] answer before after given
+    → Outcome words files left given (told held (handed left' input out before)) (told held' (handed left' input out after))
 refused answer given held held' left' input out before after (inl f) same d (put n h) = absurd (n f)
 refused {left = left} answer given held held' left' input out before after (inr is) same d (put n h) =
-    done (refusal left answer) is (record { answered = refl; files = same; left = d; output = gains_nothing out.held; errors = h.gains })
-refused answer given held held' left' input out before after asks same d (own f puts) = fault f (idle before same refl refl (inl refl) (puts_own _ _ answer puts))
+    done (refusal left answer) (refuses answer is)
+    (record { answered = refl; files = writes_none held held' same; left = d; output = gains_nothing out.held; errors = h.gains })
+refused answer given held held' left' input out before after asks same d (own f puts) =
+    fault f (idle before same refl refl (inl refl) (puts_own _ _ answer puts))
 refused answer given held held' left' input out before after (inl f) same d (write_fault n leads) = absurd (n f)
-refused answer given held held' left' input out before after (inr is) same d (write_fault n stops) = fault refl (idle after same refl refl (begins_of answer before after is (leads_of _ _ _ Failed stops)) (all (puts_nothing after)))
+refused answer given held held' left' input out before after (inr is) same d (write_fault n stops) =
+    fault refl (idle after same refl refl (begins_of answer before after is (leads_of _ _ _ Failed stops)) (all (puts_nothing after)))
 refused answer given held held' left' input out before after (inl f) same d (want n between leads puts) = absurd (n f)
-refused answer given held held' left' input out before after (inr is) same d (want n between leads puts) = fault refl (idle between same refl refl (begins_of answer before between is (leads_of _ _ _ Wants leads)) puts)
+refused answer given held held' left' input out before after (inr is) same d (want n between leads puts) =
+    fault refl (idle between same refl refl (begins_of answer before between is (leads_of _ _ _ Wants leads)) puts)
 
-pub asked_file : {words : List (List ℕ)} {files : FileMap} (left name : List ℕ) (run : Option (List (List ℕ))) (answer : Answer) → asked words ≡ Asks name run → IsFault answer ⊎ ComesTo files name (Err answer) → Asked words files left answer
-asked_file left name run answer e (inl f) = inl f
-asked_file left name run answer e (inr is) = inr (refuses name run answer e is)
+asked_answer : {words : List (List ℕ)} {files : FileMap} (answer : Answer) → Asked words files answer → IsAnswered words files answer
+asked_answer answer (inl f) = answered_fault answer f
+asked_answer answer (inr is) = answered_refused answer is
 
-pub answer_put : {words : List (List ℕ)} {files : FileMap} {before after : SinkState} (answer given : Answer) → IsAnswered words files answer → Refuses usage [] answer before after given → IsAnswered words files given
+answer_put : {words : List (List ℕ)} {files : FileMap} {before after : SinkState} (answer given : Answer) → IsAnswered words files answer
+    → PutsRefusal usage [] answer before after given → IsAnswered words files given
 answer_put answer _ is (put n h) = is
 answer_put answer _ is (own f puts) = is
 answer_put answer _ is (write_fault n leads) = answered_fault WriteFault refl
 answer_put answer _ is (want n between leads puts) = answered_fault NoMemory refl
 
-pub file_answered : {words : List (List ℕ)} {files : FileMap} (name : List ℕ) (run : Option (List (List ℕ))) (answer : Answer) → asked words ≡ Asks name run → IsFault answer ⊎ ComesTo files name (Err answer) → IsAnswered words files answer
-file_answered name run answer e (inl f) = answered_fault answer f
-file_answered name run answer e (inr is) = answered_refused name run answer e is
+-- what holds neither of a refused answer nor of a fault of its put holds of none that is given
+pub given_none : (Holds : Answer → Type 0) {before after : SinkState} (answer given : Answer) → (Holds answer → ⊥) → (Holds WriteFault → ⊥)
+    → (Holds NoMemory → ⊥) → PutsRefusal usage [] answer before after given → Holds given → ⊥
+given_none Holds answer _ a w m (put n h) is = a is
+given_none Holds answer _ a w m (own f puts) is = a is
+given_none Holds answer _ a w m (write_fault n leads) is = w is
+given_none Holds answer _ a w m (want n between leads puts) is = m is
 
-pub run_answered : {words : List (List ℕ)} {files : FileMap} (name : List ℕ) (arguments : List (List ℕ)) (file : List Declaration) (answer : Answer) → asked words ≡ Asks name (Some arguments) → ComesTo files name (Ok file) → IsOfRun answer
-    → IsAnswered words files answer
-run_answered name arguments file (Ran ending) e is o = answered_ran name arguments file ending e is
-run_answered name arguments file ReadFault e is o = answered_fault ReadFault refl
-run_answered name arguments file WriteFault e is o = answered_fault WriteFault refl
-run_answered name arguments file NoMemory e is o = answered_fault NoMemory refl
-run_answered name arguments file Wrote e is o = absurd o
-run_answered name arguments file (Refused other line rule) e is o = absurd o
-run_answered name arguments file (Command kind) e is o = absurd o
-run_answered name arguments file (Missing other) e is o = absurd o
-run_answered name arguments file (BadUcode other rule) e is o = absurd o
-run_answered name arguments file (BadImage rule) e is o = absurd o
-run_answered name arguments file FileFault e is o = absurd o
-
--- Images
-
--- the image is written as the code tells it
-pub sets_image : {held held' : Option FileMap} (name base bytes : List ℕ) (file : List Declaration) (made : Made) → IsMade (base_of name) file made → base ≡ base_of name → bytes ≡ made.image.items → Sets held held' base bytes
-    → Sets held held' (image_file name file).name (image_file name file).bytes
-sets_image name base bytes file made is b e sets =
-    let same : bytes ≡ image (base_of name) file = e ∙ is.bytes in rw (b, same) at sets
-
-pub sets_part : {held held' : Option FileMap} (name base bytes : List ℕ) (file : List Declaration) (made : Made) → IsMade (base_of name) file made → base ≡ base_of name → bytes ≡ made.image.items → SetsPart held held' base bytes
-    → SetsPart held held' (image_file name file).name (image_file name file).bytes
-sets_part name base bytes file made is b e sets =
-    let same : bytes ≡ image (base_of name) file = e ∙ is.bytes in rw (b, same) at sets
-
-abbrev pub EndsAlike : Type 0
-EndsAlike = (files : List (List Declaration)) (tables : Tables) (launch : Launch) (seen : Observed) → IsLinked files tables → FilesMean files launch seen ↔ RunsFlat tables launch seen
-
--- a program's image is one that `iconx` takes
-pub is_image : (base : List ℕ) (file : List Declaration) (made : Made) → ((tables : Tables) → keeps_rules tables ≡ true → image_read (image_of tables) ≡ Ok tables) → EndsAlike → IsMade base file made
-    → keeps_rules (tables_of made.code.code) ≡ true → IsVerified (tables_of made.code.code) → IsImage file (image base file)
-is_image base file made read ends is rules verified = record {
-  tables = linked base file;
-  within = image_within (units_of base file) is.fits;
-  read = read (linked base file) (subst (λ t. keeps_rules t ≡ true) is.code rules);
-  verified = subst IsVerified is.code verified;
-  runs = λ launch seen. ends (file ∷ []) (linked base file) launch seen is.joins;
+pub refused_done : {words : List (List ℕ)} {files : FileMap} (answer given : Answer) (held held' : Option FileMap) (left : Option (List ℕ))
+    (input : ℕ) (out before after : SinkState) → (HasWritten answer → ⊥) → Asked words files answer → held' ≡ held
+    → PutsRefusal usage [] answer before after given
+    → IsDone words files given (told held (handed left input out before)) (told held' (handed left input out after))
+refused_done answer given held held' left input out before after none asks same line = record {
+  outcome = if_some left _ (λ bytes d. refused answer given held held' left input out before after asks same d line);
+  headline = λ w. absurd (given_none HasWritten answer given none (λ x. x) (λ x. x) line w);
+  answered = answer_put answer given (asked_answer answer asks) line;
 }
 
+-- the files as they were before they were read
+pub held_as : {words : List (List ℕ)} {files : FileMap} {answer : Answer} {streams : Handed} {after : Told} (held held' : Option FileMap) → held' ≡ held
+    → IsDone words files answer (told held' streams) after → IsDone words files answer (told held streams) after
+held_as {words} {files} {answer} {streams} {after} held held' e is =
+    subst (λ (h : Option FileMap). IsDone words files answer (told h streams) after) e is
+
+-- where a fault is answered, a fault is given
+pub fault_given : {before after : SinkState} (answer given : Answer) → IsFault answer → PutsRefusal usage [] answer before after given → IsFault given
+fault_given answer _ f (put n h) = absurd (n f)
+fault_given answer _ f (own g puts) = g
+fault_given answer _ f (write_fault n leads) = refl
+fault_given answer _ f (want n between leads puts) = refl
+
+-- Programs
+
+-- what refuses a program refuses the words that ask for it
+pub asked_program : {words : List (List ℕ)} {files : FileMap} {rose : Type 0} (Comes : Result (List Member) Answer → Type 0) (plan : Plan)
+    (answer : Answer) → ((result : Result (List Member) Answer) → Comes result → Plans words files plan result)
+    → let found : Result Program Answer = Err answer in IsProgramOf Comes rose found → Asked words files answer
+asked_program Comes plan answer plans (inl f) = inl f
+asked_program Comes plan answer plans (inr (inl comes)) = inr (no_members plan answer (plans (Err answer) comes))
+asked_program Comes plan answer plans (inr (inr some)) = inr (no_program plan some.0 answer (plans (Ok some.0) some.1.0) some.1.1.1)
+
+abbrev pub EndsAlike : Type 0
+EndsAlike = (files : List (List Declaration)) (tables : Tables) (launch : Launch) (seen : Observed) → IsLinked files tables
+    → FilesMean files launch seen ↔ RunsFlat tables launch seen
+
+by_files : EndsAlike → (found : Option (List (List Declaration))) (tables : Tables) (launch : Launch) (seen : Observed)
+    → ((files : List (List Declaration)) → found ≡ Some files → IsLinked files tables)
+    → (RunsBy found tables launch seen → RunsFlat tables launch seen) × (RunsFlat tables launch seen → RunsBy found tables launch seen)
+by_files alike None tables launch seen joins = (λ x. x, λ x. x)
+by_files alike (Some files) tables launch seen joins =
+    ((alike files tables launch seen (joins files refl)).0, (alike files tables launch seen (joins files refl)).1)
+
+behaves_alike : EndsAlike → (members : List Member) (program : Program) → IsProgram members program → (launch : Launch) (seen : Observed)
+    → (Behaves members launch seen → RunsFlat (linked members) launch seen) × (RunsFlat (linked members) launch seen → Behaves members launch seen)
+behaves_alike alike members program is launch seen = by_files alike (files_of members) (linked members) launch seen is.made.joins
+
+behaves : EndsAlike → (members : List Member) (program : Program) → IsProgram members program → (launch : Launch) (seen : Observed)
+    → RunsFlat (tables_of program.made.code.code) launch seen → Behaves members launch seen
+behaves alike members program is launch seen flat =
+    (behaves_alike alike members program is launch seen).1 (subst (λ t. RunsFlat t launch seen) is.made.code flat)
+
+-- the code of a program breaks no rule of linking
+fits_by : {members : List Member} (result : Result Tables Answer) → Links members result → (tables : Tables) → result ≡ Ok tables
+    → first_fault (units_of members) ≡ None
+fits_by _ (not_linked answer e) tables same = absurd (let no_code = same in cc)
+fits_by _ (unverified base rule number place fits e f) tables same = fits
+fits_by _ (is_program fits verified) tables same = fits
+
+abbrev pub ReadBack : Type 0
+ReadBack = (tables : Tables) → keeps_rules tables ≡ true → image_read (image_of tables) ≡ Ok tables
+
+-- a program's image is one that `iconx` takes
+is_image : (members : List Member) (program : Program) → ReadBack → EndsAlike → IsProgram members program
+    → IsImage members (image_of (linked members))
+is_image members program back alike is = record {
+  tables = linked members;
+  within = image_within (units_of members) (fits_by (Ok (linked members)) is.made.links (linked members) refl);
+  read = back (linked members) (subst (λ t. keeps_rules t ≡ true) is.made.code program.made.code.code.rules);
+  verified = subst IsVerified is.made.code program.made.code.verified;
+  runs = behaves_alike alike members program is;
+}
+
+-- The image
+
+planned : {words : List (List ℕ)} {files : FileMap} {members : List Member} {plan : PlanHeld} {program : Program}
+    → IsReady words files members plan program → IsPlanned words files (plan_seen plan) members (linked members)
+planned ready = record { plans = ready.plans; links = ready.is.made.links }
+
+-- the file that the image of a plan is
+abbrev pub plan_file : PlanHeld → List Member → Written
+plan_file plan members = image_file (plan_seen plan).image members (linked members)
+
+pub writes_image : {held held' : Option FileMap} (name bytes : List ℕ) (plan : PlanHeld) (members : List Member)
+    → name ≡ image_name (plan_seen plan).image members → bytes ≡ image_of (linked members) → Sets held held' name bytes
+    → WritesAll held held' (plan_file plan members ∷ [])
+writes_image name bytes plan members b e sets = let there = rw (b, e) at sets in record { follows = there.follows }
+
+pub writes_part : {held held' : Option FileMap} (name bytes : List ℕ) (plan : PlanHeld) (members : List Member)
+    → name ≡ image_name (plan_seen plan).image members → bytes ≡ image_of (linked members) → SetsPart held held' name bytes
+    → WritesPart held held' (plan_file plan members ∷ [])
+writes_part name bytes plan members b e sets =
+    let there = rw (b, e) at sets in
+    record { whole = []; torn = plan_file plan members; others = []; are = refl; follows = there.follows }
+
 -- the file that was written holds what was written
-written_there : {held held' : Option FileMap} (files : FileMap) (name bytes : List ℕ) → held ≡ Some files → Sets held held' name bytes → (now : FileMap) × (held' ≡ Some now) × (now name ≡ Some bytes)
-written_there {held' = held'} files name bytes e sets =
-    let follows = rw e at sets.follows in
-    (follows.0, follows.1, follows.2 name ∙ cond-true (bytes_eq name name) _ _ ((bytes_eq-Decides name name).1 refl))
+written_there : {held held' : Option FileMap} (files : FileMap) (next : Written) → held ≡ Some files → WritesAll held held' (next ∷ []) → HoldsNow held' next
+written_there files next e writes =
+    let follows = rw e at writes.follows in
+    (follows.0, follows.1, follows.2 next.name ∙ cond-true (bytes_eq next.name next.name) _ _ ((bytes_eq-Decides next.name next.name).1 refl))
 
-pub holds_image : {words : List (List ℕ)} {held held' : Option FileMap} (files : FileMap) (name : List ℕ) (run : Option (List (List ℕ))) (file : List Declaration) → asked words ≡ Asks name run → ComesTo files name (Ok file) → held ≡ Some files
-    → Sets held held' (image_file name file).name (image_file name file).bytes → IsImage file (image (base_of name) file) → HoldsImage words files held'
-holds_image files name run file e is h sets good =
-    record { name = name; run = run; file = file; is = record { asks = e; is = is }; bytes = image (base_of name) file; there = written_there files (base_of name) (image (base_of name) file) h sets; image = good }
+holds_image : {words : List (List ℕ)} {files : FileMap} {held held' : Option FileMap} (members : List Member) (plan : PlanHeld) (program : Program)
+    → ReadBack → EndsAlike → IsReady words files members plan program → held ≡ Some files
+    → WritesAll held held' (plan_file plan members ∷ []) → HoldsWritten words files held'
+holds_image {files = files} members plan program back alike ready e writes =
+    HoldsWritten.image (plan_seen plan) members (linked members) (planned ready) (written_there files (plan_file plan members) e writes)
+    (is_image members program back alike ready.is)
 
--- Outcomes
+-- Outcomes of a program
 
-pub wrote_outcome : {words : List (List ℕ)} {files : FileMap} {held held' : Option FileMap} (left name : List ℕ) (file : List Declaration) (streams : Handed) → asked words ≡ Asks name None → ComesTo files name (Ok file)
-    → Sets held held' (image_file name file).name (image_file name file).bytes → streams.left ≡ Some left → Outcome words files left Wrote (told held streams) (told held' streams)
-wrote_outcome left name file streams e is sets d =
-    done (writing (image_file name file) left) (writes name file e is) (record { answered = refl; files = sets; left = d; output = gains_nothing streams.output.held; errors = gains_nothing streams.errors.held })
-
-pub torn_outcome : {words : List (List ℕ)} {files : FileMap} {held held' : Option FileMap} (left name : List ℕ) (run : Option (List (List ℕ))) (file : List Declaration) (answer : Answer) (left' : Option (List ℕ)) (input : ℕ) (out before after : SinkState)
-    → asked words ≡ Asks name run → ComesTo files name (Ok file) → SetsPart held held' (image_file name file).name (image_file name file).bytes → (answer ≡ FileFault) ⊎ (answer ≡ NoMemory)
-    → PutsOwn answer before after → Outcome words files left answer (told held (handed left' input out before)) (told held' (handed left' input out after))
-torn_outcome left name run file answer left' input out before after e is sets (inl same) puts = fault (rw same refl) (torn name run file (record { asks = e; is = is }) sets refl refl (puts_own _ _ answer puts))
-torn_outcome left name run file answer left' input out before after e is sets (inr same) puts = fault (rw same refl) (torn name run file (record { asks = e; is = is }) sets refl refl (puts_own _ _ answer puts))
-
--- the ending that is answered is the one that is observed
-held_seen : (ending : Ending) (seen : SeenEnding) → seen ≡ ending_seen ending → ending_held seen ≡ ending
-held_seen HeldEndings.Done seen e = ap ending_held e
-held_seen (HeldEndings.Exit status) seen e = ap ending_held e
-held_seen (HeldEndings.Errored number) seen e = ap ending_held e
-held_seen HeldEndings.AtBound seen e = ap ending_held e
-
-pub ran_outcome : {words : List (List ℕ)} {files : FileMap} {held held' : Option FileMap} (left name : List ℕ) (arguments : List (List ℕ)) (file : List Declaration) (made : Made) (answer : Answer) (before after : Handed)
-    → EndsAlike → IsMade (base_of name) file made → asked words ≡ Asks name (Some arguments) → ComesTo files name (Ok file) → Sets held held' (image_file name file).name (image_file name file).bytes
-    → IsRanOrBroken (tables_of made.code.code) (launched arguments left) answer before after → Outcome words files left answer (told held before) (told held' after)
-ran_outcome left name arguments file made answer before after alike is e comes sets (ran ending same runs_to) =
-    let runs_flat : RunsFlat (linked (base_of name) file) (launched arguments left) runs_to.0 = subst (λ t. RunsFlat t (launched arguments left) runs_to.0) is.code runs_to.1.1.0 in
-    let means : FilesMean (file ∷ []) (launched arguments left) runs_to.0 = (alike (file ∷ []) (linked (base_of name) file) (launched arguments left) runs_to.0 is.joins).1 runs_flat in
-    done (running (image_file name file) runs_to.0) (runs name arguments file runs_to.0 e comes means) (record {
-      answered = same ∙ ap (λ held. Ran held) (sym (held_seen ending runs_to.0.ending runs_to.1.0));
-      files = sets;
-      left = runs_to.1.1.1.left;
-      output = runs_to.1.1.1.output;
-      errors = runs_to.1.1.1.errors;
-    })
-ran_outcome left name arguments file made answer before after alike is e comes sets (broken wrong between same first off puts) =
-    let runs_flat : RunsFlat (linked (base_of name) file) (launched arguments left) off.0 = subst (λ t. RunsFlat t (launched arguments left) off.0) is.code off.1.0 in
-    let means : FilesMean (file ∷ []) (launched arguments left) off.0 = (alike (file ∷ []) (linked (base_of name) file) (launched arguments left) off.0 is.joins).1 runs_flat in
-    fault (rw same (is_run_fault wrong)) (broke name arguments file wrong between (record { asks = e; is = comes }) sets same first (record { seen = off.0; means = means; leaves = off.1.1 }) puts)
-
--- Runs
-
--- a run under the limits that stand where none are said
-launched_as : (words : List (List ℕ)) (bounds : Bounds) (left : List ℕ) → bounds ≡ default_limits → launch_of words bounds left ≡ launched words left
-launched_as words bounds left e = ap (λ b. launch_of words b left) e
-
-pub run_ended : {before after : Handed} (tables : Tables) (words : List (List ℕ)) (left : List ℕ) (bounds : Bounds) (ending : Ending) → bounds ≡ default_limits
-    → RunsTo tables (launch_of words bounds left) (ending_seen ending) before after → IsRanOrBroken tables (launched words left) (Ran ending) before after
-run_ended {before} {after} tables words left bounds ending e ends =
-    ran ending refl (subst (λ launch. RunsTo tables launch (ending_seen ending) before after) (launched_as words bounds left e) ends)
-
--- what a run put that was broken off
-pub off_puts : (tables : Tables) (launch : Launch) (wrong : RunFault) (before after : Handed) → IsBrokenOff tables launch wrong before after → PutsSome before.errors after.errors
-off_puts tables launch wrong before after off = broken_puts wrong launch.outside.left off.0 before after off.1.1
-
-pub run_broken : (tables : Tables) (words : List (List ℕ)) (left : List ℕ) (bounds : Bounds) (wrong : RunFault) (before between after : Handed) → bounds ≡ default_limits → RunEnds {A = Ending} (Err wrong) before between
-    → IsBrokenOff tables (launch_of words bounds left) wrong before between → PutsOwn (of_run wrong) between.errors after.errors → with_errors between.errors after ≡ between
-    → IsRanOrBroken tables (launched words left) (of_run wrong) before after
-run_broken tables words left bounds wrong before between after e first off puts same =
-    broken wrong between.errors refl (subst (λ (h : Handed). RunEnds {A = Ending} (Err wrong) before h) (sym same) first)
-    (subst (λ (h : Handed). IsBrokenOff tables (launched words left) wrong before h) (sym same) (subst (λ launch. IsBrokenOff tables launch wrong before between) (launched_as words bounds left e) off)) (puts_own _ _ (of_run wrong) puts)
-
--- an answer that refuses a file writes no image
-pub not_written : {before after : SinkState} (answer given : Answer) → IsOfRead answer → Refuses usage [] answer before after given → HasWritten given → ⊥
-not_written answer _ is (put n h) w = not_read answer is w where
-  not_read : (answer : Answer) → IsOfRead answer → HasWritten answer → ⊥
-  not_read Wrote is w = is
-  not_read (Ran ending) is w = is
-  not_read _ is w = w
-not_written answer _ is (own f puts) w = not_fault answer f w where
-  not_fault : (answer : Answer) → IsFault answer → HasWritten answer → ⊥
-  not_fault Wrote f w = wrote_no_fault f
-  not_fault (Ran ending) f w = ran_no_fault ending f
-  not_fault _ f w = w
-not_written answer _ is (write_fault n leads) w = w
-not_written answer _ is (want n between leads puts) w = w
-
-pub not_ran : (answer : Answer) → IsOfRead answer → (ending : Ending) → answer ≡ Ran ending → ⊥
-not_ran answer is ending e = rw e at is
-
--- which answers a refusal can give
-pub not_command : {before after : SinkState} (answer given : Answer) → IsOfRead answer → Refuses usage [] answer before after given → IsCommand given → ⊥
-not_command answer _ is (put n h) w = not_read answer is w where
-  not_read : (answer : Answer) → IsOfRead answer → IsCommand answer → ⊥
-  not_read (Command kind) is w = is
-  not_read _ is w = w
-not_command answer _ is (own f puts) w = not_read answer is w where
-  not_read : (answer : Answer) → IsOfRead answer → IsCommand answer → ⊥
-  not_read (Command kind) is w = is
-  not_read _ is w = w
-not_command answer _ is (write_fault n leads) w = w
-not_command answer _ is (want n between leads puts) w = w
-
-pub not_read_fault : (answer : Answer) → IsOfRead answer → answer ≡ ReadFault → ⊥
-not_read_fault answer is e = rw e at is
-
-pub not_written_fault : (answer : Answer) → IsOfRead answer → answer ≡ WriteFault → ⊥
-not_written_fault answer is e = rw e at is
+pub wrote_done : {words : List (List ℕ)} {files : FileMap} {held held' : Option FileMap} (members : List Member) (plan : PlanHeld) (program : Program)
+    (streams : Handed) → ReadBack → EndsAlike → IsReady words files members plan program → held ≡ Some files
+    → WritesAll held held' (plan_file plan members ∷ []) → plan.run ≡ None → IsDone words files Wrote (told held streams) (told held' streams)
+wrote_done members plan program streams back alike ready e sets no_run =
+    let none : (plan_seen plan).run ≡ None = ap (option_map run_seen) no_run in
+    record {
+      outcome = if_some streams.left _ (λ left d. done (writing (plan_file plan members ∷ []) left)
+          (writes (plan_seen plan) members (linked members) (planned ready) none)
+          (record { answered = refl; files = sets; left = d; output = gains_nothing streams.output.held; errors = gains_nothing streams.errors.held }));
+      headline = λ w. holds_image members plan program back alike ready e sets;
+      answered = answered_wrote (plan_seen plan) members (linked members) (planned ready) none;
+    }
 
 -- which answers a run can give
+run_answered : {words : List (List ℕ)} {files : FileMap} {plan : Plan} {members : List Member} {tables : Tables} {run : Run} (answer : Answer)
+    → IsPlanned words files plan members tables → plan.run ≡ Some run → IsOfRun answer → IsAnswered words files answer
+run_answered {plan = plan} {members} {tables} {run} (Ran ending) is e o = answered_ran plan members tables run ending is e
+run_answered ReadFault is e o = answered_fault ReadFault refl
+run_answered WriteFault is e o = answered_fault WriteFault refl
+run_answered NoMemory is e o = answered_fault NoMemory refl
+run_answered Wrote is e o = absurd o
+run_answered (Refused other line rule) is e o = absurd o
+run_answered (Command kind) is e o = absurd o
+run_answered (Missing other) is e o = absurd o
+run_answered (BadUcode other rule) is e o = absurd o
+run_answered (BadImage rule) is e o = absurd o
+run_answered FileFault is e o = absurd o
 
-pub run_no_file : (answer : Answer) → IsOfRun answer → answer ≡ FileFault → ⊥
-run_no_file answer is e = rw e at is
+ran_outcome : {words : List (List ℕ)} {files : FileMap} {held held' : Option FileMap} (left : List ℕ) (members : List Member) (plan : PlanHeld)
+    (program : Program) (run : Run) (answer : Answer) (before after : Handed) → EndsAlike → IsReady words files members plan program
+    → WritesAll held held' (plan_file plan members ∷ []) → (plan_seen plan).run ≡ Some run
+    → HasRun (tables_of program.made.code.code) (launched run left) (plan_seen plan).number answer before after
+    → Outcome words files left answer (told held before) (told held' after)
+ran_outcome left members plan program run answer before after alike ready sets e (has_ended seen flat same left' out err) =
+    done (running (plan_file plan members) seen (behind (plan_seen plan).number seen.ending))
+    (runs (plan_seen plan) members (linked members) run seen (planned ready) e (behaves alike members program ready.is (launched run left) seen flat))
+    (record { answered = same; files = sets; left = left'; output = out; errors = err })
+ran_outcome left members plan program run answer before after alike ready sets e (was_broken wrong between same first off puts) =
+    fault (rw same (is_run_fault wrong))
+    (broke (plan_seen plan) members (linked members) run wrong between (planned ready) e sets same first
+    (record { seen = off.0; behaves = behaves alike members program ready.is (launched run left) off.0 off.1.0; leaves = off.1.1 }) puts)
+ran_outcome left members plan program run answer before after alike ready sets e
+    (was_broken_behind n wrong between seen number stops same first flat leaves puts) =
+    fault (rw same (is_run_fault wrong))
+    (broke_behind (plan_seen plan) members (linked members) run n wrong between (planned ready) e number sets stops same first
+    (record { seen = seen; behaves = behaves alike members program ready.is (launched run left) seen flat; leaves = leaves }) puts)
 
-pub run_no_absence : (answer : Answer) → IsOfRun answer → IsAbsence answer → ⊥
-run_no_absence (Ran ending) is a = a
-run_no_absence ReadFault is a = a
-run_no_absence WriteFault is a = a
-run_no_absence NoMemory is a = a
-run_no_absence _ is a = is
+pub ran_done : {words : List (List ℕ)} {files : FileMap} {held held' : Option FileMap} (members : List Member) (plan : PlanHeld) (program : Program)
+    (run : Run) (answer : Answer) (before after : Handed) → ReadBack → EndsAlike → IsReady words files members plan program → held ≡ Some files
+    → WritesAll held held' (plan_file plan members ∷ []) → (plan_seen plan).run ≡ Some run → IsOfRun answer
+    → IfSome before.left (λ left. HasRun (tables_of program.made.code.code) (launched run left) (plan_seen plan).number answer before after)
+    → IsDone words files answer (told held before) (told held' after)
+ran_done members plan program run answer before after back alike ready e sets asks o has = record {
+  outcome = if_some before.left _ (λ left d. ran_outcome left members plan program run answer before after alike ready sets asks
+      (at_some _ before.left left d has));
+  headline = λ w. holds_image members plan program back alike ready e sets;
+  answered = run_answered answer (planned ready) asks o;
+}
 
-pub absence_of : {before after : SinkState} (answer given : Answer) → Refuses usage [] answer before after given → IsAbsence given → IsAbsence answer
-absence_of answer _ (put n h) is = is
-absence_of answer _ (own f puts) is = is
-absence_of answer _ (write_fault n leads) is = absurd is
-absence_of answer _ (want n between leads puts) is = absurd is
-
--- faulty words
-pub command_ends : {files absences input : ℕ} {left : Option (List ℕ)} {out before after : SinkState} (given : Answer) → Refuses usage [] (Command 1) before after given
-    → EndsAtFirst given (IsAbsence given) (outside files absences (handed left input out before)) (outside files absences (handed left input out after))
-command_ends given line =
-    refused_ends (Command 1) given (λ e. no_write e) (λ e. no_read e) (unmoved (λ e. no_file e)) (no_cause (λ (a : IsAbsence (Command 1)). a)) (absence_of (Command 1) given line) line where
-      no_write : Command 1 ≡ WriteFault → ⊥
-      no_write e = cc
-
-      no_read : Command 1 ≡ ReadFault → ⊥
-      no_read e = cc
-
-      no_file : Command 1 ≡ FileFault → ⊥
-      no_file e = cc
-
-pub command_no_run : (ending : Ending) → Command 1 ≡ Ran ending → ⊥
-command_no_run ending e = cc
-
--- the files as they were before they were read
-pub held_as : {words : List (List ℕ)} {files : FileMap} {left : List ℕ} {answer : Answer} {streams : Handed} {after : Told} (held held' : Option FileMap) → held' ≡ held
-    → Outcome words files left answer (told held' streams) after → Outcome words files left answer (told held streams) after
-held_as held held' e outcome = rw (sym e) outcome
-
--- What the words ask for, by what the code keeps of them
-
-pub asks_some : (words : List (List ℕ)) (given : FileAsked) (arguments : Bor (List (String Global))) → given.run ≡ Some arguments → asked words ≡ asking given → asked words ≡ Asks given.name.now (Some (map string_bytes arguments.now))
-asks_some words given arguments e asks = asks ∙ ap (λ run. Asks given.name.now (option_map (λ words. map string_bytes words.now) run)) e
-
-pub asks_none : (words : List (List ℕ)) (given : FileAsked) → given.run ≡ None → asked words ≡ asking given → asked words ≡ Asks given.name.now None
-asks_none words given e asks = asks ∙ ap (λ run. Asks given.name.now (option_map (λ words. map string_bytes words.now) run)) e
-
--- an image that was not written whole
+-- A file that was not written whole
 
 pub is_torn : (answer : Answer) → (answer ≡ FileFault) ⊎ (answer ≡ NoMemory) → IsFault answer
 is_torn answer (inl e) = rw e refl
 is_torn answer (inr e) = rw e refl
 
-pub torn_answered : {words : List (List ℕ)} {files : FileMap} (answer : Answer) → (answer ≡ FileFault) ⊎ (answer ≡ NoMemory) → IsAnswered words files answer
-torn_answered answer is = answered_fault answer (is_torn answer is)
+torn_no_image : (answer : Answer) → (answer ≡ FileFault) ⊎ (answer ≡ NoMemory) → HasWritten answer → ⊥
+torn_no_image answer (inl e) w = rw e at w
+torn_no_image answer (inr e) w = rw e at w
 
-pub torn_no_absence : (answer : Answer) → (answer ≡ FileFault) ⊎ (answer ≡ NoMemory) → IsAbsence answer → ⊥
-torn_no_absence answer (inl e) a = rw e at a
-torn_no_absence answer (inr e) a = rw e at a
+torn_done : {words : List (List ℕ)} {files : FileMap} {held held' : Option FileMap} (written : List Written) (answer : Answer)
+    (left : Option (List ℕ)) (input : ℕ) (out before after : SinkState) → AreWritten words files written → WritesPart held held' written
+    → (answer ≡ FileFault) ⊎ (answer ≡ NoMemory) → PutsOwn answer before after
+    → IsDone words files answer (told held (handed left input out before)) (told held' (handed left input out after))
+torn_done written answer left input out before after are part is puts = record {
+  outcome = if_some left _ (λ bytes d. fault (is_torn answer is) (torn written are part refl refl (puts_own _ _ answer puts)));
+  headline = λ w. absurd (torn_no_image answer is w);
+  answered = answered_fault answer (is_torn answer is);
+}
 
-pub torn_no_read : (answer : Answer) → (answer ≡ FileFault) ⊎ (answer ≡ NoMemory) → answer ≡ ReadFault → ⊥
-torn_no_read answer (inl e) r = let both : FileFault ≡ ReadFault = sym e ∙ r in cc
-torn_no_read answer (inr e) r = let both : NoMemory ≡ ReadFault = sym e ∙ r in cc
+pub image_torn : {words : List (List ℕ)} {files : FileMap} {held held' : Option FileMap} (members : List Member) (plan : PlanHeld) (program : Program)
+    (answer : Answer) (left : Option (List ℕ)) (input : ℕ) (out before after : SinkState) → IsReady words files members plan program
+    → WritesPart held held' (plan_file plan members ∷ []) → (answer ≡ FileFault) ⊎ (answer ≡ NoMemory) → PutsOwn answer before after
+    → IsDone words files answer (told held (handed left input out before)) (told held' (handed left input out after))
+image_torn members plan program answer left input out before after ready part is puts =
+    torn_done (plan_file plan members ∷ []) answer left input out before after
+    (AreWritten.image (plan_seen plan) members (linked members) (planned ready)) part is puts
 
-pub torn_no_write : (answer : Answer) → (answer ≡ FileFault) ⊎ (answer ≡ NoMemory) → answer ≡ WriteFault → ⊥
-torn_no_write answer (inl e) w = let both : FileFault ≡ WriteFault = sym e ∙ w in cc
-torn_no_write answer (inr e) w = let both : NoMemory ≡ WriteFault = sym e ∙ w in cc
+-- Units
+
+pub units_done : {words : List (List ℕ)} {files : FileMap} {held held' : Option FileMap} (members : List Member) (texts : List Written)
+    (streams : Handed) → IsTranslated words files (Ok members) → texts ≡ ucode_files members → All IsReadBack members → held ≡ Some files
+    → WritesAll held held' texts → IsDone words files Wrote (told held streams) (told held' streams)
+units_done {held = held} {held'} members texts streams is e read h sets =
+    let there : WritesAll held held' (ucode_files members) = subst (WritesAll held held') e sets in
+    record {
+      outcome = if_some streams.left _ (λ left d. done (writing (ucode_files members) left) (translates members is)
+          (record { answered = refl; files = there; left = d; output = gains_nothing streams.output.held; errors = gains_nothing streams.errors.held }));
+      headline = λ w. HoldsWritten.ucode members is (subst (λ (was : Option FileMap). WritesAll was held' (ucode_files members)) h there) read;
+      answered = answered_translated members is;
+    }
+
+pub units_torn : {words : List (List ℕ)} {files : FileMap} {held held' : Option FileMap} (members : List Member) (texts : List Written)
+    (answer : Answer) (left : Option (List ℕ)) (input : ℕ) (out before after : SinkState) → IsTranslated words files (Ok members)
+    → texts ≡ ucode_files members → WritesPart held held' texts → (answer ≡ FileFault) ⊎ (answer ≡ NoMemory) → PutsOwn answer before after
+    → IsDone words files answer (told held (handed left input out before)) (told held' (handed left input out after))
+units_torn {held = held} {held'} members texts answer left input out before after is e part t puts =
+    torn_done (ucode_files members) answer left input out before after (AreWritten.ucode members is)
+    (subst (WritesPart held held') e part) t puts
+
+-- what refuses the sources refuses the words that ask for their units
+pub units_asked : {words : List (List ℕ)} {files : FileMap} (names : List (List ℕ)) (answer : Answer) → ComeTo words (Asks (Translate names))
+    → IsFault answer ⊎ Come files (sources_in (files_named names)) (Err answer) → Asked words files answer
+units_asked names answer asks (inl f) = inl f
+units_asked names answer asks (inr come) = inr (no_units answer (record { names = names; asks = asks; come = come }))

@@ -1,5 +1,5 @@
 -- Which answer the words and the files ask for.
-use Rattle.std.specs.Prelude.{◌≡◌, ◌⊎◌, ℕ, true, List, None, Some, Ok}
+use Rattle.std.specs.Prelude.{◌≡◌, ◌⊎◌, ℕ, true, List, Option, None, Some, Ok}
 use Rattle.std.specs.Str.{is_utf8}
 use Rattle.icn_host.specs.FileMaps.{FileMap}
 use Rattle.icn_code.specs.Codes.{Tables}
@@ -9,9 +9,10 @@ use Rattle.icn_run.specs.declared.ending.Ending.{Ending}
 use Rattle.icn_lines.specs.declared.answer.Answer.{Answer}
 use Rattle.icn_lines.specs.declared.answer.Answer.TheVariants.{Wrote, Ran, Command}
 use Rattle.icn_lines.specs.Answers.{IsFault}
-use Rattle.icont_words.specs.Words.{Run, Task, Asks, Faulty, ComeTo}
-use Rattle.icont_units.specs.Units.{Member, units_of}
-use Rattle.icont_top.specs.Job.{IsPlanned, IsTranslated, Plan, Plans, Refuses}
+use Rattle.icont_words.specs.Words.{Run, Task, Link, Asks, Faulty, ComeTo}
+use Rattle.icont_units.specs.Files.{files_named}
+use Rattle.icont_units.specs.Units.{Load, Member, units_of}
+use Rattle.icont_top.specs.Job.{IsPlanned, IsTranslated, Plan, Refuses}
 
 -- A fault; or what the words and the files ask for, where a run may have any ending.
 pub data IsAnswered (words : List (List ℕ)) (files : FileMap) : Answer → Type 0 where
@@ -32,12 +33,15 @@ pub record IsCommanded (words : List (List ℕ)) (answer : Answer) : Type 0 wher
   pub faulty : (kind : ℕ) → ComeTo words (Faulty kind) → IsFault answer ⊎ (answer ≡ Command kind)
   pub taken : (task : Task) → ComeTo words (Asks task) → IsCommand answer → ⊥
 
--- the first file that is linked and not there has a name that is a text
+-- the words ask for a program, and the first file that is linked and not there has a name that is a text
 pub record MissesText (words : List (List ℕ)) (files : FileMap) : Type 0 where
-  pub plan : Plan
+  pub names : List (List ℕ)
+  pub image : Option (List ℕ)
+  pub run : Option Run
   pub members : List Member
   pub unit : ℕ
   pub name : List ℕ
-  pub plans : Plans words files plan (Ok members)
+  pub asks : ComeTo words (Asks (Link names image run))
+  pub load : Load files (files_named names) (Ok members)
   pub absent : missing (units_of members) ≡ Some (K2 unit name)
   pub text : is_utf8 name ≡ true

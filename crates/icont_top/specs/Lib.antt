@@ -4,6 +4,9 @@ pub mod Making
 pub mod Job
 pub mod Outcomes
 pub mod Answered
+pub mod Writing
+pub mod Basing
 pub mod Asking
 pub mod Running
+pub mod Answering
 pub mod Relinking

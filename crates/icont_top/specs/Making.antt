@@ -1,7 +1,8 @@
 -- How the code tells what it made of units.
-use Rattle.std.specs.Prelude.{◌≡◌, ◌⊎◌, ℕ, List, Option, None, Some, Result, Ok, Err}
-use Rattle.std.specs.Option.{option_and_then, option_map}
+use Rattle.std.specs.Prelude.{◌≡◌, ◌≢◌, ◌⊎◌, ℕ, List, Option, Some, Result, Ok, Err}
+use Rattle.std.specs.Option.{option_and_then}
 use Rattle.icn_tree.specs.declared.rule.Rule.{Rule}
+use Rattle.icn_tree.specs.declared.rule.Rule.TheVariants.{P6}
 use Rattle.icn_tree.specs.Trees.{Declaration}
 use Rattle.icn_code.specs.Codes.{Tables}
 use Rattle.icn_code.specs.Seen.{tables_of}
@@ -39,9 +40,9 @@ pub data RefusesCode (units : List UnitRead) (place : Option ℕ) (tables : Tabl
   breaks : (first : ℕ) (rule : Rule) (number at : ℕ) → place ≡ Some first → IsFirstFault tables.procs rule number at
       → answer ≡ BadUcode (first_name (unit_named units first)) rule → RefusesCode units place tables answer
 
--- an answer to units that were there
+-- an answer to units that were there: no file is told not to be there
 abbrev pub IsOfLink : Answer → Type 0
-IsOfLink (Refused file line rule) = Unit {0}
+IsOfLink (Refused file line rule) = rule ≢ P6
 IsOfLink (BadUcode name rule) = Unit {0}
 IsOfLink NoMemory = Unit {0}
 IsOfLink _ = ⊥

@@ -3,8 +3,6 @@ use Rattle.std.specs.Prelude.{◌≡◌, ◌⊎◌, ◌≤◌, ℕ, List, [], �
 use Rattle.std.specs.Map.{update}
 use Rattle.std.specs.Str.{bytes_eq}
 use Rattle.icn_host.specs.FileMaps.{FileMap, Follows, IsLeftBehind}
-use Rattle.icn_host.specs.Sinks.{Gains, SinkState}
-use Rattle.icn_host.specs.FileMaps.{FileMap, Follows, IsLeftBehind}
 use Rattle.icn_host.specs.Puts.{Stops, Puts}
 use Rattle.icn_host.specs.Sinks.{Gains, SinkState}
 use Rattle.icn_code.specs.Codes.{Tables}
@@ -82,15 +80,19 @@ StopsPut RunFaults.ReadFault = ⊥
 StopsPut RunFaults.WriteFault = Unit {0}
 StopsPut RunFaults.NoMemory = Unit {0}
 
--- The program of a number was done, and the line of its sizes was put in part behind its output.
-pub record BrokenBehind (members : List Member) (run : Run) (number : ℕ) (left : List ℕ) (before after : Handed) : Type 0 where
-  pub seen : Observed
-  pub behaves : Behaves members (launched run left) seen
+-- What a put that was stopped leaves of the line of the sizes, behind a program that was done.
+pub record LeavesBehind (number : ℕ) (seen : Observed) (before after : Handed) : Type 0 where
   pub done : seen.ending ≡ Done
   pub input : after.left ≡ Some seen.outside.left
   pub count : ℕ
   pub output : Gains before.output.held after.output.held (seen.outside.output ++ take count (sizes_line number))
   pub errors : Gains before.errors.held after.errors.held seen.outside.errors
+
+-- The program of a number was done, and the line of its sizes was put in part behind its output.
+pub record BrokenBehind (members : List Member) (run : Run) (number : ℕ) (left : List ℕ) (before after : Handed) : Type 0 where
+  pub seen : Observed
+  pub behaves : Behaves members (launched run left) seen
+  pub leaves : LeavesBehind number seen before after
 
 -- What a fault leaves, with its own line behind, as far as the error output took it. Nothing was done but that a refusal's line may be
 -- begun; or a file could not be written whole; or the image was written, and the program was broken off as it ran, or the line behind

@@ -1,19 +1,28 @@
 -- What a run leaves, as the code tells it.
-use Rattle.std.specs.Prelude.{◌≡◌, Err}
-use Rattle.icn_host.specs.Sinks.{SinkState}
-use Rattle.icn_host.specs.Puts.{Puts}
+use Rattle.std.specs.Prelude.{◌≡◌, ℕ, Bool, true, false, ◌++◌, Option, Some, Err}
+use Rattle.icn_host.specs.declared.fault.Fault.{Fault}
+use Rattle.icn_host.specs.declared.fault.Fault.TheVariants as Faults
+use Rattle.icn_host.specs.Puts.{LeadsBy, Puts, PutsAll}
+use Rattle.icn_host.specs.Sinks.{Gains, SinkState}
 use Rattle.icn_code.specs.Codes.{Tables}
-use Rattle.icn_defs.specs.Running.{Launch}
+use Rattle.icn_defs.specs.Running.{Launch, Observed}
 use Rattle.icn_run.specs.declared.ending.Ending.{Ending}
+use Rattle.icn_run.specs.declared.ending.Ending.TheVariants as Endings
+use Rattle.icn_simulation.specs.Law.{RunsFlat}
 use Rattle.icn_streams.specs.Handed.{Handed}
 use Rattle.icn_running.specs.declared.fault.RunFault.{RunFault}
 use Rattle.icn_running.specs.Reported.{ending_seen}
 use Rattle.icn_running.specs.Runs.{EndsAtFirst, IsBrokenOff, RunsTo}
 use Rattle.icn_lines.specs.declared.answer.Answer.{Answer}
-use Rattle.icn_lines.specs.declared.answer.Answer.TheVariants.{Ran}
+use Rattle.icn_lines.specs.declared.answer.Answer.TheVariants.{Wrote, Ran, Refused, Command, Missing, BadUcode, BadImage, FileFault, ReadFault, WriteFault, NoMemory}
+use Rattle.icn_lines.specs.Endings.{ending_held}
 use Rattle.icn_lines.specs.Faulting.{of_run}
 use Rattle.icn_lines.specs.Lines.{fault_line}
+use Rattle.icn_lines.specs.Refusing.{PutsOwn}
 use Rattle.icn_lines.specs.Telling.{with_errors}
+use Rattle.icont_units.specs.Generated.{sizes_line}
+use Rattle.icont_top.specs.Job.{behind}
+use Rattle.icont_top.specs.Outcomes.{LeavesBehind, StopsPut}
 
 -- the run ended, or it was broken off, and a fault is answered whose line was put behind
 pub data IsRanOrBroken (tables : Tables) (launch : Launch) (answer : Answer) (before after : Handed) : Type 0 where
@@ -23,3 +32,48 @@ pub data IsRanOrBroken (tables : Tables) (launch : Launch) (answer : Answer) (be
       → EndsAtFirst {A = Ending} (Err fault) before (with_errors between after)
       → IsBrokenOff tables launch fault before (with_errors between after) → Puts between after.errors (fault_line answer)
       → IsRanOrBroken tables launch answer before after
+
+-- The program of a number
+
+-- whether the program was done
+abbrev pub is_done : Answer → Bool
+is_done (Ran Endings.Done) = true
+is_done (Ran (Endings.Exit status)) = false
+is_done (Ran (Endings.Errored number)) = false
+is_done (Ran Endings.AtBound) = false
+is_done Wrote = false
+is_done (Refused file line rule) = false
+is_done (Command kind) = false
+is_done (Missing name) = false
+is_done (BadUcode name rule) = false
+is_done (BadImage rule) = false
+is_done FileFault = false
+is_done ReadFault = false
+is_done WriteFault = false
+is_done NoMemory = false
+
+-- the answer where a put was stopped so
+abbrev pub put_answer : Fault → Answer
+put_answer Faults.Failed = WriteFault
+put_answer Faults.NoMemory = NoMemory
+
+-- the line of the sizes was put on the output, or a part of it, and a fault is answered whose line was put on the error output
+pub data PutsSizes (number : ℕ) (answer : Answer) (out out' err err' : SinkState) : Type 0 where
+  sizes_put : answer ≡ Ran Endings.Done → PutsAll out out' (sizes_line number) → err' ≡ err → PutsSizes number answer out out' err err'
+  sizes_broken : (fault : Fault) → answer ≡ put_answer fault → LeadsBy fault out out' (sizes_line number) → PutsOwn answer err err'
+      → PutsSizes number answer out out' err err'
+
+-- The program ended, and the line of its sizes was put where it is that of a number; or it was broken off, or that line was.
+pub data HasRun (tables : Tables) (launch : Launch) (number : Option ℕ) (answer : Answer) (before after : Handed) : Type 0 where
+  has_ended : (seen : Observed) → RunsFlat tables launch seen → answer ≡ Ran (ending_held seen.ending)
+      → after.left ≡ Some seen.outside.left
+      → Gains before.output.held after.output.held (seen.outside.output ++ behind number seen.ending)
+      → Gains before.errors.held after.errors.held seen.outside.errors → HasRun tables launch number answer before after
+  was_broken : (fault : RunFault) (between : SinkState) → answer ≡ of_run fault
+      → EndsAtFirst {A = Ending} (Err fault) before (with_errors between after)
+      → IsBrokenOff tables launch fault before (with_errors between after) → Puts between after.errors (fault_line answer)
+      → HasRun tables launch number answer before after
+  was_broken_behind : (n : ℕ) (fault : RunFault) (between : SinkState) (seen : Observed) → number ≡ Some n → StopsPut fault
+      → answer ≡ of_run fault → EndsAtFirst {A = Ending} (Err fault) before (with_errors between after) → RunsFlat tables launch seen
+      → LeavesBehind n seen before (with_errors between after) → Puts between after.errors (fault_line answer)
+      → HasRun tables launch number answer before after

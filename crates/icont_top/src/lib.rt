@@ -1,15 +1,13 @@
 //! The top call of the program `icont`.
 #![tactic(auto)]
 
-mod checking;
 mod laws;
-mod making;
-mod program_fault;
-mod source;
+mod loading;
+mod programs;
 mod top;
-mod words;
+mod writing;
 
 pub use icn_lines::Answer;
 pub use icn_run::Ending;
-pub use laws::{one_job, one_program};
+pub use laws::{one_job, one_program, units_link_alike};
 pub use top::icont_main;

@@ -1,8 +1,10 @@
 // The top call.
-ghost use Rattle.std.specs.Prelude.{◌≡◌, ◌↔◌, ◌⊎◌, ◌≤◌, ℕ, List, [], Ok, Some, map, string_bytes, IfSome, true};
+ghost use Rattle.std.specs.Prelude.{◌≡◌, ◌↔◌, ◌⊎◌, ℕ, All, List, [], Option, Some, Ok, map, string_bytes, IfErr, IfSome, OnOk};
+ghost use Rattle.std.specs.Option.{option_map};
 ghost use Rattle.icn_host.specs.Counts.{Rose};
 ghost use Rattle.icn_host.specs.FileMaps.{FileMap};
-ghost use Rattle.icn_tree.specs.Trees.{Declaration};
+ghost use Rattle.icn_host.specs.Puts.{LeadsBy, PutsAll};
+ghost use Rattle.icn_host.specs.Sinks.{SinkState};
 ghost use Rattle.icn_code.specs.Seen.{tables_of};
 ghost use Rattle.icn_streams.specs.Handed.{handed};
 ghost use Rattle.icn_lines.specs.Answers.{IsFault, IsRefusal};
@@ -11,36 +13,53 @@ ghost use Rattle.icn_lines.specs.Faulting.{IsOfRun};
 ghost use Rattle.icn_lines.specs.Refusing.{PutsOwn};
 ghost use Rattle.icn_lines.specs.Reporting.{LineStands, Reports};
 ghost use Rattle.icn_lines.specs.Telling.{told};
-ghost use Rattle.icont_top.specs.Answered.{IsAnswered, IsCommand, IsCommanded};
-ghost use Rattle.icont_top.specs.Asking.{asking};
-ghost use Rattle.icont_top.specs.Job.{launched};
-ghost use Rattle.icont_top.specs.Loading.{IsMade};
-ghost use Rattle.icont_top.specs.Outcomes.{HasWritten, HoldsImage, IsComplete, Outcome};
-ghost use Rattle.icont_top.specs.Running.{IsRanOrBroken};
-ghost use Rattle.icont_top.specs.Sources.{IsAbsence};
-ghost use Rattle.icont_top.specs.Translating.{ComesTo};
+ghost use Rattle.icont_words.specs.Asking.{run_seen};
+ghost use Rattle.icont_words.specs.Words.{Translate, Link, Generate, Asks, ComeTo};
+ghost use Rattle.icont_units.specs.Fetching.{texts};
+ghost use Rattle.icont_units.specs.Files.{files_named};
+ghost use Rattle.icont_units.specs.Generated.{sizes_line};
+ghost use Rattle.icont_units.specs.Sources.{IsAbsence};
+ghost use Rattle.icont_units.specs.Units.{Load, Member};
+ghost use Rattle.icont_top.specs.Answered.{IsAnswered, IsCommand, IsCommanded, MissesText};
+ghost use Rattle.icont_top.specs.Answering.{IsDone};
+ghost use Rattle.icont_top.specs.Asking.{IsReady, IsTold, words_answer};
+ghost use Rattle.icont_top.specs.Job.{IsTranslated, launched, ucode_files};
+ghost use Rattle.icont_top.specs.Outcomes.{HasWritten, HoldsWritten, IsComplete, IsReadBack, Outcome};
+ghost use Rattle.icont_top.specs.Running.{HasRun, IsRanOrBroken, PutsSizes, is_done, put_answer};
 ghost use Rattle.icont_top.specs.Usage.{usage};
-ghost use Rattle.icont_top.specs.Words.{asked as read, base_of, is_source};
+ghost use Rattle.icont_top.specs.Writing.{texts_seen};
 
-use crate::making::{Made, make};
-use crate::words::{FileAsked, asked, base_name};
+use crate::loading::{Program, linked_program, numbered_program, translated};
+use crate::writing::{Text, write_all};
 use icn_cells::VecStack;
 use icn_frames::Cell;
-use icn_host::{Fault, Files, Sink, Source};
+use icn_host::{Fault, Files, Sink, Source, put_line};
 use icn_image::one_spelling;
 use icn_lines::{Answer, answer_of, own_line, refuse};
+use icn_run::Ending;
 use icn_running::run;
 use icn_simulation::same_ends;
 use icn_value::Limits;
-use icn_verify::Verified;
+use icn_verify::{Verified, one_fault};
+use icont_units::sizes_line;
+use icont_words::{Run, Task, WordsFault, asked, one_reading};
 use std::alloc::Global;
 
 const USAGE: &[u8] =
     b"usage: icont [-c] [-o name] [-n turns] [-g number] file ... [-x argument ...]\n";
 
-/// All that the program `icont` does: it reads the files that the words name from `files`, writes the image of their program to
-/// `files` and, where the words ask for it, runs it over `input`, `out` and `err`. The line of an answer goes to `err` too. The
-/// words begin with the program's name.
+/// What is to be done with a program: the name of its image, where one is said; how it is run; and its number, where it is that of one.
+#[derive(Clone, Copy)]
+pub struct Plan<'a> {
+    pub image: Option<&'a str>,
+    pub run: Option<Run<'a>>,
+    pub number: Option<u16>,
+}
+
+/// All that the program `icont` does, one of three tasks by the words, which begin with the program's name. With `-c` it writes to
+/// `files` the ucode of the sources that the words name. Else it links the files that they name, and those that these link, and
+/// writes the image of the program; with `-x` it runs the program then over `input`, `out` and `err`. With `-g` it does so with the
+/// program of a number, and puts the sizes of that program on `out` where it was done. The line of an answer goes to `err` too.
 pub fn icont_main<F: Files, I: Source, O: Sink, E: Sink>(
     alloc: Global,
     words: &[String],
@@ -59,10 +78,10 @@ pub fn icont_main<F: Files, I: Source, O: Sink, E: Sink>(
         → ¬ Rose (O.state out.old).faults (O.state out.new).faults → ¬ Rose (E.state err.old).faults (E.state err.new).faults
         → IsFault result → result ≡ Answer.NoMemory }
 
-    // Where an image was written, the base name holds the image of a code that `iconx` takes, and whose runs mean what the
-    // source means.
+    // Where an image was written, its name holds the image of a code that `iconx` takes, and whose runs are what the program is: for
+    // sources alone what they mean. Where units were, their texts are there, and are read back as these units.
     ensures headline { HasWritten result
-        → IfSome (F.held files.old) (λ held. HoldsImage (map string_bytes words.now) held (F.held files.new)) }
+        → IfSome (F.held files.old) (λ held. HoldsWritten (map string_bytes words.now) held (F.held files.new)) }
 
     // Every other answer's line was put, whatever the files and the input tell; of a run, its report behind what it put, where the
     // input tells its content.
@@ -75,11 +94,15 @@ pub fn icont_main<F: Files, I: Source, O: Sink, E: Sink>(
     // Where the files tell their content, the answer is the one that the words and the files ask for, or a fault.
     ensures answered { IfSome (F.held files.old) (λ held. IsAnswered (map string_bytes words.now) held result) }
 
-    // Where the words name a file that breaks no rule, its image was written, or a fault is answered.
+    // Where the words and the files ask for files to be written, they were, or a fault is answered.
     ensures complete { IfSome (F.held files.old) (λ held. IsComplete (map string_bytes words.now) held result) }
 
-    // The words are faulty exactly where they are not of the command's form.
-    ensures command { IsCommanded (read (map string_bytes words.now)) result }
+    // The words are faulty, and in which way, exactly where they come to that.
+    ensures command { IsCommanded (map string_bytes words.now) result }
+
+    // Where the first linked file that is not there has a name that is a text, that is told only where that count rose.
+    ensures links { IfSome (F.held files.old) (λ held. MissesText (map string_bytes words.now) held
+        → IsFault result ⊎ Rose (F.absences files.old) (F.absences files.new)) }
 
     // A refusal leaves the files, the output and the input as they were.
     ensures untouched { IsRefusal result → F.held files.new ≡ F.held files.old }
@@ -92,31 +115,90 @@ pub fn icont_main<F: Files, I: Source, O: Sink, E: Sink>(
         (outside (F.faults files.old) (F.absences files.old) (handed (I.left input.old) (I.faults input.old) (O.state out.old) (E.state err.old)))
         (outside (F.faults files.new) (F.absences files.new) (handed (I.left input.new) (I.faults input.new) (O.state out.new) (E.state err.new))) }
 {
-    match asked(words) {
-        Some(asked) => file_answer(alloc, asked, files, input, out, err),
-        None => refuse(alloc, USAGE, "", Answer::Command(1), err),
+    one_reading();
+    one_fault();
+    match asked(alloc, words) {
+        Ok(Task::Translate(names)) => translate_answer(alloc, &names, files, err),
+        Ok(Task::Link { names, image, run }) => {
+            link_answer(alloc, &names, image, run, files, input, out, err)
+        }
+        Ok(Task::Generate { number, turns }) => {
+            generate_answer(alloc, number, turns, files, input, out, err)
+        }
+        Err(fault) => refuse(alloc, USAGE, "", words_answer(fault), err),
     }
 }
 
-// Does what the words ask for with a source file.
-fn file_answer<F: Files, I: Source, O: Sink, E: Sink>(
+// The answer to words that ask for nothing.
+fn words_answer(fault: WordsFault) -> Answer
+    ensures { result ≡ words_answer fault }
+{
+    match fault {
+        WordsFault::Faulty(kind) => Answer::Command(kind),
+        WordsFault::NoMemory => Answer::NoMemory,
+    }
+}
+
+// Writes the ucode of the sources that these names name.
+fn translate_answer<F: Files, E: Sink>(
     alloc: Global,
-    asked: FileAsked,
+    names: &[&str],
+    files: &mut F,
+    err: &mut E,
+) -> Answer
+    ensures done { (words : List (List ℕ)) (left : Option (List ℕ)) (input : ℕ) (out : SinkState) → ComeTo words (Asks (Translate (texts names.now)))
+        → IfSome (F.held files.old) (λ held. IsDone words held result (told (F.held files.old) (handed left input out (E.state err.old)))
+        (told (F.held files.new) (handed left input out (E.state err.new)))) }
+    ensures reported { (left : Option (List ℕ)) → Reports usage [] left (E.state err.old) (E.state err.new) result }
+    ensures command { IsCommand result → ⊥ }
+    ensures untouched { IsRefusal result → F.held files.new ≡ F.held files.old }
+    ensures causes { (left : Option (List ℕ)) (input : ℕ) (out : SinkState) → EndsAtFirst result (IsAbsence result)
+        (outside (F.faults files.old) (F.absences files.old) (handed left input out (E.state err.old)))
+        (outside (F.faults files.new) (F.absences files.new) (handed left input out (E.state err.new))) }
+{
+    match translated(alloc, names, files) {
+        Ok(texts) => texts_answer(&texts, files, err),
+        Err(answer) => refuse(alloc, USAGE, "", answer, err),
+    }
+}
+
+// Writes the ucode texts of units.
+fn texts_answer<F: Files, E: Sink>(texts: &[Text], files: &mut F, err: &mut E) -> Answer
+    ensures done { (words : List (List ℕ)) (held : FileMap) (members : List Member) (left : Option (List ℕ)) (input : ℕ) (out : SinkState) → IsTranslated words held (Ok members)
+        → texts_seen texts.now ≡ ucode_files members → All IsReadBack members → F.held files.old ≡ Some held
+        → IsDone words held result (told (F.held files.old) (handed left input out (E.state err.old)))
+        (told (F.held files.new) (handed left input out (E.state err.new))) }
+    ensures reported { (left : Option (List ℕ)) → Reports usage [] left (E.state err.old) (E.state err.new) result }
+    ensures no_refusal { IsRefusal result → ⊥ }
+    ensures causes { (left : Option (List ℕ)) (input : ℕ) (out : SinkState) → EndsAtFirst result (IsAbsence result)
+        (outside (F.faults files.old) (F.absences files.old) (handed left input out (E.state err.old)))
+        (outside (F.faults files.new) (F.absences files.new) (handed left input out (E.state err.new))) }
+{
+    match write_all(files, texts) {
+        Ok(()) => Answer::Wrote,
+        Err(fault) => torn_answer(fault, err),
+    }
+}
+
+// Links the files that these names name, writes the image of the program, and runs it where a run is asked for.
+fn link_answer<F: Files, I: Source, O: Sink, E: Sink>(
+    alloc: Global,
+    names: &[&str],
+    image: Option<&str>,
+    run: Option<Run>,
     files: &mut F,
     input: &mut I,
     out: &mut O,
     err: &mut E,
 ) -> Answer
-    requires source { is_source asked.name.now ≡ true }
-    ensures outcome { (words : List (List ℕ)) → read words ≡ asking asked.entry
-        → IfSome (F.held files.old) (λ held. IfSome (I.left input.old) (λ left. Outcome words held left result
+    ensures done { (words : List (List ℕ))
+        → ComeTo words (Asks (Link (texts names.now) (option_map (λ name. name.now) image.entry) (option_map run_seen run.entry)))
+        → IfSome (F.held files.old) (λ held. IsDone words held result
         (told (F.held files.old) (handed (I.left input.old) (I.faults input.old) (O.state out.old) (E.state err.old)))
-        (told (F.held files.new) (handed (I.left input.new) (I.faults input.new) (O.state out.new) (E.state err.new))))) }
-    ensures headline { (words : List (List ℕ)) → read words ≡ asking asked.entry → HasWritten result
-        → IfSome (F.held files.old) (λ held. HoldsImage words held (F.held files.new)) }
+        (told (F.held files.new) (handed (I.left input.new) (I.faults input.new) (O.state out.new) (E.state err.new)))) }
     ensures reported { Reports usage [] (I.left input.old) (E.state err.old) (E.state err.new) result }
-    ensures answered { (words : List (List ℕ)) → read words ≡ asking asked.entry
-        → IfSome (F.held files.old) (λ held. IsAnswered words held result) }
+    ensures links { IfSome (F.held files.old) (λ held. (members : List Member) → Load held (files_named (texts names.now)) (Ok members)
+        → IsFault result ⊎ IsTold (Rose (F.absences files.old) (F.absences files.new)) members) }
     ensures command { IsCommand result → ⊥ }
     ensures untouched { IsRefusal result → F.held files.new ≡ F.held files.old }
     ensures refused { IsRefusal result → (O.state out.new).held ≡ (O.state out.old).held }
@@ -125,34 +207,73 @@ fn file_answer<F: Files, I: Source, O: Sink, E: Sink>(
         (outside (F.faults files.old) (F.absences files.old) (handed (I.left input.old) (I.faults input.old) (O.state out.old) (E.state err.old)))
         (outside (F.faults files.new) (F.absences files.new) (handed (I.left input.new) (I.faults input.new) (O.state out.new) (E.state err.new))) }
 {
-    match make(alloc, asked.name, files) {
-        Ok(made) => image_answer(alloc, &made, asked, files, input, out, err),
+    match linked_program(alloc, names, files) {
+        Ok(program) => {
+            let plan = Plan {
+                image,
+                run,
+                number: None,
+            };
+            image_answer(alloc, &program, plan, files, input, out, err)
+        }
         Err(answer) => refuse(alloc, USAGE, "", answer, err),
     }
 }
 
-// Writes the image of a program, and runs its code where the words ask for it.
-fn image_answer<F: Files, I: Source, O: Sink, E: Sink>(
+// Writes the image of the program of a number, and runs it under this bound of turns.
+fn generate_answer<F: Files, I: Source, O: Sink, E: Sink>(
     alloc: Global,
-    made: &Made,
-    asked: FileAsked,
+    number: u16,
+    turns: u64,
     files: &mut F,
     input: &mut I,
     out: &mut O,
     err: &mut E,
 ) -> Answer
-    requires source { is_source asked.name.now ≡ true }
-    ensures outcome { (words : List (List ℕ)) (held : FileMap) (file : List Declaration) → read words ≡ asking asked.entry
-        → ComesTo held asked.entry.name.now (Ok file) → IsMade (base_of asked.entry.name.now) file made.now
-        → IfSome (I.left input.old) (λ left. Outcome words held left result
+    ensures done { (words : List (List ℕ)) → ComeTo words (Asks (Generate number turns))
+        → IfSome (F.held files.old) (λ held. IsDone words held result
         (told (F.held files.old) (handed (I.left input.old) (I.faults input.old) (O.state out.old) (E.state err.old)))
         (told (F.held files.new) (handed (I.left input.new) (I.faults input.new) (O.state out.new) (E.state err.new)))) }
-    ensures headline { (words : List (List ℕ)) (held : FileMap) (file : List Declaration) → read words ≡ asking asked.entry
-        → ComesTo held asked.entry.name.now (Ok file) → IsMade (base_of asked.entry.name.now) file made.now
-        → F.held files.old ≡ Some held → HasWritten result → HoldsImage words held (F.held files.new) }
     ensures reported { Reports usage [] (I.left input.old) (E.state err.old) (E.state err.new) result }
-    ensures answered { (words : List (List ℕ)) (held : FileMap) (file : List Declaration) → read words ≡ asking asked.entry
-        → ComesTo held asked.entry.name.now (Ok file) → IsAnswered words held result }
+    ensures command { IsCommand result → ⊥ }
+    ensures untouched { IsRefusal result → F.held files.new ≡ F.held files.old }
+    ensures refused { IsRefusal result → (O.state out.new).held ≡ (O.state out.old).held }
+    ensures unread { IsRefusal result → I.left input.new ≡ I.left input.old }
+    ensures causes { EndsAtFirst result (IsAbsence result)
+        (outside (F.faults files.old) (F.absences files.old) (handed (I.left input.old) (I.faults input.old) (O.state out.old) (E.state err.old)))
+        (outside (F.faults files.new) (F.absences files.new) (handed (I.left input.new) (I.faults input.new) (O.state out.new) (E.state err.new))) }
+{
+    match numbered_program(alloc, number) {
+        Ok(program) => {
+            let plan = Plan {
+                image: None,
+                run: Some(Run {
+                    arguments: &[],
+                    turns,
+                }),
+                number: Some(number),
+            };
+            image_answer(alloc, &program, plan, files, input, out, err)
+        }
+        Err(answer) => refuse(alloc, USAGE, "", answer, err),
+    }
+}
+
+// Writes the image of a program, and runs its code where a run is asked for.
+fn image_answer<F: Files, I: Source, O: Sink, E: Sink>(
+    alloc: Global,
+    program: &Program,
+    plan: Plan,
+    files: &mut F,
+    input: &mut I,
+    out: &mut O,
+    err: &mut E,
+) -> Answer
+    ensures done { (words : List (List ℕ)) (held : FileMap) (members : List Member) → IsReady words held members plan.entry program.now
+        → F.held files.old ≡ Some held → IsDone words held result
+        (told (F.held files.old) (handed (I.left input.old) (I.faults input.old) (O.state out.old) (E.state err.old)))
+        (told (F.held files.new) (handed (I.left input.new) (I.faults input.new) (O.state out.new) (E.state err.new))) }
+    ensures reported { Reports usage [] (I.left input.old) (E.state err.old) (E.state err.new) result }
     ensures no_refusal { IsRefusal result → ⊥ }
     ensures causes { EndsAtFirst result (IsAbsence result)
         (outside (F.faults files.old) (F.absences files.old) (handed (I.left input.old) (I.faults input.old) (O.state out.old) (E.state err.old)))
@@ -160,16 +281,16 @@ fn image_answer<F: Files, I: Source, O: Sink, E: Sink>(
 {
     one_spelling();
     same_ends();
-    match files.write(base_name(asked.name), &made.image) {
-        Ok(()) => match asked.run {
-            Some(words) => run_answer(alloc, &made.code, words, input, out, err),
+    match files.write(plan.image.unwrap_or(program.base), &program.made.image) {
+        Ok(()) => match plan.run {
+            Some(run) => ran_answer(alloc, &program.made.code, run, plan.number, input, out, err),
             None => Answer::Wrote,
         },
         Err(fault) => torn_answer(fault, err),
     }
 }
 
-// The answer where the image could not be written.
+// The answer where a file could not be written.
 fn torn_answer<E: Sink>(fault: Fault, err: &mut E) -> Answer
     ensures failed { (result ≡ Answer.FileFault) ↔ (fault ≡ Fault.Failed) }
     ensures others { (result ≡ Answer.FileFault) ⊎ (result ≡ Answer.NoMemory) }
@@ -183,16 +304,17 @@ fn torn_answer<E: Sink>(fault: Fault, err: &mut E) -> Answer
     answer
 }
 
-// Runs the code of a program, under the limits that stand where none are said.
-fn run_answer<I: Source, O: Sink, E: Sink>(
+// Runs the code of a program, and puts the line of the sizes behind it, where it is the program of a number and was done.
+fn ran_answer<I: Source, O: Sink, E: Sink>(
     alloc: Global,
     code: &Verified,
-    words: &[String],
+    run: Run,
+    number: Option<u16>,
     input: &mut I,
     out: &mut O,
     err: &mut E,
 ) -> Answer
-    ensures ran { IfSome (I.left input.old) (λ left. IsRanOrBroken (tables_of code.now.code) (launched (map string_bytes words.now) left) result
+    ensures ran { IfSome (I.left input.old) (λ left. HasRun (tables_of code.now.code) (launched (run_seen run.entry) left) number.entry result
         (handed (I.left input.old) (I.faults input.old) (O.state out.old) (E.state err.old))
         (handed (I.left input.new) (I.faults input.new) (O.state out.new) (E.state err.new))) }
     ensures reported { Reports usage [] (I.left input.old) (E.state err.old) (E.state err.new) result }
@@ -201,12 +323,87 @@ fn run_answer<I: Source, O: Sink, E: Sink>(
         (handed (I.left input.old) (I.faults input.old) (O.state out.old) (E.state err.old))
         (handed (I.left input.new) (I.faults input.new) (O.state out.new) (E.state err.new)) }
 {
-    match run::<VecStack<Cell>, I, O, E>(alloc, code, words, Limits::standard(), input, out, err) {
+    let answer = run_answer(alloc, code, run, input, out, err);
+    let Some(number) = number else {
+        return answer;
+    };
+    if is_done(&answer) {
+        sizes_answer(alloc, number, out, err)
+    } else {
+        answer
+    }
+}
+
+// Runs the code of a program, under its bound of turns and the other limits that stand where none are said.
+fn run_answer<I: Source, O: Sink, E: Sink>(
+    alloc: Global,
+    code: &Verified,
+    asked: Run,
+    input: &mut I,
+    out: &mut O,
+    err: &mut E,
+) -> Answer
+    ensures ran { IfSome (I.left input.old) (λ left. IsRanOrBroken (tables_of code.now.code) (launched (run_seen asked.entry) left) result
+        (handed (I.left input.old) (I.faults input.old) (O.state out.old) (E.state err.old))
+        (handed (I.left input.new) (I.faults input.new) (O.state out.new) (E.state err.new))) }
+    ensures reported { Reports usage [] (I.left input.old) (E.state err.old) (E.state err.new) result }
+    ensures others { IsOfRun result }
+    ensures causes { RunEndsAtFirst result
+        (handed (I.left input.old) (I.faults input.old) (O.state out.old) (E.state err.old))
+        (handed (I.left input.new) (I.faults input.new) (O.state out.new) (E.state err.new)) }
+{
+    let standard = Limits::standard();
+    let limits = Limits {
+        turns: asked.turns,
+        strings: standard.strings,
+        cells: standard.cells,
+        levels: standard.levels,
+    };
+    match run::<VecStack<Cell>, I, O, E>(alloc, code, asked.arguments, limits, input, out, err) {
         Ok(ending) => Answer::Ran(ending),
         Err(fault) => {
             let answer = answer_of(fault);
             own_line(&answer, err);
             answer
         }
+    }
+}
+
+// Whether a program was run and was done.
+fn is_done(answer: &Answer) -> bool
+    ensures { result ≡ is_done answer.now }
+{
+    matches!(answer, Answer::Ran(Ending::Done))
+}
+
+// Puts the line of the sizes of the program of a number, which was done.
+fn sizes_answer<O: Sink, E: Sink>(alloc: Global, number: u16, out: &mut O, err: &mut E) -> Answer
+    ensures { PutsSizes number result (O.state out.old) (O.state out.new) (E.state err.old) (E.state err.new) }
+{
+    match put_sizes(alloc, number, out) {
+        Ok(()) => Answer::Ran(Ending::Done),
+        Err(fault) => {
+            let answer = put_answer(fault);
+            own_line(&answer, err);
+            answer
+        }
+    }
+}
+
+fn put_sizes<O: Sink>(alloc: Global, number: u16, out: &mut O) -> Result<(), Fault>
+    ensures ok { OnOk result (PutsAll (O.state out.old) (O.state out.new) (sizes_line number)) }
+    ensures err { IfErr result (λ fault. LeadsBy fault (O.state out.old) (O.state out.new) (sizes_line number)) }
+{
+    let line = sizes_line(alloc, number)?;
+    put_line(&line, out)
+}
+
+// The answer where a put was stopped so.
+fn put_answer(fault: Fault) -> Answer
+    ensures { result ≡ put_answer fault }
+{
+    match fault {
+        Fault::Failed => Answer::WriteFault,
+        Fault::NoMemory => Answer::NoMemory,
     }
 }

@@ -4,6 +4,7 @@ ghost use Rattle.icn_tree.specs.TreeOf.{declarations_of};
 ghost use Rattle.icn_decls.specs.Spelled.{AreScanned};
 ghost use Rattle.icont_units.specs.Generated.{generated_base};
 ghost use Rattle.icont_units.specs.Generating.{AreMember, IsGenerated, IsOfLines};
+ghost use Rattle.icont_units.specs.Sources.{IsErrOfAbsence};
 ghost use Rattle.icont_units.specs.Loading.{IsSound, Stands};
 ghost use Rattle.icont_units.specs.Sources.{IsOfTokens, scan_of};
 ghost use Rattle.icont_units.specs.Units.{FromSource};
@@ -28,6 +29,7 @@ pub fn generated(alloc: Global, number: u16) -> Result<Members, Answer>
     ensures comes { IsGenerated number result }
     ensures sound { IfOk result IsSound }
     ensures others { IfErr result IsOfLines }
+    ensures absence { IsErrOfAbsence result → ⊥ }
 {
     match generated_lines(alloc, number) {
         Ok(lines) => match line_tokens(alloc, lines) {

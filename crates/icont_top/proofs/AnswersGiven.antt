@@ -1,0 +1,221 @@
+-- Which answers the parts of the call give.
+use Rattle.std.proofs.Common.{◌≡◌, ◌⊎◌, ◌≤◌, inl, inr, ℕ, List, [], Option, None, Some, Result, Ok, Err, Bor, refl, sym, ap, ◌∙◌, subst, arith}
+use Rattle.std.specs.Prelude.{unwrap_or}
+use Rattle.std.specs.Option.{option_map}
+use Rattle.icn_host.specs.Counts.{Rose}
+use Rattle.icn_host.specs.FileMaps.{FileMap}
+use Rattle.icn_host.specs.Sinks.{SinkState}
+use Rattle.icn_lines.specs.declared.answer.Answer.{Answer}
+use Rattle.icn_lines.specs.declared.answer.Answer.TheVariants.{Wrote, Ran, Refused, Command, Missing, BadUcode, BadImage, FileFault, ReadFault, WriteFault, NoMemory}
+use Rattle.icn_lines.specs.Answers.{IsFault, IsRefusal}
+use Rattle.icn_lines.specs.Faulting.{IsOfRun}
+use Rattle.icn_lines.specs.Refusing.{Refuses as PutsRefusal, put, own, write_fault, want}
+use Rattle.icn_run.specs.declared.ending.Ending.{Ending}
+use Rattle.icont_words.specs.declared.words.WordsFault.{WordsFault}
+use Rattle.icont_words.specs.declared.words.WordsFault.TheVariants as WordsFaults
+use Rattle.icont_words.specs.declared.words.Task.{Task as TaskHeld}
+use Rattle.icont_words.specs.Asking.{IsReading}
+use Rattle.icont_words.specs.Words.{Faulty, Reading, ComeTo, Asks, Task}
+use Rattle.icont_units.specs.Fetching.{IsOfLoading}
+use Rattle.icont_units.specs.Files.{File}
+use Rattle.icont_units.specs.Generating.{IsOfLines}
+use Rattle.icont_units.specs.Sources.{IsAbsence}
+use Rattle.icont_units.specs.Units.{Load, Member}
+use Rattle.icont_units.proofs.Matching.{same_Ok, ok-err}
+use Rattle.icont_units.proofs.OneLoading.{one_load}
+use Rattle.icont_top.specs.declared.loading.Program.{Program}
+use Rattle.icont_top.specs.Answered.{IsCommand, IsCommanded}
+use Rattle.icont_top.specs.Asking.{IsProgramOf, IsTold, words_answer}
+use Rattle.icont_top.specs.Job.{first_base, wrong_words}
+use Rattle.icont_top.specs.Making.{IsOfLink}
+use Rattle.icont_top.specs.Outcomes.{HasWritten}
+use Rattle.icont_top.specs.Usage.{usage}
+use Rattle.icont_top.proofs.Topmost.{Asked, fault_given, given_none}
+
+-- Files and units
+
+pub loading_no_image : (answer : Answer) → IsOfLoading answer → HasWritten answer → ⊥
+loading_no_image Wrote is w = is
+loading_no_image (Ran ending) is w = is
+loading_no_image _ is w = w
+
+pub loading_no_command : (answer : Answer) → IsOfLoading answer → IsCommand answer → ⊥
+loading_no_command (Command kind) is w = is
+loading_no_command _ is w = w
+
+pub loading_no_run : (answer : Answer) → IsOfLoading answer → (ending : Ending) → answer ≡ Ran ending → ⊥
+loading_no_run answer is ending e = rw e at is
+
+pub loading_no_read : (answer : Answer) → IsOfLoading answer → answer ≡ ReadFault → ⊥
+loading_no_read answer is e = rw e at is
+
+pub loading_no_write : (answer : Answer) → IsOfLoading answer → answer ≡ WriteFault → ⊥
+loading_no_write answer is e = rw e at is
+
+pub link_loading : (answer : Answer) → IsOfLink answer → IsOfLoading answer
+link_loading (Refused file line rule) is = tt
+link_loading (BadUcode name rule) is = tt
+link_loading NoMemory is = tt
+link_loading _ is = absurd is
+
+pub lines_loading : (answer : Answer) → IsOfLines answer → IsOfLoading answer
+lines_loading (Refused file line rule) is = tt
+lines_loading NoMemory is = tt
+lines_loading _ is = absurd is
+
+pub link_no_absence : (answer : Answer) → IsOfLink answer → IsAbsence answer → ⊥
+link_no_absence (Refused file line rule) is a = is a
+link_no_absence (BadUcode name rule) is a = a
+link_no_absence NoMemory is a = a
+link_no_absence _ is a = is
+
+pub link_no_file : (answer : Answer) → IsOfLink answer → answer ≡ FileFault → ⊥
+link_no_file answer is e = rw e at is
+
+-- what is given in place of an answer
+
+pub absence_of : {before after : SinkState} (answer given : Answer) → PutsRefusal usage [] answer before after given → IsAbsence given → IsAbsence answer
+absence_of answer _ (put n h) is = is
+absence_of answer _ (own f puts) is = is
+absence_of answer _ (write_fault n leads) is = absurd is
+absence_of answer _ (want n between leads puts) is = absurd is
+
+pub no_command : {before after : SinkState} (answer given : Answer) → IsOfLoading answer → PutsRefusal usage [] answer before after given
+    → IsCommand given → ⊥
+no_command answer given is line = given_none IsCommand answer given (loading_no_command answer is) (λ x. x) (λ x. x) line
+
+pub command_refuses : (answer : Answer) → (IsRefusal answer → ⊥) → IsCommand answer → ⊥
+command_refuses (Command kind) n is = n tt
+command_refuses _ n is = is
+
+-- Runs
+
+pub run_no_file : (answer : Answer) → IsOfRun answer → answer ≡ FileFault → ⊥
+run_no_file answer is e = rw e at is
+
+pub run_no_absence : (answer : Answer) → IsOfRun answer → IsAbsence answer → ⊥
+run_no_absence (Ran ending) is a = a
+run_no_absence ReadFault is a = a
+run_no_absence WriteFault is a = a
+run_no_absence NoMemory is a = a
+run_no_absence _ is a = is
+
+-- Files that were not written whole
+
+pub torn_no_absence : (answer : Answer) → (answer ≡ FileFault) ⊎ (answer ≡ NoMemory) → IsAbsence answer → ⊥
+torn_no_absence answer (inl e) a = rw e at a
+torn_no_absence answer (inr e) a = rw e at a
+
+pub torn_no_read : (answer : Answer) → (answer ≡ FileFault) ⊎ (answer ≡ NoMemory) → answer ≡ ReadFault → ⊥
+torn_no_read answer (inl e) r = let both : FileFault ≡ ReadFault = sym e ∙ r in cc
+torn_no_read answer (inr e) r = let both : NoMemory ≡ ReadFault = sym e ∙ r in cc
+
+pub torn_no_write : (answer : Answer) → (answer ≡ FileFault) ⊎ (answer ≡ NoMemory) → answer ≡ WriteFault → ⊥
+torn_no_write answer (inl e) w = let both : FileFault ≡ WriteFault = sym e ∙ w in cc
+torn_no_write answer (inr e) w = let both : NoMemory ≡ WriteFault = sym e ∙ w in cc
+
+-- Words
+
+pub words_asked : {words : List (List ℕ)} {files : FileMap} (fault : WordsFault) → let found : Result TaskHeld WordsFault = Err fault in IsReading words found
+    → Asked words files (words_answer fault)
+words_asked (WordsFaults.Faulty kind) is = inr (wrong_words kind is)
+words_asked WordsFaults.NoMemory is = inl refl
+
+pub words_no_image : (fault : WordsFault) → HasWritten (words_answer fault) → ⊥
+words_no_image (WordsFaults.Faulty kind) w = w
+words_no_image WordsFaults.NoMemory w = w
+
+pub words_no_run : (fault : WordsFault) (ending : Ending) → words_answer fault ≡ Ran ending → ⊥
+words_no_run (WordsFaults.Faulty kind) ending e = cc
+words_no_run WordsFaults.NoMemory ending e = cc
+
+pub words_no_file : (fault : WordsFault) → words_answer fault ≡ FileFault → ⊥
+words_no_file (WordsFaults.Faulty kind) e = cc
+words_no_file WordsFaults.NoMemory e = cc
+
+pub words_no_read : (fault : WordsFault) → words_answer fault ≡ ReadFault → ⊥
+words_no_read (WordsFaults.Faulty kind) e = cc
+words_no_read WordsFaults.NoMemory e = cc
+
+pub words_no_write : (fault : WordsFault) → words_answer fault ≡ WriteFault → ⊥
+words_no_write (WordsFaults.Faulty kind) e = cc
+words_no_write WordsFaults.NoMemory e = cc
+
+pub words_no_absence : (fault : WordsFault) → IsAbsence (words_answer fault) → ⊥
+words_no_absence (WordsFaults.Faulty kind) a = a
+words_no_absence WordsFaults.NoMemory a = a
+
+abbrev pub OneReading : Type 0
+OneReading = (words : List (List ℕ)) (a b : Reading) → ComeTo words a → ComeTo words b → a ≡ b
+
+faulty_kind : Reading → ℕ → ℕ
+faulty_kind (Faulty kind) other = kind
+faulty_kind (Asks task) other = other
+
+faulty_asks : {T : Type 0} (kind : ℕ) (task : Task) → ◌≡◌ {A = Reading} (Faulty kind) (Asks task) → T
+faulty_asks kind task e = absurd cc
+
+-- the answer to faulty words
+given_kind : {before after : SinkState} (kind : ℕ) (given : Answer) → PutsRefusal usage [] (Command kind) before after given
+    → IsFault given ⊎ (given ≡ Command kind)
+given_kind kind _ (put n h) = inr refl
+given_kind kind _ (own f puts) = inl f
+given_kind kind _ (write_fault n leads) = inl refl
+given_kind kind _ (want n between leads puts) = inl refl
+
+pub words_commanded : {before after : SinkState} (one : OneReading) (words : List (List ℕ)) (fault : WordsFault) (given : Answer)
+    → let found : Result TaskHeld WordsFault = Err fault in IsReading words found → PutsRefusal usage [] (words_answer fault) before after given
+    → IsCommanded words given
+words_commanded one words (WordsFaults.Faulty kind) given is line = record {
+  faulty = λ other come. subst (λ k. IsFault given ⊎ (given ≡ Command k)) (ap (λ reading. faulty_kind reading kind) (one words _ _ is come)) (given_kind kind given line);
+  taken = λ task come. faulty_asks kind task (one words _ _ is come);
+}
+words_commanded one words WordsFaults.NoMemory given is line = record {
+  faulty = λ other come. inl (fault_given NoMemory given refl line);
+  taken = λ task come c. given_none IsCommand NoMemory given (λ x. x) (λ x. x) (λ x. x) line c;
+}
+
+-- words that ask for a task are called faulty by no answer that is no command
+pub task_commanded : (one : OneReading) (words : List (List ℕ)) (task : Task) (given : Answer) → ComeTo words (Asks task) → (IsCommand given → ⊥)
+    → IsCommanded words given
+task_commanded one words task given is n = record {
+  faulty = λ kind come. faulty_asks kind task (one words _ _ come is);
+  taken = λ other come c. n c;
+}
+
+-- The name of the image
+
+pub said_name : (image : Option (Bor (List ℕ))) (base name : Bor (List ℕ)) (members : List Member) → name ≡ unwrap_or image base
+    → base.now ≡ first_base members → name.now ≡ unwrap_or (option_map (λ name. name.now) image) (first_base members)
+said_name None base name members e b = ap (λ (n : Bor (List ℕ)). n.now) e ∙ b
+said_name (Some said) base name members e b = ap (λ (n : Bor (List ℕ)). n.now) e
+
+-- Files that are linked
+
+rose_later : (before now later : ℕ) → Rose before now → now ≤ later → Rose before later
+rose_later before now later r l = omega (arith, r, l)
+
+told_by : {before now later : ℕ} {T : Type 0} → now ≤ later → Rose before now ⊎ T → Rose before later ⊎ T
+told_by {before} {now} {later} l (inl r) = inl (rose_later before now later r l)
+told_by l (inr t) = inr t
+
+-- what is told of the members that the files come to is told of each list that they come to
+pub told_again : {before now later : ℕ} (files : FileMap) (named : List File) (members other : List Member) → Load files named (Ok members)
+    → IsTold (Rose before now) members → now ≤ later → Load files named (Ok other) → IsTold (Rose before later) other
+told_again {before} {now} {later} files named members other load told l again =
+    subst (IsTold (Rose before later)) (same_Ok members other (one_load files named (Ok members) (Ok other) load again))
+    (λ unit name e. told_by l (told unit name e))
+
+pub told_refused : {before now : ℕ} (files : FileMap) (named : List File) (answer : Answer) (other : List Member)
+    → let found : Result Program Answer = Err answer in IsProgramOf (Load files named) (Rose before now) found → Load files named (Ok other)
+    → IsFault answer ⊎ IsTold (Rose before now) other
+told_refused files named answer other (inl f) again = inl f
+told_refused files named answer other (inr (inl load)) again = absurd (ok-err other answer (one_load files named (Ok other) (Err answer) again load))
+told_refused {before} {now} files named answer other (inr (inr some)) again =
+    inr (told_again {before} {now} {now} files named some.0 other some.1.0 some.1.1.0 (omega arith) again)
+
+-- where a fault was answered, a fault is given
+pub given_or_told : {T : Type 0} {before after : SinkState} (answer given : Answer) → PutsRefusal usage [] answer before after given
+    → IsFault answer ⊎ T → IsFault given ⊎ T
+given_or_told answer given line (inl f) = inl (fault_given answer given f line)
+given_or_told answer given line (inr t) = inr t

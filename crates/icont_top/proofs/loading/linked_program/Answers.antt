@@ -1,0 +1,30 @@
+use Rattle.std.proofs.Common.{◌≡◌, ◌∙◌, ap, sym, subst, Ok}
+use Rattle.icont_units.specs.Fetching.{files_seen, texts}
+use Rattle.icont_units.specs.Files.{files_named}
+use Rattle.icont_units.specs.Units.{Load}
+use Rattle.icont_top.specs.Basing.{first_named}
+use Rattle.icont_top.proofs.FirstBase.{load_base}
+use Rattle.icont_top.proofs.Loaded.{no_program_of, told_of}
+use Rattle.icont_top.proofs.Topmost.{at_some, if_some}
+use Rattle.icont_top.proofs.loading.linked_program.Goals as goal
+
+pub returns-in-Ok-make-clause-program : goal.returns-in-Ok-make-clause-program
+returns-in-Ok-make-clause-program g c =
+    if_some (g.F.Files.held c.args.files.now) _ (λ held e.
+    let loaded = at_some _ (g.F.Files.held c.args.files.now) held e c.in-Ok-load.ensures.loaded in
+    let named : files_seen c.deref.result.now ≡ files_named (texts c.args.names.now) = ap files_seen c.deref.ensures.value ∙ c.in-Ok.ensures in
+    let load : Load held (files_named (texts c.args.names.now)) (Ok loaded.0) = subst (λ files. Load held files (Ok loaded.0)) named loaded.1.0 in
+    (loaded.0, (load, (told_of c.in-Ok-load.members loaded.0 loaded.1.1 c.in-Ok-load.ensures.absent, record {
+      made = c.in-Ok-make.ensures.made loaded.0 loaded.1.1;
+      base = c.first_base.ensures ∙ (ap (λ files. first_named (files_seen files)) c.deref-in-Ok-make.ensures.value
+          ∙ (ap first_named c.in-Ok.ensures ∙ sym (load_base c.one_spelling.ensures.spelled held (files_named (texts c.args.names.now)) loaded.0 load)));
+    }))))
+
+pub returns-in-Ok-load-clause-program : goal.returns-in-Ok-load-clause-program
+returns-in-Ok-load-clause-program g c =
+    if_some (g.F.Files.held c.args.files.now) _ (λ held e.
+    let loaded = at_some _ (g.F.Files.held c.args.files.now) held e c.in-Ok-load.ensures.loaded in
+    let named : files_seen c.deref.result.now ≡ files_named (texts c.args.names.now) = ap files_seen c.deref.ensures.value ∙ c.in-Ok.ensures in
+    no_program_of (Load held (files_named (texts c.args.names.now))) loaded.0 c.in-Err-make.answer
+    (subst (λ files. Load held files (Ok loaded.0)) named loaded.1.0)
+    (told_of c.in-Ok-load.members loaded.0 loaded.1.1 c.in-Ok-load.ensures.absent) (c.in-Err-make.ensures.made loaded.0 loaded.1.1))

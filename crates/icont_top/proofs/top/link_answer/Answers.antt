@@ -1,0 +1,58 @@
+use Rattle.std.proofs.Common.{◌∙◌, inr, Ok}
+use Rattle.icn_lines.specs.declared.answer.Answer.TheVariants.{FileFault}
+use Rattle.icn_lines.proofs.Counted.{after_read, err_counts, refused_ends}
+use Rattle.icn_lines.proofs.Reports.{reports_of}
+use Rattle.icont_units.specs.Fetching.{texts}
+use Rattle.icont_units.specs.Files.{files_named}
+use Rattle.icont_units.specs.Units.{Load}
+use Rattle.icont_top.specs.Job.{of_files}
+use Rattle.icont_top.proofs.AnswersGiven.{absence_of, command_refuses, given_or_told, loading_no_image, loading_no_read, loading_no_run, loading_no_write, no_command, told_again, told_refused}
+use Rattle.icont_top.proofs.Topmost.{asked_program, at_some, held_as, if_some, refused_done}
+use Rattle.icont_top.proofs.top.link_answer.Goals as goal
+
+pub returns-in-Ok-clause-done : goal.returns-in-Ok-clause-done
+returns-in-Ok-clause-done g c words asks =
+    if_some (g.F.Files.held c.args.files.now) _ (λ held e.
+    let loaded = at_some _ (g.F.Files.held c.args.files.now) held e c.in-Ok.ensures.program in
+    held_as _ _ c.in-Ok.ensures.files (c.image_answer.ensures.done words held loaded.0
+    (record { plans = of_files (texts c.args.names.now) _ _ (Ok loaded.0) asks loaded.1.0; is = loaded.1.1.1 }) (c.in-Ok.ensures.files ∙ e)))
+
+pub returns-in-Err-clause-done : goal.returns-in-Err-clause-done
+returns-in-Err-clause-done g c words asks =
+    if_some (g.F.Files.held c.args.files.now) _ (λ held e.
+    refused_done c.in-Err.answer c.refuse.result _ _ _ _ _ _ _ (loading_no_image c.in-Err.answer c.in-Err.ensures.others)
+    (asked_program (Load held (files_named (texts c.args.names.now))) _ c.in-Err.answer (λ result load. of_files (texts c.args.names.now) _ _ result asks load)
+    (at_some _ (g.F.Files.held c.args.files.now) held e c.in-Err.ensures.program)) c.in-Err.ensures.files c.refuse.ensures.line)
+
+pub returns-in-Ok-clause-links : goal.returns-in-Ok-clause-links
+returns-in-Ok-clause-links g c =
+    if_some (g.F.Files.held c.args.files.now) _ (λ held e.
+    let loaded = at_some _ (g.F.Files.held c.args.files.now) held e c.in-Ok.ensures.program in
+    λ members load. inr (told_again held (files_named (texts c.args.names.now)) loaded.0 members loaded.1.0 loaded.1.1.0
+    c.image_answer.ensures.causes.absence.later load))
+
+pub returns-in-Err-clause-links : goal.returns-in-Err-clause-links
+returns-in-Err-clause-links g c =
+    if_some (g.F.Files.held c.args.files.now) _ (λ held e. λ members load.
+    given_or_told c.in-Err.answer c.refuse.result c.refuse.ensures.line
+    (told_refused held (files_named (texts c.args.names.now)) c.in-Err.answer members
+    (at_some _ (g.F.Files.held c.args.files.now) held e c.in-Err.ensures.program) load))
+
+pub returns-in-Err-clause-reported : goal.returns-in-Err-clause-reported
+returns-in-Err-clause-reported g c = reports_of (loading_no_run c.in-Err.answer c.in-Err.ensures.others) c.refuse.ensures.line
+
+pub returns-in-Ok-clause-command : goal.returns-in-Ok-clause-command
+returns-in-Ok-clause-command g c is = command_refuses c.image_answer.result c.image_answer.ensures.no_refusal is
+
+pub returns-in-Err-clause-command : goal.returns-in-Err-clause-command
+returns-in-Err-clause-command g c is = no_command c.in-Err.answer c.refuse.result c.in-Err.ensures.others c.refuse.ensures.line is
+
+pub returns-in-Ok-clause-causes : goal.returns-in-Ok-clause-causes
+returns-in-Ok-clause-causes g c =
+    after_read c.image_answer.result (c.in-Ok.ensures.file_fault.stayed (λ e. cc)) c.in-Ok.ensures.absence.later c.image_answer.ensures.causes
+
+pub returns-in-Err-clause-causes : goal.returns-in-Err-clause-causes
+returns-in-Err-clause-causes g c =
+    refused_ends c.in-Err.answer c.refuse.result (loading_no_write c.in-Err.answer c.in-Err.ensures.others)
+    (loading_no_read c.in-Err.answer c.in-Err.ensures.others) (err_counts c.in-Err.answer FileFault c.in-Err.ensures.file_fault) c.in-Err.ensures.absence
+    (absence_of c.in-Err.answer c.refuse.result c.refuse.ensures.line) c.refuse.ensures.line

@@ -1,0 +1,126 @@
+// What is made of the files that the words name.
+ghost use Rattle.std.specs.Prelude.{◌≡◌, ⊤, IfErr, IfOk, IfSome, IsErrOf};
+ghost use Rattle.icn_host.specs.Counts.{CountsOnce, HasCause, Rose};
+ghost use Rattle.icont_units.specs.Fetching.{IsOfLoading, files_seen, texts};
+ghost use Rattle.icont_units.specs.Files.{files_named, sources_in};
+ghost use Rattle.icont_units.specs.Generated.{GeneratedComes};
+ghost use Rattle.icont_units.specs.Sources.{IsErrOfAbsence};
+ghost use Rattle.icont_units.specs.Units.{Load};
+ghost use Rattle.icont_top.specs.Asking.{AreTranslated, IsProgramOf};
+ghost use Rattle.icont_top.specs.Basing.{first_named};
+
+use crate::programs::{Made, make};
+use crate::writing::{Text, ucode_texts};
+use icn_host::Files;
+use icn_lines::Answer;
+use icn_ucode::one_spelling;
+use icont_units::{File, come, files_named, generated, load, sources_in};
+use std::alloc::{AllocError, Global};
+
+/// A program: its code and its image, and the name of the image where the words say none.
+#[derive(Drop)]
+pub struct Program<'a> {
+    pub made: Made,
+    pub base: &'a str,
+}
+
+/// The ucode texts of the sources that these names name.
+///
+/// # Errors
+///
+/// What refuses the first source that is refused, `FileFault`, or `NoMemory`.
+pub fn translated<F: Files>(
+    alloc: Global,
+    names: &[&str],
+    files: &mut F,
+) -> Result<Vec<Text>, Answer>
+    ensures translated { IfSome (F.held files.old) (λ held. AreTranslated held (texts names.now) result) }
+    ensures others { IfErr result IsOfLoading }
+    ensures files { F.held files.new ≡ F.held files.old }
+    ensures file_fault { CountsOnce (F.faults files.old) (F.faults files.new) (IsErrOf result Answer.FileFault) }
+    ensures absence { HasCause (F.absences files.old) (F.absences files.new) (IsErrOfAbsence result) }
+{
+    one_spelling();
+    let Ok(sources) = named_sources(alloc, names) else {
+        return Err(Answer::NoMemory);
+    };
+    match come(alloc, &sources, files) {
+        Ok(members) => match ucode_texts(alloc, &sources, &members.units) {
+            Ok(texts) => Ok(texts),
+            Err(_) => Err(Answer::NoMemory),
+        },
+        Err(answer) => Err(answer),
+    }
+}
+
+// The sources that these names name.
+fn named_sources<'a>(alloc: Global, names: &[&'a str]) -> Result<Vec<File<'a>>, AllocError>
+    ensures { IfOk result (λ found. files_seen found.items ≡ sources_in (files_named (texts names.now))) }
+{
+    let named = files_named(alloc, names)?;
+    sources_in(alloc, &named)
+}
+
+/// The program of the files that these names name, and of those that they link.
+///
+/// # Errors
+///
+/// What refuses the first file or unit that is refused, the first rule of linking that is broken, the first rule of verified code
+/// that is broken where a unit was read as ucode, `FileFault`, or `NoMemory`.
+pub fn linked_program<'a, F: Files>(
+    alloc: Global,
+    names: &[&'a str],
+    files: &mut F,
+) -> Result<Program<'a>, Answer>
+    ensures program { IfSome (F.held files.old) (λ held. IsProgramOf (Load held (files_named (texts names.now)))
+        (Rose (F.absences files.old) (F.absences files.new)) result) }
+    ensures others { IfErr result IsOfLoading }
+    ensures files { F.held files.new ≡ F.held files.old }
+    ensures file_fault { CountsOnce (F.faults files.old) (F.faults files.new) (IsErrOf result Answer.FileFault) }
+    ensures absence { HasCause (F.absences files.old) (F.absences files.new) (IsErrOfAbsence result) }
+{
+    one_spelling();
+    let Ok(named) = files_named(alloc, names) else {
+        return Err(Answer::NoMemory);
+    };
+    match load(alloc, &named, files) {
+        Ok(members) => match make(alloc, &members) {
+            Ok(made) => Ok(Program {
+                made,
+                base: first_base(&named),
+            }),
+            Err(answer) => Err(answer),
+        },
+        Err(answer) => Err(answer),
+    }
+}
+
+// The base name of the first file.
+fn first_base<'a>(named: &[File<'a>]) -> &'a str
+    ensures { result.now ≡ first_named (files_seen named.now) }
+{
+    match named.first() {
+        Some(file) => file.base,
+        None => "",
+    }
+}
+
+/// The program of a number.
+///
+/// # Errors
+///
+/// A rule that it breaks, or `NoMemory`.
+pub fn numbered_program(alloc: Global, number: u16) -> Result<Program<'static>, Answer>
+    ensures program { IsProgramOf (GeneratedComes number) ⊤ result }
+    ensures others { IfErr result IsOfLoading }
+    ensures no_file { IsErrOf result Answer.FileFault → ⊥ }
+    ensures no_absence { IsErrOfAbsence result → ⊥ }
+{
+    match generated(alloc, number) {
+        Ok(members) => match make(alloc, &members) {
+            Ok(made) => Ok(Program { made, base: "gen" }),
+            Err(answer) => Err(answer),
+        },
+        Err(answer) => Err(answer),
+    }
+}

@@ -1,0 +1,141 @@
+// The program of units: its code and its image.
+ghost use Rattle.std.specs.Prelude.{◌≡◌, ◌⊎◌, List, None, Some, IfOk, IfErr, OnOk};
+ghost use Rattle.icn_code.specs.Seen.{tables_of};
+ghost use Rattle.icn_link.specs.Joined.{joined};
+ghost use Rattle.icn_link.specs.LinkFaults.{first_fault};
+ghost use Rattle.icn_link.specs.Units.{units_seen};
+ghost use Rattle.icn_verify.specs.Faults.{IsVerified};
+ghost use Rattle.icn_lines.specs.declared.answer.Answer.TheVariants.{BadUcode, Refused};
+ghost use Rattle.icont_units.specs.Files.{first_name};
+ghost use Rattle.icont_units.specs.Loading.{IsSound, Stands};
+ghost use Rattle.icont_units.specs.Units.{Member, link_answer, unit_named};
+ghost use Rattle.icont_top.specs.Making.{IsOfLink, Makes, RefusesCode, RefusesLink};
+
+use icn_code::Code;
+use icn_code_sound::joined_code_is_verified;
+use icn_image::write_image;
+use icn_lines::Answer;
+use icn_link::{LinkFault, link};
+use icn_tree::{Bytes, Rule};
+use icn_unit::Unit;
+use icn_verify::{Verified, VerifyFault, one_fault, verify};
+use icont_units::Members;
+use link_laws::translations_join;
+use std::alloc::{AllocError, Global};
+
+/// The code of a program, and its image.
+#[derive(Drop)]
+pub struct Made {
+    pub code: Verified,
+    pub image: Vec<u8>,
+}
+
+/// The code and the image of the program of these units. What is said of it holds of each list of members that the units stand for.
+///
+/// # Errors
+///
+/// `Refused` with the first rule of linking that the units break, told of a unit's base name. `BadUcode` with the first rule of
+/// verified code that their code breaks, told of the first unit that was read as ucode: code of sources alone breaks none. `NoMemory`
+/// where memory ran out.
+pub fn make(alloc: Global, members: &Members) -> Result<Made, Answer>
+    requires sound { IsSound members.now }
+    ensures made { (list : List Member) → Stands members.now list → Makes list result }
+    ensures others { IfErr result IsOfLink }
+{
+    joined_code_is_verified();
+    translations_join();
+    let code = link_members(alloc, &members.units)?;
+    let code = verified(alloc, code, members)?;
+    match write_image(alloc, code.code()) {
+        Ok(image) => Ok(Made { code, image }),
+        Err(_) => Err(Answer::NoMemory),
+    }
+}
+
+// The linked code of units.
+fn link_members(alloc: Global, units: &[Unit]) -> Result<Code, Answer>
+    ensures code { IfOk result (λ code. tables_of code ≡ joined (units_seen units.now)) }
+    ensures fits { OnOk result (first_fault (units_seen units.now) ≡ None) }
+    ensures refused { IfErr result (RefusesLink (units_seen units.now)) }
+    ensures others { IfErr result IsOfLink }
+{
+    match link(alloc, units) {
+        Ok(code) => Ok(code),
+        Err(fault) => Err(not_linked(alloc, units, &fault)),
+    }
+}
+
+// The answer where linking these units finds this fault: told of the later unit, of the one that links, or of the first.
+fn not_linked(alloc: Global, units: &[Unit], fault: &LinkFault) -> Answer
+    ensures given { (result ≡ Answer.NoMemory) ⊎ (link_answer (units_seen units.now) fault.now ≡ Some result) }
+    ensures others { IsOfLink result }
+{
+    match fault {
+        LinkFault::K1 { unit, .. } => refused(alloc, units, *unit, Rule::K1),
+        LinkFault::K2 { unit, .. } => refused(alloc, units, *unit, Rule::K2),
+        LinkFault::K3 { .. } => refused(alloc, units, 0, Rule::K3),
+        LinkFault::NoMemory => Answer::NoMemory,
+    }
+}
+
+// The answer that a rule of linking refuses the unit at this place.
+fn refused(alloc: Global, units: &[Unit], place: u64, rule: Rule) -> Answer
+    ensures { (result ≡ Answer.NoMemory) ⊎ (result ≡ Refused (unit_named (units_seen units.now) place) 0 rule) }
+{
+    match Bytes::from_slice(alloc, name_at(units, place as usize)) {
+        Ok(file) => Answer::Refused {
+            file,
+            line: 0,
+            rule,
+        },
+        Err(_) => Answer::NoMemory,
+    }
+}
+
+// The base name of the unit at this place.
+fn name_at(units: &[Unit], place: usize) -> &[u8]
+    ensures { result.now ≡ unit_named (units_seen units.now) place }
+{
+    match units.get(place) {
+        Some(unit) => unit.name.as_slice(),
+        None => &[],
+    }
+}
+
+// The code as verified code. Where no unit was read as ucode, it breaks no rule.
+fn verified(alloc: Global, code: Code, members: &Members) -> Result<Verified, Answer>
+    requires sources { members.now.first_ucode ≡ None → IsVerified (tables_of code) }
+    ensures same { IfOk result (λ verified. verified.code ≡ code) }
+    ensures verified { OnOk result (IsVerified (tables_of code)) }
+    ensures refused { IfErr result (RefusesCode (units_seen members.now.units.items) members.now.first_ucode (tables_of code)) }
+    ensures others { IfErr result IsOfLink }
+{
+    one_fault();
+    match verify(alloc, code) {
+        Ok(verified) => Ok(verified),
+        Err(VerifyFault::V { rule, .. }) => match members.first_ucode {
+            Some(place) => Err(bad_code(alloc, &members.units, place, rule)),
+            None => unreachable!(),
+        },
+        Err(VerifyFault::NoMemory) => Err(Answer::NoMemory),
+    }
+}
+
+// The answer that a rule of verified code is broken, told of the unit at this place.
+fn bad_code(alloc: Global, units: &[Unit], place: usize, rule: Rule) -> Answer
+    ensures { (result ≡ Answer.NoMemory) ⊎ (result ≡ BadUcode (first_name (unit_named (units_seen units.now) place)) rule) }
+{
+    match first_name(alloc, name_at(units, place)) {
+        Ok(name) => Answer::BadUcode { name, rule },
+        Err(_) => Answer::NoMemory,
+    }
+}
+
+// The name of the first text of the unit of this base.
+fn first_name(alloc: Global, base: &[u8]) -> Result<Bytes, AllocError>
+    ensures { IfOk result (λ name. name ≡ first_name base.now) }
+{
+    let mut name = Vec::from_slice(alloc, base)?;
+    name.extend_from_slice(b".u1")?;
+    Ok(Bytes::new(name))
+}
