@@ -148,7 +148,7 @@ words_no_absence WordsFaults.NoMemory a = a
 abbrev pub OneReading : Type 0
 OneReading = (words : List (List ℕ)) (a b : Reading) → ComeTo words a → ComeTo words b → a ≡ b
 
-faulty_kind : Reading → ℕ → ℕ
+abbrev faulty_kind : Reading → ℕ → ℕ
 faulty_kind (Faulty kind) other = kind
 faulty_kind (Asks task) other = other
 
@@ -195,24 +195,25 @@ said_name (Some said) base name members e b = ap (λ (n : Bor (List ℕ)). n.now
 rose_later : (before now later : ℕ) → Rose before now → now ≤ later → Rose before later
 rose_later before now later r l = omega (arith, r, l)
 
-told_by : {before now later : ℕ} {T : Type 0} → now ≤ later → Rose before now ⊎ T → Rose before later ⊎ T
-told_by {before} {now} {later} l (inl r) = inl (rose_later before now later r l)
-told_by l (inr t) = inr t
+told_by : {T : Type 0} (before now later : ℕ) → now ≤ later → Rose before now ⊎ T → Rose before later ⊎ T
+told_by before now later l (inl r) = inl (rose_later before now later r l)
+told_by before now later l (inr t) = inr t
 
 -- what is told of the members that the files come to is told of each list that they come to
-pub told_again : {before now later : ℕ} (files : FileMap) (named : List File) (members other : List Member) → Load files named (Ok members)
+pub told_again : (before now later : ℕ) (files : FileMap) (named : List File) (members other : List Member) → Load files named (Ok members)
     → IsTold (Rose before now) members → now ≤ later → Load files named (Ok other) → IsTold (Rose before later) other
-told_again {before} {now} {later} files named members other load told l again =
+told_again before now later files named members other load told l again =
     subst (IsTold (Rose before later)) (same_Ok members other (one_load files named (Ok members) (Ok other) load again))
-    (λ unit name e. told_by l (told unit name e))
+    (λ unit name e. told_by before now later l (told unit name e))
 
-pub told_refused : {before now : ℕ} (files : FileMap) (named : List File) (answer : Answer) (other : List Member)
+pub told_refused : (before now : ℕ) (files : FileMap) (named : List File) (answer : Answer) (other : List Member)
     → let found : Result Program Answer = Err answer in IsProgramOf (Load files named) (Rose before now) found → Load files named (Ok other)
     → IsFault answer ⊎ IsTold (Rose before now) other
-told_refused files named answer other (inl f) again = inl f
-told_refused files named answer other (inr (inl load)) again = absurd (ok-err other answer (one_load files named (Ok other) (Err answer) again load))
-told_refused {before} {now} files named answer other (inr (inr some)) again =
-    inr (told_again {before} {now} {now} files named some.0 other some.1.0 some.1.1.0 (omega arith) again)
+told_refused before now files named answer other (inl f) again = inl f
+told_refused before now files named answer other (inr (inl load)) again =
+    absurd (ok-err other answer (one_load files named (Ok other) (Err answer) again load))
+told_refused before now files named answer other (inr (inr some)) again =
+    inr (told_again before now now files named some.0 other some.1.0 some.1.1.0 (omega arith) again)
 
 -- where a fault was answered, a fault is given
 pub given_or_told : {T : Type 0} {before after : SinkState} (answer given : Answer) → PutsRefusal usage [] answer before after given

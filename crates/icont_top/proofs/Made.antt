@@ -13,7 +13,10 @@ use Rattle.icn_link.specs.declared.fault.LinkFault.{LinkFault}
 use Rattle.icn_link.specs.Joined.{joined}
 use Rattle.icn_link.specs.LinkFaults.{first_fault, IsFault as IsLinkFault}
 use Rattle.icn_link.specs.Units.{units_seen}
-use Rattle.icn_verify.specs.Faults.{IsFirstFault, IsVerified}
+use Rattle.icn_verify.specs.declared.fault.VerifyFault.{VerifyFault}
+use Rattle.icn_verify.specs.declared.fault.VerifyFault.TheVariants.{V}
+use Rattle.icn_verify.specs.Faults.{IsVerified}
+use Rattle.icn_verify.specs.Refusals.{Refuses}
 use Rattle.icn_simulation.specs.Law.{IsLinked}
 use Rattle.icn_lines.specs.declared.answer.Answer.{Answer}
 use Rattle.icn_lines.specs.declared.answer.Answer.TheVariants.{BadUcode, NoMemory}
@@ -80,9 +83,12 @@ made_of joins held members made tables stands e fits verified code bytes =
     }
 
 -- the code breaks a rule, which is told of the unit at a place
-pub code_breaks : (units given : List HeldUnit) (first : Option ℕ) (tables : Tables) (place : ℕ) (rule : Rule) (number at : ℕ) (answer : Answer)
-    → given ≡ units → first ≡ Some place → IsFirstFault tables.procs rule number at
-    → (answer ≡ NoMemory) ⊎ (answer ≡ BadUcode (first_name (unit_named (units_seen given) place)) rule) → RefusesCode (units_seen units) first tables answer
-code_breaks units given first tables place rule number at answer same e fault (inl want) = wants want
-code_breaks units given first tables place rule number at answer same e fault (inr told) =
-    breaks place rule number at e fault (subst (λ us. answer ≡ BadUcode (first_name (unit_named (units_seen us) place)) rule) same told)
+pub code_breaks : (units given : List HeldUnit) (first : Option ℕ) (tables : Tables) (place : ℕ) (fault : VerifyFault) (rule told_rule : Rule)
+    (number at : ℕ) (answer : Answer) → told_rule ≡ rule → given ≡ units → first ≡ Some place → fault ≡ V rule number at → Refuses tables.procs fault
+    → (answer ≡ NoMemory) ⊎ (answer ≡ BadUcode (first_name (unit_named (units_seen given) place)) told_rule)
+    → RefusesCode (units_seen units) first tables answer
+code_breaks units given first tables place fault rule told_rule number at answer r same e is refuses (inl want) = wants want
+code_breaks units given first tables place fault rule told_rule number at answer r same e is refuses (inr told) =
+    breaks place rule number at e (subst (Refuses tables.procs) is refuses)
+    (subst (λ us. answer ≡ BadUcode (first_name (unit_named (units_seen us) place)) rule) same
+    (told ∙ ap (λ broken. BadUcode (first_name (unit_named (units_seen given) place)) broken) r))

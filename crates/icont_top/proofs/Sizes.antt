@@ -145,15 +145,15 @@ stops_put Faults.Failed = tt
 stops_put Faults.NoMemory = tt
 
 -- the count of the output rose, if any did
-ends_behind : {left : Option (List ℕ)} {input : ℕ} {before : Handed} {out out' err : SinkState} (fault : Fault) (line : List ℕ)
+ends_behind : (left : Option (List ℕ)) (input : ℕ) (before : Handed) (out out' err : SinkState) (fault : Fault) (line : List ℕ)
     → KeepsAllCounts before (handed left input out err) → LeadsBy fault out out' line
     → RunEnds {A = Ending} (Err (run_fault fault)) before (handed left input out' err)
-ends_behind Faults.Failed line kept stops =
+ends_behind left input before out out' err Faults.Failed line kept stops =
     output_fails kept.faults
     (record { faults = stops.faults ∙ ap one_more kept.output.faults; wants = stops.wants ∙ kept.output.wants }) kept.errors
-ends_behind {before = before} {out} {out'} Faults.NoMemory line kept (inl same) =
+ends_behind left input before out out' err Faults.NoMemory line kept (inl same) =
     uncounted (record { faults = kept.faults; output = subst (λ (sink : SinkState). KeepsCounts before.output sink) (sym same) kept.output; errors = kept.errors })
-ends_behind Faults.NoMemory line kept (inr short) =
+ends_behind left input before out out' err Faults.NoMemory line kept (inr short) =
     output_wants kept.faults
     (record { faults = short.faults ∙ kept.output.faults; wants = short.wants ∙ ap one_more kept.output.wants }) kept.errors
 
@@ -172,16 +172,17 @@ pub sizes_run : {tables : Tables} {launch : Launch} {left : Option (List ℕ)} {
     (n : ℕ) (answer given : Answer) → is_done answer ≡ true → IsRanOrBroken tables launch answer before (handed left input out err)
     → RunEndsAtFirst answer before (handed left input out err) → PutsSizes n given out out' err err'
     → HasRun tables launch (Some n) given before (handed left input out' err')
-sizes_run {before = before} n answer given e run ends (sizes_put same put kept) =
+sizes_run {before = before} {out' = out'} n answer given e run ends (sizes_put same put kept) =
     let was = has_done e run in
     has_ended was.seen was.flat (same ∙ ap (λ ending. Ran (ending_held ending)) (sym was.done)) was.left
-    (subst (λ (behind : List ℕ). Gains _ _ (was.seen.outside.output ++ behind)) (sym (ap (sizes_behind n) was.done)) (gains_then was.output put.gains))
+    (subst (λ (behind : List ℕ). Gains before.output.held out'.held (was.seen.outside.output ++ behind)) (sym (ap (sizes_behind n) was.done))
+    (gains_then was.output put.gains))
     (subst (λ (sink : SinkState). Gains before.errors.held sink.held was.seen.outside.errors) (sym kept) was.errors)
-sizes_run {err = err} n answer given e run ends (sizes_broken fault same leads own) =
+sizes_run {left = left} {input} {before} {out} {out'} {err} n answer given e run ends (sizes_broken fault same leads own) =
     let was = has_done e run in
     let part = part_put fault (sizes_line n) leads in
     was_broken_behind n (run_fault fault) err was.seen refl (stops_put fault) (same ∙ as_run fault)
-    (ends_behind fault (sizes_line n) (counts_kept answer e ends) leads) was.flat
+    (ends_behind left input before out out' err fault (sizes_line n) (counts_kept answer e ends) leads) was.flat
     (record { done = was.done; input = was.left; count = part.count; output = gains_then was.output part.gains; errors = was.errors })
     (puts_own _ _ given own)
 
@@ -199,10 +200,10 @@ pub sizes_reports : {told left : Option (List ℕ)} {input : ℕ} {before : Hand
 sizes_reports {told} {before = before} {err = err} n answer given e ends reports some (sizes_put same put kept) =
     let there : Reports usage [] told before.errors err given = subst (Reports usage [] told before.errors err) (done_of answer e ∙ sym same) reports in
     subst (λ (sink : SinkState). Reports usage [] told before.errors sink given) (sym kept) there
-sizes_reports {left = left} {input} {before} {out' = out'} {err} {err'} n answer given e ends reports some (sizes_broken fault same leads own) =
+sizes_reports {left = left} {input} {before} {out} {out'} {err} {err'} n answer given e ends reports some (sizes_broken fault same leads own) =
     let run = same ∙ as_run fault in
     rw run (fault_reports before (handed left input out' err) err' (run_fault fault)
-    (ends_behind fault (sizes_line n) (counts_kept answer e ends) leads) some (rw run at own))
+    (ends_behind left input before out out' err fault (sizes_line n) (counts_kept answer e ends) leads) some (rw run at own))
 
 pub sizes_counts : {left : Option (List ℕ)} {input : ℕ} {before : Handed} {out out' err err' : SinkState} (n : ℕ) (answer given : Answer)
     → is_done answer ≡ true → RunEndsAtFirst answer before (handed left input out err) → PutsSizes n given out out' err err'
@@ -214,9 +215,9 @@ sizes_counts {before = before} n answer given e ends (sizes_put same put kept) =
       output = record { faults = put.faults ∙ was.output.faults; wants = put.wants ∙ was.output.wants };
       errors = subst (λ (sink : SinkState). KeepsCounts before.errors sink) (sym kept) was.errors;
     }))
-sizes_counts {err = err} {err'} n answer given e ends (sizes_broken fault same leads own) =
+sizes_counts {left} {input} {before} {out} {out'} {err} {err'} n answer given e ends (sizes_broken fault same leads own) =
     let run = same ∙ as_run fault in
-    rw run (broken_counts err err' (run_fault fault) (ends_behind fault (sizes_line n) (counts_kept answer e ends) leads) (rw run at own))
+    rw run (broken_counts err err' (run_fault fault) (ends_behind left input before out out' err fault (sizes_line n) (counts_kept answer e ends) leads) (rw run at own))
 
 put_of_run : (fault : Fault) → IsOfRun (put_answer fault)
 put_of_run Faults.Failed = tt

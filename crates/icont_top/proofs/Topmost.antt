@@ -200,15 +200,15 @@ writes_part name bytes plan members b e sets =
 
 -- the file that was written holds what was written
 written_there : {held held' : Option FileMap} (files : FileMap) (next : Written) → held ≡ Some files → WritesAll held held' (next ∷ []) → HoldsNow held' next
-written_there files next e writes =
-    let follows = rw e at writes.follows in
+written_there files next e sets =
+    let follows = rw e at sets.follows in
     (follows.0, follows.1, follows.2 next.name ∙ cond-true (bytes_eq next.name next.name) _ _ ((bytes_eq-Decides next.name next.name).1 refl))
 
 holds_image : {words : List (List ℕ)} {files : FileMap} {held held' : Option FileMap} (members : List Member) (plan : PlanHeld) (program : Program)
     → ReadBack → EndsAlike → IsReady words files members plan program → held ≡ Some files
     → WritesAll held held' (plan_file plan members ∷ []) → HoldsWritten words files held'
-holds_image {files = files} members plan program back alike ready e writes =
-    HoldsWritten.image (plan_seen plan) members (linked members) (planned ready) (written_there files (plan_file plan members) e writes)
+holds_image {files = files} members plan program back alike ready e sets =
+    HoldsWritten.image (plan_seen plan) members (linked members) (planned ready) (written_there files (plan_file plan members) e sets)
     (is_image members program back alike ready.is)
 
 -- Outcomes of a program

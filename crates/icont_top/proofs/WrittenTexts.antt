@@ -1,6 +1,6 @@
 -- The ucode texts of units, and what writing them one after the other leaves.
 use Rattle.std.proofs.Common.{◌≡◌, ℕ, zero, suc, ◌<◌, Bool, true, false, cond, List, [], ◌∷◌, ◌++◌, map, length, drop, Option, None, Some, refl, sym, ap, ◌∙◌, subst, arith, append_assoc, append-nil}
-use Rattle.std.specs.Prelude.{All, slice_index_or}
+use Rattle.std.specs.Prelude.{All, slice_index_or, string_bytes}
 use Rattle.std.specs.List.{flat_map}
 use Rattle.std.specs.Map.{update}
 use Rattle.std.specs.Str.{bytes_eq}
@@ -18,7 +18,8 @@ use Rattle.icont_units.specs.Fetching.{files_seen}
 use Rattle.icont_units.specs.Units.{Member, unit_of, unit_texts, units_of}
 use Rattle.icont_top.specs.Job.{Written, as_written, ucode_files}
 use Rattle.icont_top.specs.Outcomes.{IsReadBack, WritesAll, WritesPart, written_over}
-use Rattle.icont_top.specs.Writing.{bases, unit_written, units_written}
+use Rattle.icont_top.specs.declared.writing.Text.{Text}
+use Rattle.icont_top.specs.Writing.{bases, text_seen, texts_seen, unit_written, units_written}
 
 -- Texts
 
@@ -82,11 +83,11 @@ one_read : (member : Member) (members : List Member) → IsReadBack member → A
 one_read member members h k zero d l = h
 one_read member members h k (suc i) d l = k i d (omega (arith, l))
 
-head_same : (a b : UnitRead) (as bs : List UnitRead) → a ∷ as ≡ b ∷ bs → a ≡ b
-head_same a b as bs e = ap (λ units. elim units [ [] ↦ a | x ∷ xs ↦ x ]) e
+head_same : (a b : UnitRead) (us vs : List UnitRead) → a ∷ us ≡ b ∷ vs → a ≡ b
+head_same a b us vs e = ap (λ units. elim units [ [] ↦ a | x ∷ xs ↦ x ]) e
 
-tail_same : (a b : UnitRead) (as bs : List UnitRead) → a ∷ as ≡ b ∷ bs → as ≡ bs
-tail_same a b as bs e = ap (λ units. elim units [ [] ↦ as | x ∷ xs ↦ xs ]) e
+tail_same : (a b : UnitRead) (us vs : List UnitRead) → a ∷ us ≡ b ∷ vs → us ≡ vs
+tail_same a b us vs e = ap (λ units. elim units [ [] ↦ us | x ∷ xs ↦ xs ]) e
 
 none-some-unit : (unit : UnitRead) (units : List UnitRead) → ◌≡◌ {A = List UnitRead} [] (unit ∷ units) → ⊥
 none-some-unit unit units e = cc
@@ -173,3 +174,21 @@ wrote_part {before = before} {now} {after} {all} next rest some sets = record {
       let alike : (q : List ℕ) → files q ≡ written_over old some.done q = λ q. ap (λ (m : FileMap). m q) same ∙ f.2 q in
       (g.0, g.1, (g.2.0, subst (λ was. IsLeftBehind was next.bytes g.2.0) (alike next.name) g.2.1,
       λ q. g.2.2 q ∙ update_alike files (written_over old some.done) next.name g.2.0 q (alike q)))
+
+-- a text of a list of texts
+
+pub text_more : {before now after : Option FileMap} {all : List Written} (text : Text) (others rest : List Text) (name bytes : List ℕ)
+    → WritesSome before now all (texts_seen rest) → rest ≡ text ∷ others → name ≡ string_bytes text.name → bytes ≡ text.bytes.items
+    → Sets now after name bytes → WritesSome before after all (texts_seen others)
+text_more {before} {now} {after} {all} text others rest name bytes some e n b sets =
+    let from : WritesSome before now all (texts_seen (text ∷ others)) = subst (λ list. WritesSome before now all (texts_seen list)) e some in
+    let set : Sets now after (string_bytes text.name) text.bytes.items = rw (n, b) at sets in
+    wrote_more (text_seen text) (texts_seen others) from set
+
+pub text_part : {before now after : Option FileMap} {all : List Written} (text : Text) (others rest : List Text) (name bytes : List ℕ)
+    → WritesSome before now all (texts_seen rest) → rest ≡ text ∷ others → name ≡ string_bytes text.name → bytes ≡ text.bytes.items
+    → SetsPart now after name bytes → WritesPart before after all
+text_part {before} {now} {after} {all} text others rest name bytes some e n b sets =
+    let from : WritesSome before now all (texts_seen (text ∷ others)) = subst (λ list. WritesSome before now all (texts_seen list)) e some in
+    let set : SetsPart now after (string_bytes text.name) text.bytes.items = rw (n, b) at sets in
+    wrote_part (text_seen text) (texts_seen others) from set

@@ -283,7 +283,7 @@ fn image_answer<F: Files, I: Source, O: Sink, E: Sink>(
     same_ends();
     match files.write(plan.image.unwrap_or(program.base), &program.made.image) {
         Ok(()) => match plan.run {
-            Some(run) => ran_answer(alloc, &program.made.code, run, plan.number, input, out, err),
+            Some(asked) => ran_answer(alloc, &program.made.code, asked, plan.number, input, out, err),
             None => Answer::Wrote,
         },
         Err(fault) => torn_answer(fault, err),
@@ -314,7 +314,7 @@ fn ran_answer<I: Source, O: Sink, E: Sink>(
     out: &mut O,
     err: &mut E,
 ) -> Answer
-    ensures ran { IfSome (I.left input.old) (λ left. HasRun (tables_of code.now.code) (launched (run_seen run.entry) left) number.entry result
+    ensures ran { IfSome (I.left input.old) (λ left. HasRun (tables_of code.now.code) (launched (run_seen run.entry) left) number result
         (handed (I.left input.old) (I.faults input.old) (O.state out.old) (E.state err.old))
         (handed (I.left input.new) (I.faults input.new) (O.state out.new) (E.state err.new))) }
     ensures reported { Reports usage [] (I.left input.old) (E.state err.old) (E.state err.new) result }
@@ -324,13 +324,15 @@ fn ran_answer<I: Source, O: Sink, E: Sink>(
         (handed (I.left input.new) (I.faults input.new) (O.state out.new) (E.state err.new)) }
 {
     let answer = run_answer(alloc, code, run, input, out, err);
-    let Some(number) = number else {
-        return answer;
-    };
-    if is_done(&answer) {
-        sizes_answer(alloc, number, out, err)
-    } else {
-        answer
+    match number {
+        Some(number) => {
+            if is_done(&answer) {
+                sizes_answer(alloc, number, out, err)
+            } else {
+                answer
+            }
+        }
+        None => answer,
     }
 }
 

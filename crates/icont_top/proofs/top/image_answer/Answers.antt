@@ -11,7 +11,7 @@ use Rattle.icont_top.proofs.top.image_answer.Goals as goal
 
 pub returns-in-Some-clause-done : goal.returns-in-Some-clause-done
 returns-in-Some-clause-done g c words held members ready e =
-    ran_done members c.args.plan c.args.program.now (run_seen c.in-Some.run) c.ran_answer.result _ _ c.one_spelling.ensures.read_back
+    ran_done members c.args.plan c.args.program.now (run_seen c.in-Some.asked) c.ran_answer.result _ _ c.one_spelling.ensures.read_back
     c.same_ends.ensures.on_stacks ready e
     (writes_image _ _ c.args.plan members (said_name c.args.plan.image c.args.program.now.base _ members c.unwrap_or.ensures ready.is.base)
     (c.deref.ensures.value ∙ ready.is.made.bytes) c.in-Ok.ensures.ok)

@@ -28,14 +28,14 @@ pub returns-in-Ok-clause-links : goal.returns-in-Ok-clause-links
 returns-in-Ok-clause-links g c =
     if_some (g.F.Files.held c.args.files.now) _ (λ held e.
     let loaded = at_some _ (g.F.Files.held c.args.files.now) held e c.in-Ok.ensures.program in
-    λ members load. inr (told_again held (files_named (texts c.args.names.now)) loaded.0 members loaded.1.0 loaded.1.1.0
+    λ members load. inr (told_again _ _ _ held (files_named (texts c.args.names.now)) loaded.0 members loaded.1.0 loaded.1.1.0
     c.image_answer.ensures.causes.absence.later load))
 
 pub returns-in-Err-clause-links : goal.returns-in-Err-clause-links
 returns-in-Err-clause-links g c =
     if_some (g.F.Files.held c.args.files.now) _ (λ held e. λ members load.
     given_or_told c.in-Err.answer c.refuse.result c.refuse.ensures.line
-    (told_refused held (files_named (texts c.args.names.now)) c.in-Err.answer members
+    (told_refused _ _ held (files_named (texts c.args.names.now)) c.in-Err.answer members
     (at_some _ (g.F.Files.held c.args.files.now) held e c.in-Err.ensures.program) load))
 
 pub returns-in-Err-clause-reported : goal.returns-in-Err-clause-reported

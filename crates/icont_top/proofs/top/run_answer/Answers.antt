@@ -1,5 +1,6 @@
 use Rattle.std.proofs.Common.{ap, refl}
-use Rattle.icn_value.specs.Limited.{Bounds}
+use Rattle.icn_value.specs.Limited.{Bounds, limits_of}
+use Rattle.icn_defs.specs.Running.{launch_of}
 use Rattle.icn_code.specs.Seen.{tables_of}
 use Rattle.icn_lines.proofs.Counted.{broken_counts, ran_counts}
 use Rattle.icn_lines.proofs.Reports.{fault_reports, ran_reports}
@@ -12,13 +13,13 @@ pub returns-in-Ok-clause-ran : goal.returns-in-Ok-clause-ran
 returns-in-Ok-clause-ran g c =
     if_some (g.I.Source.left c.args.input.now) _ (λ left d.
     run_ended (tables_of c.args.code.now.code) (run_seen c.args.asked) left _ c.in-Ok.ending
-    (ap (λ (bounds : Bounds). record bounds { turns = c.args.asked.turns }) c.standard.ensures) (c.in-Ok.ensures.ends left d))
+    (ap (λ (bounds : Bounds). record bounds { turns = c.args.asked.turns }) c.standard-standard.ensures) (c.in-Ok.ensures.ends left d))
 
 pub returns-in-Err-clause-ran : goal.returns-in-Err-clause-ran
 returns-in-Err-clause-ran g c =
     if_some (g.I.Source.left c.args.input.now) _ (λ left d.
     rw c.answer_of-answer.ensures (run_broken (tables_of c.args.code.now.code) (run_seen c.args.asked) left _ c.in-Err.fault _ _ _
-    (ap (λ (bounds : Bounds). record bounds { turns = c.args.asked.turns }) c.standard.ensures) c.in-Err.ensures.first_fault
+    (ap (λ (bounds : Bounds). record bounds { turns = c.args.asked.turns }) c.standard-standard.ensures) c.in-Err.ensures.first_fault
     (c.in-Err.ensures.breaks left d) (rw c.answer_of-answer.ensures at c.own_line.ensures.puts) refl))
 
 pub returns-in-Ok-clause-reported : goal.returns-in-Ok-clause-reported
@@ -27,7 +28,8 @@ returns-in-Ok-clause-reported g c = ran_reports c.in-Ok.ending (if_some (g.I.Sou
 pub returns-in-Err-clause-reported : goal.returns-in-Err-clause-reported
 returns-in-Err-clause-reported g c =
     rw c.answer_of-answer.ensures (fault_reports _ _ _ c.in-Err.fault c.in-Err.ensures.first_fault
-    (if_some (g.I.Source.left c.args.input.now) _ (λ left d. off_puts (tables_of c.args.code.now.code) _ c.in-Err.fault _ _ (c.in-Err.ensures.breaks left d)))
+    (if_some (g.I.Source.left c.args.input.now) _ (λ left d. off_puts (tables_of c.args.code.now.code)
+    (launch_of (run_seen c.args.asked).arguments (record (limits_of c.standard-standard.result) { turns = c.args.asked.turns }) left) c.in-Err.fault _ _ (c.in-Err.ensures.breaks left d)))
     (rw c.answer_of-answer.ensures at c.own_line.ensures.puts))
 
 pub returns-in-Ok-clause-causes : goal.returns-in-Ok-clause-causes
