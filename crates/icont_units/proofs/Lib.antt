@@ -16,3 +16,6 @@ pub mod GivenLines
 pub mod FaultlessFiles
 pub mod NoFaults
 pub mod GeneratedUnit
+pub mod KnownBases
+pub mod NamedMembers
+pub mod LinkedMembers

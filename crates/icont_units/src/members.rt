@@ -1,9 +1,7 @@
 // The units of a command.
-ghost use Rattle.std.specs.Prelude.{◌≡◌, ◌≤◌, ◌⊎◌, List, Err, IfSome, IfOk, IfErr, IsErrOf, OnOk, OnErr};
+ghost use Rattle.std.specs.Prelude.{◌≡◌, List, Err, IfSome, IfOk, IfErr, IsErrOf, OnOk};
 ghost use Rattle.icn_host.specs.Counts.{CountsOnce, HasCause};
-ghost use Rattle.icn_tree.specs.TreeOf.{declarations_of};
 ghost use Rattle.icn_link.specs.Units.{unit_seen};
-ghost use Rattle.icn_translate.specs.FileUnits.{translated_unit};
 ghost use Rattle.icont_units.specs.Fetching.{file_seen, files_seen, IsOfLoading};
 ghost use Rattle.icont_units.specs.Files.{source, ucode};
 ghost use Rattle.icont_units.specs.Loading.{AreSought, IsCome, IsLoaded, IsRead, IsSound, Stands, kept_of, with_source, with_ucode};
@@ -35,7 +33,6 @@ pub struct Members {
 ///
 /// `Missing` where a named file is not there, `Refused` with the first rule that a source breaks, `BadUcode` with the first that the
 /// texts of a unit break, `FileFault` where the store failed, `NoMemory`. A linked file that is not there is no error here.
-#[tactic(none)]
 pub fn load<F: Files>(alloc: Global, named: &[File<'_>], files: &mut F) -> Result<Members, Answer>
     ensures loaded { IfSome (F.held files.old) (λ held. IsLoaded held (files_seen named.now) result) }
     ensures sound { IfOk result IsSound }
@@ -55,7 +52,6 @@ pub fn load<F: Files>(alloc: Global, named: &[File<'_>], files: &mut F) -> Resul
 /// # Errors
 ///
 /// Those of `load`.
-#[tactic(none)]
 pub fn come<F: Files>(alloc: Global, named: &[File<'_>], files: &mut F) -> Result<Members, Answer>
     ensures come { IfSome (F.held files.old) (λ held. IsCome held (files_seen named.now) result) }
     ensures sound { IfOk result IsSound }
@@ -75,7 +71,6 @@ pub fn come<F: Files>(alloc: Global, named: &[File<'_>], files: &mut F) -> Resul
 }
 
 // Adds the unit of a named file.
-#[tactic(none)]
 fn add_file<F: Files>(
     alloc: Global,
     file: &File<'_>,
@@ -97,7 +92,6 @@ fn add_file<F: Files>(
 }
 
 // Adds the unit of the source of this base name.
-#[tactic(none)]
 fn add_source<F: Files>(
     alloc: Global,
     base: &str,
@@ -120,7 +114,6 @@ fn add_source<F: Files>(
 }
 
 // Adds the unit of this base name that is there as ucode.
-#[tactic(none)]
 fn add_named<F: Files>(
     alloc: Global,
     base: &str,
@@ -140,7 +133,6 @@ fn add_named<F: Files>(
 }
 
 // Adds the unit of a source.
-#[tactic(none)]
 fn push_source(members: &mut Members, unit: Unit) -> Result<(), Answer>
     ensures added { OnOk result (kept_of members.new ≡ with_source (kept_of members.old) (unit_seen unit)) }
     ensures others { IfErr result (λ answer. answer ≡ Answer.NoMemory) }
@@ -152,7 +144,6 @@ fn push_source(members: &mut Members, unit: Unit) -> Result<(), Answer>
 }
 
 /// Adds a unit that was read as ucode.
-#[tactic(none)]
 pub fn push_ucode(members: &mut Members, unit: Unit) -> Result<(), Answer>
     ensures added { OnOk result (kept_of members.new ≡ with_ucode (kept_of members.old) (unit_seen unit)) }
     ensures others { IfErr result (λ answer. answer ≡ Answer.NoMemory) }

@@ -1,16 +1,15 @@
 // The units that a command links.
 ghost use Rattle.std.specs.Prelude.{◌≡◌, ◌≤◌, ◌<◌, ◌++◌, ◌∷◌, [], ℕ, false, List, not, map, vec_len, IfSome, IfOk, IfErr, IsErrOf, OnOk};
 ghost use Rattle.std.specs.List.{flat_map, list_any};
-ghost use Rattle.std.specs.Option.{option_map};
 ghost use Rattle.std.specs.Str.{bytes_eq};
 ghost use Rattle.icn_host.specs.Counts.{CountsOnce};
 ghost use Rattle.icn_unit.specs.UnitViews.{decl_seen};
 ghost use Rattle.icn_link.specs.Gathering.{with_text, with_texts};
 ghost use Rattle.icn_link.specs.LinkFaults.{base_of, unit_names};
-ghost use Rattle.icn_link.specs.Units.{unit_seen, units_seen};
+ghost use Rattle.icn_link.specs.Units.{units_seen};
 ghost use Rattle.icont_units.specs.Fetching.{IsOfLinked};
 ghost use Rattle.icont_units.specs.Loading.{AreSought, Grows, IsGathered, IsSought, IsSound, Knows, Stands, kept_of, texts_in, links_at};
-ghost use Rattle.icont_units.specs.Units.{IsAbsent, Member, link_in, links_in, links_of};
+ghost use Rattle.icont_units.specs.Units.{IsAbsent, Member, link_in, links_in};
 
 use crate::members::{Members, push_ucode};
 use crate::ucode::linked_unit;
@@ -27,7 +26,6 @@ use std::alloc::{AllocError, Global};
 /// # Errors
 ///
 /// `BadUcode` with the first rule that the texts of a unit break, `FileFault` where the store failed, `NoMemory`.
-#[tactic(none)]
 pub fn gather<F: Files>(alloc: Global, members: &mut Members, files: &mut F) -> Result<(), Answer>
     ensures gathered { IfSome (F.held files.old) (λ held. (before : List Member) → Stands members.old before
         → IsGathered held before (links_in before) members.new result) }
@@ -50,7 +48,6 @@ pub fn gather<F: Files>(alloc: Global, members: &mut Members, files: &mut F) -> 
 }
 
 // The base names of units.
-#[tactic(none)]
 fn names_of(alloc: Global, units: &[Unit]) -> Result<IndexSet<Vec<u8>>, AllocError>
     ensures { IfOk result (λ known. texts_in known.keys ≡ with_texts [] (unit_names (units_seen units.now))) }
 {
@@ -62,7 +59,6 @@ fn names_of(alloc: Global, units: &[Unit]) -> Result<IndexSet<Vec<u8>>, AllocErr
 }
 
 // Adds a base, and tells whether it is new.
-#[tactic(none)]
 fn enter(alloc: Global, known: &mut IndexSet<Vec<u8>>, base: &[u8]) -> Result<bool, AllocError>
     ensures new { IfOk result (λ is_new. is_new ≡ not (list_any (bytes_eq base.now) (texts_in known.old.keys))) }
     ensures known { OnOk result (texts_in known.new.keys ≡ with_text (texts_in known.old.keys) base.now) }
@@ -73,7 +69,6 @@ fn enter(alloc: Global, known: &mut IndexSet<Vec<u8>>, base: &[u8]) -> Result<bo
 }
 
 // Adds the units that the unit at this place links.
-#[tactic(none)]
 fn gather_unit<F: Files>(
     alloc: Global,
     place: usize,
@@ -98,7 +93,6 @@ fn gather_unit<F: Files>(
 }
 
 // The bases that declarations link. They are copied, since the units grow while they are looked for.
-#[tactic(none)]
 fn linked_bases(alloc: Global, decls: &[UnitDecl]) -> Result<Vec<Vec<u8>>, AllocError>
     ensures { IfOk result (λ bases. texts_in bases.items ≡ flat_map link_in (map decl_seen decls.now)) }
 {
@@ -110,7 +104,6 @@ fn linked_bases(alloc: Global, decls: &[UnitDecl]) -> Result<Vec<Vec<u8>>, Alloc
 }
 
 // Adds the base that a declaration links.
-#[tactic(none)]
 fn push_link(alloc: Global, bases: &mut Vec<Vec<u8>>, decl: &UnitDecl) -> Result<(), AllocError>
     ensures { OnOk result (texts_in bases.new.items ≡ texts_in bases.old.items ++ link_in (decl_seen decl.now)) }
 {
@@ -120,7 +113,6 @@ fn push_link(alloc: Global, bases: &mut Vec<Vec<u8>>, decl: &UnitDecl) -> Result
     }
 }
 
-#[tactic(none)]
 fn push_base(alloc: Global, bases: &mut Vec<Vec<u8>>, base: &[u8]) -> Result<(), AllocError>
     ensures { OnOk result (texts_in bases.new.items ≡ texts_in bases.old.items ++ base.now ∷ []) }
 {
@@ -130,7 +122,6 @@ fn push_base(alloc: Global, bases: &mut Vec<Vec<u8>>, base: &[u8]) -> Result<(),
 }
 
 // Adds the units of these bases.
-#[tactic(none)]
 fn gather_bases<F: Files>(
     alloc: Global,
     bases: &[Vec<u8>],
@@ -154,7 +145,6 @@ fn gather_bases<F: Files>(
 }
 
 // Adds the unit of a base, where it is new and its texts are there.
-#[tactic(none)]
 fn gather_base<F: Files>(
     alloc: Global,
     base: &[u8],
@@ -179,7 +169,6 @@ fn gather_base<F: Files>(
 }
 
 // Adds the unit of a base that is new, where its texts are there.
-#[tactic(none)]
 fn add_linked<F: Files>(
     alloc: Global,
     base: &[u8],
