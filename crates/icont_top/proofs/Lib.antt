@@ -16,3 +16,4 @@ mod Topmost
 mod UnitsAgain
 mod WrittenUnits
 mod WrittenTexts
+mod WholeCommand

@@ -283,7 +283,15 @@ fn image_answer<F: Files, I: Source, O: Sink, E: Sink>(
     same_ends();
     match files.write(plan.image.unwrap_or(program.base), &program.made.image) {
         Ok(()) => match plan.run {
-            Some(asked) => ran_answer(alloc, &program.made.code, asked, plan.number, input, out, err),
+            Some(asked) => ran_answer(
+                alloc,
+                &program.made.code,
+                asked,
+                plan.number,
+                input,
+                out,
+                err,
+            ),
             None => Answer::Wrote,
         },
         Err(fault) => torn_answer(fault, err),
