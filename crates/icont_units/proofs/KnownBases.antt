@@ -60,15 +60,18 @@ not_false false h = h
 
 -- Members of a table of texts
 
-behind : (base other : List ℕ) (known : List (List ℕ)) → list_any (bytes_eq other) (known ++ base ∷ []) ≡ (list_any (bytes_eq other) known || bytes_eq other base)
-behind base other known = list_any-append (bytes_eq other) known (base ∷ []) ∙ ap (λ t. list_any (bytes_eq other) known || t) (or_false (bytes_eq other base))
+behind : (base other : List ℕ) (known : List (List ℕ))
+    → list_any (bytes_eq other) (known ++ base ∷ []) ≡ (list_any (bytes_eq other) known || bytes_eq other base)
+behind base other known = list_any-append (bytes_eq other) known (base ∷ [])
+    ∙ ap (λ t. list_any (bytes_eq other) known || t) (or_false (bytes_eq other base))
 
 one_among : (known : List (List ℕ)) (text name : List ℕ)
     → list_any (bytes_eq name) (with_text known text) ≡ (list_any (bytes_eq name) known || bytes_eq name text)
 one_among known text name = by (list_any (bytes_eq text) known) refl
   where
     by : (test : Bool) → list_any (bytes_eq text) known ≡ test
-        → list_any (bytes_eq name) (if test then known else known ++ text ∷ []) ≡ (list_any (bytes_eq name) known || bytes_eq name text)
+        → list_any (bytes_eq name) (if test then known else known ++ text ∷ []) ≡
+        (list_any (bytes_eq name) known || bytes_eq name text)
     by true e = or_held (list_any (bytes_eq name) known) (bytes_eq name text)
         (λ same. ap (λ t. list_any (bytes_eq t) known) ((bytes_eq-Decides name text).0 same) ∙ e)
     by false e = behind text name known
@@ -82,15 +85,18 @@ among known (text ∷ texts) name =
     ∙ or_or (list_any (bytes_eq name) known) (bytes_eq name text) (list_any (bytes_eq name) texts)
 
 -- what was entered is known
-pub is_known : (k bases known : List (List ℕ)) (name : List ℕ) → known ≡ with_texts k bases → list_any (bytes_eq name) bases ≡ true → list_any (bytes_eq name) known ≡ true
+pub is_known : (k bases known : List (List ℕ)) (name : List ℕ) → known ≡ with_texts k bases
+    → list_any (bytes_eq name) bases ≡ true → list_any (bytes_eq name) known ≡ true
 is_known k bases known name is t =
-    ap (list_any (bytes_eq name)) is ∙ (among k bases name ∙ (ap (λ x. list_any (bytes_eq name) k || x) t ∙ or_true (list_any (bytes_eq name) k)))
+    ap (list_any (bytes_eq name)) is ∙ (among k bases name
+    ∙ (ap (λ x. list_any (bytes_eq name) k || x) t ∙ or_true (list_any (bytes_eq name) k)))
 
 pub with_both : (known a b : List (List ℕ)) → with_texts (with_texts known a) b ≡ with_texts known (a ++ b)
 with_both known [] b = refl
 with_both known (text ∷ a) b = with_both (with_text known text) a b
 
-pub with_new : (known : List (List ℕ)) (base : List ℕ) → list_any (bytes_eq base) known ≡ false → with_text known base ≡ known ++ base ∷ []
+pub with_new : (known : List (List ℕ)) (base : List ℕ) → list_any (bytes_eq base) known ≡ false
+    → with_text known base ≡ known ++ base ∷ []
 with_new known base e = ap (λ test. if test then known else known ++ base ∷ []) e
 
 pub with_known : (known : List (List ℕ)) (base : List ℕ) → list_any (bytes_eq base) known ≡ true → with_text known base ≡ known
@@ -98,11 +104,13 @@ with_known known base e = ap (λ test. if test then known else known ++ base ∷
 
 -- A set of owned texts, seen as a list
 
-any_seen : {Y : Type 0} (text : List ℕ) (keys : List (Vec ℕ Y)) → list_any (λ key. bytes_eq text key.items) keys ≡ list_any (bytes_eq text) (texts_in keys)
+any_seen : {Y : Type 0} (text : List ℕ) (keys : List (Vec ℕ Y))
+    → list_any (λ key. bytes_eq text key.items) keys ≡ list_any (bytes_eq text) (texts_in keys)
 any_seen text [] = refl
 any_seen text (key ∷ keys) = ap (λ found. bytes_eq text key.items || found) (any_seen text keys)
 
-pub texts_behind : {Y : Type 0} (keys : List (Vec ℕ Y)) (key : Vec ℕ Y) → texts_in (keys ++ key ∷ []) ≡ texts_in keys ++ key.items ∷ []
+pub texts_behind : {Y : Type 0} (keys : List (Vec ℕ Y)) (key : Vec ℕ Y)
+    → texts_in (keys ++ key ∷ []) ≡ texts_in keys ++ key.items ∷ []
 texts_behind [] key = refl
 texts_behind (other ∷ keys) key = ap (λ texts. other.items ∷ texts) (texts_behind keys key)
 
@@ -116,16 +124,19 @@ pub entered : {Y : Type 0} (keys new : List (Vec ℕ Y)) (key : Vec ℕ Y) (base
     → new ≡ insert_key (λ a b. bytes_eq a.items b.items) keys key → texts_in new ≡ with_text (texts_in keys) base
 entered keys new key base is e =
     ap texts_in e ∙ (seen_by (list_any (λ other. bytes_eq key.items other.items) keys) keys key
-    ∙ ap (λ test. if test then texts_in keys else texts_in keys ++ key.items ∷ []) (any_seen key.items keys)) ∙ ap (with_text (texts_in keys)) is
+    ∙ ap (λ test. if test then texts_in keys else texts_in keys ++ key.items ∷ []) (any_seen key.items keys))
+    ∙ ap (with_text (texts_in keys)) is
 
 pub is_new : {Y : Type 0} (keys : List (Vec ℕ Y)) (key : Vec ℕ Y) (base : List ℕ) (found : Bool) → key.items ≡ base
-    → found ≡ not (list_any (λ other. bytes_eq key.items other.items) keys) → found ≡ not (list_any (bytes_eq base) (texts_in keys))
+    → found ≡ not (list_any (λ other. bytes_eq key.items other.items) keys)
+    → found ≡ not (list_any (bytes_eq base) (texts_in keys))
 is_new keys key base found is e = e ∙ ap not (any_seen key.items keys ∙ ap (λ text. list_any (bytes_eq text) (texts_in keys)) is)
 
 -- What is known
 
 -- at first the bases that have a unit, and no others
-pub knows_units : (IsLost : List ℕ → Type 0) (units : List UnitRead) (known : List (List ℕ)) → known ≡ with_texts [] (unit_names units) → Knows IsLost units known
+pub knows_units : (IsLost : List ℕ → Type 0) (units : List UnitRead) (known : List (List ℕ))
+    → known ≡ with_texts [] (unit_names units) → Knows IsLost units known
 knows_units IsLost units known is = record {
   met = λ base t. inl (sym (same base) ∙ t);
   new = λ base t. sym (same base) ∙ t;
@@ -137,7 +148,8 @@ weaker : {A B C : Type 0} → (B → C) → A ⊎ B → A ⊎ C
 weaker f (inl a) = inl a
 weaker f (inr b) = inr (f b)
 
-pub knows_weaker : (IsLost IsGone : List ℕ → Type 0) (units : List UnitRead) (known : List (List ℕ)) → ((base : List ℕ) → IsLost base → IsGone base)
+pub knows_weaker : (IsLost IsGone : List ℕ → Type 0) (units : List UnitRead) (known : List (List ℕ))
+    → ((base : List ℕ) → IsLost base → IsGone base)
     → Knows IsLost units known → Knows IsGone units known
 knows_weaker IsLost IsGone units known f k = record { met = λ base t. weaker (f base) (k.met base t); new = k.new }
 
@@ -145,10 +157,13 @@ knows_weaker IsLost IsGone units known f k = record { met = λ base t. weaker (f
 pub knows_lost : (IsLost : List ℕ → Type 0) (units : List UnitRead) (known : List (List ℕ)) (base : List ℕ) → IsLost base
     → Knows IsLost units known → Knows IsLost units (known ++ base ∷ [])
 knows_lost IsLost units known base lost k = record {
-  met = λ other t. met other (or_cases (list_any (bytes_eq other) known) (bytes_eq other base) (sym (behind base other known) ∙ t));
-  new = λ other t. k.new other (or_left (list_any (bytes_eq other) known) (bytes_eq other base) (sym (behind base other known) ∙ t));
+  met = λ other t. met other (or_cases (list_any (bytes_eq other) known) (bytes_eq other base)
+      (sym (behind base other known) ∙ t));
+  new = λ other t. k.new other (or_left (list_any (bytes_eq other) known) (bytes_eq other base)
+      (sym (behind base other known) ∙ t));
 } where
-  met : (other : List ℕ) → (list_any (bytes_eq other) known ≡ true) ⊎ (bytes_eq other base ≡ true) → (list_any (bytes_eq other) (unit_names units) ≡ true) ⊎ IsLost other
+  met : (other : List ℕ) → (list_any (bytes_eq other) known ≡ true) ⊎ (bytes_eq other base ≡ true)
+      → (list_any (bytes_eq other) (unit_names units) ≡ true) ⊎ IsLost other
   met other (inl t) = k.met other t
   met other (inr t) = inr (subst IsLost (sym ((bytes_eq-Decides other base).0 t)) lost)
 
@@ -157,26 +172,34 @@ names_behind [] unit = refl
 names_behind (first ∷ units) unit = ap (λ names. first.name ∷ names) (names_behind units unit)
 
 -- a base whose unit was read
-pub knows_unit : (IsLost : List ℕ → Type 0) (units more : List UnitRead) (known : List (List ℕ)) (base : List ℕ) (unit : UnitRead) → unit.name ≡ base
+pub knows_unit : (IsLost : List ℕ → Type 0) (units more : List UnitRead) (known : List (List ℕ)) (base : List ℕ)
+    (unit : UnitRead) → unit.name ≡ base
     → more ≡ units ++ unit ∷ [] → Knows IsLost units known → Knows IsLost more (known ++ base ∷ [])
 knows_unit IsLost units more known base unit named is k = record {
-  met = λ other t. met other (or_cases (list_any (bytes_eq other) known) (bytes_eq other base) (sym (behind base other known) ∙ t));
+  met = λ other t. met other (or_cases (list_any (bytes_eq other) known) (bytes_eq other base)
+      (sym (behind base other known) ∙ t));
   new = λ other t. new other (sym (behind base other known) ∙ t);
 } where
-  among_more : (other : List ℕ) → list_any (bytes_eq other) (unit_names more) ≡ (list_any (bytes_eq other) (unit_names units) || bytes_eq other base)
+  among_more : (other : List ℕ) → list_any (bytes_eq other)
+      (unit_names more) ≡ (list_any (bytes_eq other) (unit_names units) || bytes_eq other base)
   among_more other =
       ap (λ us. list_any (bytes_eq other) (unit_names us)) is ∙ ap (list_any (bytes_eq other)) (names_behind units unit)
-      ∙ behind unit.name other (unit_names units) ∙ ap (λ name. list_any (bytes_eq other) (unit_names units) || bytes_eq other name) named
+      ∙ behind unit.name other (unit_names units) ∙ ap
+      (λ name. list_any (bytes_eq other) (unit_names units) || bytes_eq other name) named
 
-  still : (other : List ℕ) → (list_any (bytes_eq other) (unit_names units) ≡ true) ⊎ IsLost other → (list_any (bytes_eq other) (unit_names more) ≡ true) ⊎ IsLost other
+  still : (other : List ℕ) → (list_any (bytes_eq other) (unit_names units) ≡ true) ⊎ IsLost other
+      → (list_any (bytes_eq other) (unit_names more) ≡ true) ⊎ IsLost other
   still other (inl t) = inl (among_more other ∙ ap (λ x. x || bytes_eq other base) t)
   still other (inr lost) = inr lost
 
-  met : (other : List ℕ) → (list_any (bytes_eq other) known ≡ true) ⊎ (bytes_eq other base ≡ true) → (list_any (bytes_eq other) (unit_names more) ≡ true) ⊎ IsLost other
+  met : (other : List ℕ) → (list_any (bytes_eq other) known ≡ true) ⊎ (bytes_eq other base ≡ true)
+      → (list_any (bytes_eq other) (unit_names more) ≡ true) ⊎ IsLost other
   met other (inl t) = still other (k.met other t)
-  met other (inr t) = inl (among_more other ∙ (ap (λ x. list_any (bytes_eq other) (unit_names units) || x) t ∙ or_true (list_any (bytes_eq other) (unit_names units))))
+  met other (inr t) = inl (among_more other ∙ (ap (λ x. list_any (bytes_eq other) (unit_names units) || x) t
+      ∙ or_true (list_any (bytes_eq other) (unit_names units))))
 
-  new : (other : List ℕ) → (list_any (bytes_eq other) known || bytes_eq other base) ≡ false → list_any (bytes_eq other) (unit_names more) ≡ false
+  new : (other : List ℕ) → (list_any (bytes_eq other) known || bytes_eq other base) ≡ false
+      → list_any (bytes_eq other) (unit_names more) ≡ false
   new other t =
       among_more other
       ∙ (ap (λ x. x || bytes_eq other base) (k.new other (or_left (list_any (bytes_eq other) known) (bytes_eq other base) t))
@@ -203,9 +226,11 @@ pub record IsLinked (names : List (List ℕ)) (bases : List (List ℕ)) (name : 
   pub linked : list_any (bytes_eq name) bases ≡ true
   pub absent : list_any (bytes_eq name) names ≡ false
 
-linked_by : (names : List (List ℕ)) (decl : Decl) (name : List ℕ) → missing_by names decl ≡ Some name → IsLinked names (link_in decl) name
+linked_by : (names : List (List ℕ)) (decl : Decl) (name : List ℕ) → missing_by names decl ≡ Some name
+    → IsLinked names (link_in decl) name
 linked_by names (Link text) name e = by (list_any (bytes_eq (base_of text)) names) refl e where
-  by : (test : Bool) → list_any (bytes_eq (base_of text)) names ≡ test → (if test then None else Some (base_of text)) ≡ Some name → IsLinked names (base_of text ∷ []) name
+  by : (test : Bool) → list_any (bytes_eq (base_of text)) names ≡ test
+      → (if test then None else Some (base_of text)) ≡ Some name → IsLinked names (base_of text ∷ []) name
   by true t e = absurd (none-some name e)
   by false t e =
       let same : base_of text ≡ name = same_Some (base_of text) name e in
@@ -225,19 +250,24 @@ linked_first names a b name l = record {
 
 linked_then : (names a b : List (List ℕ)) (name : List ℕ) → IsLinked names b name → IsLinked names (a ++ b) name
 linked_then names a b name l = record {
-  linked = list_any-append (bytes_eq name) a b ∙ (ap (λ x. list_any (bytes_eq name) a || x) l.linked ∙ or_true (list_any (bytes_eq name) a));
+  linked = list_any-append (bytes_eq name) a b ∙ (ap (λ x. list_any (bytes_eq name) a || x) l.linked
+      ∙ or_true (list_any (bytes_eq name) a));
   absent = l.absent;
 }
 
-linked_or : (names : List (List ℕ)) (decl : Decl) (decls : List Decl) (name : List ℕ) (found : Option (List ℕ)) → missing_by names decl ≡ found
+linked_or : (names : List (List ℕ)) (decl : Decl) (decls : List Decl) (name : List ℕ) (found : Option (List ℕ))
+    → missing_by names decl ≡ found
     → (missing_in names decls ≡ Some name → IsLinked names (flat_map link_in decls) name)
     → option_or found (missing_in names decls) ≡ Some name → IsLinked names (link_in decl ++ flat_map link_in decls) name
 linked_or names decl decls name None m rest f = linked_then names (link_in decl) (flat_map link_in decls) name (rest f)
-linked_or names decl decls name (Some other) m rest f = linked_first names (link_in decl) (flat_map link_in decls) name (linked_by names decl name (m ∙ f))
+linked_or names decl decls name (Some other) m rest f = linked_first names (link_in decl) (flat_map link_in decls)
+    name (linked_by names decl name (m ∙ f))
 
-linked_in : (names : List (List ℕ)) (decls : List Decl) (name : List ℕ) → missing_in names decls ≡ Some name → IsLinked names (flat_map link_in decls) name
+linked_in : (names : List (List ℕ)) (decls : List Decl) (name : List ℕ) → missing_in names decls ≡ Some name
+    → IsLinked names (flat_map link_in decls) name
 linked_in names [] name e = absurd (none-some name e)
-linked_in names (decl ∷ decls) name e = linked_or names decl decls name (missing_by names decl) refl (linked_in names decls name) e
+linked_in names (decl ∷ decls) name e = linked_or names decl decls name (missing_by names decl) refl
+    (linked_in names decls name) e
 
 told_name : (place unit : ℕ) (a b : List ℕ) → ◌≡◌ {A = Option LinkFault} (Some (K2 place a)) (Some (K2 unit b)) → a ≡ b
 told_name place unit a b e = ap (λ fault. elim fault [ Some f ↦ name_of f | None ↦ a ]) e where
@@ -245,20 +275,26 @@ told_name place unit a b e = ap (λ fault. elim fault [ Some f ↦ name_of f | N
   name_of (K2 unit name) = name
   name_of _ = a
 
-linked_unit : (names : List (List ℕ)) (place : ℕ) (first : UnitRead) (units : List UnitRead) (unit : ℕ) (name : List ℕ) (found : Option (List ℕ))
+linked_unit : (names : List (List ℕ)) (place : ℕ) (first : UnitRead) (units : List UnitRead) (unit : ℕ)
+    (name : List ℕ) (found : Option (List ℕ))
     → missing_in names first.decls ≡ found
     → (missing_from names (suc place) units ≡ Some (K2 unit name) → IsLinked names (flat_map links_of units) name)
     → option_or (option_map (missing_fault place) found) (missing_from names (suc place) units) ≡ Some (K2 unit name)
     → IsLinked names (links_of first ++ flat_map links_of units) name
-linked_unit names place first units unit name None m rest f = linked_then names (links_of first) (flat_map links_of units) name (rest f)
+linked_unit names place first units unit name None m rest f = linked_then names (links_of first)
+    (flat_map links_of units) name (rest f)
 linked_unit names place first units unit name (Some other) m rest f =
-    linked_first names (links_of first) (flat_map links_of units) name (linked_in names first.decls name (m ∙ ap Some (told_name place unit other name f)))
+    linked_first names (links_of first) (flat_map links_of units) name
+    (linked_in names first.decls name (m ∙ ap Some (told_name place unit other name f)))
 
-linked_from : (names : List (List ℕ)) (place : ℕ) (units : List UnitRead) (unit : ℕ) (name : List ℕ) → missing_from names place units ≡ Some (K2 unit name)
+linked_from : (names : List (List ℕ)) (place : ℕ) (units : List UnitRead) (unit : ℕ) (name : List ℕ)
+    → missing_from names place units ≡ Some (K2 unit name)
     → IsLinked names (flat_map links_of units) name
 linked_from names place [] unit name e = absurd (none-some (K2 unit name) e)
 linked_from names place (first ∷ units) unit name e =
-    linked_unit names place first units unit name (missing_in names first.decls) refl (linked_from names (suc place) units unit name) e
+    linked_unit names place first units unit name (missing_in names first.decls) refl
+    (linked_from names (suc place) units unit name) e
 
-pub first_linked : (units : List UnitRead) (unit : ℕ) (name : List ℕ) → missing units ≡ Some (K2 unit name) → IsLinked (unit_names units) (flat_map links_of units) name
+pub first_linked : (units : List UnitRead) (unit : ℕ) (name : List ℕ) → missing units ≡ Some (K2 unit name)
+    → IsLinked (unit_names units) (flat_map links_of units) name
 first_linked units unit name e = linked_from (unit_names units) 0 units unit name e

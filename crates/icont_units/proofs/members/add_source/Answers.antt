@@ -6,9 +6,12 @@ use Rattle.icont_units.proofs.members.add_source.Goals as goal
 pub returns-in-Ok-clause-read : goal.returns-in-Ok-clause-read
 returns-in-Ok-clause-read g c =
     if_some (g.F.Files.held c.args.files.now) _ (λ held e before stands.
-    source_pushed held c.args.base.now c.as_bytes.result.now c.in_ok-checked.checked (unit_seen c.in-Ok.unit) c.args.members.now c.push_source.new.members before c.push_source.result
-    (at_some _ (g.F.Files.held c.args.files.now) held e c.in_ok-checked.ensures.comes) stands c.in-Ok.ensures c.as_bytes.ensures.value c.push_source.ensures.added c.push_source.ensures.others)
+    source_pushed held c.args.base.now c.as_bytes.result.now c.in_ok-checked.checked (unit_seen c.in-Ok.unit)
+    c.args.members.now c.push_source.new.members before c.push_source.result
+    (at_some _ (g.F.Files.held c.args.files.now) held e c.in_ok-checked.ensures.comes) stands c.in-Ok.ensures
+    c.as_bytes.ensures.value c.push_source.ensures.added c.push_source.ensures.others)
 
 pub returns-in-Ok-clause-sound : goal.returns-in-Ok-clause-sound
 returns-in-Ok-clause-sound g c sound =
-    source_sound c.as_bytes.result.now c.in_ok-checked.checked (unit_seen c.in-Ok.unit) c.args.members.now c.push_source.new.members c.push_source.result sound c.in-Ok.ensures c.push_source.ensures.added
+    source_sound c.as_bytes.result.now c.in_ok-checked.checked (unit_seen c.in-Ok.unit) c.args.members.now
+    c.push_source.new.members c.push_source.result sound c.in-Ok.ensures c.push_source.ensures.added

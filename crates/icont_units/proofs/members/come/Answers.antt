@@ -9,18 +9,24 @@ pub returns-in_err-add_file-clause-come : goal.returns-in_err-add_file-clause-co
 returns-in_err-add_file-clause-come g c =
     if_some (g.F.Files.held c.args.files.now) _ (λ held e.
     let so = c.loop-file.invariant.came held e in
-    let read = at_some _ (g.F.Files.held c.loop-file.files) held (c.loop-file.invariant.same ∙ e) c.in_err-add_file.ensures.read in
+    let read = at_some _ (g.F.Files.held c.loop-file.files) held (c.loop-file.invariant.same ∙ e)
+    c.in_err-add_file.ensures.read in
     come_passed held (files_seen c.args.named.now) c.in_err-add_file.field-0.0 _ c.from_residual.ensures.1
-    (came_refused held (files_seen c.args.named.now) (files_seen (drop c.loop-file.file-index c.args.named.now)) (files_seen (drop (c.loop-file.file-index + 1) c.args.named.now))
-    _ c.loop-file.members c.in_err-add_file.field-0.0 so (files_from c.args.named.now c.loop-file.file-index _ c.loop-file-test.true) (read so.members so.stands)))
+    (came_refused held (files_seen c.args.named.now) (files_seen (drop c.loop-file.file-index c.args.named.now))
+    (files_seen (drop (c.loop-file.file-index + 1) c.args.named.now))
+    _ c.loop-file.members c.in_err-add_file.field-0.0 so
+    (files_from c.args.named.now c.loop-file.file-index _ c.loop-file-test.true) (read so.members so.stands)))
 
 pub loop-file-preserved : goal.loop-file-preserved
 loop-file-preserved g c = record {
   came = λ held e.
       let so = c.loop-file.invariant.came held e in
-      let read = at_some _ (g.F.Files.held c.loop-file.files) held (c.loop-file.invariant.same ∙ e) c.in_ok-add_file.ensures.read in
-      came_more held (files_seen c.args.named.now) (files_seen (drop c.loop-file.file-index c.args.named.now)) (files_seen (drop (c.loop-file.file-index + 1) c.args.named.now))
-      _ c.loop-file.members c.add_file.new.members so (files_from c.args.named.now c.loop-file.file-index _ c.loop-file-test.true) (read so.members so.stands);
+      let read = at_some _ (g.F.Files.held c.loop-file.files) held (c.loop-file.invariant.same ∙ e)
+      c.in_ok-add_file.ensures.read in
+      came_more held (files_seen c.args.named.now) (files_seen (drop c.loop-file.file-index c.args.named.now))
+      (files_seen (drop (c.loop-file.file-index + 1) c.args.named.now))
+      _ c.loop-file.members c.add_file.new.members so
+      (files_from c.args.named.now c.loop-file.file-index _ c.loop-file-test.true) (read so.members so.stands);
   sound = c.in_ok-add_file.ensures.sound c.loop-file.invariant.sound;
   same = c.in_ok-add_file.ensures.files ∙ c.loop-file.invariant.same;
   faults = c.in_ok-add_file.ensures.file_fault.stayed (λ is. cc) ∙ c.loop-file.invariant.faults;
@@ -30,5 +36,6 @@ loop-file-preserved g c = record {
 pub returns-clause-come : goal.returns-clause-come
 returns-clause-come g c =
     if_some (g.F.Files.held c.args.files.now) _ (λ held e.
-    came_all held (files_seen c.args.named.now) (files_seen (drop c.loop-file.file-index c.args.named.now)) c.loop-file.members (c.loop-file.invariant.came held e)
+    came_all held (files_seen c.args.named.now) (files_seen (drop c.loop-file.file-index c.args.named.now))
+    c.loop-file.members (c.loop-file.invariant.came held e)
     (ap files_seen (drop_all c.loop-file.file-index c.args.named.now c.loop-file-test.false)))

@@ -7,7 +7,8 @@ use Rattle.icont_units.proofs.members.come.Given as goal
 
 abbrev pub invariant-loop-file : goal.invariant-loop-file
 invariant-loop-file g l = record {
-  came : (held : FileMap) → g.F.Files.held l.fn.files ≡ Some held → CameSo held (files_seen l.named) (files_seen (drop l.file-index l.named)) l.members;
+  came : (held : FileMap) → g.F.Files.held l.fn.files ≡ Some held
+      → CameSo held (files_seen l.named) (files_seen (drop l.file-index l.named)) l.members;
   sound : IsSound l.members;
   same : g.F.Files.held l.files ≡ g.F.Files.held l.fn.files;
   faults : g.F.Files.faults l.files ≡ g.F.Files.faults l.fn.files;

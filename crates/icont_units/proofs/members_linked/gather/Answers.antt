@@ -13,11 +13,17 @@ pub loop-place-init : goal.loop-place-init
 loop-place-init g c =
     let first = c.in-Ok.ensures ∙ ap (λ units. with_texts [] (unit_names (units_seen units))) c.deref.ensures.value in
     record {
-      gathered = λ held e. (gathered_none held c.args.members.now, knows_units (IsAbsent held) (units_seen c.args.members.now.units.items) (texts_in c.in-Ok.known.keys) first);
+      gathered = λ held e. (
+        gathered_none held c.args.members.now,
+        knows_units (IsAbsent held)
+            (units_seen c.args.members.now.units.items) (texts_in c.in-Ok.known.keys) first,
+      );
       grows =
-          subst (λ known. Grows (g.F.Files.absences c.args.files.now) (g.F.Files.absences c.args.files.now) c.args.members.now c.args.members.now
+          subst (λ known. Grows (g.F.Files.absences c.args.files.now) (g.F.Files.absences c.args.files.now)
+          c.args.members.now c.args.members.now
           (with_texts [] (unit_names (units_seen c.args.members.now.units.items))) known []) (sym first)
-          (grows_none (g.F.Files.absences c.args.files.now) c.args.members.now (with_texts [] (unit_names (units_seen c.args.members.now.units.items))));
+          (grows_none (g.F.Files.absences c.args.files.now) c.args.members.now
+          (with_texts [] (unit_names (units_seen c.args.members.now.units.items))));
       same = refl;
       faults = refl;
     }
@@ -26,24 +32,37 @@ pub returns-in_err-gather_unit-clause-gathered : goal.returns-in_err-gather_unit
 returns-in_err-gather_unit-clause-gathered g c =
     if_some (g.F.Files.held c.args.files.now) _ (λ held e before s.
     let so = c.loop-place.invariant.gathered held e in
-    let sought = at_some _ (g.F.Files.held c.loop-place.files) held (c.loop-place.invariant.same ∙ e) c.in_err-gather_unit.ensures.sought in
-    let small : c.loop-place.place < length c.loop-place.members.units.items = omega (arith, c.loop-place-test.true, c.len.ensures, c.loop-place.members.units.ok.0) in
+    let sought = at_some _ (g.F.Files.held c.loop-place.files) held (c.loop-place.invariant.same ∙ e)
+    c.in_err-gather_unit.ensures.sought in
+    let small : c.loop-place.place < length c.loop-place.members.units.items = omega
+    (arith, c.loop-place-test.true, c.len.ensures, c.loop-place.members.units.ok.0) in
     gathered_passed held before _ c.in_err-gather_unit.field-0.0 _ c.from_residual.ensures.1
-    (gathered_refused held c.args.members.now c.loop-place.members c.loop-place.place before c.in_err-gather_unit.field-0.0 (held_small c.loop-place.members.units.items c.loop-place.place small) so.0 (sought so.1) s))
+    (gathered_refused held c.args.members.now c.loop-place.members c.loop-place.place before
+    c.in_err-gather_unit.field-0.0 (held_small c.loop-place.members.units.items c.loop-place.place small) so.0
+    (sought so.1) s))
 
 pub loop-place-preserved : goal.loop-place-preserved
 loop-place-preserved g c =
-    let small : c.loop-place.place < length c.loop-place.members.units.items = omega (arith, c.loop-place-test.true, c.len.ensures, c.loop-place.members.units.ok.0) in
+    let small : c.loop-place.place < length c.loop-place.members.units.items = omega
+    (arith, c.loop-place-test.true, c.len.ensures, c.loop-place.members.units.ok.0) in
     let seen = held_small c.loop-place.members.units.items c.loop-place.place small in
     record {
       gathered = λ held e.
           let so = c.loop-place.invariant.gathered held e in
-          let sought = at_some _ (g.F.Files.held c.loop-place.files) held (c.loop-place.invariant.same ∙ e) c.in_ok-gather_unit.ensures.sought in
-          let next = sought so.1 in
-          (gathered_more held c.args.members.now c.loop-place.members c.gather_unit.new.members c.loop-place.place (c.loop-place.place + 1) (omega arith) seen so.0 next.0, next.1);
+          let sought = at_some _ (g.F.Files.held c.loop-place.files) held (c.loop-place.invariant.same ∙ e)
+          c.in_ok-gather_unit.ensures.sought in
+          let next = sought so.1 in (
+            gathered_more held c.args.members.now c.loop-place.members c.gather_unit.new.members c.loop-place.place
+                (c.loop-place.place + 1) (omega arith) seen so.0 next.0,
+            next.1,
+          );
       grows =
-          grown_more (g.F.Files.absences c.args.files.now) (g.F.Files.absences c.loop-place.files) (g.F.Files.absences c.gather_unit.new.files) c.args.members.now c.loop-place.members c.gather_unit.new.members
-          (with_texts [] (unit_names (units_seen c.args.members.now.units.items))) (texts_in c.loop-place.known.keys) (texts_in c.gather_unit.new.known.keys) c.loop-place.place (c.loop-place.place + 1) (omega arith)
+          grown_more (g.F.Files.absences c.args.files.now) (g.F.Files.absences c.loop-place.files)
+          (g.F.Files.absences c.gather_unit.new.files) c.args.members.now c.loop-place.members
+          c.gather_unit.new.members
+          (with_texts [] (unit_names (units_seen c.args.members.now.units.items)))
+          (texts_in c.loop-place.known.keys) (texts_in c.gather_unit.new.known.keys) c.loop-place.place
+          (c.loop-place.place + 1) (omega arith)
           seen c.loop-place.invariant.grows c.in_ok-gather_unit.ensures.grows;
       same = c.in_ok-gather_unit.ensures.files ∙ c.loop-place.invariant.same;
       faults = c.in_ok-gather_unit.ensures.file_fault.stayed (λ is. cc) ∙ c.loop-place.invariant.faults;
@@ -53,11 +72,16 @@ pub returns-clause-gathered : goal.returns-clause-gathered
 returns-clause-gathered g c =
     if_some (g.F.Files.held c.args.files.now) _ (λ held e before s.
     let so = c.loop-place.invariant.gathered held e in
-    let end : length c.loop-place.members.units.items ≤ c.loop-place.place = omega (arith, c.loop-place-test.false, c.len.ensures, c.loop-place.members.units.ok.0) in
-    gathered_all held c.args.members.now c.loop-place.members c.loop-place.place before (held_end c.loop-place.members.units.items c.loop-place.place end) so.0 s)
+    let end : length c.loop-place.members.units.items ≤ c.loop-place.place = omega
+    (arith, c.loop-place-test.false, c.len.ensures, c.loop-place.members.units.ok.0) in
+    gathered_all held c.args.members.now c.loop-place.members c.loop-place.place before
+    (held_end c.loop-place.members.units.items c.loop-place.place end) so.0 s)
 
 pub returns-clause-absent : goal.returns-clause-absent
 returns-clause-absent g c =
-    let end : length c.loop-place.members.units.items ≤ c.loop-place.place = omega (arith, c.loop-place-test.false, c.len.ensures, c.loop-place.members.units.ok.0) in
-    are_sought (g.F.Files.absences c.args.files.now) (g.F.Files.absences c.loop-place.files) c.args.members.now c.loop-place.members (with_texts [] (unit_names (units_seen c.args.members.now.units.items)))
-    (texts_in c.loop-place.known.keys) c.loop-place.place (held_end c.loop-place.members.units.items c.loop-place.place end) refl c.loop-place.invariant.grows
+    let end : length c.loop-place.members.units.items ≤ c.loop-place.place = omega
+    (arith, c.loop-place-test.false, c.len.ensures, c.loop-place.members.units.ok.0) in
+    are_sought (g.F.Files.absences c.args.files.now) (g.F.Files.absences c.loop-place.files) c.args.members.now
+    c.loop-place.members (with_texts [] (unit_names (units_seen c.args.members.now.units.items)))
+    (texts_in c.loop-place.known.keys) c.loop-place.place
+    (held_end c.loop-place.members.units.items c.loop-place.place end) refl c.loop-place.invariant.grows

@@ -12,8 +12,10 @@ use Rattle.icont_units.proofs.members_linked.gather.Given as goal
 abbrev pub invariant-loop-place : goal.invariant-loop-place
 invariant-loop-place g l = record {
   gathered : (held : FileMap) → g.F.Files.held l.fn.files ≡ Some held
-      → GatheredSo held l.fn.members l.members l.place × Knows (IsAbsent held) (units_seen l.members.units.items) (texts_in l.known.keys);
-  grows : Grows (g.F.Files.absences l.fn.files) (g.F.Files.absences l.files) l.fn.members l.members (with_texts [] (unit_names (units_seen l.fn.members.units.items)))
+      → GatheredSo held l.fn.members l.members l.place
+      × Knows (IsAbsent held) (units_seen l.members.units.items) (texts_in l.known.keys);
+  grows : Grows (g.F.Files.absences l.fn.files) (g.F.Files.absences l.files) l.fn.members l.members
+      (with_texts [] (unit_names (units_seen l.fn.members.units.items)))
       (texts_in l.known.keys) (flat_map links_of (take l.place (units_seen l.members.units.items)));
   same : g.F.Files.held l.files ≡ g.F.Files.held l.fn.files;
   faults : g.F.Files.faults l.files ≡ g.F.Files.faults l.fn.files;

@@ -9,26 +9,38 @@ pub returns-in_err-gather_base-clause-sought : goal.returns-in_err-gather_base-c
 returns-in_err-gather_base-clause-sought g c =
     if_some (g.F.Files.held c.args.files.now) _ (λ held e knows.
     let so = c.loop-base.invariant.sought held e knows in
-    let sought = at_some _ (g.F.Files.held c.loop-base.files) held (c.loop-base.invariant.same ∙ e) c.in_err-gather_base.ensures.sought in
-    sought_passed held c.args.members.now c.gather_base.new.members (texts_in c.args.bases.now) (texts_in c.gather_base.new.known.keys) c.in_err-gather_base.field-0.0 c.from_residual.result c.from_residual.ensures.1
-    (refused_at held c.args.members.now c.loop-base.members c.args.bases.now c.loop-base.base-index c.base-item.result c.in_err-gather_base.field-0.0 c.loop-base-test.true c.base-item.is so.0
-    (subst (λ base. IsFault c.in_err-gather_base.field-0.0 ⊎ Refuses held c.loop-base.members (base ∷ []) c.in_err-gather_base.field-0.0) c.deref.ensures.value (sought so.1))))
+    let sought = at_some _ (g.F.Files.held c.loop-base.files) held (c.loop-base.invariant.same ∙ e)
+    c.in_err-gather_base.ensures.sought in
+    sought_passed held c.args.members.now c.gather_base.new.members (texts_in c.args.bases.now)
+    (texts_in c.gather_base.new.known.keys) c.in_err-gather_base.field-0.0 c.from_residual.result
+    c.from_residual.ensures.1
+    (refused_at held c.args.members.now c.loop-base.members c.args.bases.now c.loop-base.base-index
+    c.base-item.result c.in_err-gather_base.field-0.0 c.loop-base-test.true c.base-item.is so.0
+    (subst (λ base. IsFault c.in_err-gather_base.field-0.0
+    ⊎ Refuses held c.loop-base.members (base ∷ []) c.in_err-gather_base.field-0.0) c.deref.ensures.value
+    (sought so.1))))
 
 pub loop-base-preserved : goal.loop-base-preserved
 loop-base-preserved g c = record {
   sought = λ held e knows.
       let so = c.loop-base.invariant.sought held e knows in
-      let sought = at_some _ (g.F.Files.held c.loop-base.files) held (c.loop-base.invariant.same ∙ e) c.in_ok-gather_base.ensures.sought in
+      let sought = at_some _ (g.F.Files.held c.loop-base.files) held (c.loop-base.invariant.same ∙ e)
+      c.in_ok-gather_base.ensures.sought in
       let next = sought so.1 in (
-        adds_next held c.args.members.now c.loop-base.members c.gather_base.new.members c.args.bases.now c.loop-base.base-index c.base-item.result c.loop-base-test.true c.base-item.is so.0
+        adds_next held c.args.members.now c.loop-base.members c.gather_base.new.members c.args.bases.now
+            c.loop-base.base-index c.base-item.result c.loop-base-test.true c.base-item.is so.0
             (subst (λ base. Adds held c.loop-base.members c.gather_base.new.members (base ∷ [])) c.deref.ensures.value next.0),
         next.1,
       );
   grows =
-      grows_next (g.F.Files.absences c.args.files.now) (g.F.Files.absences c.loop-base.files) (g.F.Files.absences c.gather_base.new.files) c.args.members.now c.loop-base.members c.gather_base.new.members
-      (texts_in c.args.known.now.keys) (texts_in c.loop-base.known.keys) (texts_in c.gather_base.new.known.keys) c.args.bases.now c.loop-base.base-index c.base-item.result c.loop-base-test.true c.base-item.is
+      grows_next (g.F.Files.absences c.args.files.now) (g.F.Files.absences c.loop-base.files)
+      (g.F.Files.absences c.gather_base.new.files) c.args.members.now c.loop-base.members
+      c.gather_base.new.members
+      (texts_in c.args.known.now.keys) (texts_in c.loop-base.known.keys) (texts_in c.gather_base.new.known.keys)
+      c.args.bases.now c.loop-base.base-index c.base-item.result c.loop-base-test.true c.base-item.is
       c.loop-base.invariant.grows
-      (subst (λ base. Grows (g.F.Files.absences c.loop-base.files) (g.F.Files.absences c.gather_base.new.files) c.loop-base.members c.gather_base.new.members (texts_in c.loop-base.known.keys)
+      (subst (λ base. Grows (g.F.Files.absences c.loop-base.files) (g.F.Files.absences c.gather_base.new.files)
+      c.loop-base.members c.gather_base.new.members (texts_in c.loop-base.known.keys)
       (texts_in c.gather_base.new.known.keys) (base ∷ [])) c.deref.ensures.value c.in_ok-gather_base.ensures.grows);
   same = c.in_ok-gather_base.ensures.files ∙ c.loop-base.invariant.same;
   faults = c.in_ok-gather_base.ensures.file_fault.stayed (λ is. cc) ∙ c.loop-base.invariant.faults;

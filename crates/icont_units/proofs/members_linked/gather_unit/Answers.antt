@@ -8,15 +8,21 @@ pub returns-clause-sought : goal.returns-clause-sought
 returns-clause-sought g c =
     if_some (g.F.Files.held c.args.files.now) _ (λ held e knows.
     let sought = at_some _ (g.F.Files.held c.args.files.now) held e c.gather_bases.ensures.sought in
-    subst (λ bases. IsSought held c.args.members.now c.gather_bases.new.members bases (texts_in c.gather_bases.new.known.keys) c.gather_bases.result)
+    subst (λ bases. IsSought held c.args.members.now c.gather_bases.new.members bases
+    (texts_in c.gather_bases.new.known.keys) c.gather_bases.result)
     (ap texts_in c.deref-2.ensures.value
-    ∙ unit_links c.args.members.now.units.items c.args.place c.index.result.now c.deref.result.now _ (omega (arith, c.requires, c.args.members.now.units.ok.0)) c.index.ensures c.deref.ensures.value c.in-Ok.ensures)
+    ∙ unit_links c.args.members.now.units.items c.args.place c.index.result.now c.deref.result.now _
+    (omega (arith, c.requires, c.args.members.now.units.ok.0)) c.index.ensures c.deref.ensures.value
+    c.in-Ok.ensures)
     (sought knows))
 
 pub returns-clause-grows : goal.returns-clause-grows
 returns-clause-grows g c =
-    subst (λ bases. OnOk c.gather_bases.result (Grows (g.F.Files.absences c.args.files.now) (g.F.Files.absences c.gather_bases.new.files) c.args.members.now c.gather_bases.new.members
+    subst (λ bases. OnOk c.gather_bases.result (Grows (g.F.Files.absences c.args.files.now)
+    (g.F.Files.absences c.gather_bases.new.files) c.args.members.now c.gather_bases.new.members
     (texts_in c.args.known.now.keys) (texts_in c.gather_bases.new.known.keys) bases))
     (ap texts_in c.deref-2.ensures.value
-    ∙ unit_links c.args.members.now.units.items c.args.place c.index.result.now c.deref.result.now _ (omega (arith, c.requires, c.args.members.now.units.ok.0)) c.index.ensures c.deref.ensures.value c.in-Ok.ensures)
+    ∙ unit_links c.args.members.now.units.items c.args.place c.index.result.now c.deref.result.now _
+    (omega (arith, c.requires, c.args.members.now.units.ok.0)) c.index.ensures c.deref.ensures.value
+    c.in-Ok.ensures)
     c.gather_bases.ensures.grows

@@ -6,4 +6,5 @@ use Rattle.icont_units.specs.Units.{link_in}
 use Rattle.icont_units.proofs.members_linked.linked_bases.Given as goal
 
 abbrev pub invariant-loop-decl : goal.invariant-loop-decl
-invariant-loop-decl l = texts_in l.bases.items ++ flat_map link_in (map decl_seen (drop l.decl-index l.decls)) ≡ flat_map link_in (map decl_seen l.decls)
+invariant-loop-decl l = texts_in l.bases.items ++ flat_map link_in
+    (map decl_seen (drop l.decl-index l.decls)) ≡ flat_map link_in (map decl_seen l.decls)

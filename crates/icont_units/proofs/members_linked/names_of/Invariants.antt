@@ -6,4 +6,5 @@ use Rattle.icont_units.specs.Loading.{texts_in}
 use Rattle.icont_units.proofs.members_linked.names_of.Given as goal
 
 abbrev pub invariant-loop-unit : goal.invariant-loop-unit
-invariant-loop-unit l = with_texts (texts_in l.known.keys) (unit_names (units_seen (drop l.unit-index l.units))) ≡ with_texts [] (unit_names (units_seen l.units))
+invariant-loop-unit l = with_texts (texts_in l.known.keys)
+    (unit_names (units_seen (drop l.unit-index l.units))) ≡ with_texts [] (unit_names (units_seen l.units))
