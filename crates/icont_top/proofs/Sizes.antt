@@ -21,11 +21,10 @@ use Rattle.icn_lines.specs.declared.answer.Answer.{Answer}
 use Rattle.icn_lines.specs.declared.answer.Answer.TheVariants.{Wrote, Ran, Refused, Command, Missing, BadUcode, BadImage, FileFault, ReadFault, WriteFault, NoMemory}
 use Rattle.icn_lines.specs.Causes.{RunEndsAtFirst}
 use Rattle.icn_lines.specs.Endings.{ending_held}
-use Rattle.icn_lines.specs.Faulting.{IsOfRun, of_run}
+use Rattle.icn_lines.specs.Faulting.{of_run}
 use Rattle.icn_lines.specs.Refusing.{PutsOwn}
 use Rattle.icn_lines.specs.Reporting.{PutsSome, Reports}
 use Rattle.icn_lines.specs.Telling.{with_errors}
-use Rattle.icn_lines.proofs.Counted.{broken_counts, ran_counts}
 use Rattle.icn_lines.proofs.Reports.{fault_reports, puts_own}
 use Rattle.icont_units.specs.Generated.{sizes_line}
 use Rattle.icont_top.specs.Job.{sizes_behind}
@@ -204,25 +203,3 @@ sizes_reports {left = left} {input} {before} {out} {out'} {err} {err'} n answer 
     let run = same ∙ as_run fault in
     rw run (fault_reports before (handed left input out' err) err' (run_fault fault)
     (ends_behind left input before out out' err fault (sizes_line n) (counts_kept answer e ends) leads) some (rw run at own))
-
-pub sizes_counts : {left : Option (List ℕ)} {input : ℕ} {before : Handed} {out out' err err' : SinkState} (n : ℕ) (answer given : Answer)
-    → is_done answer ≡ true → RunEndsAtFirst answer before (handed left input out err) → PutsSizes n given out out' err err'
-    → RunEndsAtFirst given before (handed left input out' err')
-sizes_counts {before = before} n answer given e ends (sizes_put same put kept) =
-    let was = counts_kept answer e ends in
-    rw same (ran_counts Endings.Done (record {
-      faults = was.faults;
-      output = record { faults = put.faults ∙ was.output.faults; wants = put.wants ∙ was.output.wants };
-      errors = subst (λ (sink : SinkState). KeepsCounts before.errors sink) (sym kept) was.errors;
-    }))
-sizes_counts {left} {input} {before} {out} {out'} {err} {err'} n answer given e ends (sizes_broken fault same leads own) =
-    let run = same ∙ as_run fault in
-    rw run (broken_counts err err' (run_fault fault) (ends_behind left input before out out' err fault (sizes_line n) (counts_kept answer e ends) leads) (rw run at own))
-
-put_of_run : (fault : Fault) → IsOfRun (put_answer fault)
-put_of_run Faults.Failed = tt
-put_of_run Faults.NoMemory = tt
-
-pub sizes_of_run : {out out' err err' : SinkState} (n : ℕ) (given : Answer) → PutsSizes n given out out' err err' → IsOfRun given
-sizes_of_run n given (sizes_put same put kept) = rw same tt
-sizes_of_run n given (sizes_broken fault same leads own) = rw same (put_of_run fault)

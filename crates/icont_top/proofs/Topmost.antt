@@ -40,7 +40,7 @@ use Rattle.icont_top.specs.Answered.{IsAnswered, fault as answered_fault, refuse
 use Rattle.icont_top.specs.Answering.{IsDone}
 use Rattle.icont_top.specs.Asking.{IsProgram, IsProgramOf, IsReady, plan_seen}
 use Rattle.icont_top.specs.Job.{IsJob, IsPlanned, IsTranslated, Plan, Plans, Refuses, Written, behind, image_file, image_name, launched, no_members, no_program, no_units, refusal, refuses, running, runs, translates, ucode_files, writes, writing}
-use Rattle.icont_top.specs.Outcomes.{AreWritten, Begins, HasWritten, HoldsNow, HoldsWritten, IsImage, IsReadBack, Outcome, WritesAll, WritesPart, broke, broke_behind, done, fault, idle, torn}
+use Rattle.icont_top.specs.Outcomes.{AreWritten, Begins, HasWritten, HoldsNow, HoldsWritten, IsImage, IsReadBack, Outcome, WritesAll, WritesPart, all_written, broke, broke_behind, done, fault, idle, left_alone, part_written, torn}
 use Rattle.icont_top.specs.Programs.{Behaves, Links, RunsBy, files_of, is_program, linked, not_linked, unverified}
 use Rattle.icont_top.specs.Running.{HasRun, has_ended, was_broken, was_broken_behind}
 use Rattle.icont_top.specs.Usage.{usage}
@@ -109,6 +109,7 @@ pub refused_done : {words : List (List ℕ)} {files : FileMap} (answer given : A
 refused_done answer given held held' left input out before after none asks same line = record {
   outcome = if_some left _ (λ bytes d. refused answer given held held' left input out before after asks same d line);
   headline = λ w. absurd (given_none HasWritten answer given none (λ x. x) (λ x. x) line w);
+  leaves = left_alone (given_none HasWritten answer given none (λ x. x) (λ x. x) line) same;
   answered = answer_put answer given (asked_answer answer asks) line;
 }
 
@@ -223,6 +224,7 @@ wrote_done members plan program streams back alike ready e sets no_run =
           (writes (plan_seen plan) members (linked members) (planned ready) none)
           (record { answered = refl; files = sets; left = d; output = gains_nothing streams.output.held; errors = gains_nothing streams.errors.held }));
       headline = λ w. holds_image members plan program back alike ready e sets;
+      leaves = all_written _ (AreWritten.image (plan_seen plan) members (linked members) (planned ready)) (inl tt) sets;
       answered = answered_wrote (plan_seen plan) members (linked members) (planned ready) none;
     }
 
@@ -240,6 +242,19 @@ run_answered (Missing other) is e o = absurd o
 run_answered (BadUcode other rule) is e o = absurd o
 run_answered (BadImage rule) is e o = absurd o
 run_answered FileFault is e o = absurd o
+
+ran_or_fault : (answer : Answer) → IsOfRun answer → HasWritten answer ⊎ IsFault answer
+ran_or_fault (Ran ending) o = inl tt
+ran_or_fault ReadFault o = inr refl
+ran_or_fault WriteFault o = inr refl
+ran_or_fault NoMemory o = inr refl
+ran_or_fault Wrote o = absurd o
+ran_or_fault (Refused other line rule) o = absurd o
+ran_or_fault (Command kind) o = absurd o
+ran_or_fault (Missing other) o = absurd o
+ran_or_fault (BadUcode other rule) o = absurd o
+ran_or_fault (BadImage rule) o = absurd o
+ran_or_fault FileFault o = absurd o
 
 ran_outcome : {words : List (List ℕ)} {files : FileMap} {held held' : Option FileMap} (left : List ℕ) (members : List Member) (plan : PlanHeld)
     (program : Program) (run : Run) (answer : Answer) (before after : Handed) → EndsAlike → IsReady words files members plan program
@@ -269,6 +284,7 @@ ran_done members plan program run answer before after back alike ready e sets as
   outcome = if_some before.left _ (λ left d. ran_outcome left members plan program run answer before after alike ready sets asks
       (at_some _ before.left left d has));
   headline = λ w. holds_image members plan program back alike ready e sets;
+  leaves = all_written _ (AreWritten.image (plan_seen plan) members (linked members) (planned ready)) (ran_or_fault answer o) sets;
   answered = run_answered answer (planned ready) asks o;
 }
 
@@ -289,6 +305,7 @@ torn_done : {words : List (List ℕ)} {files : FileMap} {held held' : Option Fil
 torn_done written answer left input out before after are part is puts = record {
   outcome = if_some left _ (λ bytes d. fault (is_torn answer is) (torn written are part refl refl (puts_own _ _ answer puts)));
   headline = λ w. absurd (torn_no_image answer is w);
+  leaves = part_written written are (is_torn answer is) part;
   answered = answered_fault answer (is_torn answer is);
 }
 
@@ -311,6 +328,7 @@ units_done {held = held} {held'} members texts streams is e read h sets =
       outcome = if_some streams.left _ (λ left d. done (writing (ucode_files members) left) (translates members is)
           (record { answered = refl; files = there; left = d; output = gains_nothing streams.output.held; errors = gains_nothing streams.errors.held }));
       headline = λ w. HoldsWritten.ucode members is (subst (λ (was : Option FileMap). WritesAll was held' (ucode_files members)) h there) read;
+      leaves = all_written (ucode_files members) (AreWritten.ucode members is) (inl tt) there;
       answered = answered_translated members is;
     }
 

@@ -130,6 +130,15 @@ HasWritten Wrote = Unit {0}
 HasWritten (Ran ending) = Unit {0}
 HasWritten answer = ⊥
 
+-- What a call leaves of the files, whatever the input tells: they are as they were, where nothing was written; or all that is asked for
+-- was written; or, where a fault is answered, some first ones were, and perhaps a part of the next.
+pub data LeavesFiles (words : List (List ℕ)) (files : FileMap) (answer : Answer) (before after : Option FileMap) : Type 0 where
+  left_alone : (HasWritten answer → ⊥) → after ≡ before → LeavesFiles words files answer before after
+  all_written : (written : List Written) → AreWritten words files written → HasWritten answer ⊎ IsFault answer → WritesAll before after written
+      → LeavesFiles words files answer before after
+  part_written : (written : List Written) → AreWritten words files written → IsFault answer → WritesPart before after written
+      → LeavesFiles words files answer before after
+
 -- where the words and the files ask for files to be written, they were, or a fault is answered
 abbrev pub IsComplete : List (List ℕ) → FileMap → Answer → Type 0
 IsComplete words files answer = (written : List Written) → AreWritten words files written → IsFault answer ⊎ HasWritten answer

@@ -24,7 +24,7 @@ ghost use Rattle.icont_top.specs.Answered.{IsAnswered, IsCommand, IsCommanded, M
 ghost use Rattle.icont_top.specs.Answering.{IsDone};
 ghost use Rattle.icont_top.specs.Asking.{IsReady, IsTold, words_answer};
 ghost use Rattle.icont_top.specs.Job.{IsTranslated, launched, ucode_files};
-ghost use Rattle.icont_top.specs.Outcomes.{HasWritten, HoldsWritten, IsComplete, IsReadBack, Outcome};
+ghost use Rattle.icont_top.specs.Outcomes.{HasWritten, HoldsWritten, IsComplete, IsReadBack, LeavesFiles, Outcome};
 ghost use Rattle.icont_top.specs.Running.{HasRun, IsRanOrBroken, PutsSizes, is_done, put_answer};
 ghost use Rattle.icont_top.specs.Usage.{usage};
 ghost use Rattle.icont_top.specs.Writing.{texts_seen};
@@ -83,6 +83,9 @@ pub fn icont_main<F: Files, I: Source, O: Sink, E: Sink>(
     ensures headline { HasWritten result
         → IfSome (F.held files.old) (λ held. HoldsWritten (map string_bytes words.now) held (F.held files.new)) }
 
+    // Where the files tell their content, it is said which of them changed, whatever the input tells.
+    ensures written { IfSome (F.held files.old) (λ held. LeavesFiles (map string_bytes words.now) held result (F.held files.old) (F.held files.new)) }
+
     // Every other answer's line was put, whatever the files and the input tell; of a run, its report behind what it put, where the
     // input tells its content.
     ensures line { IsFault result ⊎ LineStands usage [] (I.left input.old) result (E.state err.old) (E.state err.new) }
@@ -104,10 +107,10 @@ pub fn icont_main<F: Files, I: Source, O: Sink, E: Sink>(
     ensures links { IfSome (F.held files.old) (λ held. MissesText (map string_bytes words.now) held
         → IsFault result ⊎ Rose (F.absences files.old) (F.absences files.new)) }
 
-    // A refusal leaves the files, the output and the input as they were.
+    // A refusal leaves the files, the output and the input as they were; an answer that no run gives leaves the output and the input so.
     ensures untouched { IsRefusal result → F.held files.new ≡ F.held files.old }
-    ensures refused { IsRefusal result → (O.state out.new).held ≡ (O.state out.old).held }
-    ensures unread { IsRefusal result → I.left input.new ≡ I.left input.old }
+    ensures refused { (IsOfRun result → ⊥) → (O.state out.new).held ≡ (O.state out.old).held }
+    ensures unread { (IsOfRun result → ⊥) → I.left input.new ≡ I.left input.old }
 
     // The first fault ends the call: its object's count rose once, and no other count of faults did but at the put of the fault's
     // own line. An absence (also of an included file) is answered only where that count rose.
@@ -201,8 +204,8 @@ fn link_answer<F: Files, I: Source, O: Sink, E: Sink>(
         → IsFault result ⊎ IsTold (Rose (F.absences files.old) (F.absences files.new)) members) }
     ensures command { IsCommand result → ⊥ }
     ensures untouched { IsRefusal result → F.held files.new ≡ F.held files.old }
-    ensures refused { IsRefusal result → (O.state out.new).held ≡ (O.state out.old).held }
-    ensures unread { IsRefusal result → I.left input.new ≡ I.left input.old }
+    ensures refused { (IsOfRun result → ⊥) → (O.state out.new).held ≡ (O.state out.old).held }
+    ensures unread { (IsOfRun result → ⊥) → I.left input.new ≡ I.left input.old }
     ensures causes { EndsAtFirst result (IsAbsence result)
         (outside (F.faults files.old) (F.absences files.old) (handed (I.left input.old) (I.faults input.old) (O.state out.old) (E.state err.old)))
         (outside (F.faults files.new) (F.absences files.new) (handed (I.left input.new) (I.faults input.new) (O.state out.new) (E.state err.new))) }
@@ -237,8 +240,8 @@ fn generate_answer<F: Files, I: Source, O: Sink, E: Sink>(
     ensures reported { Reports usage [] (I.left input.old) (E.state err.old) (E.state err.new) result }
     ensures command { IsCommand result → ⊥ }
     ensures untouched { IsRefusal result → F.held files.new ≡ F.held files.old }
-    ensures refused { IsRefusal result → (O.state out.new).held ≡ (O.state out.old).held }
-    ensures unread { IsRefusal result → I.left input.new ≡ I.left input.old }
+    ensures refused { (IsOfRun result → ⊥) → (O.state out.new).held ≡ (O.state out.old).held }
+    ensures unread { (IsOfRun result → ⊥) → I.left input.new ≡ I.left input.old }
     ensures causes { EndsAtFirst result (IsAbsence result)
         (outside (F.faults files.old) (F.absences files.old) (handed (I.left input.old) (I.faults input.old) (O.state out.old) (E.state err.old)))
         (outside (F.faults files.new) (F.absences files.new) (handed (I.left input.new) (I.faults input.new) (O.state out.new) (E.state err.new))) }
@@ -275,6 +278,8 @@ fn image_answer<F: Files, I: Source, O: Sink, E: Sink>(
         (told (F.held files.new) (handed (I.left input.new) (I.faults input.new) (O.state out.new) (E.state err.new))) }
     ensures reported { Reports usage [] (I.left input.old) (E.state err.old) (E.state err.new) result }
     ensures no_refusal { IsRefusal result → ⊥ }
+    ensures refused { (IsOfRun result → ⊥) → (O.state out.new).held ≡ (O.state out.old).held }
+    ensures unread { (IsOfRun result → ⊥) → I.left input.new ≡ I.left input.old }
     ensures causes { EndsAtFirst result (IsAbsence result)
         (outside (F.faults files.old) (F.absences files.old) (handed (I.left input.old) (I.faults input.old) (O.state out.old) (E.state err.old)))
         (outside (F.faults files.new) (F.absences files.new) (handed (I.left input.new) (I.faults input.new) (O.state out.new) (E.state err.new))) }
