@@ -6,7 +6,7 @@ use Rattle.icn_host.specs.Counts.{Rose}
 use Rattle.icn_host.specs.FileMaps.{FileMap}
 use Rattle.icn_host.specs.Sinks.{SinkState}
 use Rattle.icn_lines.specs.declared.answer.Answer.{Answer}
-use Rattle.icn_lines.specs.declared.answer.Answer.TheVariants.{Wrote, Ran, Refused, Command, Missing, BadUcode, BadImage, FileFault, ReadFault, WriteFault, NoMemory}
+use Rattle.icn_lines.specs.declared.answer.Answer.TheVariants.{Wrote, Ran, Refused, Command, BadUcode, FileFault, ReadFault, WriteFault, NoMemory}
 use Rattle.icn_lines.specs.Answers.{IsFault, IsRefusal}
 use Rattle.icn_lines.specs.Faulting.{IsOfRun}
 use Rattle.icn_lines.specs.Refusing.{Refuses as PutsRefusal, put, own, write_fault, want}
@@ -167,7 +167,8 @@ pub words_commanded : {before after : SinkState} (one : OneReading) (words : Lis
     → let found : Result TaskHeld WordsFault = Err fault in IsReading words found → PutsRefusal usage [] (words_answer fault) before after given
     → IsCommanded words given
 words_commanded one words (WordsFaults.Faulty kind) given is line = record {
-  faulty = λ other come. subst (λ k. IsFault given ⊎ (given ≡ Command k)) (ap (λ reading. faulty_kind reading kind) (one words _ _ is come)) (given_kind kind given line);
+  faulty = λ other come. subst (λ k. IsFault given ⊎ (given ≡ Command k)) (ap (λ reading. faulty_kind reading kind) (one words _ _ is come))
+      (given_kind kind given line);
   taken = λ task come. faulty_asks kind task (one words _ _ is come);
 }
 words_commanded one words WordsFaults.NoMemory given is line = record {

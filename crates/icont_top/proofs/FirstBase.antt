@@ -1,5 +1,5 @@
 -- The base names of files and of the units that they come to, in the same order.
-use Rattle.std.proofs.Common.{◌≡◌, ℕ, List, [], ◌∷◌, ◌++◌, map, Ok, Err, Result, refl, sym, ap, ◌∙◌, subst, append_assoc, append-nil}
+use Rattle.std.proofs.Common.{◌≡◌, ℕ, List, [], ◌∷◌, ◌++◌, Ok, Result, refl, sym, ap, ◌∙◌, append_assoc, append-nil}
 use Rattle.icn_host.specs.FileMaps.{FileMap}
 use Rattle.icn_unit.specs.PlainUnits.{UnitRead}
 use Rattle.icn_unit.specs.UnitTexts.{decls_text, procs_text}
@@ -7,7 +7,6 @@ use Rattle.icn_ucode.specs.UnitReading.{UnitOutcome, Whole, Faulty, unit_read}
 use Rattle.icn_link.specs.LinkFaults.{unit_names}
 use Rattle.icn_lines.specs.declared.answer.Answer.{Answer}
 use Rattle.icont_units.specs.Files.{File}
-use Rattle.icont_units.specs.Generated.{GeneratedComes, not_scanned, broken as broken_lines, made}
 use Rattle.icont_units.specs.Units.{AreJudged, Come, Comes, FromSource, FromUcode, Gather, Load, Member, links_in, unit_found, unit_of, units_of}
 use Rattle.icont_units.specs.Units.{first_too_long, second_too_long, read as texts_read, no_tokens, broken, translated, not_there, not_read, none, one_more, first_refused, later_refused, all, known, absent, gathered}
 use Rattle.icont_units.specs.Units as Units

@@ -1,12 +1,9 @@
 -- What the files that the words name come to as a program.
-use Rattle.std.proofs.Common.{◌≡◌, ◌⊎◌, inl, inr, ℕ, List, [], ◌∷◌, Some, Result, Ok, Err, refl, sym, ap, ◌∙◌, subst}
-use Rattle.icn_host.specs.FileMaps.{FileMap}
+use Rattle.std.proofs.Common.{◌≡◌, ◌⊎◌, inl, inr, ℕ, List, [], ◌∷◌, Some, Result, Ok, Err, refl, sym, ap, subst}
 use Rattle.icn_link.specs.declared.fault.LinkFault.TheVariants.{K2}
 use Rattle.icn_link.specs.LinkFaults.{missing}
-use Rattle.icn_link.specs.Units.{units_seen}
 use Rattle.icn_lines.specs.declared.answer.Answer.{Answer}
 use Rattle.icn_lines.specs.declared.answer.Answer.TheVariants.{NoMemory}
-use Rattle.icn_lines.specs.Answers.{IsFault}
 use Rattle.icn_host.specs.Counts.{Rose}
 use Rattle.icont_units.specs.declared.members.Members.{Members}
 use Rattle.icont_units.specs.Generated.{GeneratedComes, generated_base}

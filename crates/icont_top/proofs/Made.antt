@@ -1,5 +1,5 @@
 -- What is made of units.
-use Rattle.std.proofs.Common.{◌≡◌, ◌⊎◌, inl, inr, ℕ, List, Option, None, Some, Ok, Err, refl, sym, ap, ◌∙◌, subst}
+use Rattle.std.proofs.Common.{◌≡◌, ◌⊎◌, inl, inr, ℕ, List, Option, None, Some, Err, sym, ap, ◌∙◌, subst}
 use Rattle.std.specs.Option.{option_and_then}
 use Rattle.std.proofs.lemmas.Option.{none-some}
 use Rattle.icn_tree.specs.declared.rule.Rule.{Rule}
@@ -25,7 +25,7 @@ use Rattle.icont_units.specs.Files.{first_name}
 use Rattle.icont_units.specs.Loading.{IsSound, Stands}
 use Rattle.icont_units.specs.Units.{Member, link_answer, unit_named, units_of}
 use Rattle.icont_top.specs.declared.programs.Made.{Made}
-use Rattle.icont_top.specs.Making.{IsMade, Makes, RefusesCode, RefusesLink, wants, breaks}
+use Rattle.icont_top.specs.Making.{IsMade, RefusesCode, RefusesLink, wants, breaks}
 use Rattle.icont_top.specs.Programs.{Links, is_program, linked, not_linked, unverified}
 use Rattle.icont_top.proofs.SourceUnits.{AllJoin, all_files, first_named, sources_join}
 
@@ -66,7 +66,7 @@ code_refused held members tables answer stands e fits (breaks first rule number 
     let fits_all : first_fault (units_of members) ≡ None = subst (λ units. first_fault units ≡ None) stands.units fits in
     let code : tables ≡ linked members = e ∙ ap joined stands.units in
     let told : answer ≡ BadUcode (first_name base) rule =
-        subst (λ units. answer ≡ BadUcode (first_name (unit_named units first)) rule) stands.units same in
+    subst (λ units. answer ≡ BadUcode (first_name (unit_named units first)) rule) stands.units same in
     inr (subst (λ (a : Answer). Links members (Err a)) (sym told) (unverified base rule number place fits_all
     (first_named members first (sym stands.place ∙ at)) (rw code at fault)))
 

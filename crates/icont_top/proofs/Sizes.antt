@@ -1,18 +1,18 @@
 -- The line of the sizes of the program of a number, behind its run.
-use Rattle.std.proofs.Common.{◌≡◌, ◌⊎◌, inl, inr, ℕ, Bool, true, false, List, [], ◌++◌, take, Option, None, Some, IfSome, Ok, Err, refl, sym, ap, ◌∙◌, subst, append-nil}
+use Rattle.std.proofs.Common.{◌≡◌, inl, inr, ℕ, true, false, List, [], ◌++◌, take, Option, None, Some, IfSome, Err, refl, sym, ap, ◌∙◌, subst, append-nil}
 use Rattle.icn_host.specs.Counts.{one_more}
 use Rattle.icn_host.specs.declared.fault.Fault.{Fault}
 use Rattle.icn_host.specs.declared.fault.Fault.TheVariants as Faults
 use Rattle.icn_host.proofs.SinkSteps.{gains_nothing, gains_then}
-use Rattle.icn_host.specs.Puts.{BreaksOff, LeadsBy, Puts, PutsAll, RunsShort}
+use Rattle.icn_host.specs.Puts.{LeadsBy}
 use Rattle.icn_host.specs.Sinks.{Gains, SinkState}
 use Rattle.icn_code.specs.Codes.{Tables}
 use Rattle.icn_defs.specs.Running.{Launch, Observed, Done, Exit, Errored, AtBound, Ending as SeenEnding}
 use Rattle.icn_run.specs.declared.ending.Ending.{Ending}
 use Rattle.icn_run.specs.declared.ending.Ending.TheVariants as Endings
 use Rattle.icn_simulation.specs.Law.{RunsFlat}
-use Rattle.icn_streams.specs.Handed.{Handed, KeepsAllCounts, KeepsCounts, FailsOnce, WantsOnce, WantsMemory, handed, uncounted, output_wants}
-use Rattle.icn_machine.specs.Stepping.{OutputFails, output_fails}
+use Rattle.icn_streams.specs.Handed.{Handed, KeepsAllCounts, KeepsCounts, handed, uncounted, output_wants}
+use Rattle.icn_machine.specs.Stepping.{output_fails}
 use Rattle.icn_running.specs.declared.fault.RunFault.{RunFault}
 use Rattle.icn_running.specs.declared.fault.RunFault.TheVariants as Runs
 use Rattle.icn_running.specs.Reported.{ending_seen}
@@ -22,9 +22,7 @@ use Rattle.icn_lines.specs.declared.answer.Answer.TheVariants.{Wrote, Ran, Refus
 use Rattle.icn_lines.specs.Causes.{RunEndsAtFirst}
 use Rattle.icn_lines.specs.Endings.{ending_held}
 use Rattle.icn_lines.specs.Faulting.{of_run}
-use Rattle.icn_lines.specs.Refusing.{PutsOwn}
 use Rattle.icn_lines.specs.Reporting.{PutsSome, Reports}
-use Rattle.icn_lines.specs.Telling.{with_errors}
 use Rattle.icn_lines.proofs.Reports.{fault_reports, puts_own}
 use Rattle.icont_units.specs.Generated.{sizes_line}
 use Rattle.icont_top.specs.Job.{sizes_behind}
@@ -151,7 +149,11 @@ ends_behind left input before out out' err Faults.Failed line kept stops =
     output_fails kept.faults
     (record { faults = stops.faults ∙ ap one_more kept.output.faults; wants = stops.wants ∙ kept.output.wants }) kept.errors
 ends_behind left input before out out' err Faults.NoMemory line kept (inl same) =
-    uncounted (record { faults = kept.faults; output = subst (λ (sink : SinkState). KeepsCounts before.output sink) (sym same) kept.output; errors = kept.errors })
+    uncounted (record {
+      faults = kept.faults;
+      output = subst (λ (sink : SinkState). KeepsCounts before.output sink) (sym same) kept.output;
+      errors = kept.errors;
+    })
 ends_behind left input before out out' err Faults.NoMemory line kept (inr short) =
     output_wants kept.faults
     (record { faults = short.faults ∙ kept.output.faults; wants = short.wants ∙ ap one_more kept.output.wants }) kept.errors

@@ -1,22 +1,20 @@
 -- Members that are sources alone, and the unit at a place.
-use Rattle.std.proofs.Common.{◌≡◌, ℕ, zero, suc, ◌<◌, List, [], ◌∷◌, map, length, Option, None, Some, refl, sym, ap, ◌∙◌, subst, arith}
+use Rattle.std.proofs.Common.{◌≡◌, ℕ, zero, suc, ◌<◌, List, [], ◌∷◌, length, Option, None, Some, refl, sym, ap, subst, arith}
 use Rattle.std.specs.Prelude.{All, slice_index_or}
-use Rattle.std.specs.Option.{option_map, option_or}
+use Rattle.std.specs.Option.{option_map}
 use Rattle.std.proofs.lemmas.Option.{none-some, same_Some}
 use Rattle.icn_tree.specs.Trees.{Declaration}
-use Rattle.icn_code.specs.Codes.{Tables}
 use Rattle.icn_unit.specs.PlainUnits.{UnitRead}
 use Rattle.icn_unit.specs.declared.unit.Unit.{Unit as HeldUnit}
 use Rattle.icn_translate.specs.FileUnits.{translated_unit}
 use Rattle.icn_link.specs.Joined.{joined}
-use Rattle.icn_link.specs.LinkFaults.{unit_names}
 use Rattle.icn_link.specs.Units.{units_seen}
 use Rattle.icn_simulation.specs.Faultless.{IsFaultless}
 use Rattle.icn_simulation.specs.Joined.{Joined}
 use Rattle.icn_simulation.specs.Law.{IsLinked}
 use Rattle.link_laws.specs.TranslatedUnits.{translated_units}
 use Rattle.icont_units.specs.Loading.{IsFaultlessMember, ucode_place}
-use Rattle.icont_units.specs.Units.{Member, FromSource, FromUcode, unit_named, unit_of, units_of}
+use Rattle.icont_units.specs.Units.{Member, FromSource, FromUcode, unit_named, units_of}
 use Rattle.icont_top.specs.Programs.{files_of, first_ucode, linked, with_file}
 
 -- Sources

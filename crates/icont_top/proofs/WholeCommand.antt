@@ -25,7 +25,7 @@ use Rattle.icont_units.specs.Units.{Load, Member}
 use Rattle.icont_top.specs.Answered.{IsAnswered, IsCommanded, MissesText}
 use Rattle.icont_top.specs.Answering.{IsDone}
 use Rattle.icont_top.specs.Asking.{IsTold, words_answer}
-use Rattle.icont_top.specs.Outcomes.{HasWritten, HoldsWritten, IsComplete, Outcome}
+use Rattle.icont_top.specs.Outcomes.{HasWritten, HoldsWritten, IsComplete, LeavesFiles, Outcome}
 use Rattle.icont_top.specs.Usage.{usage}
 use Rattle.icont_top.proofs.AnswersGiven.{OneReading, absence_of, words_asked, words_commanded, words_no_absence, words_no_file, words_no_image, words_no_read, words_no_run, words_no_write}
 use Rattle.icont_top.proofs.Completing.{complete_of}
@@ -62,6 +62,10 @@ module _ (words : List (List ℕ)) (answer : Answer) (before after : Told) where
   pub answered_of : (held : Option FileMap) → DoneBy held → IfSome held (λ files. IsAnswered words files answer)
   answered_of None is = tt
   answered_of (Some files) is = is.answered
+
+  pub written_of : (held : Option FileMap) → DoneBy held → IfSome held (λ files. LeavesFiles words files answer before.files after.files)
+  written_of None is = tt
+  written_of (Some files) is = is.leaves
 
   pub complete_by : OneReading → HaveOneFault → HaveNoFault → (held : Option FileMap) → DoneBy held → IfSome held (λ files. IsComplete words files answer)
   complete_by one fault sound None is = tt
@@ -123,7 +127,8 @@ module _ (words : List (List ℕ)) (fault : WordsFault) (answer given : Answer) 
       → IfSome held (λ files. IsDone words files given (told held (handed left input out before)) (told held (handed left input out after)))
   words_done None left input out is = tt
   words_done (Some files) left input out is =
-      refused_done (words_answer fault) given (Some files) (Some files) left input out before after (words_no_image fault) (words_asked fault is) refl line_again
+      refused_done (words_answer fault) given (Some files) (Some files) left input out before after
+      (words_no_image fault) (words_asked fault is) refl line_again
 
   pub words_end : (files absences input : ℕ) (left : Option (List ℕ)) (out : SinkState)
       → EndsAtFirst given (IsAbsence given) (outside files absences (handed left input out before)) (outside files absences (handed left input out after))

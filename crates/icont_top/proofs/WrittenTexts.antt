@@ -117,7 +117,8 @@ some_none None all = record { done = []; are = refl; follows = tt }
 some_none (Some old) all = record { done = []; are = refl; follows = (old, refl, λ q. refl) }
 
 -- a map over which one more text is written
-over_more : (old : FileMap) (done : List Written) (next : Written) → written_over old (done ++ next ∷ []) ≡ update bytes_eq (written_over old done) next.name (Some next.bytes)
+over_more : (old : FileMap) (done : List Written) (next : Written)
+    → written_over old (done ++ next ∷ []) ≡ update bytes_eq (written_over old done) next.name (Some next.bytes)
 over_more old [] next = refl
 over_more old (first ∷ done) next = over_more (update bytes_eq old first.name (Some first.bytes)) done next
 
@@ -143,9 +144,12 @@ wrote_more {before = before} {now} {after} {all} next rest some sets = record {
   by None now f g = tt
   by (Some old) None f g = absurd (none-some f.0 f.1)
   by (Some old) (Some files) f g =
-      let same : files ≡ f.0 = same_Some files f.0 f.1 in
-      (g.0, g.1, λ q. g.2 q ∙ (update_alike files (written_over old some.done) next.name (Some next.bytes) q
-      (ap (λ (m : FileMap). m q) same ∙ f.2 q) ∙ ap (λ (m : FileMap). m q) (sym (over_more old some.done next))))
+      let same : files ≡ f.0 = same_Some files f.0 f.1 in (
+        g.0,
+        g.1,
+        λ q. g.2 q ∙ (update_alike files (written_over old some.done) next.name (Some next.bytes) q
+            (ap (λ (m : FileMap). m q) same ∙ f.2 q) ∙ ap (λ (m : FileMap). m q) (sym (over_more old some.done next))),
+      )
 
 pub wrote_all : {before now : Option FileMap} {all : List Written} → WritesSome before now all [] → WritesAll before now all
 wrote_all {before = before} {now} {all} some = record {
@@ -171,9 +175,15 @@ wrote_part {before = before} {now} {after} {all} next rest some sets = record {
   by (Some old) None f g = absurd (none-some f.0 f.1)
   by (Some old) (Some files) f g =
       let same : files ≡ f.0 = same_Some files f.0 f.1 in
-      let alike : (q : List ℕ) → files q ≡ written_over old some.done q = λ q. ap (λ (m : FileMap). m q) same ∙ f.2 q in
-      (g.0, g.1, (g.2.0, subst (λ was. IsLeftBehind was next.bytes g.2.0) (alike next.name) g.2.1,
-      λ q. g.2.2 q ∙ update_alike files (written_over old some.done) next.name g.2.0 q (alike q)))
+      let alike : (q : List ℕ) → files q ≡ written_over old some.done q = λ q. ap (λ (m : FileMap). m q) same ∙ f.2 q in (
+        g.0,
+        g.1,
+        (
+          g.2.0,
+          subst (λ was. IsLeftBehind was next.bytes g.2.0) (alike next.name) g.2.1,
+          λ q. g.2.2 q ∙ update_alike files (written_over old some.done) next.name g.2.0 q (alike q),
+        ),
+      )
 
 -- a text of a list of texts
 

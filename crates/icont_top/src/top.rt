@@ -167,7 +167,8 @@ fn translate_answer<F: Files, E: Sink>(
 
 // Writes the ucode texts of units.
 fn texts_answer<F: Files, E: Sink>(texts: &[Text], files: &mut F, err: &mut E) -> Answer
-    ensures done { (words : List (List ℕ)) (held : FileMap) (members : List Member) (left : Option (List ℕ)) (input : ℕ) (out : SinkState) → IsTranslated words held (Ok members)
+    ensures done { (words : List (List ℕ)) (held : FileMap) (members : List Member) (left : Option (List ℕ)) (input : ℕ) (out : SinkState)
+        → IsTranslated words held (Ok members)
         → texts_seen texts.now ≡ ucode_files members → All IsReadBack members → F.held files.old ≡ Some held
         → IsDone words held result (told (F.held files.old) (handed left input out (E.state err.old)))
         (told (F.held files.new) (handed left input out (E.state err.new))) }

@@ -13,12 +13,20 @@ returns-in-Ok-make-clause-program g c =
     if_some (g.F.Files.held c.args.files.now) _ (λ held e.
     let loaded = at_some _ (g.F.Files.held c.args.files.now) held e c.in-Ok-load.ensures.loaded in
     let named : files_seen c.deref.result.now ≡ files_named (texts c.args.names.now) = ap files_seen c.deref.ensures.value ∙ c.in-Ok.ensures in
-    let load : Load held (files_named (texts c.args.names.now)) (Ok loaded.0) = subst (λ files. Load held files (Ok loaded.0)) named loaded.1.0 in
-    (loaded.0, (load, (told_of c.in-Ok-load.members loaded.0 loaded.1.1 c.in-Ok-load.ensures.absent, record {
-      made = c.in-Ok-make.ensures.made loaded.0 loaded.1.1;
-      base = c.first_base.ensures ∙ (ap (λ files. first_named (files_seen files)) c.deref-in-Ok-make.ensures.value
-          ∙ (ap first_named c.in-Ok.ensures ∙ sym (load_base c.one_spelling.ensures.spelled held (files_named (texts c.args.names.now)) loaded.0 load)));
-    }))))
+    let load : Load held (files_named (texts c.args.names.now)) (Ok loaded.0) = subst (λ files. Load held files (Ok loaded.0)) named loaded.1.0 in (
+      loaded.0,
+      (
+        load,
+        (
+          told_of c.in-Ok-load.members loaded.0 loaded.1.1 c.in-Ok-load.ensures.absent,
+          record {
+            made = c.in-Ok-make.ensures.made loaded.0 loaded.1.1;
+            base = c.first_base.ensures ∙ (ap (λ files. first_named (files_seen files)) c.deref-in-Ok-make.ensures.value
+                ∙ (ap first_named c.in-Ok.ensures ∙ sym (load_base c.one_spelling.ensures.spelled held (files_named (texts c.args.names.now)) loaded.0 load)));
+          },
+        ),
+      ),
+    ))
 
 pub returns-in-Ok-load-clause-program : goal.returns-in-Ok-load-clause-program
 returns-in-Ok-load-clause-program g c =

@@ -15,10 +15,17 @@ returns-in-Ok-ucode_texts-clause-translated g c =
     if_some (g.F.Files.held c.args.files.now) _ (λ held e.
     let come = at_some _ (g.F.Files.held c.args.files.now) held e c.in-Ok-come.ensures.come in
     let comes : Come held (sources_in (files_named (texts c.args.names.now))) (Ok come.0) =
-        subst (λ files. Come held files (Ok come.0)) (ap files_seen c.deref.ensures.value ∙ c.in-Ok.ensures) come.1.0 in
+    subst (λ files. Come held files (Ok come.0)) (ap files_seen c.deref.ensures.value ∙ c.in-Ok.ensures) come.1.0 in
     let names : bases (files_seen c.deref-in-Ok-come.result.now) ≡ unit_names (units_of come.0) =
-        ap (λ files. bases (files_seen files)) c.deref-in-Ok-come.ensures.value ∙ (ap bases c.in-Ok.ensures
-        ∙ come_names c.one_spelling.ensures.spelled held (sources_in (files_named (texts c.args.names.now))) come.0 comes) in
-    (come.0, (comes, (c.in-Ok-ucode_texts.ensures ∙ are_ucode (bases (files_seen c.deref-in-Ok-come.result.now)) (units_seen c.deref-in-Ok-come-2.result.now)
-    come.0 (ap units_seen c.deref-in-Ok-come-2.ensures.value ∙ come.1.1.units) names,
-    all_read c.one_spelling.ensures.read_back c.in-Ok-come.members.units.items come.0 come.1.1.units))))
+    ap (λ files. bases (files_seen files)) c.deref-in-Ok-come.ensures.value ∙ (ap bases c.in-Ok.ensures
+    ∙ come_names c.one_spelling.ensures.spelled held (sources_in (files_named (texts c.args.names.now))) come.0 comes) in (
+      come.0,
+      (
+        comes,
+        (
+          c.in-Ok-ucode_texts.ensures ∙ are_ucode (bases (files_seen c.deref-in-Ok-come.result.now)) (units_seen c.deref-in-Ok-come-2.result.now)
+              come.0 (ap units_seen c.deref-in-Ok-come-2.ensures.value ∙ come.1.1.units) names,
+          all_read c.one_spelling.ensures.read_back c.in-Ok-come.members.units.items come.0 come.1.1.units,
+        ),
+      ),
+    ))

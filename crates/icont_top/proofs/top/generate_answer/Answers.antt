@@ -32,5 +32,6 @@ returns-in-Err-clause-command g c is = no_command c.in-Err.answer c.refuse.resul
 pub returns-in-Err-clause-causes : goal.returns-in-Err-clause-causes
 returns-in-Err-clause-causes g c =
     refused_ends c.in-Err.answer c.refuse.result (loading_no_write c.in-Err.answer c.in-Err.ensures.others)
-    (loading_no_read c.in-Err.answer c.in-Err.ensures.others) (unmoved (λ e. c.in-Err.ensures.no_file (ap (λ a. Err a) e))) (no_cause c.in-Err.ensures.no_absence)
+    (loading_no_read c.in-Err.answer c.in-Err.ensures.others) (unmoved (λ e. c.in-Err.ensures.no_file (ap (λ a. Err a) e)))
+    (no_cause c.in-Err.ensures.no_absence)
     (absence_of c.in-Err.answer c.refuse.result c.refuse.ensures.line) c.refuse.ensures.line

@@ -7,7 +7,7 @@ use Rattle.icont_words.specs.declared.words.Task.TheVariants as Held
 use Rattle.icont_words.specs.Asking.{run_seen, texts}
 use Rattle.icont_words.specs.Words.{Generate, Link, Translate}
 use Rattle.icont_top.proofs.AnswersGiven.{task_commanded}
-use Rattle.icont_top.proofs.WholeCommand.{answered_of, complete_by, headline_of, link_misses, names_asked, number_misses, outcome_of, task_asked, units_miss, words_called, words_done, words_end, words_miss, words_reported}
+use Rattle.icont_top.proofs.WholeCommand.{answered_of, complete_by, headline_of, link_misses, names_asked, number_misses, outcome_of, task_asked, units_miss, words_called, words_done, words_end, words_miss, words_reported, written_of}
 use Rattle.icont_top.proofs.Topmost.{at_some, if_some}
 use Rattle.icont_top.proofs.top.icont_main.Goals as goal
 
@@ -254,3 +254,35 @@ returns-in-Err-clause-links g c =
     if_some (g.F.Files.held c.args.files.now) _ (λ held e. words_miss (map string_bytes c.args.words.now) c.in-Err.fault c.words_answer.result
     c.refuse.result c.words_answer.ensures c.refuse.ensures.line
     c.one_reading.ensures.one held c.in-Err.ensures)
+
+pub returns-in-Ok-Translate-clause-written : goal.returns-in-Ok-Translate-clause-written
+returns-in-Ok-Translate-clause-written g c =
+    written_of (map string_bytes c.args.words.now) c.translate_answer.result _ _ (g.F.Files.held c.args.files.now)
+    (c.translate_answer.ensures.done (map string_bytes c.args.words.now) (g.I.Source.left c.args.input.now) (g.I.Source.faults c.args.input.now)
+    (g.O.Sink.state c.args.out.now)
+    (names_asked (map string_bytes c.args.words.now) Translate c.deref.result.now c.in-Ok-Translate.names.items c.deref.ensures.value
+    (task_asked (map string_bytes c.args.words.now) c.in-Ok-Translate.field-0 (Held.Translate c.in-Ok-Translate.names) c.in-Ok-Translate.field-0-is
+    c.in-Ok-Translate.ensures)))
+
+pub returns-in-Ok-Link-clause-written : goal.returns-in-Ok-Link-clause-written
+returns-in-Ok-Link-clause-written g c =
+    written_of (map string_bytes c.args.words.now) c.link_answer.result _ _ (g.F.Files.held c.args.files.now)
+    (c.link_answer.ensures.done (map string_bytes c.args.words.now) (names_asked (map string_bytes c.args.words.now) (λ names. Link names
+    (option_map (λ name. name.now) c.in-Ok-Link.image) (option_map run_seen c.in-Ok-Link.run'))
+    c.deref-in-Ok-Link.result.now c.in-Ok-Link.names.items c.deref-in-Ok-Link.ensures.value
+    (task_asked (map string_bytes c.args.words.now) c.in-Ok-Link.field-0 (Held.Link c.in-Ok-Link.names c.in-Ok-Link.image c.in-Ok-Link.run')
+    c.in-Ok-Link.field-0-is c.in-Ok-Link.ensures)))
+
+pub returns-in-Ok-Generate-clause-written : goal.returns-in-Ok-Generate-clause-written
+returns-in-Ok-Generate-clause-written g c =
+    written_of (map string_bytes c.args.words.now) c.generate_answer.result _ _ (g.F.Files.held c.args.files.now)
+    (c.generate_answer.ensures.done (map string_bytes c.args.words.now) (task_asked (map string_bytes c.args.words.now) c.in-Ok-Generate.field-0
+    (Held.Generate c.in-Ok-Generate.number c.in-Ok-Generate.turns) c.in-Ok-Generate.field-0-is c.in-Ok-Generate.ensures))
+
+pub returns-in-Err-clause-written : goal.returns-in-Err-clause-written
+returns-in-Err-clause-written g c =
+    written_of (map string_bytes c.args.words.now) c.refuse.result _ _ (g.F.Files.held c.args.files.now)
+    (words_done (map string_bytes c.args.words.now) c.in-Err.fault c.words_answer.result c.refuse.result c.words_answer.ensures
+    c.refuse.ensures.line (g.F.Files.held c.args.files.now) (g.I.Source.left c.args.input.now) (g.I.Source.faults c.args.input.now) (g.O.Sink.state
+    c.args.out.now)
+    c.in-Err.ensures)

@@ -29,7 +29,8 @@ pub returns-in-Err-clause-reported : goal.returns-in-Err-clause-reported
 returns-in-Err-clause-reported g c =
     rw c.answer_of-answer.ensures (fault_reports _ _ _ c.in-Err.fault c.in-Err.ensures.first_fault
     (if_some (g.I.Source.left c.args.input.now) _ (λ left d. off_puts (tables_of c.args.code.now.code)
-    (launch_of (run_seen c.args.asked).arguments (record (limits_of c.standard-standard.result) { turns = c.args.asked.turns }) left) c.in-Err.fault _ _ (c.in-Err.ensures.breaks left d)))
+    (launch_of (run_seen c.args.asked).arguments (record (limits_of c.standard-standard.result) { turns = c.args.asked.turns }) left)
+    c.in-Err.fault _ _ (c.in-Err.ensures.breaks left d)))
     (rw c.answer_of-answer.ensures at c.own_line.ensures.puts))
 
 pub returns-in-Ok-clause-causes : goal.returns-in-Ok-clause-causes
