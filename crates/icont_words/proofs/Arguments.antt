@@ -13,7 +13,8 @@ some_is : (o : Option ValueRange) → IsSomeAnd o (λ r. r ≡ any_number) → o
 some_is None h = absurd h
 some_is (Some r) h = ap Some h
 
-pub file_is : (a b : Arg) → rule_of a ≡ new_rule (codes "file") → b ≡ record a { num_vals = b.num_vals } → IsSomeAnd b.num_vals (λ r. r ≡ any_number)
+pub file_is : (a b : Arg) → rule_of a ≡ new_rule (codes "file") → b ≡ record a { num_vals = b.num_vals }
+    → IsSomeAnd b.num_vals (λ r. r ≡ any_number)
     → rule_of b ≡ file_rule
 file_is a b named is range =
     ap rule_of is ∙ ap₂ (λ (r : Rule) (o : Option ValueRange). record r { range = o }) named (some_is b.num_vals range)

@@ -28,7 +28,8 @@ first_by a rest u (c ∷ cs) e = (
   λ small. byte_from_char (a ∷ rest) (encode_utf8_all cs) c (sym e) small,
 )
 
-pub first_char : (a : ℕ) (rest : List ℕ) → IsUtf8 (a ∷ rest) → (c : ℕ) × (slice_get (chars (a ∷ rest)) 0 ≡ Some c) × (c < 128 → a ≡ c)
+pub first_char : (a : ℕ) (rest : List ℕ) → IsUtf8 (a ∷ rest)
+    → (c : ℕ) × (slice_get (chars (a ∷ rest)) 0 ≡ Some c) × (c < 128 → a ≡ c)
 first_char a rest u = first_by a rest u u.0 u.1.1
 
 units_char : (rest : List ℕ) → slice_get (chars (99 ∷ rest)) 0 ≡ Some 99
@@ -49,7 +50,8 @@ units_width : (rest : List ℕ) → drop (length (encode_utf8 99)) (99 ∷ rest)
 unfolding encode_utf8
 units_width rest = refl
 
-letter_width : (letter : Letter) (rest : List ℕ) → drop (length (encode_utf8 (letter_byte letter))) (letter_byte letter ∷ rest) ≡ rest
+letter_width : (letter : Letter) (rest : List ℕ)
+    → drop (length (encode_utf8 (letter_byte letter))) (letter_byte letter ∷ rest) ≡ rest
 unfolding encode_utf8
 letter_width Image rest = refl
 letter_width Turns rest = refl
@@ -79,7 +81,8 @@ letter_there Number = refl
 other_named : (a c : ℕ) → (c < 128 → a ≡ c) → a ≢ 99 → letter_of a ≡ None → arg_by_short taken c ≡ None
 other_named a c same no_flag no_letter =
     short_none c (λ e. no_flag (same (omega (arith, e)) ∙ e))
-    (λ letter e. none-some letter (sym no_letter ∙ (ap letter_of (same (omega (arith, e, small_letter letter)) ∙ e) ∙ letter_there letter)))
+    (λ letter e. none-some letter (sym no_letter ∙ (ap letter_of (same (omega (arith, e, small_letter letter)) ∙ e)
+    ∙ letter_there letter)))
 
 -- The first character is read as a flag
 
@@ -91,7 +94,8 @@ module _ (k x : ℕ) (flags rest : Text) (found : Option Rule) (h : Held) (first
       ap (λ o. bundle_step_fault taken false o flags 0 h (flags_fault taken false k)) first
       ∙ ap₂ (λ (o : Option Rule) (t : Text). short_fault taken false o t h (flags_fault taken false k t 0)) named width
 
-  read_met : (so_far : Outcome) → bundle_met taken (suc k) flags 0 so_far h ≡ short_met taken found rest h (bundle_met taken k rest 0 done)
+  read_met : (so_far : Outcome)
+      → bundle_met taken (suc k) flags 0 so_far h ≡ short_met taken found rest h (bundle_met taken k rest 0 done)
   unfolding bundle_met
   read_met so_far =
       ap (λ o. bundle_step taken o flags 0 so_far h (bundle_met taken k)) first
@@ -103,7 +107,8 @@ option_at_fault : (a : Rule) (v : Option Text) (h : Held) (k : ErrorKind) (ks : 
 option_at_fault a (Some v) h k ks is = ap (λ s. clear (or_else s (use_fault false a (v ∷ []) (settled taken h).rows))) is
 option_at_fault a None h k ks is = ap clear is
 
-pub short_at_fault : (found : Option Rule) (rest : Text) (h : Held) (more : Held → Kinds) (k : ErrorKind) (ks : Kinds) → settle_fault taken false h ≡ k ∷ ks
+pub short_at_fault : (found : Option Rule) (rest : Text) (h : Held) (more : Held → Kinds) (k : ErrorKind) (ks : Kinds)
+    → settle_fault taken false h ≡ k ∷ ks
     → clear (short_fault taken false found rest h more) ≡ false
 short_at_fault None rest h more k ks is = refl
 short_at_fault (Some a) rest h more k ks is = by (takes_values a) where
@@ -130,13 +135,15 @@ attached_is b rest = by (b == 61) refl where
   by false e = rw e refl
 
 -- the word behind which words stand, met at these rows
-module _ (word : Text) (words : List Text) (rows_before : List Row) (pending_before : Option (Text × List Text)) (waiting_before : Waiting) where
+module _ (word : Text) (words : List Text) (rows_before : List Row) (pending_before : Option (Text × List Text))
+    (waiting_before : Waiting) where
   abbrev flag_step : Held × Outcome → Held × Step
   flag_step r = after_flag taken waiting_before word r.0 r.1
 
   abbrev pub FlagsGo : Kinds → Held × Outcome → Bool → Pieces → List Row → Type 0
   FlagsGo fault r before said rows = Goes (clear fault && clear (step_fault shape 1 (flag_step r).0 (flag_step r).1))
-      (after_step taken word (stands false rows_before pending_before waiting_before) (flag_step r).0 (flag_step r).1) words before said rows
+      (after_step taken word (stands false rows_before pending_before waiting_before) (flag_step r).0
+      (flag_step r).1) words before said rows
 
   abbrev pub at_rest : Type 0
   at_rest = (p : Pending) (rows : List Row) → name_count p + length words ≤ usize_max
@@ -144,7 +151,8 @@ module _ (word : Text) (words : List Text) (rows_before : List Row) (pending_bef
 
   abbrev pub at_due : Type 0
   at_due = (letter : Letter) (rows : List Row) → length words ≤ usize_max
-      → Goes true (stands false rows (Some (letter_id letter, [])) (option (letter_id letter))) words true (said_from words (Some letter)) rows
+      → Goes true (stands false rows (Some (letter_id letter, [])) (option (letter_id letter))) words true
+      (said_from words (Some letter)) rows
 
   -- the flags are done, or there are some
   abbrev Ready : Text → Outcome → Type 0
@@ -152,13 +160,15 @@ module _ (word : Text) (words : List Text) (rows_before : List Row) (pending_bef
   Ready (a ∷ rest) so_far = ⊤
 
   abbrev pub AtFlags : Text → Type 0
-  AtFlags flags = (k : ℕ) (so_far : Outcome) (p : Pending) (rows : List Row) → length flags ≤ k → IsUtf8 flags → Ready flags so_far
+  AtFlags flags =
+      (k : ℕ) (so_far : Outcome) (p : Pending) (rows : List Row) → length flags ≤ k → IsUtf8 flags → Ready flags so_far
       → name_count p + length words ≤ usize_max
       → FlagsGo (flags_fault taken false k flags 0 (held rows (pend p))) (bundle_met taken k flags 0 so_far (held rows (pend p)))
       (clear_with p rows) (flags_said flags (said_from words)) (rows_with p rows)
 
   flags_as : (fault fault' : Kinds) (r r' : Held × Outcome) (before before' : Bool) (said said' : Pieces) (rows : List Row)
-      → fault' ≡ fault → r' ≡ r → before ≡ before' → said ≡ said' → FlagsGo fault r before said rows → FlagsGo fault' r' before' said' rows
+      → fault' ≡ fault → r' ≡ r → before ≡ before' → said ≡ said' → FlagsGo fault r before said rows
+      → FlagsGo fault' r' before' said' rows
   flags_as fault fault' r r' before before' said said' rows f m b s g =
       subst (λ (x : Kinds). FlagsGo x r' before' said' rows) (sym f)
       (subst (λ (x : Held × Outcome). FlagsGo fault x before' said' rows) (sym m)
@@ -191,10 +201,13 @@ module _ (word : Text) (words : List Text) (rows_before : List Row) (pending_bef
         let h' = held after None in
         let fault = flags_fault taken false k rest 0 h' in
         let met = bundle_met taken k rest 0 done h' in
-        let g = more k done no_use after (omega (arith, enough)) (IsUtf8-past_char (99 ∷ rest) rest 99 u (behind_units rest)) ready (omega (arith, room)) in
+        let g =
+        more k done no_use after (omega (arith, enough)) (IsUtf8-past_char (99 ∷ rest) rest 99 u (behind_units rest)) ready
+        (omega (arith, room)) in
         let new = clear_with p rows && is_new Units (rows_with p rows) in
         let reacts : clear (react_fault taken false units_taken [] h) ≡ new =
-        clear_or (settle_fault taken false h) (use_fault false units_taken [] (rows_with p rows)) ∙ ap (λ t. clear_with p rows && t) (units_clear (rows_with p rows)) in
+        clear_or (settle_fault taken false h) (use_fault false units_taken [] (rows_with p rows))
+        ∙ ap (λ t. clear_with p rows && t) (units_clear (rows_with p rows)) in
         let whole : clear (or_else (react_fault taken false units_taken [] h) fault) ≡ (new && clear fault) =
         clear_or (react_fault taken false units_taken [] h) fault ∙ ap (λ t. t && clear fault) reacts in
         let last = clear (step_fault shape 1 (flag_step met).0 (flag_step met).1) in
@@ -202,17 +215,20 @@ module _ (word : Text) (words : List Text) (rows_before : List Row) (pending_bef
         (read_fault k 99 (99 ∷ rest) rest (Some units_taken) h (units_char rest) short_units (units_width rest))
         (read_met k 99 (99 ∷ rest) rest (Some units_taken) h (units_char rest) short_units (units_width rest) so_far) refl refl
         (add_piece _ _ words (clear_with p rows) Units (flags_said rest (said_from words)) (rows_with p rows)
-        (goes_as (new && (clear fault && last)) (clear (or_else (react_fault taken false units_taken [] h) fault) && last) _ _ words (new && true) new _ after after
+        (goes_as (new && (clear fault && last))
+        (clear (or_else (react_fault taken false units_taken [] h) fault) && last) _ _ words (new && true) new _ after after
         (sym (and_assoc new (clear fault) last) ∙ ap (λ t. t && last) (sym whole)) refl (and_true new) refl
         (guarded new (clear fault && last) _ words true _ after g)))
 
     value_go : (letter : Letter) (rest : List ℕ) (k : ℕ) (p : Pending) (rows : List Row) → name_count p + length words ≤ usize_max
-        → FlagsGo (short_fault taken false (Some (option_taken letter)) rest (held rows (pend p)) (flags_fault taken false k rest 0))
+        → FlagsGo (short_fault taken false (Some (option_taken letter)) rest (held rows (pend p))
+        (flags_fault taken false k rest 0))
         (short_met taken (Some (option_taken letter)) rest (held rows (pend p)) (bundle_met taken k rest 0 done))
         (clear_with p rows) (value_said letter rest (said_from words)) (rows_with p rows)
     value_go letter [] k p rows room =
         let g = due_goes letter (rows_with p rows) (omega (arith, room)) in
-        goes_as (clear_with p rows && true) (clear_with p rows && true) _ _ words (clear_with p rows && true) (clear_with p rows) _ _ _ refl refl (and_true (clear_with p rows)) refl
+        goes_as (clear_with p rows && true) (clear_with p rows && true) _ _ words (clear_with p rows && true)
+        (clear_with p rows) _ _ _ refl refl (and_true (clear_with p rows)) refl
         (guarded (clear_with p rows) true _ words true _ (rows_with p rows) g)
     value_go letter (b ∷ rest) k p rows room =
         let h = held rows (pend p) in
@@ -222,12 +238,15 @@ module _ (word : Text) (words : List Text) (rows_before : List Row) (pending_bef
         let g = rest_goes no_use after (omega (arith, room)) in
         let new = clear_with p rows && is_new (Valued letter v) before in
         let reacts : new ≡ clear (react_fault taken false (option_taken letter) (v ∷ []) h) =
-        sym (clear_or (settle_fault taken false h) (use_fault false (option_taken letter) (v ∷ []) before) ∙ ap (λ t. clear_with p rows && t) (option_clear letter v before)) in
-        flags_as (react_fault taken false (option_taken letter) (v ∷ []) h) _ (reacted taken (option_taken letter) (v ∷ []) h, done) _ _ _ _ _ _
+        sym (clear_or (settle_fault taken false h) (use_fault false (option_taken letter) (v ∷ []) before)
+        ∙ ap (λ t. clear_with p rows && t) (option_clear letter v before)) in
+        flags_as (react_fault taken false (option_taken letter) (v ∷ []) h) _
+        (reacted taken (option_taken letter) (v ∷ []) h, done) _ _ _ _ _ _
         (ap (λ o. option_fault taken false (option_taken letter) o h) (attached_is b rest))
         (ap (λ o. option_met taken (option_taken letter) o h) (attached_is b rest)) refl refl
         (add_piece _ _ words (clear_with p rows) (Valued letter v) (said_from words None) before
-        (goes_as (new && true) (clear (react_fault taken false (option_taken letter) (v ∷ []) h) && true) _ _ words (new && true) new _ after after
+        (goes_as (new && true) (clear (react_fault taken false (option_taken letter) (v ∷ []) h) && true) _ _ words
+        (new && true) new _ after after
         (ap (λ t. t && true) reacts) refl (and_true new) refl
         (guarded new true _ words true _ after g)))
 
@@ -238,8 +257,10 @@ module _ (word : Text) (words : List Text) (rows_before : List Row) (pending_bef
         let x = letter_byte letter in
         flags_as (short_fault taken false (Some (option_taken letter)) rest h (flags_fault taken false k rest 0)) _
         (short_met taken (Some (option_taken letter)) rest h (bundle_met taken k rest 0 done)) _ _ _ _ _ _
-        (read_fault k x (x ∷ rest) rest (Some (option_taken letter)) h (letter_char letter rest) (short_option letter) (letter_width letter rest))
-        (read_met k x (x ∷ rest) rest (Some (option_taken letter)) h (letter_char letter rest) (short_option letter) (letter_width letter rest) so_far)
+        (read_fault k x (x ∷ rest) rest (Some (option_taken letter)) h (letter_char letter rest) (short_option letter)
+        (letter_width letter rest))
+        (read_met k x (x ∷ rest) rest (Some (option_taken letter)) h (letter_char letter rest) (short_option letter)
+        (letter_width letter rest) so_far)
         refl (sym (option_flag letter rest (said_from words)))
         (value_go letter rest k p rows room)
 
@@ -250,17 +271,21 @@ module _ (word : Text) (words : List Text) (rows_before : List Row) (pending_bef
         let first = first_char a rest u in
         let left = drop (length (encode_utf8 first.0)) (a ∷ rest) in
         let unnamed = other_named a first.0 first.2 (λ e. true≢false (sym (ap (λ b. b == 99) e) ∙ no_flag)) no_letter in
-        let at_fault : clear (flags_fault taken false (suc k) (a ∷ rest) 0 h) ≡ false = ap clear (read_fault k first.0 (a ∷ rest) left None h first.1 unnamed refl) in
+        let at_fault : clear (flags_fault taken false (suc k) (a ∷ rest) 0 h) ≡ false =
+        ap clear (read_fault k first.0 (a ∷ rest) left None h first.1 unnamed refl) in
         let met = bundle_met taken (suc k) (a ∷ rest) 0 so_far h in
         let said : None ≡ flags_said (a ∷ rest) (said_from words) =
-        sym (ap (λ t. cond t (with_piece Units (flags_said rest (said_from words))) (option_said (letter_of a) rest (said_from words))) no_flag
+        sym (ap (λ t. cond t (with_piece Units (flags_said rest (said_from words)))
+        (option_said (letter_of a) rest (said_from words))) no_flag
         ∙ ap (λ o. option_said o rest (said_from words)) no_letter) in
         flags_as _ _ met _ _ _ None _ _ refl refl refl said
-        (refused _ _ words (clear_with p rows) (rows_with p rows) (ap (λ t. t && clear (step_fault shape 1 (flag_step met).0 (flag_step met).1)) at_fault))
+        (refused _ _ words (clear_with p rows) (rows_with p rows)
+        (ap (λ t. t && clear (step_fault shape 1 (flag_step met).0 (flag_step met).1)) at_fault))
 
     by_letter : (a : ℕ) (rest : List ℕ) (found : Option Letter) → (a == 99) ≡ false → letter_of a ≡ found → AtFlags (a ∷ rest)
     by_letter a rest None no_flag is = other_go a rest no_flag is
-    by_letter a rest (Some letter) no_flag is = subst (λ b. AtFlags (b ∷ rest)) (sym (letter_is a letter is)) (letter_go letter rest)
+    by_letter a rest (Some letter) no_flag is =
+        subst (λ b. AtFlags (b ∷ rest)) (sym (letter_is a letter is)) (letter_go letter rest)
 
     by_byte : (a : ℕ) (rest : List ℕ) (t : Bool) → (a == 99) ≡ t → AtFlags rest → Ready rest done → AtFlags (a ∷ rest)
     by_byte a rest true e more ready = subst (λ b. AtFlags (b ∷ rest)) (sym (eqb-true a 99 e)) (units_go rest more ready)

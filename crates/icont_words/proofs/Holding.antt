@@ -31,7 +31,8 @@ use Rattle.icont_words.proofs.WholeWalk.{AreTexts, walk_goes}
 
 -- Counting
 
-units_from : (pieces : List Piece) (n : ℕ) → fold (λ m piece. m + cond (is_units piece) 1 0) n pieces ≡ n + length (told (codes "units") pieces)
+units_from : (pieces : List Piece) (n : ℕ)
+    → fold (λ m piece. m + cond (is_units piece) 1 0) n pieces ≡ n + length (told (codes "units") pieces)
 units_from [] n = omega arith
 units_from (Units ∷ pieces) n = omega (arith, units_from pieces (n + 1))
 units_from (Valued letter value ∷ pieces) n =
@@ -49,7 +50,8 @@ units_told pieces = omega (arith, units_from pieces 0)
 pub once : (pieces : List Piece) → all_new pieces [] ≡ true → AreSaidOnce pieces
 once pieces new = record {
   units = omega (arith, units_told pieces, used_once pieces [] (codes "units") new refl);
-  options = λ letter. omega (arith, used_once pieces [] (letter_id letter) new (no_file letter), ap length (values_told letter pieces));
+  options =
+      λ letter. omega (arith, used_once pieces [] (letter_id letter) new (no_file letter), ap length (values_told letter pieces));
 }
 
 pub all_new_from : (pieces : List Piece) → AreSaidOnce pieces → all_new pieces [] ≡ true
@@ -76,11 +78,13 @@ finished_is rows =
     let turns = with_default image (option_taken Turns) in
     let number = with_default turns (option_taken Number) in
     ap (fold with_default rows) taken_is
-    ∙ (same_both (has_row (codes "file") number) number ∙ (no_default turns Number ∙ (no_default image Turns ∙ no_default (with_flag rows) Image)))
+    ∙ (same_both (has_row (codes "file") number) number
+    ∙ (no_default turns Number ∙ (no_default image Turns ∙ no_default (with_flag rows) Image)))
 
 flag_other : (rows : List Row) (id : Text) → bytes_eq (codes "units") id ≡ false → seen id (with_flag rows) ≡ seen id rows
 flag_other rows id other = by (has_row (codes "units") rows) where
-  by : (t : Bool) → seen id (cond t rows (with_values (codes "units") AsWritten DefaultValue (codes "false" ∷ []) rows)) ≡ seen id rows
+  by : (t : Bool)
+      → seen id (cond t rows (with_values (codes "units") AsWritten DefaultValue (codes "false" ∷ []) rows)) ≡ seen id rows
   by true = refl
   by false = ap (option_map sight) (with_other (codes "units") id other AsWritten DefaultValue (codes "false" ∷ []) rows)
 
@@ -102,21 +106,28 @@ flag_seen rows = by (seen (codes "units") rows) refl where
 
 -- Getters
 
-one_seen : (id : Text) (rows : List Row) → one_of id rows ≡ option_and_then (λ (p : Reading × List Text). option_map (read_as p.0) (slice_get p.1 0)) (seen id rows)
+one_seen : (id : Text) (rows : List Row)
+    → one_of id rows ≡ option_and_then (λ (p : Reading × List Text). option_map (read_as p.0) (slice_get p.1 0)) (seen id rows)
 one_seen id rows = by (find (has_id id) rows) where
-  by : (o : Option Row) → option_and_then row_text o ≡ option_and_then (λ (p : Reading × List Text). option_map (read_as p.0) (slice_get p.1 0)) (option_map sight o)
+  by : (o : Option Row)
+      → option_and_then row_text o ≡ option_and_then (λ (p : Reading × List Text). option_map (read_as p.0) (slice_get p.1 0))
+      (option_map sight o)
   by None = refl
   by (Some r) = refl
 
-first_seen : (id : Text) (rows : List Row) → first_of id rows ≡ option_and_then (λ (p : Reading × List Text). slice_get p.1 0) (seen id rows)
+first_seen : (id : Text) (rows : List Row)
+    → first_of id rows ≡ option_and_then (λ (p : Reading × List Text). slice_get p.1 0) (seen id rows)
 first_seen id rows = by (find (has_id id) rows) where
-  by : (o : Option Row) → option_and_then (λ (r : Row). slice_get r.values 0) o ≡ option_and_then (λ (p : Reading × List Text). slice_get p.1 0) (option_map sight o)
+  by : (o : Option Row)
+      → option_and_then (λ (r : Row). slice_get r.values 0) o
+      ≡ option_and_then (λ (p : Reading × List Text). slice_get p.1 0) (option_map sight o)
   by None = refl
   by (Some r) = refl
 
 all_seen : (id : Text) (rows : List Row) → all_of id rows ≡ option_map (λ (p : Reading × List Text). p.1) (seen id rows)
 all_seen id rows = by (find (has_id id) rows) where
-  by : (o : Option Row) → option_map (λ (r : Row). r.values) o ≡ option_map (λ (p : Reading × List Text). p.1) (option_map sight o)
+  by : (o : Option Row)
+      → option_map (λ (r : Row). r.values) o ≡ option_map (λ (p : Reading × List Text). p.1) (option_map sight o)
   by None = refl
   by (Some r) = refl
 
@@ -141,13 +152,15 @@ units_true : (pieces : List Piece) → TellsTrue (told (codes "units") pieces)
 units_true [] = refl
 units_true (Units ∷ pieces) = refl
 units_true (Valued letter value ∷ pieces) =
-    subst TellsTrue (sym (ap (λ t. cond t (value ∷ told (codes "units") pieces) (told (codes "units") pieces)) (no_letter letter))) (units_true pieces)
+    subst TellsTrue (sym (ap (λ t. cond t (value ∷ told (codes "units") pieces) (told (codes "units") pieces))
+    (no_letter letter))) (units_true pieces)
 units_true (Named name ∷ pieces) = units_true pieces
 
 abbrev read_first : Sight → Option Text
 read_first = option_and_then (λ (p : Reading × List Text). option_map (read_as p.0) (slice_get p.1 0))
 
-flag_text : (vs : List Text) → TellsTrue vs → read_first (with_false (grown None vs)) ≡ Some (cond (has_some vs) (codes "true") (codes "false"))
+flag_text : (vs : List Text) → TellsTrue vs
+    → read_first (with_false (grown None vs)) ≡ Some (cond (has_some vs) (codes "true") (codes "false"))
 flag_text [] h = refl
 flag_text (v ∷ vs) h = h
 
@@ -162,11 +175,13 @@ has_length (v ∷ vs) = ap not (no_zero (length vs) (suc (length vs) == 0) refl)
 units_there : (pieces : List Piece) → has_some (told (codes "units") pieces) ≡ has_units pieces
 units_there pieces = sym (has_length (told (codes "units") pieces)) ∙ ap (λ n. not (n == 0)) (sym (units_told pieces))
 
-option_held : (letter : Letter) (pieces : List Piece) → all_new pieces [] ≡ true → bytes_eq (codes "units") (letter_id letter) ≡ false
+option_held : (letter : Letter) (pieces : List Piece) → all_new pieces [] ≡ true
+    → bytes_eq (codes "units") (letter_id letter) ≡ false
     → first_of (letter_id letter) (with_flag (with_uses pieces [])) ≡ first (values letter pieces)
 option_held letter pieces new other =
     first_seen (letter_id letter) (with_flag (with_uses pieces []))
-    ∙ (ap (option_and_then (λ (p : Reading × List Text). slice_get p.1 0)) (flag_other (with_uses pieces []) (letter_id letter) other ∙ seen_uses pieces [] (letter_id letter) new)
+    ∙ (ap (option_and_then (λ (p : Reading × List Text). slice_get p.1 0))
+    (flag_other (with_uses pieces []) (letter_id letter) other ∙ seen_uses pieces [] (letter_id letter) new)
     ∙ (grown_first (told (letter_id letter) pieces) ∙ ap first (values_told letter pieces)))
 
 holds : (pieces : List Piece) → all_new pieces [] ≡ true → Holds (with_flag (with_uses pieces [])) pieces
@@ -175,12 +190,14 @@ holds pieces new =
     record {
       units = one_seen (codes "units") (with_flag rows)
           ∙ (ap read_first (flag_seen rows ∙ ap with_false (seen_uses pieces [] (codes "units") new))
-          ∙ (flag_text (told (codes "units") pieces) (units_true pieces) ∙ ap (λ t. Some (cond t (codes "true") (codes "false"))) (units_there pieces)));
+          ∙ (flag_text (told (codes "units") pieces) (units_true pieces)
+          ∙ ap (λ t. Some (cond t (codes "true") (codes "false"))) (units_there pieces)));
       image = option_held Image pieces new refl;
       turns = option_held Turns pieces new refl;
       number = option_held Number pieces new refl;
       names = all_seen (codes "file") (with_flag rows)
-          ∙ (ap (option_map (λ (p : Reading × List Text). p.1)) (flag_other rows (codes "file") refl ∙ seen_uses pieces [] (codes "file") new)
+          ∙ (ap (option_map (λ (p : Reading × List Text). p.1))
+          (flag_other rows (codes "file") refl ∙ seen_uses pieces [] (codes "file") new)
           ∙ (grown_all (told (codes "file") pieces) ∙ ap values_found (names_told pieces)));
     }
 
@@ -239,10 +256,12 @@ fault_is words =
     let walks = walk_fault shape [] start (own words) in
     ap (λ (a : App). clear (built_fault a nothing_held (own words))) app_built
     ∙ (ap clear (leaf_fault app nothing_held (own words) refl)
-    ∙ (clear_or walks (or_else settles (or_else (defaults_fault (settled taken end).rows taken) (check_fault shape (finished taken end) false)))
+    ∙ (clear_or walks (or_else settles (or_else (defaults_fault (settled taken end).rows taken)
+    (check_fault shape (finished taken end) false)))
     ∙ ap (λ t. clear walks && t)
     (clear_or settles (or_else (defaults_fault (settled taken end).rows taken) (check_fault shape (finished taken end) false))
-    ∙ (ap₂ (λ (a b : Kinds). clear settles && clear (or_else a b)) (no_defaults (settled taken end).rows) (nothing_wanted (finished taken end)) ∙ and_true (clear settles)))))
+    ∙ (ap₂ (λ (a b : Kinds). clear settles && clear (or_else a b)) (no_defaults (settled taken end).rows)
+    (nothing_wanted (finished taken end)) ∙ and_true (clear settles)))))
 
 rows_are : (words : List Text) → matches_of icont_app words ≡ with_flag (end_rows start (own words))
 rows_are words =
@@ -266,11 +285,17 @@ module _ (words : List Text) (texts : AreTexts (own words)) (room : length (own 
   found_by None e h = absurd (true≢false (sym h))
   found_by (Some pieces) e h = (
     pieces,
-    record { said = subst (λ (ws : List Text). Says ws pieces) (own_is words) (sound (own words) pieces e); once = once pieces h },
-    subst (λ (rows : List Row). Holds rows pieces) (sym (rows_are words ∙ ap with_flag (goes.rows_are pieces e))) (holds pieces h),
+    record {
+      said = subst (λ (ws : List Text). Says ws pieces) (own_is words) (sound (own words) pieces e);
+      once =
+          once pieces h;
+    },
+    subst (λ (rows : List Row). Holds rows pieces) (sym (rows_are words ∙ ap with_flag (goes.rows_are pieces e)))
+        (holds pieces h),
   )
 
-  pub meant : fault_of icont_app words ≡ [] → (pieces : List Piece) × AreMeant words pieces × Holds (matches_of icont_app words) pieces
+  pub meant : fault_of icont_app words ≡ []
+      → (pieces : List Piece) × AreMeant words pieces × Holds (matches_of icont_app words) pieces
   meant none = found_by (said_from (own words) None) refl (sym taken_is_said ∙ ap clear none)
 
   pub unmeant : clear (fault_of icont_app words) ≡ false → (pieces : List Piece) → AreMeant words pieces → ⊥
@@ -298,7 +323,8 @@ module _ {Z : Type 0} where
   room_behind (program ∷ words) room = omega (arith, room, length-map words (string_bytes {Z = Z}))
 
   module _ (a : App) (words : List (String Z)) (is : a ≡ icont_app) (room : length words ≤ usize_max) where
-    pub matched : (m : ArgMatches) → HasMatchesOf a (map string_bytes words) m → (is_simple_and_free a ≡ true → fault_of a (map string_bytes words) ≡ [])
+    pub matched : (m : ArgMatches) → HasMatchesOf a (map string_bytes words) m
+        → (is_simple_and_free a ≡ true → fault_of a (map string_bytes words) ≡ [])
         → (pieces : List Piece) × AreMeant (map string_bytes words) pieces × Holds (rows_of (found_of m)) pieces
     matched m rows none =
         let simple = ap is_simple_and_free is ∙ is_free in
@@ -317,5 +343,6 @@ module _ {Z : Type 0} where
         → (pieces : List Piece) → AreMeant (map string_bytes words) pieces → ⊥
     unmatched k other faults =
         let simple = ap is_simple_and_free is ∙ is_free in
-        let fault = ap (λ (b : App). clear (fault_of b (map string_bytes words))) (sym is) ∙ unmatched_by k other (faults simple) in
+        let fault = ap (λ (b : App). clear (fault_of b (map string_bytes words))) (sym is)
+        ∙ unmatched_by k other (faults simple) in
         unmeant (map string_bytes words) (texts_behind words) (room_behind words room) fault

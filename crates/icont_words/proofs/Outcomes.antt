@@ -20,19 +20,23 @@ same_pieces words a b first second =
 abbrev seen_as : List (List ℕ) → List Piece → Reading
 seen_as words pieces = judged (order_of pieces (behind_run (own_words words)))
 
-once_or_not : (words : List (List ℕ)) (pieces : List Piece) → Says (before_run (own_words words)) pieces → (t : Bool) → all_new pieces [] ≡ t
+once_or_not : (words : List (List ℕ)) (pieces : List Piece) → Says (before_run (own_words words)) pieces → (t : Bool)
+    → all_new pieces [] ≡ t
     → (reading : Reading) × ComeTo words reading
 once_or_not words pieces says true e = (seen_as words pieces, said pieces (record { said = says; once = once pieces e }))
 once_or_not words pieces says false e = (
   Faulty 1,
   unsaid (λ others s.
       let same : others ≡ pieces =
-      same_Some others pieces (sym (found (before_run (own_words words)) others s.said) ∙ found (before_run (own_words words)) pieces says) in
+      same_Some others pieces (sym (found (before_run (own_words words)) others s.said)
+      ∙ found (before_run (own_words words)) pieces says) in
       true≢false (sym (all_new_from others s.once) ∙ (ap (λ (ps : List Piece). all_new ps []) same ∙ e))),
 )
 
-some_by : (words : List (List ℕ)) (read : Pieces) → said_from (before_run (own_words words)) None ≡ read → (reading : Reading) × ComeTo words reading
-some_by words None e = (Faulty 1, unsaid (λ pieces s. none-some pieces (sym e ∙ found (before_run (own_words words)) pieces s.said)))
+some_by : (words : List (List ℕ)) (read : Pieces) → said_from (before_run (own_words words)) None ≡ read
+    → (reading : Reading) × ComeTo words reading
+some_by words None e =
+    (Faulty 1, unsaid (λ pieces s. none-some pieces (sym e ∙ found (before_run (own_words words)) pieces s.said)))
 some_by words (Some pieces) e = once_or_not words pieces (sound (before_run (own_words words)) pieces e) (all_new pieces []) refl
 
 pub some_reading : (words : List (List ℕ)) → (reading : Reading) × ComeTo words reading
@@ -46,33 +50,43 @@ one_reading words _ _ (said pieces s) (said others t) = ap (seen_as words) (same
 
 -- What the code answers
 
-pub unread : (words before : List (List ℕ)) (fault : WordsFault) → own_words before ≡ before_run (own_words words) → IsMatched before (Err fault)
+pub unread : (words before : List (List ℕ)) (fault : WordsFault) → own_words before ≡ before_run (own_words words)
+    → IsMatched before (Err fault)
     → IsReading words (Err fault)
 unread words before (Faults.Faulty kind) parts m =
     subst (λ k. ComeTo words (Faulty k)) (sym m.0)
-    (unsaid (λ pieces s. m.1 pieces (record { said = subst (λ (ws : List (List ℕ)). Says ws pieces) (sym parts) s.said; once = s.once })))
+    (unsaid (λ pieces s. m.1 pieces (record {
+      said = subst (λ (ws : List (List ℕ)). Says ws pieces) (sym parts) s.said;
+      once =
+          s.once;
+    })))
 unread words before Faults.NoMemory parts m = tt
 
 pub read : (words before : List (List ℕ)) (pieces : List Piece) (order : Order) (run : Option (List (List ℕ)))
-    → own_words before ≡ before_run (own_words words) → run ≡ behind_run (own_words words) → AreMeant before pieces → order ≡ order_of pieces run
+    → own_words before ≡ before_run (own_words words) → run ≡ behind_run (own_words words) → AreMeant before pieces
+    → order ≡ order_of pieces run
     → ComeTo words (judged order)
 read words before pieces order run parts behind meant is =
     subst (ComeTo words) (ap (λ r. judged (order_of pieces r)) (sym behind) ∙ ap judged (sym is))
     (said pieces (record { said = subst (λ (ws : List (List ℕ)). Says ws pieces) parts meant.said; once = meant.once }))
 
-pub read_faulty : (words : List (List ℕ)) (order : Order) (kind : ℕ) → Some kind ≡ wrong_kind order → ComeTo words (judged order) → ComeTo words (Faulty kind)
+pub read_faulty : (words : List (List ℕ)) (order : Order) (kind : ℕ) → Some kind ≡ wrong_kind order → ComeTo words (judged order)
+    → ComeTo words (Faulty kind)
 read_faulty words order kind is = subst (ComeTo words) (ap (λ o. option_map_or (λ k. Faulty k) o (Asks (task_of order))) (sym is))
 
-pub read_task : (words : List (List ℕ)) (order : Order) → None ≡ wrong_kind order → ComeTo words (judged order) → ComeTo words (Asks (task_of order))
+pub read_task : (words : List (List ℕ)) (order : Order) → None ≡ wrong_kind order → ComeTo words (judged order)
+    → ComeTo words (Asks (task_of order))
 read_task words order is = subst (ComeTo words) (ap (λ o. option_map_or (λ k. Faulty k) o (Asks (task_of order))) (sym is))
 
 -- An order by its parts
 
-pub order_as : (a b : Order) → a.units ≡ b.units → a.image ≡ b.image → a.turns ≡ b.turns → a.number ≡ b.number → a.names ≡ b.names → a.run ≡ b.run → a ≡ b
+pub order_as : (a b : Order) → a.units ≡ b.units → a.image ≡ b.image → a.turns ≡ b.turns → a.number ≡ b.number → a.names ≡ b.names
+    → a.run ≡ b.run → a ≡ b
 order_as a b units image turns number names run =
     λ i. record { units = units i; image = image i; turns = turns i; number = number i; names = names i; run = run i }
 
-pub flag_is : (text : Option (List ℕ)) (said flag : Bool) → (text ≡ Some (codes "true") → flag ≡ true) → (text ≡ Some (codes "false") → flag ≡ false)
+pub flag_is : (text : Option (List ℕ)) (said flag : Bool) → (text ≡ Some (codes "true") → flag ≡ true)
+    → (text ≡ Some (codes "false") → flag ≡ false)
     → text ≡ Some (cond said (codes "true") (codes "false")) → flag ≡ said
 flag_is text true flag set unset e = set e
 flag_is text false flag set unset e = unset e

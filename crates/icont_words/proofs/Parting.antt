@@ -18,7 +18,8 @@ own_more : (xs ys : List (List ℕ)) → 1 ≤ length xs → own_words (xs ++ ys
 own_more [] ys some = absurd (omega (arith, some))
 own_more (x ∷ xs) ys some = refl
 
-module _ {Z : Type 0} (words : List (String Z)) (place : ℕ) (word : String Z) (parts : Parts place (map string_bytes words)) (there : place < length words)
+module _ {Z : Type 0} (words : List (String Z)) (place : ℕ) (word : String Z) (parts : Parts place (map string_bytes words))
+    (there : place < length words)
     (is : word ≡ get_or words place word) where
   abbrev seen : List (List ℕ)
   seen = map string_bytes words
@@ -28,9 +29,11 @@ module _ {Z : Type 0} (words : List (String Z)) (place : ℕ) (word : String Z) 
       drop-map string_bytes place words
       ∙ (ap (map string_bytes) (drop-cons words place word there)
       ∙ (ap (λ (w : String Z). string_bytes w ∷ map string_bytes (drop (suc place) words)) (sym is)
-      ∙ ap (λ rest. string_bytes word ∷ rest) (sym (drop-map string_bytes (suc place) words) ∙ ap (λ n. drop n seen) (sym (add-one place)))))
+      ∙ ap (λ rest. string_bytes word ∷ rest)
+      (sym (drop-map string_bytes (suc place) words) ∙ ap (λ n. drop n seen) (sym (add-one place)))))
 
-  pub parted_before : bytes_eq (string_bytes word) (codes "-x") ≡ true → own_words (map string_bytes (take place words)) ≡ before_run (own_words seen)
+  pub parted_before : bytes_eq (string_bytes word) (codes "-x") ≡ true
+      → own_words (map string_bytes (take place words)) ≡ before_run (own_words seen)
   parted_before met =
       ap own_words (sym (take-map string_bytes place words))
       ∙ (sym (append-nil (own_words (take place seen)))
@@ -42,15 +45,19 @@ module _ {Z : Type 0} (words : List (String Z)) (place : ℕ) (word : String Z) 
   parted_behind met =
       ap (λ (ws : List (String Z)). Some (map string_bytes ws)) (take_rest words (place + 1))
       ∙ (ap Some (sym (drop-map string_bytes (place + 1) words))
-      ∙ sym (parts.behind ∙ (ap behind_run here ∙ ap (λ t. cond t (Some (drop (place + 1) seen)) (behind_run (drop (place + 1) seen))) met)))
+      ∙ sym (parts.behind ∙ (ap behind_run here ∙ ap (λ t. cond t (Some (drop (place + 1) seen))
+      (behind_run (drop (place + 1) seen))) met)))
 
   next_place : take (place + 1) seen ≡ take place seen ++ string_bytes word ∷ []
   next_place =
       take-map string_bytes (place + 1) words
       ∙ (ap (map string_bytes) (take_more words place word there)
-      ∙ (map_push (take place words) (get_or words place word) ∙ ap₂ (λ (ws : List (List ℕ)) (w : String Z). ws ++ string_bytes w ∷ []) (sym (take-map string_bytes place words)) (sym is)))
+      ∙ (map_push (take place words) (get_or words place word)
+      ∙ ap₂ (λ (ws : List (List ℕ)) (w : String Z). ws ++ string_bytes w ∷ []) (sym (take-map string_bytes place words))
+      (sym is)))
     where
-      map_push : (xs : List (String Z)) (x : String Z) → map string_bytes (xs ++ x ∷ []) ≡ map string_bytes xs ++ string_bytes x ∷ []
+      map_push : (xs : List (String Z)) (x : String Z)
+          → map string_bytes (xs ++ x ∷ []) ≡ map string_bytes xs ++ string_bytes x ∷ []
       map_push xs x = map-append string_bytes xs (x ∷ [])
 
   some_before : 1 ≤ length (take place seen)
@@ -63,6 +70,8 @@ module _ {Z : Type 0} (words : List (String Z)) (place : ℕ) (word : String Z) 
         ∙ (ap (λ rest. own_words (take place seen) ++ before_run rest) here
         ∙ (ap (λ t. own_words (take place seen) ++ cond t [] (string_bytes word ∷ before_run (drop (place + 1) seen))) other
         ∙ (sym (append_assoc (own_words (take place seen)) (string_bytes word ∷ []) (before_run (drop (place + 1) seen)))
-        ∙ ap (λ ws. ws ++ before_run (drop (place + 1) seen)) (sym (ap own_words next_place ∙ own_more (take place seen) (string_bytes word ∷ []) some_before)))));
-    behind = parts.behind ∙ (ap behind_run here ∙ ap (λ t. cond t (Some (drop (place + 1) seen)) (behind_run (drop (place + 1) seen))) other);
+        ∙ ap (λ ws. ws ++ before_run (drop (place + 1) seen))
+        (sym (ap own_words next_place ∙ own_more (take place seen) (string_bytes word ∷ []) some_before)))));
+    behind = parts.behind
+        ∙ (ap behind_run here ∙ ap (λ t. cond t (Some (drop (place + 1) seen)) (behind_run (drop (place + 1) seen))) other);
   }

@@ -35,7 +35,14 @@ unfolding taken
 taken_is = refl
 
 abbrev pub shape_with : List Rule → Shape
-shape_with rules = record (new_shape (codes "icont")) { rules = rules; disable_help_flag = true; disable_help_subcommand = true; is_built = true }
+shape_with rules =
+    record (new_shape (codes "icont")) {
+      rules = rules;
+      disable_help_flag = true;
+      disable_help_subcommand = true;
+      is_built =
+          true;
+    }
 
 abbrev pub shape : Shape
 shape = shape_with taken

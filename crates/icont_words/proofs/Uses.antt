@@ -58,7 +58,8 @@ repeated false = refl
 pub units_clear : (rows : List Row) → clear (use_fault false units_taken [] rows) ≡ is_new Units rows
 units_clear rows = repeated (has_row (codes "units") rows)
 
-pub option_clear : (letter : Letter) (value : Text) (rows : List Row) → clear (use_fault false (option_taken letter) (value ∷ []) rows) ≡ is_new (Valued letter value) rows
+pub option_clear : (letter : Letter) (value : Text) (rows : List Row)
+    → clear (use_fault false (option_taken letter) (value ∷ []) rows) ≡ is_new (Valued letter value) rows
 option_clear letter value rows = repeated (has_row (letter_id letter) rows)
 
 no_value_fault : (values : List Text) → values_kinds false vp.String values ≡ []
@@ -107,22 +108,26 @@ rows_with p rows = settled_rows taken (pend p) rows
 abbrev pub clear_with : Pending → List Row → Bool
 clear_with p rows = clear (settle_fault taken false (held rows (pend p)))
 
-pub rows_of_value : (letter : Letter) (value : Text) (rows : List Row) → rows_with (one_value letter value) rows ≡ with_use (Valued letter value) rows
+pub rows_of_value : (letter : Letter) (value : Text) (rows : List Row)
+    → rows_with (one_value letter value) rows ≡ with_use (Valued letter value) rows
 rows_of_value letter value rows = ap (λ o. used_by_id o (value ∷ []) rows) (id_option letter)
 
 pub rows_of_names : (names : List Text) (rows : List Row) → rows_with (some_names names) rows ≡ used file_taken names rows
 rows_of_names names rows = ap (λ o. used_by_id o names rows) id_file
 
-pub clear_value : (letter : Letter) (value : Text) (rows : List Row) → clear_with (one_value letter value) rows ≡ is_new (Valued letter value) rows
+pub clear_value : (letter : Letter) (value : Text) (rows : List Row)
+    → clear_with (one_value letter value) rows ≡ is_new (Valued letter value) rows
 clear_value letter value rows =
-    ap (λ o. clear (option_map_or (λ a. use_fault false a (value ∷ []) rows) o [])) (id_option letter) ∙ option_clear letter value rows
+    ap (λ o. clear (option_map_or (λ a. use_fault false a (value ∷ []) rows) o [])) (id_option letter)
+    ∙ option_clear letter value rows
 
 pub clear_names : (names : List Text) (rows : List Row) → length names ≤ usize_max → clear_with (some_names names) rows ≡ true
 clear_names names rows within =
     ap (λ o. clear (option_map_or (λ a. use_fault false a names rows) o [])) id_file ∙ ap clear (file_clear names rows within)
 
 -- an option whose value is due is a fault
-pub due_fault : (letter : Letter) (rows : List Row) → settle_fault taken false (held rows (Some (letter_id letter, []))) ≡ kind.InvalidValue ∷ []
+pub due_fault : (letter : Letter) (rows : List Row)
+    → settle_fault taken false (held rows (Some (letter_id letter, []))) ≡ kind.InvalidValue ∷ []
 due_fault letter rows = ap (λ o. option_map_or (λ a. use_fault false a [] rows) o []) (id_option letter)
 
 -- One name more
@@ -151,7 +156,8 @@ name_more : (names : List Text) (name : Text) (r : Row) (rows : List Row) (t : B
 name_more names name r rows true e behind = rw e (rw e (joined names name r rows))
 name_more names name r rows false e behind = rw e (rw e (ap (λ rs. r ∷ rs) behind))
 
-named_more : (names : List Text) (name : Text) (rows : List Row) → named (names ++ name ∷ []) rows ≡ named (name ∷ []) (named names rows)
+named_more : (names : List Text) (name : Text) (rows : List Row)
+    → named (names ++ name ∷ []) rows ≡ named (name ∷ []) (named names rows)
 named_more names name [] = refl
 named_more names name (r ∷ rows) = name_more names name r rows (bytes_eq r.id (codes "file")) refl (named_more names name rows)
 
@@ -174,6 +180,7 @@ pub and_none : (a : Bool) → (a && false) ≡ false
 and_none true = refl
 and_none false = refl
 
-pub takes_piece : (piece : Piece) (said : Pieces) (rows : List Row) → takes_said (with_piece piece said) rows ≡ (is_new piece rows && takes_said said (with_use piece rows))
+pub takes_piece : (piece : Piece) (said : Pieces) (rows : List Row)
+    → takes_said (with_piece piece said) rows ≡ (is_new piece rows && takes_said said (with_use piece rows))
 takes_piece piece None rows = sym (and_none (is_new piece rows))
 takes_piece piece (Some pieces) rows = refl

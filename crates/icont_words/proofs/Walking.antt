@@ -15,7 +15,8 @@ use Rattle.icont_words.proofs.Uses.{with_use, with_uses, is_new, takes_said, cle
 -- What is said of a walk
 
 abbrev pub stands : Bool → List Row → Option (Text × List Text) → Waiting → Walk
-stands is_trailing rows pending waiting = record { held = held rows pending; waiting = waiting; position = 1; is_trailing = is_trailing; stopped = None }
+stands is_trailing rows pending waiting =
+    record { held = held rows pending; waiting = waiting; position = 1; is_trailing = is_trailing; stopped = None }
 
 abbrev pub end_of : Walk → List Text → Held
 end_of w words = (fold (walked taken []) w words).held
@@ -32,8 +33,10 @@ pub record Goes (fault : Bool) (w : Walk) (words : List Text) (before : Bool) (s
   pub clear_is : (fault && end_clear w words) ≡ (before && takes_said said rows)
   pub rows_are : (pieces : List Piece) → said ≡ Some pieces → end_rows w words ≡ with_uses pieces rows
 
-pub goes_as : (fault fault' : Bool) (w w' : Walk) (words : List Text) (before before' : Bool) (said : Pieces) (rows rows' : List Row)
-    → fault ≡ fault' → w ≡ w' → before ≡ before' → rows ≡ rows' → Goes fault w words before said rows → Goes fault' w' words before' said rows'
+pub goes_as : (fault fault' : Bool) (w w' : Walk) (words : List Text) (before before' : Bool) (said : Pieces)
+    (rows rows' : List Row)
+    → fault ≡ fault' → w ≡ w' → before ≡ before' → rows ≡ rows' → Goes fault w words before said rows
+    → Goes fault' w' words before' said rows'
 goes_as fault fault' w w' words before before' said rows rows' f v b r g = record {
   clear_is = ap₂ (λ t x. t && end_clear x words) (sym f) (sym v) ∙ (g.clear_is ∙ ap₂ (λ t xs. t && takes_said said xs) b r);
   rows_are = λ pieces e. ap (λ x. end_rows x words) (sym v) ∙ (g.rows_are pieces e ∙ ap (with_uses pieces) r);
@@ -43,7 +46,8 @@ goes_as fault fault' w w' words before before' said rows rows' f v b r g = recor
 pub guarded : (guard fault : Bool) (w : Walk) (words : List Text) (before : Bool) (said : Pieces) (rows : List Row)
     → Goes fault w words before said rows → Goes (guard && fault) w words (guard && before) said rows
 guarded guard fault w words before said rows g = record {
-  clear_is = and_assoc guard fault (end_clear w words) ∙ (ap (λ t. guard && t) g.clear_is ∙ sym (and_assoc guard before (takes_said said rows)));
+  clear_is = and_assoc guard fault (end_clear w words)
+      ∙ (ap (λ t. guard && t) g.clear_is ∙ sym (and_assoc guard before (takes_said said rows)));
   rows_are = g.rows_are;
 }
 
@@ -53,22 +57,26 @@ piece_behind piece None pieces h = absurd (none-some pieces h)
 piece_behind piece (Some others) pieces h = (others, refl, same_Some (piece ∷ others) pieces h)
 
 pub add_piece : (fault : Bool) (w : Walk) (words : List Text) (before : Bool) (piece : Piece) (said : Pieces) (rows : List Row)
-    → Goes fault w words (before && is_new piece rows) said (with_use piece rows) → Goes fault w words before (with_piece piece said) rows
+    → Goes fault w words (before && is_new piece rows) said (with_use piece rows)
+    → Goes fault w words before (with_piece piece said) rows
 add_piece fault w words before piece said rows g = record {
   clear_is = g.clear_is
-      ∙ (and_assoc before (is_new piece rows) (takes_said said (with_use piece rows)) ∙ ap (λ t. before && t) (sym (takes_piece piece said rows)));
+      ∙ (and_assoc before (is_new piece rows) (takes_said said (with_use piece rows))
+      ∙ ap (λ t. before && t) (sym (takes_piece piece said rows)));
   rows_are = λ pieces e.
       let parts = piece_behind piece said pieces e in
       g.rows_are parts.0 parts.1 ∙ ap (λ (ps : List Piece). with_uses ps rows) parts.2;
 }
 
-pub ends_refused : (fault : Bool) (w : Walk) (words : List Text) (before : Bool) (rows : List Row) → (fault && end_clear w words) ≡ false → Goes fault w words before None rows
+pub ends_refused : (fault : Bool) (w : Walk) (words : List Text) (before : Bool) (rows : List Row)
+    → (fault && end_clear w words) ≡ false → Goes fault w words before None rows
 ends_refused fault w words before rows is = record {
   clear_is = is ∙ sym (and_none before);
   rows_are = λ pieces e. absurd (none-some pieces e);
 }
 
-pub refused : (fault : Bool) (w : Walk) (words : List Text) (before : Bool) (rows : List Row) → fault ≡ false → Goes fault w words before None rows
+pub refused : (fault : Bool) (w : Walk) (words : List Text) (before : Bool) (rows : List Row) → fault ≡ false
+    → Goes fault w words before None rows
 refused fault w words before rows is = ends_refused fault w words before rows (ap (λ t. t && end_clear w words) is)
 
 -- one word
@@ -91,7 +99,8 @@ and_true true = refl
 and_true false = refl
 
 -- what is pending at the end
-pub ends : (is_trailing : Bool) (rows : List Row) (p : Pending) (waiting : Waiting) → Goes true (stands is_trailing rows (pend p) waiting) [] (clear_with p rows) (Some []) (rows_with p rows)
+pub ends : (is_trailing : Bool) (rows : List Row) (p : Pending) (waiting : Waiting)
+    → Goes true (stands is_trailing rows (pend p) waiting) [] (clear_with p rows) (Some []) (rows_with p rows)
 unfolding walk_fault
 ends is_trailing rows p waiting = record {
   clear_is = sym (and_true (clear_with p rows));
@@ -99,19 +108,24 @@ ends is_trailing rows p waiting = record {
 }
 
 -- what a word was met as, and what comes of it
-module _ (word : Text) (is_trailing : Bool) (rows : List Row) (pending : Option (Text × List Text)) (waiting : Waiting) (h : Held) (step : Step) (fault : Kinds)
-    (met : word_met taken [] is_trailing waiting 1 word (held rows pending) ≡ (h, step)) (found : word_fault shape [] is_trailing waiting word (held rows pending) ≡ fault) where
-  turn_of : clear (turn_fault shape [] (stands is_trailing rows pending waiting) word) ≡ (clear fault && clear (step_fault shape 1 h step))
+module _ (word : Text) (is_trailing : Bool) (rows : List Row) (pending : Option (Text × List Text)) (waiting : Waiting) (h : Held)
+    (step : Step) (fault : Kinds)
+    (met : word_met taken [] is_trailing waiting 1 word (held rows pending) ≡ (h, step))
+    (found : word_fault shape [] is_trailing waiting word (held rows pending) ≡ fault) where
+  turn_of : clear (turn_fault shape [] (stands is_trailing rows pending waiting) word)
+      ≡ (clear fault && clear (step_fault shape 1 h step))
   turn_of =
       ap₂ (λ (f : Kinds) (m : Held × Step). clear (or_else f (step_fault shape 1 m.0 m.1))) found met
       ∙ clear_or fault (step_fault shape 1 h step)
 
-  moved_to : walked taken [] (stands is_trailing rows pending waiting) word ≡ after_step taken word (stands is_trailing rows pending waiting) h step
+  moved_to : walked taken [] (stands is_trailing rows pending waiting) word
+      ≡ after_step taken word (stands is_trailing rows pending waiting) h step
   unfolding walked
   moved_to = ap (λ (m : Held × Step). after_step taken word (stands is_trailing rows pending waiting) m.0 m.1) met
 
   pub turned : (words : List Text) (before : Bool) (said : Pieces) (after : List Row)
-      → Goes (clear fault && clear (step_fault shape 1 h step)) (after_step taken word (stands is_trailing rows pending waiting) h step) words before said after
+      → Goes (clear fault && clear (step_fault shape 1 h step))
+      (after_step taken word (stands is_trailing rows pending waiting) h step) words before said after
       → Goes true (stands is_trailing rows pending waiting) (word ∷ words) before said after
   turned words before said after g = stepped _ _ word words _ before said after turn_of moved_to g
 
@@ -123,7 +137,9 @@ trails false = refl
 
 module _ (word : Text) (words : List Text) (is_trailing : Bool) (rows : List Row) (waiting : Waiting) (said : Pieces) where
   abbrev pub named : Pending → Type 0
-  named p = Goes (clear (step_fault shape 1 (held rows (pend p)) value)) (after_step taken word (stands is_trailing rows (pend p) waiting) (held rows (pend p)) value)
+  named p =
+      Goes (clear (step_fault shape 1 (held rows (pend p)) value))
+      (after_step taken word (stands is_trailing rows (pend p) waiting) (held rows (pend p)) value)
       words (clear_with p rows) (with_piece (Named word) said) (rows_with p rows)
 
   abbrev pub behind_name : Type 0
@@ -135,20 +151,24 @@ module _ (word : Text) (words : List Text) (is_trailing : Bool) (rows : List Row
       ≡ record { held = after; waiting = positional; position = 1; is_trailing = is_trailing; stopped = None }
   moved pending h after is =
       ap (λ o. to_positional taken o word (stands is_trailing rows pending waiting) h) index_file
-      ∙ ap₂ (λ (k : Held) (t : Bool). record { held = k; waiting = positional; position = 1; is_trailing = t; stopped = None }) is (trails is_trailing)
+      ∙ ap₂ (λ (k : Held) (t : Bool). record { held = k; waiting = positional; position = 1; is_trailing = t; stopped = None }) is
+      (trails is_trailing)
 
   fault_of_name : (h : Held) → step_fault shape 1 h value ≡ positional_fault taken false file_taken h
   fault_of_name h = ap (λ o. option_map_or (λ a. positional_fault taken false a h) o (stray_fault shape)) index_file
 
   -- what was pending is used before
-  settles : (p : Pending) → is_pending file_taken (pend p) ≡ false → name_count p + length (word ∷ words) ≤ usize_max → behind_name → named p
+  settles : (p : Pending) → is_pending file_taken (pend p) ≡ false → name_count p + length (word ∷ words) ≤ usize_max
+      → behind_name → named p
   settles p other room behind =
       let one : length (word ∷ []) ≤ usize_max = omega (arith, room) in
       let after = rows_with p rows in
       let g = behind (some_names (word ∷ [])) after (omega (arith, room)) in
-      let test : (is_pending file_taken (pend p) && takes_several file_taken) ≡ false = ap (λ t. t && takes_several file_taken) other in
+      let test : (is_pending file_taken (pend p) && takes_several file_taken) ≡ false =
+      ap (λ t. t && takes_several file_taken) other in
       let fault : clear_with p rows ≡ clear (step_fault shape 1 (held rows (pend p)) value) =
-      sym (ap clear (fault_of_name (held rows (pend p)) ∙ ap (λ t. cond t [] (settle_fault taken false (held rows (pend p)))) test)) in
+      sym (ap clear (fault_of_name (held rows (pend p)) ∙ ap (λ t. cond t []
+      (settle_fault taken false (held rows (pend p)))) test)) in
       let here = moved (pend p) (held rows (pend p)) (held after (Some (codes "file", word ∷ [])))
       (ap (λ t. pushed (codes "file") word (cond t (held rows (pend p)) (settled taken (held rows (pend p))))) test) in
       add_piece _ _ words (clear_with p rows) (Named word) said after
@@ -162,12 +182,16 @@ module _ (word : Text) (words : List Text) (is_trailing : Bool) (rows : List Row
   joins names room behind =
       let longer : length (names ++ word ∷ []) ≡ length names + 1 = length-append names (word ∷ []) in
       let g = behind (some_names (names ++ word ∷ [])) rows (omega (arith, room, longer)) in
-      let fault : true ≡ clear (step_fault shape 1 (held rows (pend (some_names names))) value) = sym (ap clear (fault_of_name (held rows (pend (some_names names))))) in
-      let here = moved (pend (some_names names)) (held rows (pend (some_names names))) (held rows (Some (codes "file", names ++ word ∷ []))) refl in
+      let fault : true ≡ clear (step_fault shape 1 (held rows (pend (some_names names))) value) =
+      sym (ap clear (fault_of_name (held rows (pend (some_names names))))) in
+      let here =
+      moved (pend (some_names names)) (held rows (pend (some_names names)))
+      (held rows (Some (codes "file", names ++ word ∷ []))) refl in
       let more = clear_names (names ++ word ∷ []) rows (omega (arith, room, longer)) in
       let had = clear_names names rows (omega (arith, room)) in
       add_piece _ _ words (clear_with (some_names names) rows) (Named word) said (rows_with (some_names names) rows)
-      (goes_as true _ _ _ words _ _ said _ _ fault (sym here) (more ∙ sym (ap (λ t. t && true) had)) (names_more names word rows) g)
+      (goes_as true _ _ _ words _ _ said _ _ fault (sym here) (more ∙ sym (ap (λ t. t && true) had))
+      (names_more names word rows) g)
 
   pub names_go : (p : Pending) → name_count p + length (word ∷ words) ≤ usize_max → behind_name → named p
   names_go no_use room behind = settles no_use refl room behind
@@ -175,9 +199,11 @@ module _ (word : Text) (words : List Text) (is_trailing : Bool) (rows : List Row
   names_go (one_value letter v) room behind = settles (one_value letter v) (option_no_file letter) room behind
 
 -- behind `--` all are names
-pub trailing_go : (words : List Text) (rows : List Row) (p : Pending) (waiting : Waiting) → name_count p + length words ≤ usize_max
+pub trailing_go : (words : List Text) (rows : List Row) (p : Pending) (waiting : Waiting)
+    → name_count p + length words ≤ usize_max
     → Goes true (stands true rows (pend p) waiting) words (clear_with p rows) (Some (map Named words)) (rows_with p rows)
 trailing_go [] rows p waiting room = ends true rows p waiting
 trailing_go (word ∷ words) rows p waiting room =
     turned word true rows (pend p) waiting (held rows (pend p)) value [] refl refl words _ _ _
-    (names_go word words true rows waiting (Some (map Named words)) p room (λ q after more. trailing_go words after q positional more))
+    (names_go word words true rows waiting (Some (map Named words)) p room
+    (λ q after more. trailing_go words after q positional more))

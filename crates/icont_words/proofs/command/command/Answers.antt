@@ -10,8 +10,10 @@ pub returns : goal.returns
 returns c =
     let units_is : rule_of c.action-units.result ≡ units_rule = search rules in
     let named : rule_of c.new-2.result ≡ _ = c.new-2.ensures.rule in
-    let files_are : rule_of c.num_args-file.result ≡ file_rule = file_is c.new-2.result c.num_args-file.result named c.num_args-file.ensures.0 c.num_args-file.ensures.1 in
-    let start_is : app_of c.disable_help_flag.result ≡ no_help (new_app (codes "icont")) = ap app_of_fields c.disable_help_flag.ensures ∙ ap no_help c.new-3.ensures.app in
+    let files_are : rule_of c.num_args-file.result ≡ file_rule =
+    file_is c.new-2.result c.num_args-file.result named c.num_args-file.ensures.0 c.num_args-file.ensures.1 in
+    let start_is : app_of c.disable_help_flag.result ≡ no_help (new_app (codes "icont")) =
+    ap app_of_fields c.disable_help_flag.ensures ∙ ap no_help c.new-3.ensures.app in
     let one = c.in_ok-arg.ensures.shape (search rules) ∙ ap₂ with_rule start_is units_is in
     let two = c.in_ok-arg-2.ensures.shape (search rules) ∙ ap₂ with_rule one c.with_value.ensures.rule in
     let three = c.in_ok-arg-3.ensures.shape (search rules) ∙ ap₂ with_rule two c.with_value-2.ensures.rule in

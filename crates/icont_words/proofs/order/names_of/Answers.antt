@@ -8,7 +8,8 @@ use Rattle.icont_words.proofs.order.names_of.Goals as goal
 pub returns-in-Some : goal.returns-in-Some
 returns-in-Some c =
     let rows = raw_values-rows (found_of c.args.matches.now) (codes "file") in
-    IfOk-weaker c.from_slice.result _ _ (λ names is. ap texts is ∙ ap (λ o. unwrap_or o []) (c.in-Some.ensures ∙ rows)) c.from_slice.ensures.items
+    IfOk-weaker c.from_slice.result _ _ (λ names is. ap texts is
+    ∙ ap (λ o. unwrap_or o []) (c.in-Some.ensures ∙ rows)) c.from_slice.ensures.items
 
 pub returns-in-None : goal.returns-in-None
 returns-in-None c =

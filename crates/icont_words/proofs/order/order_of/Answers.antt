@@ -9,7 +9,8 @@ pub returns : goal.returns
 returns c = λ pieces holds.
     let found = found_of c.args.matches.now in
     order_as _ _
-    (flag_is (one_text found (codes "units")) (has_units pieces) c.get_flag.result c.get_flag.ensures.value c.get_flag.ensures.other
+    (flag_is (one_text found (codes "units"))
+    (has_units pieces) c.get_flag.result c.get_flag.ensures.value c.get_flag.ensures.other
     (one_text-rows found (codes "units") ∙ holds.units))
     (c.get_str.ensures ∙ (first_value-rows found (codes "image") ∙ holds.image))
     (c.get_str-2.ensures ∙ (first_value-rows found (codes "turns") ∙ holds.turns))
