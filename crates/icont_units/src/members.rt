@@ -143,7 +143,7 @@ fn push_source(members: &mut Members, unit: Unit) -> Result<(), Answer>
     }
 }
 
-/// Adds a unit that was read as ucode.
+/// Adds a unit that was read as ucode. An error is want of memory.
 pub fn push_ucode(members: &mut Members, unit: Unit) -> Result<(), Answer>
     ensures added { OnOk result (kept_of members.new ≡ with_ucode (kept_of members.old) (unit_seen unit)) }
     ensures others { IfErr result (λ answer. answer ≡ Answer.NoMemory) }
