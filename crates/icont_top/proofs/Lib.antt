@@ -17,3 +17,4 @@ mod UnitsAgain
 mod WrittenUnits
 mod WrittenTexts
 mod WholeCommand
+mod InputLeft

@@ -1,5 +1,5 @@
 -- What a call comes to, where the objects tell their content.
-use Rattle.std.specs.Prelude.{◌≡◌, ◌⊎◌, ◌≤◌, ℕ, List, [], ◌∷◌, ◌++◌, Option, Some, All, Ok, Err, length, take}
+use Rattle.std.specs.Prelude.{◌≡◌, ◌⊎◌, ◌≤◌, ℕ, List, [], ◌∷◌, ◌++◌, Option, Some, All, Ok, Err, drop, length, take}
 use Rattle.std.specs.Map.{update}
 use Rattle.std.specs.Str.{bytes_eq}
 use Rattle.icn_host.specs.FileMaps.{FileMap, Follows, IsLeftBehind}
@@ -138,6 +138,10 @@ pub data LeavesFiles (words : List (List ℕ)) (files : FileMap) (answer : Answe
       → LeavesFiles words files answer before after
   part_written : (written : List Written) → AreWritten words files written → IsFault answer → WritesPart before after written
       → LeavesFiles words files answer before after
+
+-- some first bytes of the input were taken
+abbrev pub LosesSome : List ℕ → Option (List ℕ) → Type 0
+LosesSome left after = (count : ℕ) × (after ≡ Some (drop count left))
 
 -- where the words and the files ask for files to be written, they were, or a fault is answered
 abbrev pub IsComplete : List (List ℕ) → FileMap → Answer → Type 0

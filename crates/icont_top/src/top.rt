@@ -24,7 +24,7 @@ ghost use Rattle.icont_top.specs.Answered.{IsAnswered, IsCommand, IsCommanded, M
 ghost use Rattle.icont_top.specs.Answering.{IsDone};
 ghost use Rattle.icont_top.specs.Asking.{IsReady, IsTold, words_answer};
 ghost use Rattle.icont_top.specs.Job.{IsTranslated, launched, ucode_files};
-ghost use Rattle.icont_top.specs.Outcomes.{HasWritten, HoldsWritten, IsComplete, IsReadBack, LeavesFiles, Outcome};
+ghost use Rattle.icont_top.specs.Outcomes.{HasWritten, HoldsWritten, IsComplete, IsReadBack, LeavesFiles, LosesSome, Outcome};
 ghost use Rattle.icont_top.specs.Running.{HasRun, IsRanOrBroken, PutsSizes, is_done, put_answer};
 ghost use Rattle.icont_top.specs.Usage.{usage};
 ghost use Rattle.icont_top.specs.Writing.{texts_seen};
@@ -32,6 +32,7 @@ ghost use Rattle.icont_top.specs.Writing.{texts_seen};
 use crate::loading::{Program, linked_program, numbered_program, translated};
 use crate::writing::{Text, write_all};
 use icn_cells::VecStack;
+use icn_defs::broken_off;
 use icn_frames::Cell;
 use icn_host::{Fault, Files, Sink, Source, put_line};
 use icn_image::one_spelling;
@@ -43,6 +44,7 @@ use icn_value::Limits;
 use icn_verify::{Verified, one_fault};
 use icont_units::sizes_line;
 use icont_words::{Run, Task, WordsFault, asked, one_reading};
+use outside_laws::runs_leave;
 use std::alloc::Global;
 
 const USAGE: &[u8] =
@@ -106,6 +108,9 @@ pub fn icont_main<F: Files, I: Source, O: Sink, E: Sink>(
     // Where the first linked file that is not there has a name that is a text, that is told only where that count rose.
     ensures links { IfSome (F.held files.old) (λ held. MissesText (map string_bytes words.now) held
         → IsFault result ⊎ Rose (F.absences files.old) (F.absences files.new)) }
+
+    // Where the input tells what it has left, some first bytes of it were taken, whatever the files tell.
+    ensures input { IfSome (I.left input.old) (λ left. LosesSome left (I.left input.new)) }
 
     // A refusal leaves the files, the output and the input as they were; an answer that no run gives leaves the output and the input so.
     ensures untouched { IsRefusal result → F.held files.new ≡ F.held files.old }
@@ -203,6 +208,7 @@ fn link_answer<F: Files, I: Source, O: Sink, E: Sink>(
     ensures reported { Reports usage [] (I.left input.old) (E.state err.old) (E.state err.new) result }
     ensures links { IfSome (F.held files.old) (λ held. (members : List Member) → Load held (files_named (texts names.now)) (Ok members)
         → IsFault result ⊎ IsTold (Rose (F.absences files.old) (F.absences files.new)) members) }
+    ensures input { IfSome (I.left input.old) (λ left. LosesSome left (I.left input.new)) }
     ensures command { IsCommand result → ⊥ }
     ensures untouched { IsRefusal result → F.held files.new ≡ F.held files.old }
     ensures refused { (IsOfRun result → ⊥) → (O.state out.new).held ≡ (O.state out.old).held }
@@ -239,6 +245,7 @@ fn generate_answer<F: Files, I: Source, O: Sink, E: Sink>(
         (told (F.held files.old) (handed (I.left input.old) (I.faults input.old) (O.state out.old) (E.state err.old)))
         (told (F.held files.new) (handed (I.left input.new) (I.faults input.new) (O.state out.new) (E.state err.new)))) }
     ensures reported { Reports usage [] (I.left input.old) (E.state err.old) (E.state err.new) result }
+    ensures input { IfSome (I.left input.old) (λ left. LosesSome left (I.left input.new)) }
     ensures command { IsCommand result → ⊥ }
     ensures untouched { IsRefusal result → F.held files.new ≡ F.held files.old }
     ensures refused { (IsOfRun result → ⊥) → (O.state out.new).held ≡ (O.state out.old).held }
@@ -278,6 +285,7 @@ fn image_answer<F: Files, I: Source, O: Sink, E: Sink>(
         (told (F.held files.old) (handed (I.left input.old) (I.faults input.old) (O.state out.old) (E.state err.old)))
         (told (F.held files.new) (handed (I.left input.new) (I.faults input.new) (O.state out.new) (E.state err.new))) }
     ensures reported { Reports usage [] (I.left input.old) (E.state err.old) (E.state err.new) result }
+    ensures input { IfSome (I.left input.old) (λ left. LosesSome left (I.left input.new)) }
     ensures no_refusal { IsRefusal result → ⊥ }
     ensures refused { (IsOfRun result → ⊥) → (O.state out.new).held ≡ (O.state out.old).held }
     ensures unread { (IsOfRun result → ⊥) → I.left input.new ≡ I.left input.old }
@@ -287,6 +295,8 @@ fn image_answer<F: Files, I: Source, O: Sink, E: Sink>(
 {
     one_spelling();
     same_ends();
+    runs_leave();
+    broken_off();
     match files.write(plan.image.unwrap_or(program.base), &program.made.image) {
         Ok(()) => match plan.run {
             Some(asked) => ran_answer(

@@ -35,3 +35,6 @@ returns-in-Err-clause-causes g c =
     (loading_no_read c.in-Err.answer c.in-Err.ensures.others) (unmoved (λ e. c.in-Err.ensures.no_file (ap (λ a. Err a) e)))
     (no_cause c.in-Err.ensures.no_absence)
     (absence_of c.in-Err.answer c.refuse.result c.refuse.ensures.line) c.refuse.ensures.line
+
+pub returns-in-Err-clause-input : goal.returns-in-Err-clause-input
+returns-in-Err-clause-input g c = if_some (g.I.Source.left c.args.input.now) _ (λ left d. (0, d))

@@ -286,3 +286,9 @@ returns-in-Err-clause-written g c =
     c.refuse.ensures.line (g.F.Files.held c.args.files.now) (g.I.Source.left c.args.input.now) (g.I.Source.faults c.args.input.now) (g.O.Sink.state
     c.args.out.now)
     c.in-Err.ensures)
+
+pub returns-in-Ok-Translate-clause-input : goal.returns-in-Ok-Translate-clause-input
+returns-in-Ok-Translate-clause-input g c = if_some (g.I.Source.left c.args.input.now) _ (λ left d. (0, d))
+
+pub returns-in-Err-clause-input : goal.returns-in-Err-clause-input
+returns-in-Err-clause-input g c = if_some (g.I.Source.left c.args.input.now) _ (λ left d. (0, d))

@@ -6,7 +6,8 @@ use Rattle.icn_lines.proofs.Reports.{own_reports, wrote_no_fault}
 use Rattle.icont_words.specs.Asking.{run_seen}
 use Rattle.icont_units.proofs.Matching.{same_Err}
 use Rattle.icont_top.proofs.AnswersGiven.{run_no_absence, run_no_file, said_name, torn_no_absence, torn_no_read, torn_no_write}
-use Rattle.icont_top.proofs.Topmost.{image_torn, is_torn, ran_done, writes_image, writes_part, wrote_done}
+use Rattle.icont_top.proofs.Topmost.{image_torn, is_torn, ran_done, writes_image, writes_part, wrote_done, at_some, if_some}
+use Rattle.icont_top.proofs.InputLeft.{run_lost}
 use Rattle.icont_top.proofs.top.image_answer.Goals as goal
 
 pub returns-in-Some-clause-done : goal.returns-in-Some-clause-done
@@ -68,3 +69,15 @@ returns-in-Err-clause-causes g c = record {
   others = own_counts c.torn_answer.result (torn_no_write c.torn_answer.result c.torn_answer.ensures.others)
       (torn_no_read c.torn_answer.result c.torn_answer.ensures.others) c.torn_answer.ensures.puts;
 }
+
+pub returns-in-Some-clause-input : goal.returns-in-Some-clause-input
+returns-in-Some-clause-input g c =
+    if_some (g.I.Source.left c.args.input.now) _ (λ left d.
+    run_lost c.runs_leave.ensures.on_stacks c.broken_off.ensures.reading c.broken_off.ensures.begun (run_seen c.in-Some.asked) left
+    (at_some _ (g.I.Source.left c.args.input.now) left d c.ran_answer.ensures.ran))
+
+pub returns-in-None-clause-input : goal.returns-in-None-clause-input
+returns-in-None-clause-input g c = if_some (g.I.Source.left c.args.input.now) _ (λ left d. (0, d))
+
+pub returns-in-Err-clause-input : goal.returns-in-Err-clause-input
+returns-in-Err-clause-input g c = if_some (g.I.Source.left c.args.input.now) _ (λ left d. (0, d))
