@@ -843,7 +843,7 @@ mod tests {
             ("f.icn", HI, errors, "Ran(Done)", b"hi\n", b"", true),
             ("f.icn", b"end", errors, "WriteFault", b"", b"", false),
             ("no.icn", HI, errors, "WriteFault", b"", b"", false),
-            ("f", HI, errors, "WriteFault", b"", b"", false),
+            ("-z", HI, errors, "WriteFault", b"", b"", false),
             ("f.icn", HI, later, "Ran(Done)", b"hi\n", b"", true),
             ("f.icn", b"end", later, "Refused", b"", NO_PROGRAM, false),
         ];
