@@ -238,7 +238,7 @@ mod tests {
             Call::Suspend(why, given) if goes_on(frames, why) => {
                 frames.suspend(why, given.map(item))?
             }
-            Call::Enter(proc) => {
+            Call::Enter(proc) if frames.level() < u64::MAX => {
                 let locals = [Val::Integer(1), Val::Integer(2), Val::Integer(3)];
                 frames.enter(proc, &locals, 0)?
             }
@@ -454,7 +454,7 @@ mod tests {
         assert_eq!(rt; frames.label(), Some(DEEP - 1));
         for label in 0..DEEP {
             frames.suspend(Why::Op(Residual::InputLines), None)?;
-            frames.enter(label, &[], 0)?;
+            assert_eq!(rt; answer_of(&mut frames, Call::Enter(label))?, Answer::Done);
         }
         assert_eq!(rt; frames.level(), u64::from(DEEP) + 1);
         for label in 0..DEEP {

@@ -1,5 +1,5 @@
 // Procedures that are called.
-ghost use Rattle.std.specs.Prelude.{◌≡◌, ◌+◌, ◌-◌, ◌<◌, ◌≤◌, ◌++◌, ◌∷◌, [], Some, true, false, drop, length, map, replicate, slice_get, IfErr, OnOk, MatchResult};
+ghost use Rattle.std.specs.Prelude.{◌≡◌, ◌+◌, ◌-◌, ◌<◌, ◌≤◌, ◌^◌, ◌++◌, ◌∷◌, [], Some, true, false, drop, length, map, replicate, slice_get, IfErr, OnOk, MatchResult};
 ghost use Rattle.std.specs.List.{All};
 ghost use Rattle.icn_value.specs.Limited.{limits_of};
 ghost use Rattle.icn_value.specs.declared.val.Val.TheVariants.{Null};
@@ -101,13 +101,15 @@ pub fn take_parameters<K: Stack<Cell> + Drop>(
     Ok(())
 }
 
-// Enters a procedure with these parameters, and nulls for its other locals. The error is want of memory.
+// Enters a procedure with these parameters, and nulls for its other locals. The level of the call must be a number of 64
+// bits. The error is want of memory.
 fn enter<K: Stack<Cell> + Drop>(
     frames: &mut Frames<K>,
     number: u32,
     parameters: &mut Vec<Val>,
     locals: u32,
 ) -> Result<(), AllocError>
+    requires { flat.level frames.old.flat + 1 < 2 ^ 64 }
     ensures { OnOk result (frames.new.flat ≡ flat.enter number (parameters.old.items ++ replicate locals Null) 0 frames.old.flat) }
 {
     add_nulls(parameters, locals)?;

@@ -1,5 +1,5 @@
 // The calls of a stack.
-ghost use Rattle.std.specs.Prelude.{◌≡◌, ◌+◌, ◌<◌, ◌≤◌, ℕ, Option, None, Bool, true, false, OnOk, OnErr, IsOk, IfOk, IsSome, is_some, is_none, length, map, slice_get, slice_set};
+ghost use Rattle.std.specs.Prelude.{◌≡◌, ◌+◌, ◌<◌, ◌≤◌, ◌^◌, ℕ, Option, None, Bool, true, false, OnOk, OnErr, IsOk, IfOk, IsSome, is_some, is_none, length, map, slice_get, slice_set};
 ghost use Rattle.icn_frames.specs.Stacks as flat;
 ghost use Rattle.icn_frames.specs.Shapes.{shape, IsScan, MayBeAt};
 
@@ -377,20 +377,17 @@ impl<K: Stack<Cell> + Drop> Frames<K> {
         self.pair_since(None)
     }
 
-    /// Opens a procedure frame with these locals, and goes to a place.
+    /// Opens a procedure frame with these locals, and goes to a place. The level of the call must be a number of 64 bits.
     pub fn enter(&mut self, proc: u32, locals: &[Val], place: u32) -> Result<(), AllocError>
+        requires { flat.level self.old.flat + 1 < 2 ^ 64 }
         ensures ok { OnOk result (self.new.flat ≡ flat.enter proc locals.now place self.old.flat) }
         ensures err { OnErr result (self.new.flat ≡ self.old.flat) }
         ensures spare { OnErr result (self.old.spare ≤ self.new.spare) }
     {
-        let level = match self.level().checked_add(1) {
-            Some(level) => level,
-            None => return Err(AllocError),
-        };
         let frame = Cell::Call {
             proc,
             locals: locals.len() as u64,
-            level,
+            level: self.level() + 1,
             saved: self.registers,
             place: self.place,
         };

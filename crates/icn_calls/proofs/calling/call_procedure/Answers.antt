@@ -1,4 +1,4 @@
-use Rattle.std.proofs.Common.{◌≡◌, ◌∙◌, ◌+◌, ◌≤◌, ◌++◌, ℕ, suc, true, nat_le, [], Option, Some, length, map, replicate, sym, ap, subst, arith}
+use Rattle.std.proofs.Common.{◌≡◌, ◌∙◌, ◌+◌, ◌<◌, ◌^◌, ◌≤◌, ◌++◌, ℕ, suc, true, nat_le, [], Option, Some, length, map, replicate, sym, ap, subst, arith}
 use Rattle.std.specs.Option.{option_map_or}
 use Rattle.std.proofs.lemmas.Option.{same_Some}
 use Rattle.icn_value.specs.Limited.{Bounds}
@@ -28,6 +28,13 @@ pub take_parameters-requires-clause-count : goal.take_parameters-requires-clause
 take_parameters-requires-clause-count g c q =
     collects_one (tables_of c.args.code.now) c.args.number (proc_of c.index-entry.result.now) c.args.code.now.rules
     (entry_at proc_of c.args.code.now.procs.items c.args.number c.index-entry.result.now c.requires.there c.index-entry.ensures) q
+
+-- the limit of levels has 32 bits
+pub enter-requires : goal.enter-requires
+enter-requires g c =
+    let m = c.args.frames.now.flat in
+    let deep : held.level m + 1 < 2 ^ 64 = omega (arith, c.level.ensures, c.if-level-limits.false, c.args.limits.now.few_levels) in
+    subst (λ (x : FlatStack). held.level x + 1 < 2 ^ 64) (sym c.take_parameters.ensures.same) deep
 
 pub returns-in_err-take_parameters-clause-step : goal.returns-in_err-take_parameters-clause-step
 returns-in_err-take_parameters-clause-step g c entry at st same =
