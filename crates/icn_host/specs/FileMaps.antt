@@ -1,5 +1,5 @@
 -- What a store of files holds, and what reading and writing a file does. Nothing is said of a store that doesn't tell it.
-use Rattle.std.specs.Prelude.{◌≡◌, ◌⊎◌, ℕ, List, [], ◌++◌, take, Option, None, Some, IfSome, unwrap_or, String, Vec}
+use Rattle.std.specs.Prelude.{◌≡◌, ◌⊎◌, ◌<◌, ℕ, All, List, [], ◌++◌, take, Option, None, Some, IfSome, unwrap_or, String, Vec}
 use Rattle.std.specs.BTreeMap.{BTreeMap, get_by_text}
 use Rattle.std.specs.Map.{update}
 use Rattle.std.specs.Option.{option_map}
@@ -8,6 +8,10 @@ use Rattle.std.specs.Str.{bytes_eq}
 -- the content of the file of each name, if there is one
 abbrev pub FileMap : Type 0
 FileMap = List ℕ → Option (List ℕ)
+
+-- each file's content is one of bytes
+abbrev pub HoldBytes : FileMap → Type 0
+HoldBytes files = (name bytes : List ℕ) → files name ≡ Some bytes → All (λ byte. byte < 256) bytes
 
 -- the file is there, and its first bytes, up to so many, were appended
 abbrev pub Reads : Option FileMap → List ℕ → ℕ → List ℕ → List ℕ → Type 0

@@ -1,6 +1,6 @@
 -- Where files hold bytes, what they come to can be linked.
 use Rattle.std.proofs.Common.{◌≡◌, ℕ, ◌≤◌, true, List, Result, Ok, arith}
-use Rattle.icn_host.specs.FileMaps.{FileMap}
+use Rattle.icn_host.specs.FileMaps.{FileMap, HoldBytes}
 use Rattle.icn_tree.specs.declared.lines.SourceLine.{SourceLine}
 use Rattle.icn_tree.specs.declared.token.Token.{Token}
 use Rattle.icn_tree.specs.SourceTexts.{joined_len}
@@ -14,7 +14,6 @@ use Rattle.icn_units.specs.Written.{file_fits}
 use Rattle.icn_translate.specs.FileUnits.{translated_unit}
 use Rattle.icn_link.specs.JoinableUnits.{is_joinable}
 use Rattle.icn_simulation.specs.Faultless.{IsFaultless}
-use Rattle.source_bytes.specs.Bytes.{HoldBytes}
 use Rattle.source_bytes.specs.LineBytes.{lines_are_of_bytes}
 use Rattle.icn_lines.specs.declared.answer.Answer.{Answer}
 use Rattle.icont_words.specs.Words.{Reading, Generate, Asks, ComeTo}

@@ -1,10 +1,9 @@
 // Laws of the definitions that contracts cite.
 ghost use Rattle.std.specs.Prelude.{◌≡◌, ℕ, All, List, Some, Ok};
-ghost use Rattle.icn_host.specs.FileMaps.{FileMap};
+ghost use Rattle.icn_host.specs.FileMaps.{FileMap, HoldBytes};
 ghost use Rattle.icn_tree.specs.declared.token.Token.{Token};
 ghost use Rattle.icn_tree.specs.Trees.{Declaration};
 ghost use Rattle.icn_code.specs.Codes.{Tables};
-ghost use Rattle.source_bytes.specs.Bytes.{HoldBytes};
 ghost use Rattle.icn_lines.specs.Answers.{IsFault};
 ghost use Rattle.icont_units.specs.Files.{File};
 ghost use Rattle.icont_units.specs.Translating.{Become};

@@ -1,7 +1,7 @@
 -- Words, files and input ask for a job: bytes are read or break a rule, code is sound or broken, and each run of sound code ends.
 use Rattle.std.proofs.Common.{◌≡◌, ℕ, ◌≤◌, ◌<◌, ◌⊎◌, inl, inr, All, List, [], length, true, Option, None, Some, Result, Ok, Err, refl}
 use Rattle.std.proofs.lemmas.Bool.{cases_lt}
-use Rattle.icn_host.specs.FileMaps.{FileMap}
+use Rattle.icn_host.specs.FileMaps.{FileMap, HoldBytes}
 use Rattle.icn_tree.specs.declared.rule.Rule.{Rule}
 use Rattle.icn_tree.specs.declared.rule.Rule.TheVariants.{I6}
 use Rattle.icn_value.specs.Limited.{Bounds}
@@ -17,7 +17,7 @@ use Rattle.icn_run.specs.FlatStep.{Runs}
 use Rattle.icn_run_safe.specs.Ended.{AreOver}
 use Rattle.icn_lines.specs.declared.answer.Answer.TheVariants.{Command, Missing, BadImage}
 use Rattle.iconx_top.specs.Images.{IsJudged, too_long, broken, unverified, runs}
-use Rattle.iconx_top.specs.Job.{Job, IsJob, IsRun, HoldBytes, wrong_words, missing, bad, ran, refusal, observation}
+use Rattle.iconx_top.specs.Job.{Job, IsJob, IsRun, wrong_words, missing, bad, ran, refusal, observation}
 use Rattle.iconx_top.specs.Words.{Reading, Asks, Faulty, asked}
 
 -- what the laws of the crates below say

@@ -1,5 +1,5 @@
 -- What the words, the files and the input ask for.
-use Rattle.std.specs.Prelude.{◌≡◌, ◌<◌, ℕ, All, List, [], None, Some, Ok, Err}
+use Rattle.std.specs.Prelude.{◌≡◌, ℕ, List, [], None, Some, Ok, Err}
 use Rattle.icn_host.specs.FileMaps.{FileMap}
 use Rattle.icn_tree.specs.declared.rule.Rule.{Rule}
 use Rattle.icn_value.specs.Limited.{Bounds}
@@ -55,7 +55,3 @@ pub data IsJob (words : List (List ℕ)) (files : FileMap) (left : List ℕ) : J
       → files name ≡ Some bytes → IsJudged bytes (Err rule) → IsJob words files left (refusal files left name (BadImage rule))
   ran : (tables : Tables) (launch : Launch) (observed : Observed) → IsRun words files left tables launch → Runs tables launch observed
       → IsJob words files left (observation files observed)
-
--- the files hold bytes
-abbrev pub HoldBytes : FileMap → Type 0
-HoldBytes files = (name bytes : List ℕ) → files name ≡ Some bytes → All (λ byte. byte < 256) bytes

@@ -1,8 +1,8 @@
 // Laws of the job.
 ghost use Rattle.std.specs.Prelude.{◌≡◌, ℕ, List};
-ghost use Rattle.icn_host.specs.FileMaps.{FileMap};
+ghost use Rattle.icn_host.specs.FileMaps.{FileMap, HoldBytes};
 ghost use Rattle.icn_lines.specs.Answers.{IsFault};
-ghost use Rattle.iconx_top.specs.Job.{HoldBytes, IsJob, Job};
+ghost use Rattle.iconx_top.specs.Job.{IsJob, Job};
 
 use icn_image::one_spelling;
 use icn_run_safe::runs_end;

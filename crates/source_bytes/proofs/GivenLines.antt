@@ -7,7 +7,7 @@ use Rattle.std.specs.Str.{bytes_eq}
 use Rattle.std.proofs.lemmas.Bool.{and_from}
 use Rattle.std.proofs.lemmas.List.Folds.{list_all-append}
 use Rattle.std.proofs.lemmas.Option.{none-some, same_Some}
-use Rattle.icn_host.specs.FileMaps.{FileMap}
+use Rattle.icn_host.specs.FileMaps.{FileMap, HoldBytes}
 use Rattle.icn_tree.specs.declared.lines.SourceLine.{SourceLine}
 use Rattle.icn_tree.specs.SourceTexts.{joined_len}
 use Rattle.icn_prep.specs.declared.fault.PrepFault.{PrepFault}
@@ -26,7 +26,6 @@ use Rattle.icn_prep.specs.Replacement.{Read, behind, begins_word, as_it_stands, 
 use Rattle.icn_prep.specs.SourceLines.{State, Source, Outcome, Step, first_state, Including, given, left_empty, passed, text_line, define_again, define_line, undef_line, include_line, if_line, else_line, endif_line, renumbered, line_line, where_taken, directive_line, line_read, ended, lines_read, file_read, too_deep, found, included, named_file, source_of, source_lines}
 use Rattle.icn_prep.specs.Texts.{TextOf, without, with_text, undefined, undefined_by}
 use Rattle.icn_prep.specs.Words.{is_name, is_word_byte, is_blank, first_word, behind_word, trimmed, trimmed_start}
-use Rattle.source_bytes.specs.Bytes.{HoldBytes}
 use Rattle.source_bytes.specs.LineBytes.{line_is_of_bytes, lines_are_of_bytes}
 use Rattle.source_bytes.proofs.ByteLists.{AreBytes, no_bytes, with_first, first_byte, other_bytes, bytes_joined, bytes_taken, bytes_dropped, bytes_reversed, bytes_chosen, bytes_held}
 

@@ -1,6 +1,6 @@
 // From files that hold bytes to the texts of their trees.
 ghost use Rattle.std.specs.Prelude.{◌≡◌, ◌≤◌, ℕ, List, true, Ok};
-ghost use Rattle.icn_host.specs.FileMaps.{FileMap};
+ghost use Rattle.icn_host.specs.FileMaps.{FileMap, HoldBytes};
 ghost use Rattle.icn_tree.specs.declared.lines.SourceLine.{SourceLine};
 ghost use Rattle.icn_tree.specs.declared.token.Token.{Token};
 ghost use Rattle.icn_tree.specs.SourceTexts.{joined_len};
@@ -10,7 +10,6 @@ ghost use Rattle.icn_parse.specs.Outcomes.{IsOutcome, IsTree};
 ghost use Rattle.icn_prep.specs.SourceLines.{Source, source_lines};
 ghost use Rattle.icn_unit.specs.UnitRules.{is_byte_text};
 ghost use Rattle.icn_units.specs.Written.{file_fits};
-ghost use Rattle.source_bytes.specs.Bytes.{HoldBytes};
 ghost use Rattle.source_bytes.specs.LineBytes.{lines_are_of_bytes};
 ghost use Rattle.source_bytes.specs.TokenBytes.{tokens_are_of_bytes};
 
