@@ -4,7 +4,8 @@ use Rattle.std.proofs.lemmas.Option.{none-some}
 use Rattle.icn_tree.specs.declared.rule.Rule.{Rule}
 use Rattle.icn_tree.specs.declared.tree.Name.{Name}
 use Rattle.icn_decls.specs.Contexts.{Fault}
-use Rattle.icn_decls.specs.Faults.{Met, with_name, with_names, repeated, all_repeated}
+use Rattle.icn_decls.specs.Faults.{with_names, repeated, all_repeated}
+use Rattle.icn_tree.specs.NameSets.{NameTest, with_name}
 use Rattle.icn_decls.specs.declared.fault.ContextFault.{ContextFault}
 use Rattle.icn_decls.specs.declared.fault.ContextFault.TheVariants.{Broken as BrokenFault, NoMemory}
 use Rattle.icn_decls.specs.Views.{first_of, Checks}
@@ -24,7 +25,7 @@ first_kept [] b x e = absurd (none-some x (sym e))
 first_kept (y ∷ a) b x e = sym e
 
 -- names in two rows, one behind the other
-pub all_repeated-append : (rule : Rule) (met : Met) (xs ys : List Name) → all_repeated rule met (xs ++ ys) ≡ all_repeated rule met xs ++ all_repeated rule (with_names met xs) ys
+pub all_repeated-append : (rule : Rule) (met : NameTest) (xs ys : List Name) → all_repeated rule met (xs ++ ys) ≡ all_repeated rule met xs ++ all_repeated rule (with_names met xs) ys
 all_repeated-append rule met [] ys = refl
 all_repeated-append rule met (x ∷ xs) ys =
     ap (λ later. repeated rule met x ++ later) (all_repeated-append rule (with_name met x.text) xs ys)
@@ -42,7 +43,7 @@ checks_kept a b (BrokenFault rule file line) h = sym (first_kept a b _ h)
 checks_kept a b NoMemory h = tt
 
 -- names in the rows of some locals
-pub rows : (rule : Rule) (met : Met) (locals : List LocalsItem) (i : ℕ) (item : LocalsItem) → i < length locals → item ≡ get_or locals i item
+pub rows : (rule : Rule) (met : NameTest) (locals : List LocalsItem) (i : ℕ) (item : LocalsItem) → i < length locals → item ≡ get_or locals i item
     → all_repeated rule met (flat_map (λ row. row.names) (map locals_of (drop i locals)))
     ≡ all_repeated rule met item.names.items ++ all_repeated rule (with_names met item.names.items) (flat_map (λ row. row.names) (map locals_of (drop (i + 1) locals)))
 rows rule met locals i item within is =

@@ -1,7 +1,6 @@
 -- The context rules that a file breaks, in the order of their places, and at one place in the order of their numbers.
 use Rattle.std.specs.Prelude.{ℕ, Bool, true, false, List, [], ◌∷◌, ◌++◌, length, nat_lt, if◌then◌else◌}
 use Rattle.std.specs.List.{flat_map}
-use Rattle.std.specs.Str.{bytes_eq}
 use Rattle.icn_tree.specs.declared.rule.Rule.{Rule}
 use Rattle.icn_tree.specs.declared.rule.Rule.TheVariants.{C1, C5, C6, C7, C8}
 use Rattle.icn_tree.specs.declared.tree.LoopKind.{LoopKind}
@@ -9,6 +8,7 @@ use Rattle.icn_tree.specs.declared.tree.LoopKind.TheVariants as Loops
 use Rattle.icn_tree.specs.declared.tree.Name.{Name}
 use Rattle.icn_tree.specs.declared.tree.Place.{Place}
 use Rattle.icn_tree.specs.Trees.{Tree, MaybeTree, Trees, Clause, Clauses, Initial, NoInitial, Initially, Procedure, Declaration, Global, Link, Invocable, Record, ProcedureOf, Empty, Constant, Identifier, Keyword, Parentheses, Listing, Compound, Call, CoCall, Subscript, Section, Field, Prefix, Not, Binary, To, If, Case, Loop, Repeat, Create, Next, Fail, Break, Return, Suspend, Absent, Present, NoTrees, More, Default, Guarded, NoClauses, MoreClauses}
+use Rattle.icn_tree.specs.NameSets.{NameTest, none_met, with_name}
 use Rattle.icn_decls.specs.Contexts.{Fault, Context, outermost, created, looped, left, fault, result_faults, break_faults, next_faults}
 
 -- `next` may stand in the control expression of `while` and `until`, and not in that of `every`
@@ -72,27 +72,17 @@ abbrev mutual
   is_default has_default (Default place value) = true
   is_default has_default (Guarded place guard value) = has_default
 
--- which names were met
-abbrev pub Met : Type 0
-Met = List ℕ → Bool
-
-abbrev pub none_met : Met
-none_met = λ name. false
-
-abbrev pub with_name : Met → List ℕ → Met
-with_name met name = λ other. if bytes_eq name other then true else met other
-
 -- names met one after the other
-abbrev pub with_names : Met → List Name → Met
+abbrev pub with_names : NameTest → List Name → NameTest
 with_names met [] = met
 with_names met (name ∷ names) = with_names (with_name met name.text) names
 
 -- a name that was met
-abbrev pub repeated : Rule → Met → Name → List Fault
+abbrev pub repeated : Rule → NameTest → Name → List Fault
 repeated rule met name = if met name.text then fault rule name.place else []
 
 -- names that were met, or that stand among those before them
-abbrev pub all_repeated : Rule → Met → List Name → List Fault
+abbrev pub all_repeated : Rule → NameTest → List Name → List Fault
 all_repeated rule met [] = []
 all_repeated rule met (name ∷ names) = repeated rule met name ++ all_repeated rule (with_name met name.text) names
 
@@ -108,29 +98,29 @@ abbrev pub initial_faults : Initial → List Fault
 initial_faults NoInitial = []
 initial_faults (Initially place value) = faults outermost value
 
-abbrev pub procedure_faults : Met → Procedure → List Fault
+abbrev pub procedure_faults : NameTest → Procedure → List Fault
 procedure_faults met procedure = too_many (length (declared_names procedure)) procedure.name ++ (repeated C8 met procedure.name
     ++ (all_repeated C1 none_met (declared_names procedure) ++ (initial_faults procedure.initial ++ all_faults outermost procedure.body)))
 
-abbrev pub record_faults : Met → Name → List Name → List Fault
+abbrev pub record_faults : NameTest → Name → List Name → List Fault
 record_faults met name fields = too_many (length fields) name ++ (repeated C8 met name ++ all_repeated C6 none_met fields)
 
 -- the names of procedures and records, behind a declaration
-abbrev pub names_after : Met → Declaration → Met
+abbrev pub names_after : NameTest → Declaration → NameTest
 names_after met (Global place names) = met
 names_after met (Link place items) = met
 names_after met (Invocable place items) = met
 names_after met (Record place name fields) = with_name met name.text
 names_after met (ProcedureOf procedure) = with_name met procedure.name.text
 
-abbrev pub declaration_faults : Met → Declaration → List Fault
+abbrev pub declaration_faults : NameTest → Declaration → List Fault
 declaration_faults met (Global place names) = []
 declaration_faults met (Link place items) = []
 declaration_faults met (Invocable place items) = []
 declaration_faults met (Record place name fields) = record_faults met name fields
 declaration_faults met (ProcedureOf procedure) = procedure_faults met procedure
 
-abbrev pub declarations_faults : Met → List Declaration → List Fault
+abbrev pub declarations_faults : NameTest → List Declaration → List Fault
 declarations_faults met [] = []
 declarations_faults met (declaration ∷ others) = declaration_faults met declaration ++ declarations_faults (names_after met declaration) others
 

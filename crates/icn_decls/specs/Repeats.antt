@@ -2,10 +2,10 @@
 use Rattle.std.specs.Prelude.{◌≡◌, false, List, [], ◌∷◌}
 use Rattle.std.specs.Str.{bytes_eq}
 use Rattle.icn_tree.specs.declared.tree.Name.{Name}
-use Rattle.icn_decls.specs.Faults.{Met}
+use Rattle.icn_tree.specs.NameSets.{NameTest}
 
 -- none of them was met
-abbrev pub Unmet : Met → List Name → Type 0
+abbrev pub Unmet : NameTest → List Name → Type 0
 Unmet met [] = Unit {0}
 Unmet met (name ∷ names) = (met name.text ≡ false) × Unmet met names
 

@@ -3,22 +3,21 @@ ghost use Rattle.std.specs.Prelude.{◌≡◌, ◌++◌, [], OnOk, length, map, 
 ghost use Rattle.std.specs.List.{flat_map};
 ghost use Rattle.icn_tree.specs.TreeOf.{locals_of, procedure_of, declaration_of};
 ghost use Rattle.icn_decls.specs.Contexts.{fault, outermost};
-ghost use Rattle.icn_decls.specs.Faults.{all_faults, repeated, all_repeated, none_met, with_name, with_names, declared_names, initial_faults, procedure_faults, record_faults, names_after, declaration_faults, context_faults};
-ghost use Rattle.icn_decls.specs.Names.{has};
+ghost use Rattle.icn_decls.specs.Faults.{all_faults, repeated, all_repeated, with_names, declared_names, initial_faults, procedure_faults, record_faults, names_after, declaration_faults, context_faults};
+ghost use Rattle.icn_tree.specs.NameSets.{none_met, with_name, has};
 ghost use Rattle.icn_decls.specs.Views.{Checks, fault_of, first_of};
 
 use crate::context::Context;
 use crate::expr::{check, check_all};
 use crate::fault::{Broken, ContextFault};
-use crate::names::Met;
-use icn_tree::{Decl, Locals, Name, Procedure, Rule};
+use icn_tree::{Decl, Locals, Name, NameSet, Procedure, Rule};
 use std::alloc::Global;
 
 // How many parameters, locals and statics a procedure may have together, and how many fields a record.
 const MOST: usize = 65535;
 
 // The rule that a name breaks which was met, and otherwise meets it.
-fn check_name<'a>(met: &mut Met<'a>, name: &'a Name, rule: Rule) -> Result<(), ContextFault>
+fn check_name<'a>(met: &mut NameSet<'a>, name: &'a Name, rule: Rule) -> Result<(), ContextFault>
     ensures first { Checks (repeated rule (has met.old) name.now) result }
     ensures has { OnOk result (has met.new ≡ with_name (has met.old) name.now.text) }
 {
@@ -30,7 +29,7 @@ fn check_name<'a>(met: &mut Met<'a>, name: &'a Name, rule: Rule) -> Result<(), C
 }
 
 // The rule that the first name breaks which was met.
-fn check_names<'a>(met: &mut Met<'a>, names: &'a [Name], rule: Rule) -> Result<(), ContextFault>
+fn check_names<'a>(met: &mut NameSet<'a>, names: &'a [Name], rule: Rule) -> Result<(), ContextFault>
     ensures first { Checks (all_repeated rule (has met.old) names.now) result }
     ensures has { OnOk result (has met.new ≡ with_names (has met.old) names.now) }
 {
@@ -41,7 +40,7 @@ fn check_names<'a>(met: &mut Met<'a>, names: &'a [Name], rule: Rule) -> Result<(
 }
 
 // The first name of locals and statics that breaks the rule of names declared twice.
-fn check_locals<'a>(met: &mut Met<'a>, locals: &'a [Locals]) -> Result<(), ContextFault>
+fn check_locals<'a>(met: &mut NameSet<'a>, locals: &'a [Locals]) -> Result<(), ContextFault>
     ensures { Checks (all_repeated Rule.C1 (has met.old) (flat_map (λ l. l.names) (map locals_of locals.now))) result }
 {
     for local in locals {
@@ -54,7 +53,7 @@ fn check_locals<'a>(met: &mut Met<'a>, locals: &'a [Locals]) -> Result<(), Conte
 fn check_declared(alloc: Global, procedure: &Procedure) -> Result<(), ContextFault>
     ensures { Checks (all_repeated Rule.C1 none_met (declared_names (procedure_of procedure.now))) result }
 {
-    let mut met = Met::new(alloc);
+    let mut met = NameSet::new(alloc);
     check_names(&mut met, &procedure.parameters, Rule::C1)?;
     check_locals(&mut met, &procedure.locals)
 }
@@ -83,7 +82,7 @@ fn check_count(too_many: bool, name: &Name) -> Result<(), Broken>
 // The first rule that a procedure breaks, behind declarations of these names.
 fn check_procedure<'a>(
     alloc: Global,
-    met: &mut Met<'a>,
+    met: &mut NameSet<'a>,
     procedure: &'a Procedure,
 ) -> Result<(), ContextFault>
     ensures first { Checks (procedure_faults (has met.old) (procedure_of procedure.now)) result }
@@ -109,7 +108,7 @@ fn check_bodies(procedure: &Procedure) -> Result<(), Broken>
 // The first rule that a record breaks, behind declarations of these names.
 fn check_record<'a>(
     alloc: Global,
-    met: &mut Met<'a>,
+    met: &mut NameSet<'a>,
     name: &'a Name,
     fields: &'a [Name],
 ) -> Result<(), ContextFault>
@@ -118,14 +117,14 @@ fn check_record<'a>(
 {
     check_count(fields.len() > MOST, name)?;
     check_name(met, name, Rule::C8)?;
-    let mut in_record = Met::new(alloc);
+    let mut in_record = NameSet::new(alloc);
     check_names(&mut in_record, fields, Rule::C6)
 }
 
 // The first rule that a declaration breaks, behind declarations of these names.
 fn check_declaration<'a>(
     alloc: Global,
-    met: &mut Met<'a>,
+    met: &mut NameSet<'a>,
     declaration: &'a Decl,
 ) -> Result<(), ContextFault>
     ensures first { Checks (declaration_faults (has met.old) (declaration_of declaration.now)) result }
@@ -142,7 +141,7 @@ fn check_declaration<'a>(
 pub fn check_declarations(alloc: Global, declarations: &[Decl]) -> Result<(), ContextFault>
     ensures { Checks (context_faults (map declaration_of declarations.now)) result }
 {
-    let mut met = Met::new(alloc);
+    let mut met = NameSet::new(alloc);
     for declaration in declarations {
         check_declaration(alloc, &mut met, declaration)?;
     }

@@ -2,7 +2,8 @@
 ghost use Rattle.std.specs.Prelude.{◌≡◌, List, []};
 ghost use Rattle.icn_tree.specs.declared.rule.Rule.{Rule};
 ghost use Rattle.icn_tree.specs.declared.tree.Name.{Name};
-ghost use Rattle.icn_decls.specs.Faults.{all_repeated, none_met};
+ghost use Rattle.icn_decls.specs.Faults.{all_repeated};
+ghost use Rattle.icn_tree.specs.NameSets.{none_met};
 ghost use Rattle.icn_decls.specs.Repeats.{Once};
 
 /// Names break the rule that none stands twice exactly where two of them have one text.

@@ -7,7 +7,6 @@ mod decl;
 mod expr;
 mod fault;
 mod laws;
-mod names;
 
 pub use checked::{Checked, check};
 pub use fault::ContextFault;

@@ -12,7 +12,7 @@ use Rattle.icn_code.specs.declared.code.Global.{Global}
 use Rattle.icn_code.specs.declared.code.Start.{Start}
 use Rattle.icn_code.specs.declared.code.Start.TheVariants.{Null, Procedure, Record, Function}
 use Rattle.icn_code.specs.Rules.{name_of, has_name, names_differ, is_start, is_global}
-use Rattle.icn_image.specs.Names.{NameTest, none_met, with_name}
+use Rattle.icn_tree.specs.NameSets.{NameTest, none_met, with_name}
 use Rattle.icn_image.specs.Readers.{◌>>=◌, number_at}
 use Rattle.icn_image.specs.Reading.{global_at, globals_from, globals_at, has_proc}
 use Rattle.icn_image.specs.Spelling.{table, global}

@@ -7,7 +7,7 @@ use Rattle.icn_code.specs.declared.code.Global.{Global}
 use Rattle.icn_code.specs.Rules.{name_of}
 use Rattle.icn_image.specs.declared.fault.ImageFault.{ImageFault}
 use Rattle.icn_image.specs.declared.fault.ImageFault.TheVariants.{Broken, NoMemory}
-use Rattle.icn_image.specs.Names.{NameTest, with_name}
+use Rattle.icn_tree.specs.NameSets.{NameTest, with_name}
 use Rattle.icn_image.specs.Readers.{Fails}
 use Rattle.icn_image.specs.Reading.{global_at, globals_from}
 use Rattle.icn_image.proofs.Loops.{with_front, regroup}

@@ -15,7 +15,7 @@ use Rattle.icn_code.specs.declared.code.Global.{Global}
 use Rattle.icn_code.specs.declared.code.Start.{Start}
 use Rattle.icn_code.specs.declared.code.Start.TheVariants.{Null, Procedure, Record, Function}
 use Rattle.icn_code.specs.Rules.{name_of}
-use Rattle.icn_image.specs.Names.{NameTest}
+use Rattle.icn_tree.specs.NameSets.{NameTest}
 use Rattle.icn_image.specs.Readers.{◌>>=◌, number_at, place_at}
 use Rattle.icn_image.specs.Reading.{func_start, start_of, start_at, new_name_at, global_at}
 use Rattle.icn_image.specs.Spelling.{kind_and_number, global}

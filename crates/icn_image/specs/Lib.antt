@@ -1,7 +1,6 @@
 pub mod Readers
 pub mod Operands
 pub mod Scopes
-pub mod Names
 pub mod Fronts
 pub mod Spelling
 pub mod Reading

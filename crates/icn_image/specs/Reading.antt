@@ -20,7 +20,7 @@ use Rattle.icn_image.specs.declared.scope.Scope.{Scope}
 use Rattle.icn_image.specs.Readers.{◌>>=◌, Reader, bytes_at, byte_at, number_at, place_at, times, table_at}
 use Rattle.icn_image.specs.Operands.{operand_of, instr_of}
 use Rattle.icn_image.specs.Scopes.{names_there}
-use Rattle.icn_image.specs.Names.{NameTest, none_met, with_name}
+use Rattle.icn_tree.specs.NameSets.{NameTest, none_met, with_name}
 use Rattle.icn_image.specs.Fronts.{FrontTables, with_procs, with_instrs, scope_of}
 use Rattle.icn_image.specs.Spelling.{image_head}
 

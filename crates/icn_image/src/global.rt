@@ -2,16 +2,15 @@
 ghost use Rattle.std.specs.Prelude.{◌≡◌, [], IfOk, slice_index_or};
 ghost use Rattle.std.specs.Int.{w16};
 ghost use Rattle.icn_code.specs.Rules.{name_of};
-ghost use Rattle.icn_image.specs.Names.{has, none_met, with_name};
+ghost use Rattle.icn_tree.specs.NameSets.{has, none_met, with_name};
 ghost use Rattle.icn_image.specs.Readers.{Gives};
 ghost use Rattle.icn_image.specs.Reading.{func_start, global_at, globals_at, globals_from, new_name_at, start_at, start_of};
 
 use crate::fault::ImageFault;
-use crate::names::Met;
 use crate::number::{byte_at, number_at, place_at};
 use icn_code::Start;
 use icn_defs::func_numbered;
-use icn_tree::{Bytes, Rule};
+use icn_tree::{Bytes, NameSet, Rule};
 use std::alloc::Global;
 
 // What a global begins with, by its kind up to 3 and its number.
@@ -47,7 +46,7 @@ fn start_at(records: usize, bytes: &[u8]) -> Result<(Start, &[u8]), ImageFault>
 #[tactic(auto, unfolding(crate::specs::Reading::new_name_at))]
 fn new_name_at<'a, 'b>(
     strings: &'a [Bytes],
-    met: &mut Met<'a>,
+    met: &mut NameSet<'a>,
     bytes: &'b [u8],
 ) -> Result<(u32, &'b [u8]), ImageFault>
     ensures gives { Gives (λ x. (x.0, x.1.now)) result (new_name_at w16 strings.now (has met.old) bytes.now) }
@@ -65,7 +64,7 @@ fn new_name_at<'a, 'b>(
 fn global_at<'a, 'b>(
     strings: &'a [Bytes],
     records: usize,
-    met: &mut Met<'a>,
+    met: &mut NameSet<'a>,
     bytes: &'b [u8],
 ) -> Result<(icn_code::Global, &'b [u8]), ImageFault>
     ensures gives { Gives (λ x. (x.0, x.1.now)) result (global_at w16 strings.now records (has met.old) bytes.now) }
@@ -85,7 +84,7 @@ fn so_many_globals<'b>(
 ) -> Result<(Vec<icn_code::Global>, &'b [u8]), ImageFault>
     ensures { Gives (λ x. (x.0.items, x.1.now)) result (globals_from w16 strings.now records none_met count bytes.now) }
 {
-    let mut met = Met::new(alloc);
+    let mut met = NameSet::new(alloc);
     let mut globals = Vec::new(alloc);
     let mut rest = bytes;
     for _ in 0..count {

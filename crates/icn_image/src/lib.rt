@@ -7,7 +7,6 @@ mod global;
 mod head;
 mod instr;
 mod laws;
-mod names;
 mod number;
 mod operand;
 mod procs;

@@ -4,6 +4,7 @@ pub mod Declarations
 pub mod Grammar
 pub mod Levels
 pub mod Literals
+pub mod NameSets
 pub mod Numbers
 pub mod Phrases
 pub mod Pieces

@@ -13,7 +13,8 @@ use Rattle.icn_unit.specs.declared.unit.UnitName.{UnitName}
 use Rattle.icn_unit.specs.PlainUnits.{entry_names, owned_name, owned_names, proc_names}
 use Rattle.icn_unit.specs.UnitRules.{has_label, has_name, is_among, place_list, place_of, placed}
 use Rattle.icn_unit.specs.UnitViews.{decl_seen, proc_seen}
-use Rattle.icn_ucode.specs.NameSets.{with_label, with_name, with_place}
+use Rattle.icn_ucode.specs.LabelSets.{with_label, with_place}
+use Rattle.icn_tree.specs.NameSets.{with_name}
 
 pub any_last : {A : Type 0} (p : A → Bool) (xs : List A) (x : A) → list_any p (xs ++ x ∷ []) ≡ cond (p x) true (list_any p xs)
 any_last p [] x = by_test (p x) where

@@ -1,4 +1,4 @@
 pub mod DeclViews
-pub mod NameSets
+pub mod LabelSets
 pub mod UnitReading
 pub mod UnitViews

@@ -3,10 +3,9 @@ ghost use Rattle.std.specs.Prelude.{◌≡◌, ◌++◌, ◌∷◌, [], map, IfO
 ghost use Rattle.icn_unit.specs.PlainUnits.{owned_name, owned_names};
 ghost use Rattle.icn_unit.specs.UnitRules.{has_name};
 ghost use Rattle.icn_unit.specs.UnitViews.{decl_seen};
-ghost use Rattle.icn_ucode.specs.NameSets.{has};
+ghost use Rattle.icn_tree.specs.NameSets.{has};
 
-use crate::sets::Names;
-use icn_tree::Bytes;
+use icn_tree::{Bytes, NameSet};
 use icn_unit::UnitDecl;
 use std::alloc::{AllocError, Global};
 
@@ -14,7 +13,7 @@ use std::alloc::{AllocError, Global};
 #[derive(Drop)]
 pub struct Decls<'a> {
     pub decls: Vec<UnitDecl>,
-    names: Names<'a>,
+    names: NameSet<'a>,
     ghost known: { has names ≡ has_name (owned_names (map decl_seen decls.items)) },
 }
 
@@ -25,7 +24,7 @@ impl<'a> Decls<'a> {
     {
         Decls {
             decls: Vec::new(alloc),
-            names: Names::new(alloc),
+            names: NameSet::new(alloc),
         }
     }
 
@@ -55,7 +54,7 @@ impl<'a> Decls<'a> {
             mut decls,
             mut names,
         } = self;
-        names.add(name)?;
+        names.meet(name)?;
         decls.push(decl)?;
         Ok(Decls { decls, names })
     }
@@ -65,7 +64,7 @@ impl<'a> Decls<'a> {
 #[derive(Drop)]
 pub struct Fields<'a> {
     pub fields: Vec<Bytes>,
-    names: Names<'a>,
+    names: NameSet<'a>,
     ghost known: { has names ≡ has_name fields.items },
 }
 
@@ -76,7 +75,7 @@ impl<'a> Fields<'a> {
     {
         Fields {
             fields: Vec::new(alloc),
-            names: Names::new(alloc),
+            names: NameSet::new(alloc),
         }
     }
 
@@ -94,7 +93,7 @@ impl<'a> Fields<'a> {
             mut fields,
             mut names,
         } = self;
-        names.add(name)?;
+        names.meet(name)?;
         fields.push(Bytes::from_slice(alloc, name)?)?;
         Ok(Fields { fields, names })
     }

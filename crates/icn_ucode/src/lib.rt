@@ -4,10 +4,10 @@
 mod decl_lists;
 mod decl_reader;
 mod instr_reader;
+mod labels;
 mod proc_lists;
 mod proc_reader;
 mod reader;
-mod sets;
 mod unit_laws;
 
 pub use icn_unit::{

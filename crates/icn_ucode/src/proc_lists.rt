@@ -4,11 +4,12 @@ ghost use Rattle.std.specs.List.{list_all};
 ghost use Rattle.icn_unit.specs.PlainUnits.{entry_names, proc_names};
 ghost use Rattle.icn_unit.specs.UnitRules.{has_label, has_name, label_in, labels_placed, place_of, placed};
 ghost use Rattle.icn_unit.specs.UnitViews.{proc_seen};
-ghost use Rattle.icn_ucode.specs.NameSets.{has, has_place, holds, known_label, with_place};
+ghost use Rattle.icn_ucode.specs.LabelSets.{has_place, holds, known_label, with_place};
+ghost use Rattle.icn_tree.specs.NameSets.{has};
 ghost use Rattle.icn_ucode.specs.UnitReading.{begun, is_repeated, with_entry, with_instr};
 
-use crate::sets::{Labels, Names};
-use icn_tree::Bytes;
+use crate::labels::Labels;
+use icn_tree::{Bytes, NameSet};
 use icn_unit::{NameKind, ProcCode, UnitInstr, UnitName};
 use std::alloc::{AllocError, Global};
 
@@ -16,7 +17,7 @@ use std::alloc::{AllocError, Global};
 #[derive(Drop)]
 pub struct Procs<'a> {
     pub procs: Vec<ProcCode>,
-    names: Names<'a>,
+    names: NameSet<'a>,
     ghost known: { has names ≡ has_name (proc_names (map proc_seen procs.items)) },
 }
 
@@ -27,7 +28,7 @@ impl<'a> Procs<'a> {
     {
         Procs {
             procs: Vec::new(alloc),
-            names: Names::new(alloc),
+            names: NameSet::new(alloc),
         }
     }
 
@@ -46,7 +47,7 @@ impl<'a> Procs<'a> {
             mut procs,
             mut names,
         } = self;
-        names.add(name)?;
+        names.meet(name)?;
         procs.push(proc)?;
         Ok(Procs { procs, names })
     }
@@ -58,7 +59,7 @@ pub struct Begun<'a> {
     pub params: u32,
     pub proc: ProcCode,
     name: &'a [u8],
-    names: Names<'a>,
+    names: NameSet<'a>,
     ghost named: { name.now ≡ proc.name },
     ghost known: { has names ≡ has_name (entry_names proc.names.items) },
     ghost codeless: { proc.instrs.items ≡ [] },
@@ -85,7 +86,7 @@ impl<'a> Begun<'a> {
             params,
             proc,
             name,
-            names: Names::new(alloc),
+            names: NameSet::new(alloc),
         })
     }
 
@@ -106,7 +107,7 @@ impl<'a> Begun<'a> {
             name: own,
             mut names,
         } = self;
-        names.add(name)?;
+        names.meet(name)?;
         let entry = UnitName {
             kind,
             name: Bytes::from_slice(alloc, name)?,

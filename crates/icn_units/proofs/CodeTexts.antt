@@ -3,7 +3,8 @@ use Rattle.std.proofs.Common.{◌≡◌, ℕ, Bool, true, ◌&&◌, List, [], �
 use Rattle.std.specs.List.{flat_map, list_all}
 use Rattle.icn_tree.specs.declared.tree.Name.{Name}
 use Rattle.icn_tree.specs.Trees.{Locals, Procedure}
-use Rattle.icn_decls.specs.Faults.{Met, procedure_faults}
+use Rattle.icn_decls.specs.Faults.{procedure_faults}
+use Rattle.icn_tree.specs.NameSets.{NameTest}
 use Rattle.icn_unit.specs.PlainUnits.{entry_names}
 use Rattle.icn_unit.specs.UnitOperands.{is_name}
 use Rattle.icn_translate.specs.ProcCodes.{texts_of, local_texts, declared_texts, begun, drafted, proc_code}
@@ -32,7 +33,7 @@ locals_fit (l ∷ locals) h =
     (texts_fit l.names (first_of (names_fit l.names) (all_locals_fit locals) h))
     (locals_fit locals (second_of (names_fit l.names) (all_locals_fit locals) h))
 
-module _ (passes : List ℕ → Bool) (met : Met) (procedure : Procedure) (faultless : procedure_faults met procedure ≡ [])
+module _ (passes : List ℕ → Bool) (met : NameTest) (procedure : Procedure) (faultless : procedure_faults met procedure ≡ [])
     (written : procedure_fits passes procedure ≡ true) where
   declared_fit : list_all is_name (declared_texts procedure) ≡ true
   declared_fit =

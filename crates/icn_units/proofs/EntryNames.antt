@@ -13,7 +13,8 @@ use Rattle.icn_tree.specs.declared.tree.LocalKind.{LocalKind}
 use Rattle.icn_tree.specs.declared.tree.LocalKind.TheVariants as Kept
 use Rattle.icn_tree.specs.Trees.{Locals, Procedure}
 use Rattle.icn_decls.specs.Contexts.{fault, outermost}
-use Rattle.icn_decls.specs.Faults.{Met, none_met, with_name, repeated, all_repeated, too_many, declared_names, initial_faults, all_faults, procedure_faults}
+use Rattle.icn_decls.specs.Faults.{repeated, all_repeated, too_many, declared_names, initial_faults, all_faults, procedure_faults}
+use Rattle.icn_tree.specs.NameSets.{NameTest, none_met, with_name}
 use Rattle.icn_unit.specs.declared.unit.NameKind.{NameKind}
 use Rattle.icn_unit.specs.declared.unit.NameKind.TheVariants.{Parameter, Undeclared}
 use Rattle.icn_unit.specs.declared.unit.UnitInstr.{UnitInstr}
@@ -34,31 +35,31 @@ use Rattle.icn_units.specs.CodeNames.{variable_is_named, variables_are_named}
 pub same_text : (text : List ℕ) → bytes_eq text text ≡ true
 same_text text = (bytes_eq-Decides text text).1 refl
 
-pub met_again : (met : Met) (name x : List ℕ) → met x ≡ true → with_name met name x ≡ true
+pub met_again : (met : NameTest) (name x : List ℕ) → met x ≡ true → with_name met name x ≡ true
 met_again met name x h = by (bytes_eq name x)
   where
     by : (b : Bool) → (if b then true else met x) ≡ true
     by true = refl
     by false = h
 
-pub met_now : (met : Met) (name : List ℕ) → with_name met name name ≡ true
+pub met_now : (met : NameTest) (name : List ℕ) → with_name met name name ≡ true
 met_now met name = ap (λ b. if b then true else met name) (same_text name)
 
-not_met : (rule : Rule) (met : Met) (name : Name) → repeated rule met name ≡ [] → met name.text ≡ false
+not_met : (rule : Rule) (met : NameTest) (name : Name) → repeated rule met name ≡ [] → met name.text ≡ false
 not_met rule met name h = by (met name.text) h
   where
     by : (b : Bool) → (if b then fault rule name.place else []) ≡ [] → b ≡ false
     by true h = absurd (cc)
     by false h = refl
 
-pub differs : (met : Met) (x y : List ℕ) → met x ≡ true → met y ≡ false → bytes_eq x y ≡ false
+pub differs : (met : NameTest) (x y : List ℕ) → met x ≡ true → met y ≡ false → bytes_eq x y ≡ false
 differs met x y h g = by (bytes_eq x y) refl
   where
     by : (b : Bool) → bytes_eq x y ≡ b → b ≡ false
     by false e = refl
     by true e = absurd (let same = ap met ((bytes_eq-Decides x y).0 e) in cc)
 
-none_again : (rule : Rule) (met : Met) (names : List Name) (x : List ℕ) → met x ≡ true → all_repeated rule met names
+none_again : (rule : Rule) (met : NameTest) (names : List Name) (x : List ℕ) → met x ≡ true → all_repeated rule met names
     ≡ []
     → list_any (λ y. bytes_eq x y) (texts_of names) ≡ false
 none_again rule met [] x h g = refl
@@ -69,7 +70,7 @@ none_again rule met (name ∷ names) x h g =
     (differs met x name.text h (not_met rule met name here))
     (none_again rule (with_name met name.text) names x (met_again met name.text x h) later)
 
-pub texts_differ : (rule : Rule) (met : Met) (names : List Name) → all_repeated rule met names ≡ []
+pub texts_differ : (rule : Rule) (met : NameTest) (names : List Name) → all_repeated rule met names ≡ []
     → names_differ (texts_of names)
     ≡ true
 texts_differ rule met [] h = refl
@@ -204,7 +205,7 @@ all_named n (i ∷ is) h = and_both (variable_is_named n i) (list_all (variable_
 
 -- A whole procedure
 
-module _ (met : Met) (procedure : Procedure) (faultless : procedure_faults met procedure ≡ []) where
+module _ (met : NameTest) (procedure : Procedure) (faultless : procedure_faults met procedure ≡ []) where
   declared_once : names_differ (declared_texts procedure) ≡ true
   declared_once =
       let many = too_many (length (declared_names procedure)) procedure.name in

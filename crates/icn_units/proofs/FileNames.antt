@@ -8,7 +8,8 @@ use Rattle.icn_tree.specs.declared.tree.Item.{Item}
 use Rattle.icn_tree.specs.declared.tree.Name.{Name}
 use Rattle.icn_tree.specs.Trees.{Declaration, Global, Link, Invocable, Record, ProcedureOf}
 use Rattle.icn_decls.specs.Contexts.{Fault, fault}
-use Rattle.icn_decls.specs.Faults.{Met, with_name, repeated, names_after, declaration_faults, declarations_faults, none_met, all_repeated, too_many}
+use Rattle.icn_decls.specs.Faults.{repeated, names_after, declaration_faults, declarations_faults, all_repeated, too_many}
+use Rattle.icn_tree.specs.NameSets.{NameTest, with_name, none_met}
 use Rattle.icn_unit.specs.PlainUnits.{Decl, proc_names, owned_name, owned_names, declared_name, declared_names}
 use Rattle.icn_unit.specs.PlainUnits.{Global as GlobalLine, Link as LinkLine}
 use Rattle.icn_unit.specs.UnitRules.{names_differ, same_texts, same_names}
@@ -111,7 +112,7 @@ names_are_same declarations =
 
 -- No name stands twice
 
-not_owned : (met : Met) (name : Name) → repeated C8 met name ≡ [] → met name.text ≡ false
+not_owned : (met : NameTest) (name : Name) → repeated C8 met name ≡ [] → met name.text ≡ false
 not_owned met name h = by (met name.text) h
   where
     by : (b : Bool) → (if b then fault C8 name.place else []) ≡ [] → b ≡ false
@@ -119,12 +120,12 @@ not_owned met name h = by (met name.text) h
     by false h = refl
 
 -- the name of a declaration was not met, where it breaks no rule
-record_new : (met : Met) (name : Name) (many fields : List Fault) → many ++ (repeated C8 met name ++ fields) ≡ []
+record_new : (met : NameTest) (name : Name) (many fields : List Fault) → many ++ (repeated C8 met name ++ fields) ≡ []
     → met name.text ≡ false
 record_new met name many fields h = not_owned met name
     (none_before (repeated C8 met name) fields (none_behind many (repeated C8 met name ++ fields) h))
 
-module _ (met : Met) (declaration : Declaration) (others : List Declaration)
+module _ (met : NameTest) (declaration : Declaration) (others : List Declaration)
     (h : declarations_faults met (declaration ∷ others) ≡ []) where
   pub first_faultless : declaration_faults met declaration ≡ []
   first_faultless = none_before (declaration_faults met declaration)
@@ -134,7 +135,7 @@ module _ (met : Met) (declaration : Declaration) (others : List Declaration)
   others_faultless = none_behind (declaration_faults met declaration)
       (declarations_faults (names_after met declaration) others) h
 
-none_owned : (met : Met) (declarations : List Declaration) (x : List ℕ) → met x ≡ true
+none_owned : (met : NameTest) (declarations : List Declaration) (x : List ℕ) → met x ≡ true
     → declarations_faults met declarations ≡ [] → list_any (λ y. bytes_eq x y) (owners declarations) ≡ false
 none_owned met [] x h g = refl
 none_owned met (Global place names ∷ others) x h g =
@@ -155,7 +156,7 @@ none_owned met (ProcedureOf p ∷ others) x h g =
     (none_owned (with_name met p.name.text) others x (met_again met p.name.text x h)
     (others_faultless met (ProcedureOf p) others g))
 
-owners_differ : (met : Met) (declarations : List Declaration) → declarations_faults met declarations ≡ []
+owners_differ : (met : NameTest) (declarations : List Declaration) → declarations_faults met declarations ≡ []
     → names_differ (owners declarations) ≡ true
 owners_differ met [] g = refl
 owners_differ met (Global place names ∷ others) g =
@@ -175,7 +176,7 @@ owners_differ met (ProcedureOf p ∷ others) g =
     (none_owned (with_name met p.name.text) others p.name.text (met_now met p.name.text) later)
     (owners_differ (with_name met p.name.text) others later)
 
-pub unit_owners_differ : (met : Met) (declarations : List Declaration) → declarations_faults met declarations ≡ []
+pub unit_owners_differ : (met : NameTest) (declarations : List Declaration) → declarations_faults met declarations ≡ []
     → names_differ (owned_names (unit_decls declarations)) ≡ true
 unit_owners_differ met declarations h = subst (λ (names : List (List ℕ)). names_differ names ≡ true)
     (sym (unit_owners declarations)) (owners_differ met declarations h)
@@ -210,7 +211,7 @@ fewer_differ (ProcedureOf p ∷ others) h =
     (fewer_any p.name.text others (was_not (list_any (λ y. bytes_eq p.name.text y) (owners others)) parts.0))
     (fewer_differ others parts.1)
 
-pub unit_procedures_differ : (met : Met) (declarations : List Declaration) → declarations_faults met declarations
+pub unit_procedures_differ : (met : NameTest) (declarations : List Declaration) → declarations_faults met declarations
     ≡ [] → names_differ (proc_names (proc_codes declarations)) ≡ true
 unit_procedures_differ met declarations h =
     subst (λ (names : List (List ℕ)). names_differ names ≡ true) (sym (unit_procedures declarations))
@@ -230,13 +231,13 @@ all_pass : {A B : Type 0} (test : B → Bool) (line : A → B) → ((x : A) → 
 all_pass test line h [] = refl
 all_pass test line h (x ∷ xs) = ap (λ b. b && list_all test (map line xs)) (h x) ∙ all_pass test line h xs
 
-record_fields : (met : Met) (name : Name) (many : List Fault) (fields : List Name)
+record_fields : (met : NameTest) (name : Name) (many : List Fault) (fields : List Name)
     → many ++ (repeated C8 met name ++ all_repeated C6 none_met fields) ≡ [] → names_differ (texts_of fields) ≡ true
 record_fields met name many fields h =
     texts_differ C6 none_met fields (none_behind (repeated C8 met name) (all_repeated C6 none_met fields)
     (none_behind many (repeated C8 met name ++ all_repeated C6 none_met fields) h))
 
-line_fields : (met : Met) (declaration : Declaration) → declaration_faults met declaration ≡ []
+line_fields : (met : NameTest) (declaration : Declaration) → declaration_faults met declaration ≡ []
     → list_all fields_differ (lines_in declaration) ≡ true
 line_fields met (Global place names) h =
     all_pass fields_differ (λ (name : Name). GlobalLine name.text) (λ name. refl) names
@@ -247,7 +248,7 @@ line_fields met (Record place name fields) h =
     ap (λ b. b && true) (record_fields met name (too_many (length fields) name) fields h)
 line_fields met (ProcedureOf p) h = refl
 
-pub unit_fields_differ : (met : Met) (declarations : List Declaration) → declarations_faults met declarations ≡ []
+pub unit_fields_differ : (met : NameTest) (declarations : List Declaration) → declarations_faults met declarations ≡ []
     → list_all fields_differ (unit_decls declarations) ≡ true
 unit_fields_differ met [] h = refl
 unit_fields_differ met (declaration ∷ others) h =

@@ -7,7 +7,8 @@ use Rattle.std.proofs.lemmas.Bool.Decides.{eqb_tells}
 use Rattle.icn_tree.specs.Trees.{Procedure}
 use Rattle.icn_tree.specs.declared.rule.Rule.TheVariants.{C1, C8}
 use Rattle.icn_decls.specs.Contexts.{outermost}
-use Rattle.icn_decls.specs.Faults.{Met, none_met, too_many, repeated, all_repeated, declared_names, initial_faults, all_faults, procedure_faults}
+use Rattle.icn_decls.specs.Faults.{too_many, repeated, all_repeated, declared_names, initial_faults, all_faults, procedure_faults}
+use Rattle.icn_tree.specs.NameSets.{NameTest, none_met}
 use Rattle.icn_unit.specs.declared.unit.UnitInstr.{UnitInstr}
 use Rattle.icn_unit.specs.declared.unit.UnitInstr.TheVariants as I
 use Rattle.icn_unit.specs.UnitRules.{label_in, place_of, place_list, placed, has_label, all_differ, labels_differ, labels_placed, label_placed}
@@ -22,7 +23,7 @@ use Rattle.icn_units.proofs.Numbers.{Among, AllAmong, Numbered, numbers, numbers
 use Rattle.icn_units.proofs.Nesting.{nesting, nesting_asks, is_level}
 
 -- The whole draft of a procedure goes on from the one that it begins with.
-pub told_leads : (K : Keeps) (met : Met) (procedure : Procedure) → procedure_faults met procedure ≡ []
+pub told_leads : (K : Keeps) (met : NameTest) (procedure : Procedure) → procedure_faults met procedure ≡ []
     → Told K.asks (procedure_fits K.passes procedure) → K.Leads (begun procedure) (drafted procedure) []
 told_leads K met procedure x w =
     let many = too_many (length (declared_names procedure)) procedure.name in
@@ -50,7 +51,7 @@ not_told : (asks t : Bool) → asks ≡ false → Told asks t
 not_told asks t e h = absurd (cc)
 
 -- where nothing is asked of names and literals
-pub procedure_leads : (K : Keeps) → K.asks ≡ false → (met : Met) (procedure : Procedure)
+pub procedure_leads : (K : Keeps) → K.asks ≡ false → (met : NameTest) (procedure : Procedure)
     → procedure_faults met procedure ≡ []
     → K.Leads (begun procedure) (drafted procedure) []
 procedure_leads K h met procedure x = told_leads K met procedure x (not_told K.asks (procedure_fits K.passes procedure) h)
@@ -187,7 +188,7 @@ ended_times l d h g = sum (places l d.instrs) (ways_held l d.loops) (ends_held l
 begun_numbered : (procedure : Procedure) → Numbered (begun procedure)
 begun_numbered procedure = record { instrs = tt; loops = tt; cases = tt }
 
-module _ (met : Met) (procedure : Procedure) (faultless : procedure_faults met procedure ≡ []) where
+module _ (met : NameTest) (procedure : Procedure) (faultless : procedure_faults met procedure ≡ []) where
   -- each number is placed as often as it is given
   places_given : (l : ℕ) → places l (drafted procedure).instrs ≡ given l (drafted procedure).labels
   places_given l =

@@ -12,7 +12,8 @@ use Rattle.icn_tree.specs.declared.tree.Item.TheVariants as Items
 use Rattle.icn_tree.specs.declared.tree.Name.{Name}
 use Rattle.icn_tree.specs.Trees.{Procedure, Declaration, Global, Link, Invocable, Record, ProcedureOf}
 use Rattle.icn_decls.specs.Contexts.{fault, outermost}
-use Rattle.icn_decls.specs.Faults.{Met, none_met, names_after, declared_names, too_many, repeated, all_repeated, initial_faults, all_faults, procedure_faults, declarations_faults, context_faults}
+use Rattle.icn_decls.specs.Faults.{names_after, declared_names, too_many, repeated, all_repeated, initial_faults, all_faults, procedure_faults, declarations_faults, context_faults}
+use Rattle.icn_tree.specs.NameSets.{NameTest, none_met}
 use Rattle.icn_decls.specs.Spelled.{IsSpelled}
 use Rattle.icn_unit.specs.declared.unit.UnitInstr.{UnitInstr}
 use Rattle.icn_unit.specs.declared.unit.UnitInstr.TheVariants as I
@@ -140,7 +141,7 @@ some_params procedure h = by procedure.is_variadic h
 
 -- A procedure
 
-module _ (met : Met) (procedure : Procedure) (faultless : procedure_faults met procedure ≡ [])
+module _ (met : NameTest) (procedure : Procedure) (faultless : procedure_faults met procedure ≡ [])
     (written : procedure_fits is_short procedure ≡ true)
     (collects : collects_fits procedure ≡ true) (numbers : numbers_fit (proc_code procedure) ≡ true) where
   few_params : is_number (params_in (proc_code procedure).names) ≡ true
@@ -176,7 +177,7 @@ module _ (met : Met) (procedure : Procedure) (faultless : procedure_faults met p
 
 -- A whole text
 
-codes_kept : (met : Met) (file : List Declaration) → declarations_faults met file ≡ [] → file_fits is_short file ≡ true
+codes_kept : (met : NameTest) (file : List Declaration) → declarations_faults met file ≡ [] → file_fits is_short file ≡ true
     → list_all numbers_fit (proc_codes file) ≡ true
     → list_all keeps_proc (proc_codes file) ≡ true
 codes_kept met [] f w n = refl

@@ -2,7 +2,8 @@
 ghost use Rattle.std.specs.Prelude.{◌≡◌, ℕ, All, Bool, [], true, List};
 ghost use Rattle.std.specs.List.{list_all};
 ghost use Rattle.icn_tree.specs.Trees.{Declaration, Procedure};
-ghost use Rattle.icn_decls.specs.Faults.{context_faults, procedure_faults, Met};
+ghost use Rattle.icn_decls.specs.Faults.{context_faults, procedure_faults};
+ghost use Rattle.icn_tree.specs.NameSets.{NameTest};
 ghost use Rattle.icn_decls.specs.Spelled.{IsSpelled};
 ghost use Rattle.icn_translate.specs.FileUnits.{proc_codes, unit_decls};
 ghost use Rattle.icn_translate.specs.ProcCodes.{proc_code};
@@ -16,20 +17,20 @@ ghost use Rattle.icn_units.specs.Written.{HasBytes, file_fits, is_short, operand
 /// In the code of a procedure that breaks no context rule no label has two places, and each label that an instruction goes to
 /// has one.
 pub fn labels_have_one_place()
-    ensures differ { (met : Met) (procedure : Procedure) → procedure_faults met procedure ≡ []
+    ensures differ { (met : NameTest) (procedure : Procedure) → procedure_faults met procedure ≡ []
         → labels_differ (placed (proc_code procedure).instrs) ≡ true }
-    ensures placed { (met : Met) (procedure : Procedure) → procedure_faults met procedure ≡ []
+    ensures placed { (met : NameTest) (procedure : Procedure) → procedure_faults met procedure ≡ []
         → labels_placed (proc_code procedure).instrs ≡ true }
 {}
 
 /// The names of that code differ, and stand in order: parameters, locals and statics, and then those that are not declared. Each
 /// variable that an instruction pushes is that of one of them.
 pub fn names_stand_once()
-    ensures differ { (met : Met) (procedure : Procedure) → procedure_faults met procedure ≡ []
+    ensures differ { (met : NameTest) (procedure : Procedure) → procedure_faults met procedure ≡ []
         → names_differ (entry_names (proc_code procedure).names) ≡ true }
-    ensures order { (met : Met) (procedure : Procedure) → procedure_faults met procedure ≡ []
+    ensures order { (met : NameTest) (procedure : Procedure) → procedure_faults met procedure ≡ []
         → in_order (proc_code procedure).names ≡ true }
-    ensures variables { (met : Met) (procedure : Procedure) → procedure_faults met procedure ≡ []
+    ensures variables { (met : NameTest) (procedure : Procedure) → procedure_faults met procedure ≡ []
         → variables_are_named (proc_code procedure) ≡ true }
 {}
 
@@ -52,9 +53,9 @@ pub fn names_and_literals_fit()
 
 /// Where the names and the literals of a procedure are such, so are those of its code, for any test of texts.
 pub fn code_texts_fit()
-    ensures names { (passes : List ℕ → Bool) (met : Met) (procedure : Procedure) → procedure_faults met procedure ≡ []
+    ensures names { (passes : List ℕ → Bool) (met : NameTest) (procedure : Procedure) → procedure_faults met procedure ≡ []
         → procedure_fits passes procedure ≡ true → list_all is_name (entry_names (proc_code procedure).names) ≡ true }
-    ensures operands { (passes : List ℕ → Bool) (met : Met) (procedure : Procedure) → procedure_faults met procedure ≡ []
+    ensures operands { (passes : List ℕ → Bool) (met : NameTest) (procedure : Procedure) → procedure_faults met procedure ≡ []
         → procedure_fits passes procedure ≡ true → list_all (operand_fits passes) (proc_code procedure).instrs ≡ true }
 {}
 

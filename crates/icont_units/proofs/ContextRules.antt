@@ -7,7 +7,8 @@ use Rattle.icn_tree.specs.declared.tree.Name.{Name}
 use Rattle.icn_tree.specs.declared.tree.Place.{Place}
 use Rattle.icn_tree.specs.Trees.{Tree, MaybeTree, Trees, Clause, Clauses, Initial, NoInitial, Initially, Procedure, Declaration, Global, Link, Invocable, Record, ProcedureOf, Empty, Constant, Identifier, Keyword, Parentheses, Listing, Compound, Call, CoCall, Subscript, Section, Field, Prefix, Not, Binary, To, If, Case, Loop, Repeat, Create, Next, Fail, Break, Return, Suspend, Absent, Present, NoTrees, More, Default, Guarded, NoClauses, MoreClauses}
 use Rattle.icn_decls.specs.Contexts.{Fault, Context, outermost, created, looped, left, fault, result_faults, loopless, break_by, next_by}
-use Rattle.icn_decls.specs.Faults.{next_in_control, default_faults, faults, maybe_faults, all_faults, clauses_faults, clause_faults, is_default, Met, none_met, with_name, repeated, all_repeated, too_many, declared_names, initial_faults, procedure_faults, names_after, declaration_faults, declarations_faults, context_faults}
+use Rattle.icn_decls.specs.Faults.{next_in_control, default_faults, faults, maybe_faults, all_faults, clauses_faults, clause_faults, is_default, repeated, all_repeated, too_many, declared_names, initial_faults, procedure_faults, names_after, declaration_faults, declarations_faults, context_faults}
+use Rattle.icn_tree.specs.NameSets.{NameTest, none_met, with_name}
 use Rattle.icn_decls.specs.Views.{first_of}
 use Rattle.icont_units.specs.Sources.{IsTreeRule}
 
@@ -93,10 +94,10 @@ mutual
   clause_rules context has_default (Default place value) = both _ _ (default_of has_default place) (tree_rules context value)
   clause_rules context has_default (Guarded place guard value) = both _ _ (tree_rules context guard) (tree_rules context value)
 
-repeated_of : (rule : Rule) (met : Met) (name : Name) → IsTreeRule rule → AreOf (repeated rule met name)
+repeated_of : (rule : Rule) (met : NameTest) (name : Name) → IsTreeRule rule → AreOf (repeated rule met name)
 repeated_of rule met name h = where_true (met name.text) (fault rule name.place) (one rule name.place h)
 
-all_repeated_of : (rule : Rule) (met : Met) (names : List Name) → IsTreeRule rule → AreOf (all_repeated rule met names)
+all_repeated_of : (rule : Rule) (met : NameTest) (names : List Name) → IsTreeRule rule → AreOf (all_repeated rule met names)
 all_repeated_of rule met [] h = tt
 all_repeated_of rule met (name ∷ names) h = both _ _ (repeated_of rule met name h) (all_repeated_of rule (with_name met name.text) names h)
 
@@ -107,18 +108,18 @@ initial_of : (initial : Initial) → AreOf (initial_faults initial)
 initial_of NoInitial = tt
 initial_of (Initially place value) = tree_rules outermost value
 
-procedure_of : (met : Met) (p : Procedure) → AreOf (procedure_faults met p)
+procedure_of : (met : NameTest) (p : Procedure) → AreOf (procedure_faults met p)
 procedure_of met p = both _ _ (too_many_of (length (declared_names p)) p.name) (both _ _ (repeated_of C8 met p.name tt)
     (both _ _ (all_repeated_of C1 none_met (declared_names p) tt) (both _ _ (initial_of p.initial) (trees_rules outermost p.body))))
 
-declaration_of : (met : Met) (declaration : Declaration) → AreOf (declaration_faults met declaration)
+declaration_of : (met : NameTest) (declaration : Declaration) → AreOf (declaration_faults met declaration)
 declaration_of met (Global place names) = tt
 declaration_of met (Link place items) = tt
 declaration_of met (Invocable place items) = tt
 declaration_of met (Record place name fields) = both _ _ (too_many_of (length fields) name) (both _ _ (repeated_of C8 met name tt) (all_repeated_of C6 none_met fields tt))
 declaration_of met (ProcedureOf p) = procedure_of met p
 
-declarations_of : (met : Met) (declarations : List Declaration) → AreOf (declarations_faults met declarations)
+declarations_of : (met : NameTest) (declarations : List Declaration) → AreOf (declarations_faults met declarations)
 declarations_of met [] = tt
 declarations_of met (declaration ∷ others) = both _ _ (declaration_of met declaration) (declarations_of (names_after met declaration) others)
 

@@ -2,7 +2,8 @@
 use Rattle.std.proofs.Common.{◌≡◌, ℕ, ◌+◌, List, [], ◌∷◌, ◌++◌, length, refl, ap, ◌∙◌, append_assoc, append-nil, if◌then◌else◌, arith}
 use Rattle.icn_tree.specs.Trees.{Initial, NoInitial, Initially, Trees, NoTrees, More, Procedure}
 use Rattle.icn_decls.specs.Contexts.{outermost}
-use Rattle.icn_decls.specs.Faults.{Met, none_met, too_many, repeated, all_repeated, declared_names, initial_faults, all_faults, procedure_faults}
+use Rattle.icn_decls.specs.Faults.{too_many, repeated, all_repeated, declared_names, initial_faults, all_faults, procedure_faults}
+use Rattle.icn_tree.specs.NameSets.{NameTest, none_met}
 use Rattle.icn_tree.specs.declared.rule.Rule.TheVariants.{C1, C8}
 use Rattle.icn_code.specs.declared.instr.Instr.{Instr}
 use Rattle.icn_code.specs.declared.instr.Instr.TheVariants as I
@@ -69,7 +70,7 @@ whole_code N (Initially place e) es =
     ∙ ap (λ q. I.Init n ∷ I.Mark n ∷ X.code N [] [] 2 e ++ I.Unmark ∷ X.body N q es) begins
 
 -- the faults of the trees of a procedure
-trees_faultless : (met : Met) (procedure : Procedure) → procedure_faults met procedure ≡ []
+trees_faultless : (met : NameTest) (procedure : Procedure) → procedure_faults met procedure ≡ []
     → (initial_faults procedure.initial ≡ []) × (all_faults outermost procedure.body ≡ [])
 trees_faultless met procedure x =
     let many = too_many (length (declared_names procedure)) procedure.name in
@@ -81,7 +82,7 @@ trees_faultless met procedure x =
     (none_behind owned (twice ++ (first ++ others)) (none_behind many (owned ++ (twice ++ (first ++ others))) x)) in
     (none_before first others trees, none_behind first others trees)
 
-pub code_is : (S : Scope) (N : X.Names) (met : Met) (procedure : Procedure) → procedure_faults met procedure ≡ []
+pub code_is : (S : Scope) (N : X.Names) (met : NameTest) (procedure : Procedure) → procedure_faults met procedure ≡ []
     → AgreeOn S N (drafted procedure).names → ((label : ℕ) → S.label label ≡ label_place label (proc_code procedure).instrs)
     → resolved S (proc_code procedure).instrs ≡ X.procedure N procedure.initial procedure.body
 code_is S N met procedure x agree labels =

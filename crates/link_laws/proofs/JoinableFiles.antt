@@ -5,7 +5,8 @@ use Rattle.std.proofs.lemmas.List.Folds.{list_all-append}
 use Rattle.icn_tree.specs.declared.tree.Item.{Item}
 use Rattle.icn_tree.specs.declared.tree.Name.{Name}
 use Rattle.icn_tree.specs.Trees.{Procedure, Declaration, Global, Link, Invocable, Record, ProcedureOf}
-use Rattle.icn_decls.specs.Faults.{Met, none_met, names_after, declarations_faults, procedure_faults}
+use Rattle.icn_decls.specs.Faults.{names_after, declarations_faults, procedure_faults}
+use Rattle.icn_tree.specs.NameSets.{NameTest, none_met}
 use Rattle.icn_unit.specs.declared.unit.UnitInstr.{UnitInstr}
 use Rattle.icn_unit.specs.declared.unit.UnitInstr.TheVariants as I
 use Rattle.icn_unit.specs.PlainUnits.{Global as GlobalLine, Link as LinkLine}
@@ -45,14 +46,14 @@ named p w =
     first_of (name_fits p.name) (names_fit p.parameters && (all_locals_fit p.locals
     && (initial_fits is_byte_text p.initial && trees_fit is_byte_text p.body))) w
 
-proc_joinable : (met : Met) (p : Procedure) → procedure_faults met p ≡ [] → procedure_fits is_byte_text p ≡ true
+proc_joinable : (met : NameTest) (p : Procedure) → procedure_faults met p ≡ [] → procedure_fits is_byte_text p ≡ true
     → collects_fits p ≡ true → is_joinable_proc (proc_code p) ≡ true
 proc_joinable met p f w collects =
     both (both (both (named p w) (some_params p collects)) (code_names_fit is_byte_text met p f w))
     (instrs_joinable (length (proc_code p).names) (proc_code p).instrs (code_operands_fit is_byte_text met p f w)
     (code_variables_named met p f))
 
-procs_joinable : (met : Met) (file : List Declaration) → declarations_faults met file ≡ [] → file_fits is_byte_text file ≡ true
+procs_joinable : (met : NameTest) (file : List Declaration) → declarations_faults met file ≡ [] → file_fits is_byte_text file ≡ true
     → list_all is_joinable_proc (proc_codes file) ≡ true
 procs_joinable met [] f w = refl
 procs_joinable met (Global place names ∷ others) f w =

@@ -19,7 +19,8 @@ use Rattle.icn_unit.specs.PlainUnits.{proc_names}
 use Rattle.icn_unit.specs.PlainUnits.{Global as GlobalLine, Link as LinkLine}
 use Rattle.icn_unit.specs.UnitOperands.{ascends}
 use Rattle.icn_unit.specs.UnitRules.{is_byte}
-use Rattle.icn_decls.specs.Faults.{Met, none_met, names_after, declarations_faults}
+use Rattle.icn_decls.specs.Faults.{names_after, declarations_faults}
+use Rattle.icn_tree.specs.NameSets.{NameTest, none_met}
 use Rattle.icn_link.specs.Gathering.{text_place, integer_place, with_texts}
 use Rattle.icn_link.specs.Joined as Linked
 use Rattle.icn_link.specs.Joined.{records_in, proc_entry, cset_of, joined_of, scope_of}
@@ -232,7 +233,7 @@ instrs_sets (i ∷ is) h =
     ∙ both (operand_sets i (first_of (operand_fits is_short i) (list_all (operand_fits is_short) is) h))
     (instrs_sets is (second_of (operand_fits is_short i) (list_all (operand_fits is_short) is) h))
 
-file_sets : (met : Met) (file : List Declaration) → declarations_faults met file ≡ [] → file_fits is_short file ≡ true
+file_sets : (met : NameTest) (file : List Declaration) → declarations_faults met file ≡ [] → file_fits is_short file ≡ true
     → list_all set_fits (mentioned_by set_in (proc_codes file)) ≡ true
 file_sets met [] f w = refl
 file_sets met (Global place names ∷ others) f w = file_sets met others (others_faultless met (Global place names) others f)
@@ -254,7 +255,7 @@ file_sets met (ProcedureOf p ∷ others) f w =
 
 -- A file that breaks no rule
 
-file_fit : (met : Met) (file : List Declaration) → declarations_faults met file ≡ []
+file_fit : (met : NameTest) (file : List Declaration) → declarations_faults met file ≡ []
     → Each IsSoundProcedure (procedures_of file) → Fit (procedures_of file)
 file_fit met [] f s = tt
 file_fit met (Global place names ∷ others) f s = file_fit met others (others_faultless met (Global place names) others f) s

@@ -15,7 +15,8 @@ use Rattle.icn_tree.specs.declared.tree.LocalKind.TheVariants as Kept
 use Rattle.icn_tree.specs.Trees.{Locals, Procedure}
 use Rattle.icn_code.specs.declared.instr.Instr.{Instr}
 use Rattle.icn_code.specs.declared.instr.Instr.TheVariants as Instrs
-use Rattle.icn_decls.specs.Faults.{Met, procedure_faults}
+use Rattle.icn_decls.specs.Faults.{procedure_faults}
+use Rattle.icn_tree.specs.NameSets.{NameTest}
 use Rattle.icn_unit.specs.declared.unit.NameKind.{NameKind}
 use Rattle.icn_unit.specs.declared.unit.NameKind.TheVariants as Kinds
 use Rattle.icn_unit.specs.declared.unit.UnitName.{UnitName}
@@ -418,7 +419,7 @@ parameters_counted procedure =
 
 -- what the tree of a procedure has, that breaks no rule
 pub record IsFit (procedure : Procedure) : Type 0 where
-  pub met : Met
+  pub met : NameTest
   pub faultless : procedure_faults met procedure ≡ []
   pub initial : FormedInitial procedure.initial
   pub body : FormedAll procedure.body

@@ -1,7 +1,7 @@
 use Rattle.std.proofs.Common.{◌≡◌, drop, map}
 use Rattle.icn_tree.specs.TreeOf.{declaration_of}
 use Rattle.icn_decls.specs.Faults.{declarations_faults, context_faults}
-use Rattle.icn_decls.specs.Names.{has}
+use Rattle.icn_tree.specs.NameSets.{has}
 use Rattle.icn_decls.specs.Views.{first_of}
 use Rattle.icn_decls.proofs.decl.check_declarations.Given as goal
 

@@ -2,8 +2,8 @@ use Rattle.std.proofs.Common.{◌≡◌, None, Err, subst, sym, ap, ◌∙◌, m
 use Rattle.std.specs.List.{flat_map}
 use Rattle.icn_tree.specs.declared.rule.Rule.TheVariants.{C1}
 use Rattle.icn_tree.specs.TreeOf.{locals_of}
-use Rattle.icn_decls.specs.Faults.{all_repeated, none_met, with_names}
-use Rattle.icn_decls.specs.Names.{has}
+use Rattle.icn_decls.specs.Faults.{all_repeated, with_names}
+use Rattle.icn_tree.specs.NameSets.{none_met, has}
 use Rattle.icn_decls.specs.Views.{first_of, Checks}
 use Rattle.icn_decls.proofs.Firsts.{first_then, checks_as, checks_passed, all_repeated-append}
 use Rattle.icn_decls.proofs.decl.check_declared.Goals as goal

@@ -3,7 +3,7 @@ use Rattle.std.specs.List.{flat_map}
 use Rattle.icn_tree.specs.declared.rule.Rule.TheVariants.{C1}
 use Rattle.icn_tree.specs.TreeOf.{locals_of}
 use Rattle.icn_decls.specs.Faults.{all_repeated}
-use Rattle.icn_decls.specs.Names.{has}
+use Rattle.icn_tree.specs.NameSets.{has}
 use Rattle.icn_decls.specs.Views.{first_of}
 use Rattle.icn_decls.proofs.decl.check_locals.Given as goal
 

@@ -1,6 +1,6 @@
 use Rattle.std.proofs.Common.{◌≡◌, drop}
 use Rattle.icn_decls.specs.Faults.{all_repeated, with_names}
-use Rattle.icn_decls.specs.Names.{has}
+use Rattle.icn_tree.specs.NameSets.{has}
 use Rattle.icn_decls.specs.Views.{first_of}
 use Rattle.icn_decls.proofs.decl.check_names.Given as goal
 

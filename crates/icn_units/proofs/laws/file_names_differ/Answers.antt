@@ -1,4 +1,4 @@
-use Rattle.icn_decls.specs.Faults.{none_met}
+use Rattle.icn_tree.specs.NameSets.{none_met}
 use Rattle.icn_units.proofs.FileNames.{names_are_same, unit_fields_differ, unit_owners_differ, unit_procedures_differ}
 use Rattle.icn_units.proofs.laws.file_names_differ.Goals as goal
 

@@ -1,6 +1,6 @@
 use Rattle.std.proofs.Common.{sym, ◌∙◌, ap}
 use Rattle.icn_unit.specs.UnitRules.{has_label, placed}
-use Rattle.icn_ucode.specs.NameSets.{holds}
+use Rattle.icn_ucode.specs.LabelSets.{holds}
 use Rattle.icn_ucode.proofs.KnownNames.{places_known}
 use Rattle.icn_ucode.proofs.proc_lists.Coded.with.Goals as goal
 

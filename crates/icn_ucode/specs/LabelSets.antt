@@ -1,20 +1,8 @@
--- Sets of names and labels.
-use Rattle.std.specs.Prelude.{ℕ, Bool, true, false, List, nat_eq, Option, None, Some, if◌then◌else◌}
+-- Sets of labels.
+use Rattle.std.specs.Prelude.{ℕ, Bool, true, false, nat_eq, Option, None, Some, if◌then◌else◌}
 use Rattle.std.specs.Option.{option_map_or}
-use Rattle.std.specs.HashSet.{contains, contains_by}
-use Rattle.std.specs.Str.{bytes_eq}
-use Rattle.icn_ucode.specs.declared.sets.Labels.{Labels}
-use Rattle.icn_ucode.specs.declared.sets.Names.{Names}
-
--- a name is in the set
-abbrev pub has : Names → List ℕ → Bool
-has names name = contains_by (λ key. bytes_eq name key.now) names.names
-
-abbrev pub no_names : List ℕ → Bool
-no_names = λ name. false
-
-abbrev pub with_name : (List ℕ → Bool) → List ℕ → List ℕ → Bool
-with_name names name = λ other. if bytes_eq name other then true else names other
+use Rattle.std.specs.HashSet.{contains}
+use Rattle.icn_ucode.specs.declared.labels.Labels.{Labels}
 
 -- a label is in the set
 abbrev pub holds : Labels → ℕ → Bool
