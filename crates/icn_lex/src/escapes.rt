@@ -3,8 +3,8 @@ ghost use Rattle.std.specs.Prelude.{◌≡◌, ◌≤◌, ◌+◌, length, IfSom
 ghost use Rattle.icn_lex.specs.Reading.{byte_in};
 ghost use Rattle.icn_tree.specs.Literals.{escape_of, octal_escape, hexadecimal_escape, control_escape, escaped_byte};
 
-use crate::characters::{hexadecimal_len, is_octal, octal_len};
 use crate::numbers::value;
+use icn_tree::characters::{hexadecimal_len, is_octal, octal_len};
 
 // The byte that an escape means, by the bytes behind its backslash, and how many of these it has.
 #[tactic(auto, unfolding(icn_tree::specs::Literals::escape_of))]

@@ -1,7 +1,6 @@
 //! The scanner: the tokens of the lines of a program text, or the first fault among them.
 #![tactic(auto)]
 
-mod characters;
 mod escapes;
 mod fault;
 mod literals;

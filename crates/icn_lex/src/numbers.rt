@@ -5,7 +5,7 @@ ghost use Rattle.icn_tree.specs.Characters.{digit_value};
 ghost use Rattle.icn_tree.specs.Numbers.{are_digits, integer, number_in};
 ghost use Rattle.icn_lex.specs.Reading.{bounded_by, counted, limited, number_read, value_in};
 
-use crate::characters::{alphanumeric_len, digit_value, digits_len};
+use icn_tree::characters::{alphanumeric_len, digit_value, digits_len};
 use icn_tree::{Kind, Rule};
 
 const GREATEST: u64 = 9223372036854775807;

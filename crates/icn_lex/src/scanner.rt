@@ -6,11 +6,11 @@ ghost use Rattle.icn_tree.specs.Tokens.{tokens_of};
 ghost use Rattle.icn_lex.specs.Literals.{scan_inside, scan_line, scan_text};
 ghost use Rattle.icn_lex.specs.Outcomes.{IsNoLongerNext, LineIs, NextIs, ShortensTo, begins_bare, literal_read, outcome_of};
 
-use crate::characters::{begins_comment, blanks_len, is_quote, is_space};
 use crate::fault::LexFault;
 use crate::literals::{Literal, Opening, Part, close, read_part};
 use crate::semicolons::push;
 use crate::token::first_token;
+use icn_tree::characters::{begins_comment, blanks_len, is_quote, is_space};
 use icn_tree::{Lines, SourceLine, Token};
 use std::alloc::Global;
 

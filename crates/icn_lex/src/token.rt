@@ -3,11 +3,11 @@ ghost use Rattle.std.specs.Prelude.{◌≡◌, ◌∷◌, IfOk};
 ghost use Rattle.icn_lex.specs.Outcomes.{FirstIs};
 ghost use Rattle.icn_lex.specs.Reading.{bare_read, dot_read, first_read, name_by, name_read};
 
-use crate::characters::{begins_identifier, identifier_len, is_digit};
 use crate::fault::LexFault;
 use crate::marks::mark;
 use crate::numbers::integer_literal;
 use crate::words::reserved_word;
+use icn_tree::characters::{begins_identifier, identifier_len, is_digit};
 use icn_tree::{Bytes, Kind, Operator, Rule, SourceLine};
 use std::alloc::{AllocError, Global};
 

@@ -5,7 +5,7 @@ use Rattle.std.proofs.Math.Nat.{pow-le-pow_right, pow-suc}
 use Rattle.std.proofs.lemmas.Bool.{false≢true, true_from_ne_false}
 use Rattle.std.proofs.lemmas.Bool.Decides.{nat_tests}
 use Rattle.std.proofs.lemmas.List.Folds.{list_all_at}
-use Rattle.icn_prep.specs.Words.{is_digit}
+use Rattle.icn_tree.specs.Characters.{is_digit}
 
 -- fewer than 9 digits leave room for one more
 pub has_room : (n i : ℕ) → n < 10 ^ i → i ≤ 8 → n < 100000000

@@ -19,7 +19,7 @@ use Rattle.icn_prep.specs.Replacement.{Read, behind, begins_word, as_it_stands, 
 use Rattle.icn_prep.specs.Sizes.{ended_len}
 use Rattle.icn_prep.specs.SourceLines.{State, Outcome, Including, first_state, given, line_read, lines_read, named_file, included, source_of, source_lines}
 use Rattle.icn_prep.specs.Texts.{Texts, no_texts}
-use Rattle.icn_prep.specs.Words.{is_word_byte}
+use Rattle.icn_tree.specs.Characters.{continues_identifier}
 use Rattle.icn_prep.proofs.Giving.{given_short}
 
 -- Words as they stand: the bytes of a text are its own.
@@ -38,7 +38,7 @@ own_bytes zero state [] = refl
 own_bytes (suc n) state [] = refl
 own_bytes (suc n) state (b ∷ rest) = own_bytes n state rest
 own_bytes zero state (b ∷ rest) =
-    let count = prefix_len is_word_byte rest in
+    let count = prefix_len continues_identifier rest in
     bytes_by (begins_word state b) (b ∷ take count rest) (b ∷ []) (read_from as_it_stands count Outside rest) (read_from as_it_stands zero (after state b) rest)
     ∙ (ap (λ xs. cond (begins_word state b) ((b ∷ take count rest) ++ xs) ((b ∷ []) ++ (read_from as_it_stands zero (after state b) rest).bytes)) (own_bytes count Outside rest)
     ∙ kept_by (begins_word state b) count b rest (take count rest ++ drop count rest) (read_from as_it_stands zero (after state b) rest).bytes refl (own_bytes zero (after state b) rest))

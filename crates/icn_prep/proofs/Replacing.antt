@@ -15,7 +15,8 @@ use Rattle.icn_prep.specs.declared.literal.LiteralState.TheVariants.{Outside, In
 use Rattle.icn_prep.specs.LiteralStates.{after}
 use Rattle.icn_prep.specs.Replacement.{Read, behind, begins_word, as_it_stands, read_from, word_read, replaced}
 use Rattle.icn_prep.specs.Texts.{TextOf, without}
-use Rattle.icn_prep.specs.Words.{is_word_byte, first_word, behind_word}
+use Rattle.icn_tree.specs.Characters.{continues_identifier}
+use Rattle.icn_prep.specs.Words.{first_word, behind_word}
 
 -- a name that is switched off, and what stands behind it
 abbrev pub Outer : Type 0
@@ -66,14 +67,14 @@ byte_read (suc n) texts state b rest h = byte_by (λ word. word_read (replaced n
 
 -- a word at the front
 word_by : (becomes : List ℕ → Read) (state : LiteralState) (b : ℕ) (rest : List ℕ) → begins_word state b ≡ true
-    → let count = prefix_len is_word_byte rest in let read = becomes (b ∷ take count rest) in
+    → let count = prefix_len continues_identifier rest in let read = becomes (b ∷ take count rest) in
     read_from becomes zero state (b ∷ rest) ≡ behind read.bytes (read_from becomes zero read.state (drop count rest))
 word_by becomes state b rest h =
-    let count = prefix_len is_word_byte rest in
+    let count = prefix_len continues_identifier rest in
     let read = becomes (b ∷ take count rest) in
     rw h (ap (behind read.bytes) (skips becomes count read.state rest))
 
-pub begun : (state : LiteralState) (b : ℕ) → begins_word state b ≡ true → (state ≡ Outside) × (is_word_byte b ≡ true)
+pub begun : (state : LiteralState) (b : ℕ) → begins_word state b ≡ true → (state ≡ Outside) × (continues_identifier b ≡ true)
 begun Outside b h = (refl, h)
 begun (Inside q) b h = absurd (false≢true h)
 begun (Joining q) b h = absurd (false≢true h)
@@ -86,30 +87,30 @@ abbrev becomes : ℕ → TextOf → List ℕ → Read
 becomes zero texts word = as_it_stands word
 becomes (suc n) texts word = word_read (replaced n) texts word (texts word)
 
-word_front : (n : ℕ) (texts : TextOf) (b : ℕ) (rest : List ℕ) → is_word_byte b ≡ true
-    → let count = prefix_len is_word_byte rest in let read = becomes n texts (b ∷ take count rest) in
+word_front : (n : ℕ) (texts : TextOf) (b : ℕ) (rest : List ℕ) → continues_identifier b ≡ true
+    → let count = prefix_len continues_identifier rest in let read = becomes n texts (b ∷ take count rest) in
     replaced n texts Outside (b ∷ rest) ≡ behind read.bytes (replaced n texts read.state (drop count rest))
 word_front zero texts b rest h = word_by as_it_stands Outside b rest h
 word_front (suc n) texts b rest h = word_by (λ word. word_read (replaced n) texts word (texts word)) Outside b rest h
 
 front_by : (b : ℕ) (rest : List ℕ) (first : Bool) → first ≡ true
-    → (take (cond first (1 + prefix_len is_word_byte rest) 0) (b ∷ rest) ≡ b ∷ take (prefix_len is_word_byte rest) rest)
-    × (drop (cond first (1 + prefix_len is_word_byte rest) 0) (b ∷ rest) ≡ drop (prefix_len is_word_byte rest) rest)
+    → (take (cond first (1 + prefix_len continues_identifier rest) 0) (b ∷ rest) ≡ b ∷ take (prefix_len continues_identifier rest) rest)
+    × (drop (cond first (1 + prefix_len continues_identifier rest) 0) (b ∷ rest) ≡ drop (prefix_len continues_identifier rest) rest)
 front_by b rest first h =
-    let same : 1 + prefix_len is_word_byte rest ≡ suc (prefix_len is_word_byte rest) = omega arith in
+    let same : 1 + prefix_len continues_identifier rest ≡ suc (prefix_len continues_identifier rest) = omega arith in
     (rw (h, same) refl, rw (h, same) refl)
 
-front_of : (b : ℕ) (rest : List ℕ) → is_word_byte b ≡ true
-    → (first_word (b ∷ rest) ≡ b ∷ take (prefix_len is_word_byte rest) rest) × (behind_word (b ∷ rest) ≡ drop (prefix_len is_word_byte rest) rest)
-front_of b rest h = front_by b rest (is_word_byte b) h
+front_of : (b : ℕ) (rest : List ℕ) → continues_identifier b ≡ true
+    → (first_word (b ∷ rest) ≡ b ∷ take (prefix_len continues_identifier rest) rest) × (behind_word (b ∷ rest) ≡ drop (prefix_len continues_identifier rest) rest)
+front_of b rest h = front_by b rest (continues_identifier b) h
 
 -- a word at the front, by the code's cut
-pub word_first : (n : ℕ) (texts : TextOf) (b : ℕ) (others rest word left : List ℕ) → is_word_byte b ≡ true → rest ≡ b ∷ others → word ≡ first_word rest → left ≡ behind_word rest
+pub word_first : (n : ℕ) (texts : TextOf) (b : ℕ) (others rest word left : List ℕ) → continues_identifier b ≡ true → rest ≡ b ∷ others → word ≡ first_word rest → left ≡ behind_word rest
     → let read = becomes n texts word in replaced n texts Outside rest ≡ behind read.bytes (replaced n texts read.state left)
 word_first n texts b others rest word left h is w l =
     let parts = front_of b others h in
-    let here : word ≡ b ∷ take (prefix_len is_word_byte others) others = w ∙ (ap first_word is ∙ parts.0) in
-    let there : left ≡ drop (prefix_len is_word_byte others) others = l ∙ (ap behind_word is ∙ parts.1) in
+    let here : word ≡ b ∷ take (prefix_len continues_identifier others) others = w ∙ (ap first_word is ∙ parts.0) in
+    let there : left ≡ drop (prefix_len continues_identifier others) others = l ∙ (ap behind_word is ∙ parts.1) in
     rw (is, here, there) (word_front n texts b others h)
 
 -- switching off more names, the outer ones first
@@ -231,7 +232,7 @@ goes count texts entries word text h =
     }
 
 -- a word that stays
-pub word_stays : (count : ℕ) (texts : TextOf) (entries : List Outer) (b : ℕ) (others rest word left : List ℕ) → is_word_byte b ≡ true → rest ≡ b ∷ others → word ≡ first_word rest → left ≡ behind_word rest
+pub word_stays : (count : ℕ) (texts : TextOf) (entries : List Outer) (b : ℕ) (others rest word left : List ℕ) → continues_identifier b ≡ true → rest ≡ b ∷ others → word ≡ first_word rest → left ≡ behind_word rest
     → None ≡ chosen count texts entries word
     → pending (count - length entries) texts (reverse entries) Outside rest ≡ behind word (pending (count - length entries) texts (reverse entries) Outside left)
 word_stays count texts entries b others rest word left h is w l none =
@@ -274,7 +275,7 @@ so_long count texts literal line most given entries state onward rest left front
 
 -- a word is replaced: its text comes next
 pub so_pushes : (count : ℕ) (texts : TextOf) (literal : LiteralState) (line : List ℕ) (most : ℕ) (given : List ℕ) (entries : List Outer) (b : ℕ) (others rest : List ℕ) (word left : Bor (List ℕ)) (text : List ℕ)
-    → ReadSo count texts literal line most given entries Outside rest → is_word_byte b ≡ true → rest ≡ b ∷ others → word.now ≡ first_word rest → left.now ≡ behind_word rest
+    → ReadSo count texts literal line most given entries Outside rest → continues_identifier b ≡ true → rest ≡ b ∷ others → word.now ≡ first_word rest → left.now ≡ behind_word rest
     → Goes count texts entries word.now text → ReadSo count texts literal line most given (entries ++ (word, left) ∷ []) Outside text
 so_pushes count texts literal line most given entries b others rest word left text so h is w l g =
     let es = reverse entries in
@@ -386,6 +387,6 @@ word_replaced count texts literal line most given entries state b others rest wo
 pub shorter : (state : LiteralState) (b : ℕ) (others rest left : List ℕ) → begins_word state b ≡ true → rest ≡ b ∷ others → left ≡ behind_word rest → length left < length rest
 shorter state b others rest left h is l =
     let parts = front_of b others (begun state b h).1 in
-    let there : length left ≡ length others - prefix_len is_word_byte others = ap length (l ∙ (ap behind_word is ∙ parts.1)) ∙ length-drop (prefix_len is_word_byte others) others in
+    let there : length left ≡ length others - prefix_len continues_identifier others = ap length (l ∙ (ap behind_word is ∙ parts.1)) ∙ length-drop (prefix_len continues_identifier others) others in
     let len : length rest ≡ suc (length others) = ap length is in
     omega arith

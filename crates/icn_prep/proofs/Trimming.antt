@@ -6,7 +6,8 @@ use Rattle.std.proofs.Common.{None, Some}
 use Rattle.std.specs.Str.{is_utf8}
 use Rattle.std.proofs.lemmas.Bool.{cond-true, cond-false, false_from_ne_true}
 use Rattle.icn_prep.specs.Operands.{file_name}
-use Rattle.icn_prep.specs.Words.{is_blank, trimmed_start, trimmed_end}
+use Rattle.icn_tree.specs.Characters.{is_blank}
+use Rattle.icn_prep.specs.Words.{trimmed_start, trimmed_end}
 
 start_by : (b : ℕ) (rest : List ℕ) (blank : Bool) → blank ≡ true → drop (cond blank (1 + prefix_len is_blank rest) 0) (b ∷ rest) ≡ trimmed_start rest
 start_by b rest blank h = rw h (let same : 1 + prefix_len is_blank rest ≡ suc (prefix_len is_blank rest) = omega arith in rw same refl)

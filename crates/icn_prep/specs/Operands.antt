@@ -3,7 +3,9 @@ use Rattle.std.specs.Prelude.{ℕ, ◌+◌, ◌-◌, ◌*◌, Bool, true, false,
 use Rattle.std.specs.Str.{is_utf8}
 use Rattle.std.specs.List.{prefix_len, list_any}
 use Rattle.icn_prep.specs.FileLines.{begins_with}
-use Rattle.icn_prep.specs.Words.{is_digit, is_name, is_blank, first_word, behind_word, trimmed, trimmed_start}
+use Rattle.icn_tree.specs.Characters.{is_digit, is_blank}
+use Rattle.icn_tree.specs.TokenBounds.{is_name}
+use Rattle.icn_prep.specs.Words.{first_word, behind_word, trimmed, trimmed_start}
 
 abbrev pub is_empty : List ℕ → Bool
 is_empty [] = true

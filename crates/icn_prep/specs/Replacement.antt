@@ -5,7 +5,7 @@ use Rattle.icn_prep.specs.declared.literal.LiteralState.{LiteralState}
 use Rattle.icn_prep.specs.declared.literal.LiteralState.TheVariants.{Outside, Inside, Joining, Escape, Control, Comment}
 use Rattle.icn_prep.specs.LiteralStates.{after}
 use Rattle.icn_prep.specs.Texts.{TextOf, without}
-use Rattle.icn_prep.specs.Words.{is_word_byte}
+use Rattle.icn_tree.specs.Characters.{continues_identifier}
 
 -- the bytes that came of a text, and how the byte behind it stands
 pub record Read : Type 0 where
@@ -18,7 +18,7 @@ behind front read = record { bytes = front ++ read.bytes; state = read.state }
 
 -- a word begins at a byte of a word outside literals and comments
 abbrev pub begins_word : LiteralState → ℕ → Bool
-begins_word Outside b = is_word_byte b
+begins_word Outside b = continues_identifier b
 begins_word (Inside quote) b = false
 begins_word (Joining quote) b = false
 begins_word (Escape quote) b = false
@@ -33,7 +33,7 @@ abbrev pub read_from : (List ℕ → Read) → ℕ → LiteralState → List ℕ
 read_from becomes taken state [] = record { bytes = []; state = state }
 read_from becomes (suc n) state (b ∷ rest) = read_from becomes n state rest
 read_from becomes zero state (b ∷ rest) =
-    let count = prefix_len is_word_byte rest in
+    let count = prefix_len continues_identifier rest in
     let word = becomes (b ∷ take count rest) in
     if begins_word state b then behind word.bytes (read_from becomes count word.state rest)
     else behind (b ∷ []) (read_from becomes zero (after state b) rest)

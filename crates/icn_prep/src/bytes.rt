@@ -1,50 +1,12 @@
 // Words and blanks.
 ghost use Rattle.std.specs.Prelude.{◌≡◌, ◌≤◌, length};
 ghost use Rattle.std.specs.List.{prefix_len, list_all, list_any};
-ghost use Rattle.icn_prep.specs.Words.{is_digit, begins_name, is_word_byte, is_name, is_blank, trimmed_start, trimmed_end, trimmed};
+ghost use Rattle.icn_tree.specs.Characters.{begins_identifier, continues_identifier, is_blank};
+ghost use Rattle.icn_tree.specs.TokenBounds.{is_name};
+ghost use Rattle.icn_prep.specs.Words.{trimmed_start, trimmed_end, trimmed};
 ghost use Rattle.icn_prep.specs.Operands.{is_unquoted};
 
-pub fn is_digit(byte: u8) -> bool
-    ensures { result ≡ is_digit byte }
-{
-    byte.is_ascii_digit()
-}
-
-// A letter or an underscore.
-pub fn begins_name(byte: u8) -> bool
-    ensures { result ≡ begins_name byte }
-{
-    matches!(byte, b'A'..=b'Z' | b'a'..=b'z' | b'_')
-}
-
-pub fn is_word_byte(byte: u8) -> bool
-    ensures { result ≡ is_word_byte byte }
-{
-    begins_name(byte) || is_digit(byte)
-}
-
-// A blank or a tab.
-pub fn is_blank(byte: u8) -> bool
-    ensures { result ≡ is_blank byte }
-{
-    matches!(byte, b' ' | b'\t')
-}
-
-// How many of the first bytes belong to a word.
-pub fn word_len(bytes: &[u8]) -> usize
-    ensures counted { result ≡ prefix_len is_word_byte bytes.now }
-    ensures within { result ≤ length bytes.now }
-{
-    bytes.iter().take_while(|b| is_word_byte(**b)).count()
-}
-
-// How many of the first bytes are digits.
-pub fn digits_len(bytes: &[u8]) -> usize
-    ensures counted { result ≡ prefix_len is_digit bytes.now }
-    ensures within { result ≤ length bytes.now }
-{
-    bytes.iter().take_while(|b| is_digit(**b)).count()
-}
+use icn_tree::characters::{begins_identifier, blanks_len, continues_identifier, is_blank};
 
 // How many bytes stand before the first double quote.
 pub fn unquoted_len(bytes: &[u8]) -> usize
@@ -54,28 +16,20 @@ pub fn unquoted_len(bytes: &[u8]) -> usize
     bytes.iter().take_while(|b| **b != b'"').count()
 }
 
-// How many of the first bytes are blanks.
-fn blanks_len(bytes: &[u8]) -> usize
-    ensures counted { result ≡ prefix_len is_blank bytes.now }
-    ensures within { result ≤ length bytes.now }
-{
-    bytes.iter().take_while(|b| is_blank(**b)).count()
-}
-
 // Whether the bytes are a name: a letter or an underscore, and then letters, digits and underscores.
 pub fn is_name(bytes: &[u8]) -> bool
     ensures { result ≡ is_name bytes.now }
 {
     match bytes.split_first() {
-        Some((first, rest)) => begins_name(*first) && are_of_words(rest),
+        Some((first, rest)) => begins_identifier(*first) && are_of_words(rest),
         None => false,
     }
 }
 
 fn are_of_words(bytes: &[u8]) -> bool
-    ensures { result ≡ list_all is_word_byte bytes.now }
+    ensures { result ≡ list_all continues_identifier bytes.now }
 {
-    bytes.iter().all(|b| is_word_byte(*b))
+    bytes.iter().all(|b| continues_identifier(*b))
 }
 
 pub fn has_blank(bytes: &[u8]) -> bool

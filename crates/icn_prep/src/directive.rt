@@ -4,8 +4,9 @@ ghost use Rattle.icn_prep.specs.Directives.{is_pair_end, begins_pair_end, begins
 ghost use Rattle.icn_prep.specs.declared.literal.LiteralState.TheVariants.{Outside};
 ghost use Rattle.icn_prep.specs.Words.{first_word, behind_word};
 
-use crate::bytes::{trimmed, trimmed_start, word_len};
+use crate::bytes::{trimmed, trimmed_start};
 use crate::literal::LiteralState;
+use icn_tree::characters::identifier_len;
 
 // Whether a line that begins so is a directive.
 pub fn is_directive(literal: LiteralState, line: &[u8]) -> bool
@@ -48,7 +49,7 @@ pub fn name_and_operand(line: &[u8]) -> (&[u8], &[u8])
     ensures operand { result.1.now ≡ operand line.now }
 {
     let text = directive_text(line);
-    let (name, rest) = text.split_at(word_len(text));
+    let (name, rest) = text.split_at(identifier_len(text));
     (name, trimmed(uncommented(names_file(name), rest)))
 }
 

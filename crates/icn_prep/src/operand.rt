@@ -4,11 +4,10 @@ ghost use Rattle.std.specs.List.{list_all};
 ghost use Rattle.std.specs.Option.{option_map};
 ghost use Rattle.icn_prep.specs.FileLines.{begins_with};
 ghost use Rattle.icn_prep.specs.Operands.{name_operand, define_operand, quoted, is_quote_alone, plain_run, file_name, file_operand, number_of, numbered, line_operand};
-ghost use Rattle.icn_prep.specs.Words.{is_digit};
+ghost use Rattle.icn_tree.specs.Characters.{is_digit};
 
-use crate::bytes::{
-    begins_name, digits_len, has_blank, is_name, trimmed, trimmed_start, unquoted_len, word_len,
-};
+use crate::bytes::{has_blank, is_name, trimmed, trimmed_start, unquoted_len};
+use icn_tree::characters::{begins_identifier, digits_len, identifier_len};
 
 // One name.
 pub fn name_operand(operand: &[u8]) -> Option<&[u8]>
@@ -25,7 +24,7 @@ pub fn name_operand(operand: &[u8]) -> Option<&[u8]>
 pub fn define_operand(operand: &[u8]) -> Option<(&[u8], &[u8])>
     ensures { option_map (λ found. (found.0.now, found.1.now)) result ≡ define_operand operand.now }
 {
-    let (name, rest) = operand.split_at(word_len(operand));
+    let (name, rest) = operand.split_at(identifier_len(operand));
     if is_name(name) && !begins_with(b'(', rest) {
         Some((name, trimmed(rest)))
     } else {

@@ -6,9 +6,9 @@ ghost use Rattle.indexmap.specs.IndexMap.{get_by, index_map_len};
 ghost use Rattle.icn_prep.specs.Replacement.{begins_word, replaced};
 ghost use Rattle.icn_prep.specs.TextViews.{texts_of};
 
-use crate::bytes::{is_word_byte, word_len};
 use crate::literal::LiteralState;
 use crate::texts::Texts;
+use icn_tree::characters::{continues_identifier, identifier_len};
 use indexmap::IndexMap;
 use std::alloc::{AllocError, Global};
 
@@ -40,7 +40,7 @@ pub fn replaced<'a>(
             continue;
         };
         if begins_word(state, *first) {
-            let (word, behind) = rest.split_at(word_len(rest));
+            let (word, behind) = rest.split_at(identifier_len(rest));
             if let Some(text) = text_for(texts, &outer, word) {
                 outer.insert(word, behind)?;
                 rest = text;
@@ -67,7 +67,7 @@ fn begins_word(state: LiteralState, byte: u8) -> bool
     ensures { result ≡ begins_word state byte }
 {
     match state {
-        LiteralState::Outside => is_word_byte(byte),
+        LiteralState::Outside => continues_identifier(byte),
         _ => false,
     }
 }

@@ -11,6 +11,9 @@ mod token;
 mod token_laws;
 mod tree;
 
+/// Tests of the bytes of a source text.
+pub mod characters;
+
 pub use byte_set::ByteSet;
 pub use bytes::Bytes;
 pub use grammar_laws::{one_tree, tree_by_pieces};

@@ -25,7 +25,9 @@ use Rattle.icn_prep.specs.Places.{Place, start_of, next_line}
 use Rattle.icn_prep.specs.Replacement.{Read, behind, begins_word, as_it_stands, read_from, word_read, replaced}
 use Rattle.icn_prep.specs.SourceLines.{State, Source, Outcome, Step, first_state, Including, given, left_empty, passed, text_line, define_again, define_line, undef_line, include_line, if_line, else_line, endif_line, renumbered, line_line, where_taken, directive_line, line_read, ended, lines_read, file_read, too_deep, found, included, named_file, source_of, source_lines}
 use Rattle.icn_prep.specs.Texts.{TextOf, without, with_text, undefined, undefined_by}
-use Rattle.icn_prep.specs.Words.{is_name, is_word_byte, is_blank, first_word, behind_word, trimmed, trimmed_start}
+use Rattle.icn_tree.specs.Characters.{continues_identifier, is_blank}
+use Rattle.icn_tree.specs.TokenBounds.{is_name}
+use Rattle.icn_prep.specs.Words.{first_word, behind_word, trimmed, trimmed_start}
 use Rattle.source_bytes.specs.LineBytes.{line_is_of_bytes, lines_are_of_bytes}
 use Rattle.source_bytes.proofs.ByteLists.{AreBytes, no_bytes, with_first, first_byte, other_bytes, bytes_joined, bytes_taken, bytes_dropped, bytes_reversed, bytes_chosen, bytes_held}
 
@@ -69,7 +71,7 @@ both_trimmed bytes h =
     (start_trimmed (reverse start) (bytes_reversed start (start_trimmed bytes h)))
 
 word_passed : (bytes : List ℕ) → AreBytes bytes → AreBytes (behind_word bytes)
-word_passed bytes h = bytes_dropped (prefix_len is_word_byte bytes) bytes h
+word_passed bytes h = bytes_dropped (prefix_len continues_identifier bytes) bytes h
 
 operand_bytes : (line : List ℕ) → AreBytes line → AreBytes (operand line)
 operand_bytes line h =
@@ -111,7 +113,7 @@ read_bytes : (becomes : List ℕ → Read) → ((word : List ℕ) → AreBytes w
 read_bytes becomes r taken state [] h = no_bytes
 read_bytes becomes r (suc n) state (b ∷ rest) h = read_bytes becomes r n state rest (other_bytes h)
 read_bytes becomes r zero state (b ∷ rest) h =
-    let count = prefix_len is_word_byte rest in
+    let count = prefix_len continues_identifier rest in
     let word = becomes (b ∷ take count rest) in
     read_chosen (begins_word state b)
     (behind word.bytes (read_from becomes count word.state rest))

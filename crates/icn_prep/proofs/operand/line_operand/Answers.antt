@@ -1,5 +1,5 @@
 use Rattle.std.proofs.Common.{arith}
-use Rattle.icn_prep.specs.Words.{is_digit}
+use Rattle.icn_tree.specs.Characters.{is_digit}
 use Rattle.icn_prep.proofs.Trimming.{front_passes}
 use Rattle.icn_prep.proofs.operand.line_operand.Goals as goal
 

@@ -19,7 +19,7 @@ loop-first-preserved-in_default c =
 
 pub loop-first-smaller-in-Some-text_for : goal.loop-first-smaller-in-Some-text_for
 loop-first-smaller-in-Some-text_for c =
-    let l = c.split_at.ensures.back ∙ ap (λ n. drop n c.loop-first.rest.now) c.word_len.ensures.counted in
+    let l = c.split_at.ensures.back ∙ ap (λ n. drop n c.loop-first.rest.now) c.identifier_len.ensures.counted in
     let there = goes (texts_of c.args.texts.now).count (texts_of c.args.texts.now).text_of c.loop-first.outer.entries c.split_at.result.0.now c.in-Some-text_for.text.now c.in-Some-text_for.ensures.value in
     let entries : c.insert.new.self.entries ≡ c.loop-first.outer.entries ++ (c.split_at.result.0, c.split_at.result.1) ∷ [] =
     c.in_ok-insert.ensures.entries ∙ insert_entry-new _ c.loop-first.outer c.split_at.result.0 c.split_at.result.1 (not_found _ there.on) in
@@ -28,8 +28,8 @@ loop-first-smaller-in-Some-text_for c =
 
 pub loop-first-preserved-in-Some-text_for : goal.loop-first-preserved-in-Some-text_for
 loop-first-preserved-in-Some-text_for c =
-    let w : c.split_at.result.0.now ≡ first_word c.loop-first.rest.now = c.split_at.ensures.front ∙ ap (λ n. take n c.loop-first.rest.now) c.word_len.ensures.counted in
-    let l : c.split_at.result.1.now ≡ behind_word c.loop-first.rest.now = c.split_at.ensures.back ∙ ap (λ n. drop n c.loop-first.rest.now) c.word_len.ensures.counted in
+    let w : c.split_at.result.0.now ≡ first_word c.loop-first.rest.now = c.split_at.ensures.front ∙ ap (λ n. take n c.loop-first.rest.now) c.identifier_len.ensures.counted in
+    let l : c.split_at.result.1.now ≡ behind_word c.loop-first.rest.now = c.split_at.ensures.back ∙ ap (λ n. drop n c.loop-first.rest.now) c.identifier_len.ensures.counted in
     let there = goes (texts_of c.args.texts.now).count (texts_of c.args.texts.now).text_of c.loop-first.outer.entries c.split_at.result.0.now c.in-Some-text_for.text.now c.in-Some-text_for.ensures.value in
     let entries : c.insert.new.self.entries ≡ c.loop-first.outer.entries ++ (c.split_at.result.0, c.split_at.result.1) ∷ [] =
     c.in_ok-insert.ensures.entries ∙ insert_entry-new _ c.loop-first.outer c.split_at.result.0 c.split_at.result.1 (not_found _ there.on) in
@@ -38,8 +38,8 @@ loop-first-preserved-in-Some-text_for c =
 
 pub returns-then-word-most : goal.returns-then-word-most
 returns-then-word-most c =
-    let w : c.split_at.result.0.now ≡ first_word c.loop-first.rest.now = c.split_at.ensures.front ∙ ap (λ n. take n c.loop-first.rest.now) c.word_len.ensures.counted in
-    let l : c.split_at.result.1.now ≡ behind_word c.loop-first.rest.now = c.split_at.ensures.back ∙ ap (λ n. drop n c.loop-first.rest.now) c.word_len.ensures.counted in
+    let w : c.split_at.result.0.now ≡ first_word c.loop-first.rest.now = c.split_at.ensures.front ∙ ap (λ n. take n c.loop-first.rest.now) c.identifier_len.ensures.counted in
+    let l : c.split_at.result.1.now ≡ behind_word c.loop-first.rest.now = c.split_at.ensures.back ∙ ap (λ n. drop n c.loop-first.rest.now) c.identifier_len.ensures.counted in
     so_long (texts_of c.args.texts.now).count (texts_of c.args.texts.now).text_of c.args.literal c.args.line.now c.args.most c.loop-first.given.items c.loop-first.outer.entries c.loop-first.state c.loop-first.state c.loop-first.rest.now c.split_at.result.1.now c.split_at.result.0.now c.loop-first.invariant
     (word_given (texts_of c.args.texts.now).count (texts_of c.args.texts.now).text_of c.loop-first.outer.entries c.loop-first.state c.in-Some.first.now c.in-Some.others.now c.loop-first.rest.now c.split_at.result.0.now c.split_at.result.1.now
     (sym c.begins_word.ensures ∙ c.if-begins_word.true) (c.in-Some.ensures.cases).0 w l c.in_default-text_for.ensures.value)
@@ -47,14 +47,14 @@ returns-then-word-most c =
 
 pub loop-first-smaller-then-begins_word : goal.loop-first-smaller-then-begins_word
 loop-first-smaller-then-begins_word c =
-    let l : c.split_at.result.1.now ≡ behind_word c.loop-first.rest.now = c.split_at.ensures.back ∙ ap (λ n. drop n c.loop-first.rest.now) c.word_len.ensures.counted in
+    let l : c.split_at.result.1.now ≡ behind_word c.loop-first.rest.now = c.split_at.ensures.back ∙ ap (λ n. drop n c.loop-first.rest.now) c.identifier_len.ensures.counted in
     less_bytes (texts_of c.args.texts.now).count c.loop-first.outer.entries c.loop-first.rest.now c.split_at.result.1.now
     (shorter c.loop-first.state c.in-Some.first.now c.in-Some.others.now c.loop-first.rest.now c.split_at.result.1.now (sym c.begins_word.ensures ∙ c.if-begins_word.true) (c.in-Some.ensures.cases).0 l)
 
 pub loop-first-preserved-then-begins_word : goal.loop-first-preserved-then-begins_word
 loop-first-preserved-then-begins_word c =
-    let w : c.split_at.result.0.now ≡ first_word c.loop-first.rest.now = c.split_at.ensures.front ∙ ap (λ n. take n c.loop-first.rest.now) c.word_len.ensures.counted in
-    let l : c.split_at.result.1.now ≡ behind_word c.loop-first.rest.now = c.split_at.ensures.back ∙ ap (λ n. drop n c.loop-first.rest.now) c.word_len.ensures.counted in
+    let w : c.split_at.result.0.now ≡ first_word c.loop-first.rest.now = c.split_at.ensures.front ∙ ap (λ n. take n c.loop-first.rest.now) c.identifier_len.ensures.counted in
+    let l : c.split_at.result.1.now ≡ behind_word c.loop-first.rest.now = c.split_at.ensures.back ∙ ap (λ n. drop n c.loop-first.rest.now) c.identifier_len.ensures.counted in
     rw c.in_ok-extend_from_slice.ensures.items (so_gives (texts_of c.args.texts.now).count (texts_of c.args.texts.now).text_of c.args.literal c.args.line.now c.args.most c.loop-first.given.items c.loop-first.outer.entries c.loop-first.state c.loop-first.state c.loop-first.rest.now c.split_at.result.1.now c.split_at.result.0.now c.loop-first.invariant
     (word_given (texts_of c.args.texts.now).count (texts_of c.args.texts.now).text_of c.loop-first.outer.entries c.loop-first.state c.in-Some.first.now c.in-Some.others.now c.loop-first.rest.now c.split_at.result.0.now c.split_at.result.1.now
     (sym c.begins_word.ensures ∙ c.if-begins_word.true) (c.in-Some.ensures.cases).0 w l c.in_default-text_for.ensures.value)
