@@ -3,8 +3,7 @@ use Rattle.std.proofs.Common.{◌≡◌, ℕ, zero, suc, ◌+◌, ◌<◌, ◌�
 use Rattle.std.proofs.lemmas.Bool.{leb-false, leb-true, lt-leb, le-leb}
 use Rattle.icn_tree.specs.Trees.{Tree, MaybeTree, Trees, Clause, Clauses, Empty, Constant, Identifier, Keyword, Parentheses, Listing, Compound, Call, CoCall, Subscript, Section, Field, Prefix, Not, Binary, To, If, Case, Loop, Repeat, Create, Next, Fail, Break, Return, Suspend, Absent, Present, NoTrees, More, Default, Guarded, NoClauses, MoreClauses}
 use Rattle.icn_expr.specs.Heights.{height, highest, highest_clause, clause_height}
-use Rattle.icn_expr.specs.Automaton.{with_last, with_last_clause}
-use Rattle.icn_expr.specs.Capped.{Capped, capped_at, one, two, three, one_if, two_if, joined, joined_three, has_none, capped}
+use Rattle.icn_expr.specs.Capped.{with_last, with_last_clause, Capped, capped_at, one, two, three, one_if, two_if, joined, joined_three, has_none, capped}
 use Rattle.icn_expr.proofs.Showing.{Shows}
 
 kept : {A : Type 0} (x : A) (h : ℕ) → nat_le h 2000 ≡ true → capped_at x h ≡ Some (x, h)

@@ -4,7 +4,7 @@ use Rattle.std.proofs.lemmas.Option.{none-some, same_Some}
 use Rattle.icn_tree.specs.declared.token.Token.{Token}
 use Rattle.icn_tree.specs.Trees.{Tree, Trees, Clauses}
 use Rattle.icn_tree.specs.Grammar.{Part, Spells}
-use Rattle.icn_expr.specs.Automaton.{State, Starting, Climbing, Closing, Finished, Broken, run}
+use Rattle.icn_expr.proofs.Automaton.{State, Starting, Climbing, Closing, Finished, Broken, run}
 use Rattle.icn_expr.specs.Automata as G
 use Rattle.icn_expr.specs.Automata.{Builds}
 use Rattle.icn_expr.specs.Reading.{left, result, expression_read}

@@ -1,3 +1,4 @@
+pub mod Automaton
 pub mod Leading
 pub mod Led
 pub mod Complete

@@ -7,7 +7,6 @@ use Rattle.icn_tree.specs.declared.tree.Infix.{Infix}
 use Rattle.icn_tree.specs.declared.tree.SectionKind.{SectionKind}
 use Rattle.icn_tree.specs.declared.tree.LoopKind.{LoopKind}
 use Rattle.icn_tree.specs.Trees.{Tree, MaybeTree, Trees, Clause, Clauses, Empty, Constant, Identifier, Keyword, Parentheses, Listing, Compound, Call, CoCall, Subscript, Section, Field, Prefix, Not, Binary, To, If, Case, Loop, Repeat, Create, Next, Fail, Break, Return, Suspend, Absent, Present, NoTrees, More, Default, Guarded, NoClauses, MoreClauses}
-use Rattle.icn_expr.specs.Automaton.{with_last, with_last_clause}
 use Rattle.icn_expr.specs.Automata.{Builds}
 
 -- a tree with its height, or a tree that is higher than 2000; and so of the elements of a list and of clauses
@@ -52,6 +51,15 @@ joined make _ _ = None
 abbrev pub joined_three : {A B D F : Type 0} → (A → B → D → F) → Capped A → Capped B → Capped D → Capped F
 joined_three make (Some a) (Some b) (Some c) = Some (make a.0 b.0 c.0, max a.1 (max b.1 c.1))
 joined_three make _ _ _ = None
+
+-- one more at the end
+abbrev pub with_last : Trees → Tree → Trees
+with_last NoTrees last = More last NoTrees
+with_last (More tree trees) last = More tree (with_last trees last)
+
+abbrev pub with_last_clause : Clauses → Clause → Clauses
+with_last_clause NoClauses last = MoreClauses last NoClauses
+with_last_clause (MoreClauses clause others) last = MoreClauses clause (with_last_clause others last)
 
 abbrev pub is_no_trees : Trees → Bool
 is_no_trees NoTrees = true

@@ -1,4 +1,3 @@
-pub mod Automaton
 pub mod Automata
 pub mod Heights
 pub mod Capped

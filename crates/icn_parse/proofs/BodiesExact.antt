@@ -16,7 +16,8 @@ use Rattle.icn_tree.specs.Declarations.{SpellsInitial, SpellsBody}
 use Rattle.icn_tree.proofs.Finding.{part_started, is_nonempty, started_begins, ends_at}
 use Rattle.icn_tree.proofs.Expressions.{found}
 use Rattle.icn_tree.proofs.Framed.{framed}
-use Rattle.icn_expr.specs.Automaton.{with_last, climbing_level}
+use Rattle.icn_expr.proofs.Automaton.{climbing_level}
+use Rattle.icn_expr.specs.Capped.{with_last}
 use Rattle.icn_expr.specs.Automata.{Builds, behind}
 use Rattle.icn_expr.specs.Reading.{expression_read}
 use Rattle.icn_expr.proofs.Standing.{Ends}

@@ -23,6 +23,7 @@ use Rattle.icn_tree.specs.Trees.{Tree, Trees, Clause, Clauses, Empty, Constant, 
 use Rattle.icn_tree.specs.Levels.{infix_level, right_level, prefix_of, kind_begins, begins, kind_goes_on, is_else, is_do, is_by}
 use Rattle.icn_tree.specs.Phrases.{next, place_of}
 use Rattle.icn_tree.specs.Grammar.{before, Separator, ByComma, BySemicolon}
+use Rattle.icn_expr.specs.Capped.{with_last, with_last_clause}
 
 -- what a list in brackets is read for
 pub data Bracket : Type 0 where
@@ -77,14 +78,6 @@ pub data State : Type 0 where
 abbrev pub behind : List Token → List Token
 behind [] = []
 behind (token ∷ tokens) = tokens
-
-abbrev pub with_last : Trees → Tree → Trees
-with_last NoTrees last = More last NoTrees
-with_last (More tree trees) last = More tree (with_last trees last)
-
-abbrev pub with_last_clause : Clauses → Clause → Clauses
-with_last_clause NoClauses last = MoreClauses last NoClauses
-with_last_clause (MoreClauses clause others) last = MoreClauses clause (with_last_clause others last)
 
 -- What stands next
 
