@@ -3,6 +3,7 @@ pub mod Conditionals
 pub mod Directives
 pub mod FileLines
 pub mod Laws
+pub mod LineBounds
 pub mod LiteralStates
 pub mod Operands
 pub mod Outcomes

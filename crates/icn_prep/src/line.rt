@@ -1,6 +1,7 @@
 // Reading one line.
-ghost use Rattle.std.specs.Prelude.{◌≡◌, ◌<◌, ◌≤◌, ◌+◌, ◌^◌, max, Ok, if◌then◌else◌, length, vec_len, slice_get, IfOk, IfSome, OnOk, IfErr, MatchResult};
+ghost use Rattle.std.specs.Prelude.{◌≡◌, ◌<◌, ◌+◌, ◌^◌, Ok, if◌then◌else◌, length, vec_len, IfOk, IfSome, OnOk, IfErr, MatchResult};
 ghost use Rattle.std.specs.Option.{option_map};
+ghost use Rattle.icn_prep.specs.LineBounds.{LeavesLine};
 ghost use Rattle.icn_prep.specs.Operands.{is_empty, name_operand, define_operand, line_operand};
 ghost use Rattle.icn_prep.specs.PlaceViews.{place_of};
 ghost use Rattle.icn_prep.specs.Places.{next_line};
@@ -34,11 +35,7 @@ pub fn read_line<'a>(
         (Refuses step) }
     ensures fault { IfErr result IsOfText }
     ensures stays { IfOk result (λ name. IfSome name (λ _. place.new.line ≡ place.old.line)) }
-    ensures named { OnOk result (place.new.file < vec_len reading.new.names) }
-    ensures numbered { OnOk result (place.new.line ≤ max (place.old.line + 1) 999999999) }
-    ensures first { OnOk result (slice_get reading.new.names.items 0 ≡ slice_get reading.old.names.items 0) }
-    ensures kept { OnOk result (vec_len reading.old.names ≤ vec_len reading.new.names) }
-    ensures longer { OnOk result (reading.old.size ≤ reading.new.size) }
+    ensures leaves { OnOk result (LeavesLine reading.old reading.new place.old place.new) }
 {
     if is_directive(reading.literal, line) {
         let (name, operand) = name_and_operand(line);
@@ -61,11 +58,7 @@ fn text_line(reading: &mut Reading, place: &mut Place, line: &[u8]) -> Result<()
         let step = text_line s (place_of place.old) (replaced s.texts.count s.texts.text_of s.literal line.now) in
         MatchResult result (λ _. step ≡ Ok (state_of reading.new, place_of place.new)) (Refuses step) }
     ensures fault { IfErr result IsOfText }
-    ensures named { OnOk result (place.new.file < vec_len reading.new.names) }
-    ensures numbered { OnOk result (place.new.line ≤ max (place.old.line + 1) 999999999) }
-    ensures first { OnOk result (slice_get reading.new.names.items 0 ≡ slice_get reading.old.names.items 0) }
-    ensures kept { OnOk result (vec_len reading.old.names ≤ vec_len reading.new.names) }
-    ensures longer { OnOk result (reading.old.size ≤ reading.new.size) }
+    ensures leaves { OnOk result (LeavesLine reading.old reading.new place.old place.new) }
 {
     let most = LONGEST.saturating_sub(reading.size);
     let read = replaced(reading.alloc, &reading.texts, reading.literal, line, most)?;
@@ -84,11 +77,7 @@ fn skip(reading: &mut Reading, place: &mut Place) -> Result<(), PrepFault>
     ensures exact { let step = passed (state_of reading.old) (place_of place.old) (next_line (place_of place.old)) in
         MatchResult result (λ _. step ≡ Ok (state_of reading.new, place_of place.new)) (Refuses step) }
     ensures fault { IfErr result IsOfText }
-    ensures named { OnOk result (place.new.file < vec_len reading.new.names) }
-    ensures numbered { OnOk result (place.new.line ≤ max (place.old.line + 1) 999999999) }
-    ensures first { OnOk result (slice_get reading.new.names.items 0 ≡ slice_get reading.old.names.items 0) }
-    ensures kept { OnOk result (vec_len reading.old.names ≤ vec_len reading.new.names) }
-    ensures longer { OnOk result (reading.old.size ≤ reading.new.size) }
+    ensures leaves { OnOk result (LeavesLine reading.old reading.new place.old place.new) }
 {
     leave_empty(reading, place)?;
     place.line += 1;
@@ -110,11 +99,7 @@ fn directive<'a>(
         (Refuses step) }
     ensures fault { IfErr result IsOfText }
     ensures stays { IfOk result (λ name. IfSome name (λ _. place.new.line ≡ place.old.line)) }
-    ensures named { OnOk result (place.new.file < vec_len reading.new.names) }
-    ensures numbered { OnOk result (place.new.line ≤ max (place.old.line + 1) 999999999) }
-    ensures first { OnOk result (slice_get reading.new.names.items 0 ≡ slice_get reading.old.names.items 0) }
-    ensures kept { OnOk result (vec_len reading.old.names ≤ vec_len reading.new.names) }
-    ensures longer { OnOk result (reading.old.size ≤ reading.new.size) }
+    ensures leaves { OnOk result (LeavesLine reading.old reading.new place.old place.new) }
 {
     match keyword {
         Some(Keyword::Ifdef) => if_line(reading, place, true, operand)?,
@@ -142,11 +127,7 @@ fn define_line(reading: &mut Reading, place: &mut Place, operand: &[u8]) -> Resu
     ensures exact { let step = define_line (state_of reading.old) (place_of place.old) (define_operand operand.now) in
         MatchResult result (λ _. step ≡ Ok (state_of reading.new, place_of place.new)) (Refuses step) }
     ensures fault { IfErr result IsOfText }
-    ensures named { OnOk result (place.new.file < vec_len reading.new.names) }
-    ensures numbered { OnOk result (place.new.line ≤ max (place.old.line + 1) 999999999) }
-    ensures first { OnOk result (slice_get reading.new.names.items 0 ≡ slice_get reading.old.names.items 0) }
-    ensures kept { OnOk result (vec_len reading.old.names ≤ vec_len reading.new.names) }
-    ensures longer { OnOk result (reading.old.size ≤ reading.new.size) }
+    ensures leaves { OnOk result (LeavesLine reading.old reading.new place.old place.new) }
 {
     let Some((name, text)) = define_operand(operand) else {
         return Err(refusal(reading, place, Rule::P2));
@@ -169,11 +150,7 @@ fn undef_line(reading: &mut Reading, place: &mut Place, operand: &[u8]) -> Resul
     ensures exact { let step = undef_line (state_of reading.old) (place_of place.old) (name_operand operand.now) in
         MatchResult result (λ _. step ≡ Ok (state_of reading.new, place_of place.new)) (Refuses step) }
     ensures fault { IfErr result IsOfText }
-    ensures named { OnOk result (place.new.file < vec_len reading.new.names) }
-    ensures numbered { OnOk result (place.new.line ≤ max (place.old.line + 1) 999999999) }
-    ensures first { OnOk result (slice_get reading.new.names.items 0 ≡ slice_get reading.old.names.items 0) }
-    ensures kept { OnOk result (vec_len reading.old.names ≤ vec_len reading.new.names) }
-    ensures longer { OnOk result (reading.old.size ≤ reading.new.size) }
+    ensures leaves { OnOk result (LeavesLine reading.old reading.new place.old place.new) }
 {
     let Some(name) = name_operand(operand) else {
         return Err(refusal(reading, place, Rule::P2));
@@ -194,11 +171,7 @@ fn if_line(
     ensures exact { let step = if_line (state_of reading.old) (place_of place.old) wanted (name_operand operand.now) in
         MatchResult result (λ _. step ≡ Ok (state_of reading.new, place_of place.new)) (Refuses step) }
     ensures fault { IfErr result IsOfText }
-    ensures named { OnOk result (place.new.file < vec_len reading.new.names) }
-    ensures numbered { OnOk result (place.new.line ≤ max (place.old.line + 1) 999999999) }
-    ensures first { OnOk result (slice_get reading.new.names.items 0 ≡ slice_get reading.old.names.items 0) }
-    ensures kept { OnOk result (vec_len reading.old.names ≤ vec_len reading.new.names) }
-    ensures longer { OnOk result (reading.old.size ≤ reading.new.size) }
+    ensures leaves { OnOk result (LeavesLine reading.old reading.new place.old place.new) }
 {
     let Some(name) = name_operand(operand) else {
         return Err(refusal(reading, place, Rule::P2));
@@ -224,11 +197,7 @@ fn else_line(reading: &mut Reading, place: &mut Place, operand: &[u8]) -> Result
         let step = (if is_empty operand.now then else_line s at at.conditionals else refused s at Rule.P2) in
         MatchResult result (λ _. step ≡ Ok (state_of reading.new, place_of place.new)) (Refuses step) }
     ensures fault { IfErr result IsOfText }
-    ensures named { OnOk result (place.new.file < vec_len reading.new.names) }
-    ensures numbered { OnOk result (place.new.line ≤ max (place.old.line + 1) 999999999) }
-    ensures first { OnOk result (slice_get reading.new.names.items 0 ≡ slice_get reading.old.names.items 0) }
-    ensures kept { OnOk result (vec_len reading.old.names ≤ vec_len reading.new.names) }
-    ensures longer { OnOk result (reading.old.size ≤ reading.new.size) }
+    ensures leaves { OnOk result (LeavesLine reading.old reading.new place.old place.new) }
 {
     if !operand.is_empty() {
         return Err(refusal(reading, place, Rule::P2));
@@ -257,11 +226,7 @@ fn endif_line(reading: &mut Reading, place: &mut Place, operand: &[u8]) -> Resul
         let step = (if is_empty operand.now then endif_line s at at.conditionals else refused s at Rule.P2) in
         MatchResult result (λ _. step ≡ Ok (state_of reading.new, place_of place.new)) (Refuses step) }
     ensures fault { IfErr result IsOfText }
-    ensures named { OnOk result (place.new.file < vec_len reading.new.names) }
-    ensures numbered { OnOk result (place.new.line ≤ max (place.old.line + 1) 999999999) }
-    ensures first { OnOk result (slice_get reading.new.names.items 0 ≡ slice_get reading.old.names.items 0) }
-    ensures kept { OnOk result (vec_len reading.old.names ≤ vec_len reading.new.names) }
-    ensures longer { OnOk result (reading.old.size ≤ reading.new.size) }
+    ensures leaves { OnOk result (LeavesLine reading.old reading.new place.old place.new) }
 {
     if !operand.is_empty() {
         return Err(refusal(reading, place, Rule::P2));
@@ -282,11 +247,7 @@ fn line_line(reading: &mut Reading, place: &mut Place, operand: &[u8]) -> Result
     ensures exact { let step = line_line (state_of reading.old) (place_of place.old) (line_operand operand.now) in
         MatchResult result (λ _. step ≡ Ok (state_of reading.new, place_of place.new)) (Refuses step) }
     ensures fault { IfErr result IsOfText }
-    ensures named { OnOk result (place.new.file < vec_len reading.new.names) }
-    ensures numbered { OnOk result (place.new.line ≤ max (place.old.line + 1) 999999999) }
-    ensures first { OnOk result (slice_get reading.new.names.items 0 ≡ slice_get reading.old.names.items 0) }
-    ensures kept { OnOk result (vec_len reading.old.names ≤ vec_len reading.new.names) }
-    ensures longer { OnOk result (reading.old.size ≤ reading.new.size) }
+    ensures leaves { OnOk result (LeavesLine reading.old reading.new place.old place.new) }
 {
     let Some((number, name)) = line_operand(operand) else {
         return Err(refusal(reading, place, Rule::P2));
