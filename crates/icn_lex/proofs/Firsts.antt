@@ -14,26 +14,26 @@ use Rattle.icn_tree.specs.declared.token.Kind.{Kind}
 use Rattle.icn_tree.specs.declared.token.Kind.TheVariants.{Integer, Operator}
 use Rattle.icn_tree.specs.declared.token.Operator.TheVariants.{Dot}
 use Rattle.icn_tree.specs.Characters.{begins_identifier, continues_identifier, is_digit, is_alphanumeric}
-use Rattle.icn_tree.specs.Numbers.{is_nothing, is_radix_mark, is_real_mark, number_in, number_by, number, sized, bounded, integer}
+use Rattle.icn_tree.specs.Numbers.{is_nothing, is_radix_mark, is_real_mark, number_in, number_by, number, sized, integer_kind, integer}
 use Rattle.icn_tree.specs.Spellings.{lookup_text, name_of, marks_of}
-use Rattle.icn_tree.specs.Tokens.{name, dotted, spelled, longest, judged, first_of}
+use Rattle.icn_tree.specs.Tokens.{name, dot_number, spelled, longest, front_token, first_of}
 use Rattle.icn_lex.specs.Reading.{first_match, bounded_by, value_in, limited, with_count, counted, number_read_by, number_read, dot_read, bare_read, name_read, first_read}
 use Rattle.icn_tree.proofs.Fronts.{longest_is, longest_none, longest_same, front_passes, front_fails, run_of_front, take_front, drop_front}
 
 -- What is said of the longest
 
-judged_at : (sense : Result Kind Rule) (count : ℕ) → judged (Some (sense, count)) ≡ with_count count sense
+judged_at : (sense : Result Kind Rule) (count : ℕ) → front_token (Some (sense, count)) ≡ with_count count sense
 judged_at (Ok kind) count = refl
 judged_at (Err rule) count = refl
 
-judged_sized : (text : List ℕ) (sense : Result Kind Rule) (count : ℕ) → length text ≡ count → judged (Some (sized text sense, count)) ≡ counted count sense
-judged_sized text sense count same = ap (λ n. judged (Some (cond (nat_le n 65535) sense (Err L7), count))) same ∙ by_test (nat_le count 65535) where
-  by_test : (test : Bool) → judged (Some (cond test sense (Err L7), count)) ≡ cond test (with_count count sense) (Err L7)
+judged_sized : (text : List ℕ) (sense : Result Kind Rule) (count : ℕ) → length text ≡ count → front_token (Some (sized text sense, count)) ≡ counted count sense
+judged_sized text sense count same = ap (λ n. front_token (Some (cond (nat_le n 65535) sense (Err L7), count))) same ∙ by_test (nat_le count 65535) where
+  by_test : (test : Bool) → front_token (Some (cond test sense (Err L7), count)) ≡ cond test (with_count count sense) (Err L7)
   by_test true = judged_at sense count
   by_test false = refl
 
-judged_found : (found other : Option (Result Kind Rule × ℕ)) → found ≡ other → judged found ≡ judged other
-judged_found found other e = ap judged e
+judged_found : (found other : Option (Result Kind Rule × ℕ)) → found ≡ other → front_token found ≡ front_token other
+judged_found found other e = ap front_token e
 
 -- Names
 
@@ -48,7 +48,7 @@ no_name : (b : ℕ) (rest : List ℕ) → begins_identifier b ≡ true → (m : 
 no_name b rest h zero l g = absurd (omega arith)
 no_name b rest h (suc m) l g = spelled_name b (take m rest) h ∙ cond-false (list_all continues_identifier (take m rest)) _ _ (front_fails continues_identifier rest m (omega arith) (omega arith))
 
-first_name : (b : ℕ) (rest : List ℕ) → begins_identifier b ≡ true → judged (longest spelled (suc (length rest)) (b ∷ rest)) ≡ name_read b rest
+first_name : (b : ℕ) (rest : List ℕ) → begins_identifier b ≡ true → front_token (longest spelled (suc (length rest)) (b ∷ rest)) ≡ name_read b rest
 first_name b rest h =
     let n = prefix_len continues_identifier rest in
     let within : n ≤ length rest = prefix_len-le-length continues_identifier rest in
@@ -71,7 +71,7 @@ number_front bytes k =
     ap (λ m. number_by (take m (take (n + k) bytes)) (drop m (take (n + k) bytes))) run
     ∙ (ap (λ ds. number_by ds (drop n (take (n + k) bytes))) (take_front n (n + k) bytes (omega arith)) ∙ ap (number_by (take n bytes)) (drop_front n k bytes))
 
-decimal_value : (n : ℕ) → bounded_by (limited n) ≡ bounded n
+decimal_value : (n : ℕ) → bounded_by (limited n) ≡ integer_kind n
 decimal_value n = by_test (nat_le n 9223372036854775807) where
   by_test : (test : Bool) → bounded_by (cond test (Some n) None) ≡ cond test (Ok (Integer (pos n))) (Err L4)
   by_test true = refl
@@ -138,13 +138,13 @@ digits_len : (b : ℕ) (rest : List ℕ) → let n = prefix_len is_digit (b ∷ 
 digits_len b rest = length-take-le (prefix_len is_digit (b ∷ rest)) (b ∷ rest) (prefix_len-le-length is_digit (b ∷ rest))
 
 decimal_read : (b : ℕ) (rest : List ℕ) → let n = prefix_len is_digit (b ∷ rest) in
-    judged (Some (sized (take n (b ∷ rest)) (bounded (number_in 10 (take n (b ∷ rest)))), n + 0)) ≡ counted n (bounded_by (value_in 10 (take n (b ∷ rest))))
+    front_token (Some (sized (take n (b ∷ rest)) (integer_kind (number_in 10 (take n (b ∷ rest)))), n + 0)) ≡ counted n (bounded_by (value_in 10 (take n (b ∷ rest))))
 decimal_read b rest =
     let n = prefix_len is_digit (b ∷ rest) in
     let digits = take n (b ∷ rest) in
     let none : n + 0 ≡ n = omega arith in
-    ap (λ k. judged (Some (sized digits (bounded (number_in 10 digits)), k))) none
-    ∙ (judged_sized digits (bounded (number_in 10 digits)) n (digits_len b rest) ∙ ap (counted n) (sym (decimal_value (number_in 10 digits))))
+    ap (λ k. front_token (Some (sized digits (integer_kind (number_in 10 digits)), k))) none
+    ∙ (judged_sized digits (integer_kind (number_in 10 digits)) n (digits_len b rest) ∙ ap (counted n) (sym (decimal_value (number_in 10 digits))))
 
 take_none : (tail : List ℕ) → take 0 tail ≡ []
 take_none tail = refl
@@ -175,7 +175,7 @@ radix_size digits n c w more size fits = omega (arith, length-append digits (c �
 
 radix_read : (b : ℕ) (rest : List ℕ) (c : ℕ) (more : List ℕ) → begins_identifier b ≡ false → is_digit b ≡ true → Tail b rest c more → is_radix_mark c ≡ true
     → let n = prefix_len is_digit (b ∷ rest) in let written = prefix_len is_alphanumeric more in
-    judged (longest spelled (suc (length rest)) (b ∷ rest)) ≡ counted (n + 1 + written) (integer (number_in 10 (take n (b ∷ rest))) (take written more))
+    front_token (longest spelled (suc (length rest)) (b ∷ rest)) ≡ counted (n + 1 + written) (integer (number_in 10 (take n (b ∷ rest))) (take written more))
 radix_read b rest c more h d is r =
     let n = prefix_len is_digit (b ∷ rest) in
     let digits = take n (b ∷ rest) in
@@ -200,7 +200,7 @@ not_longer_real digits c [] r (suc (suc j)) l g = absurd (omega arith)
 not_longer_real digits c (x ∷ more) r (suc (suc j)) l g = no_radix digits c (x ∷ take j more) (and_left (is_radix_mark c) _ r) (and_false (is_real_mark c) _ refl)
 
 real_read : (b : ℕ) (rest : List ℕ) (c : ℕ) (more : List ℕ) → begins_identifier b ≡ false → is_digit b ≡ true → Tail b rest c more → is_radix_mark c ≡ false → is_real_mark c ≡ true
-    → judged (longest spelled (suc (length rest)) (b ∷ rest)) ≡ Err L6
+    → front_token (longest spelled (suc (length rest)) (b ∷ rest)) ≡ Err L6
 real_read b rest c more h d is r e =
     let digits = take (prefix_len is_digit (b ∷ rest)) (b ∷ rest) in
     let size = tail_size b rest c more is in
@@ -212,41 +212,41 @@ not_longer_decimal digits c more r e zero l = absurd (omega arith)
 not_longer_decimal digits c more r e (suc j) l = no_radix digits c (take j more) (and_left (is_radix_mark c) _ r) (and_left (is_real_mark c) _ e)
 
 plain_read : (b : ℕ) (rest : List ℕ) (c : ℕ) (more : List ℕ) → begins_identifier b ≡ false → is_digit b ≡ true → Tail b rest c more → is_radix_mark c ≡ false → is_real_mark c ≡ false
-    → let n = prefix_len is_digit (b ∷ rest) in judged (longest spelled (suc (length rest)) (b ∷ rest)) ≡ counted n (bounded_by (value_in 10 (take n (b ∷ rest))))
+    → let n = prefix_len is_digit (b ∷ rest) in front_token (longest spelled (suc (length rest)) (b ∷ rest)) ≡ counted n (bounded_by (value_in 10 (take n (b ∷ rest))))
 plain_read b rest c more h d is r e =
     let n = prefix_len is_digit (b ∷ rest) in
     let digits = take n (b ∷ rest) in
-    judged_found _ _ (number_of b rest 0 (sized digits (bounded (number_in 10 digits))) h d (omega arith) refl
+    judged_found _ _ (number_of b rest 0 (sized digits (integer_kind (number_in 10 digits))) h d (omega arith) refl
     (λ j l g. tail_at b rest c more j is ∙ not_longer_decimal digits c more r e j l))
     ∙ decimal_read b rest
 
 by_real : (b : ℕ) (rest : List ℕ) (c : ℕ) (more : List ℕ) → begins_identifier b ≡ false → is_digit b ≡ true → Tail b rest c more → is_radix_mark c ≡ false → (real : Bool) → is_real_mark c ≡ real
-    → let n = prefix_len is_digit (b ∷ rest) in judged (longest spelled (suc (length rest)) (b ∷ rest)) ≡ cond real (Err L6) (counted n (bounded_by (value_in 10 (take n (b ∷ rest)))))
+    → let n = prefix_len is_digit (b ∷ rest) in front_token (longest spelled (suc (length rest)) (b ∷ rest)) ≡ cond real (Err L6) (counted n (bounded_by (value_in 10 (take n (b ∷ rest)))))
 by_real b rest c more h d is r true e = real_read b rest c more h d is r e
 by_real b rest c more h d is r false e = plain_read b rest c more h d is r e
 
 by_radix : (b : ℕ) (rest : List ℕ) (c : ℕ) (more : List ℕ) → begins_identifier b ≡ false → is_digit b ≡ true → Tail b rest c more → (radix : Bool) → is_radix_mark c ≡ radix
     → let n = prefix_len is_digit (b ∷ rest) in let written = prefix_len is_alphanumeric more in
-    judged (longest spelled (suc (length rest)) (b ∷ rest))
+    front_token (longest spelled (suc (length rest)) (b ∷ rest))
     ≡ cond radix (counted (n + 1 + written) (integer (number_in 10 (take n (b ∷ rest))) (take written more))) (cond (is_real_mark c) (Err L6) (counted n (bounded_by (value_in 10 (take n (b ∷ rest))))))
 by_radix b rest c more h d is true r = radix_read b rest c more h d is r
 by_radix b rest c more h d is false r = by_real b rest c more h d is r (is_real_mark c) refl
 
 first_number_by : (b : ℕ) (rest tail : List ℕ) → begins_identifier b ≡ false → is_digit b ≡ true → let n = prefix_len is_digit (b ∷ rest) in drop n (b ∷ rest) ≡ tail
-    → judged (longest spelled (suc (length rest)) (b ∷ rest)) ≡ number_read_by (take n (b ∷ rest)) n tail
+    → front_token (longest spelled (suc (length rest)) (b ∷ rest)) ≡ number_read_by (take n (b ∷ rest)) n tail
 first_number_by b rest [] h d is =
     let n = prefix_len is_digit (b ∷ rest) in
     let size : length (drop n (b ∷ rest)) ≡ 0 = ap length is in
-    judged_found _ _ (number_of b rest 0 (sized (take n (b ∷ rest)) (bounded (number_in 10 (take n (b ∷ rest))))) h d (omega arith) refl (λ j l g. absurd (omega arith)))
+    judged_found _ _ (number_of b rest 0 (sized (take n (b ∷ rest)) (integer_kind (number_in 10 (take n (b ∷ rest))))) h d (omega arith) refl (λ j l g. absurd (omega arith)))
     ∙ decimal_read b rest
 first_number_by b rest (c ∷ more) h d is = by_radix b rest c more h d is (is_radix_mark c) refl
 
-pub first_number : (b : ℕ) (rest : List ℕ) → begins_identifier b ≡ false → is_digit b ≡ true → judged (longest spelled (suc (length rest)) (b ∷ rest)) ≡ number_read (b ∷ rest)
+pub first_number : (b : ℕ) (rest : List ℕ) → begins_identifier b ≡ false → is_digit b ≡ true → front_token (longest spelled (suc (length rest)) (b ∷ rest)) ≡ number_read (b ∷ rest)
 first_number b rest h d = first_number_by b rest (drop (prefix_len is_digit (b ∷ rest)) (b ∷ rest)) h d refl
 
 -- The dot
 
-spelled_dot : (rest : List ℕ) → spelled (46 ∷ rest) ≡ dotted rest
+spelled_dot : (rest : List ℕ) → spelled (46 ∷ rest) ≡ dot_number rest
 unfolding spelled
 spelled_dot rest = refl
 
@@ -264,13 +264,13 @@ after_dot b rest (suc zero) d l g = absurd (omega arith)
 after_dot b rest (suc (suc zero)) d l g = spelled_dot (b ∷ []) ∙ cond-false (is_digit b) _ _ d
 after_dot b rest (suc (suc (suc m))) d l g = longer_dot (b ∷ rest) (suc (suc (suc m))) (omega arith) g
 
-dot_by : (b : ℕ) (rest : List ℕ) (digit : Bool) → is_digit b ≡ digit → judged (longest spelled (suc (suc (length rest))) (46 ∷ b ∷ rest)) ≡ cond digit (Err L6) (Ok (Operator Dot, 1))
+dot_by : (b : ℕ) (rest : List ℕ) (digit : Bool) → is_digit b ≡ digit → front_token (longest spelled (suc (suc (length rest))) (46 ∷ b ∷ rest)) ≡ cond digit (Err L6) (Ok (Operator Dot, 1))
 dot_by b rest true d =
     judged_found _ _ (longest_is spelled (suc (suc (length rest))) 2 (46 ∷ b ∷ rest) (Err L6) (omega arith) (omega arith) (spelled_dot (b ∷ []) ∙ cond-true (is_digit b) _ _ d) (longer_dot (b ∷ rest)))
 dot_by b rest false d =
     judged_found _ _ (longest_is spelled (suc (suc (length rest))) 1 (46 ∷ b ∷ rest) (Ok (Operator Dot)) (omega arith) (omega arith) (spelled_dot []) (λ m l g. after_dot b rest m d l g))
 
-first_dot : (rest : List ℕ) → judged (longest spelled (suc (length rest)) (46 ∷ rest)) ≡ dot_read rest
+first_dot : (rest : List ℕ) → front_token (longest spelled (suc (length rest)) (46 ∷ rest)) ≡ dot_read rest
 first_dot [] = judged_found _ _ (longest_is spelled 1 1 (46 ∷ []) (Ok (Operator Dot)) (omega arith) (omega arith) (spelled_dot []) (λ m l g. absurd (omega arith)))
 first_dot (b ∷ rest) = dot_by b rest (is_digit b) refl
 
@@ -384,11 +384,11 @@ marks_same : (b : ℕ) (rest : List ℕ) → begins_identifier b ≡ false → i
 marks_same b rest h d dot zero p = absurd (omega arith)
 marks_same b rest h d dot (suc m) p = spelled_mark b (take m rest) h d dot
 
-judged_match : (found : Option (Kind × ℕ)) → judged (found_in found) ≡ ok_or found L1
+judged_match : (found : Option (Kind × ℕ)) → front_token (found_in found) ≡ ok_or found L1
 judged_match None = refl
 judged_match (Some match) = refl
 
-first_mark : (b : ℕ) (rest : List ℕ) → begins_identifier b ≡ false → is_digit b ≡ false → (b == 46) ≡ false → judged (longest spelled (suc (length rest)) (b ∷ rest)) ≡ ok_or (first_match (marks_of b) (b ∷ rest)) L1
+first_mark : (b : ℕ) (rest : List ℕ) → begins_identifier b ≡ false → is_digit b ≡ false → (b == 46) ≡ false → front_token (longest spelled (suc (length rest)) (b ∷ rest)) ≡ ok_or (first_match (marks_of b) (b ∷ rest)) L1
 first_mark b rest h d dot =
     judged_found _ _ (longest_same spelled (sense_in (marks_of b)) (suc (length rest)) (b ∷ rest) (λ m p g. marks_same b rest h d dot m p) ∙ first_in_order (marks_of b) (b ∷ rest) (marks_in_order b))
     ∙ judged_match (first_match (marks_of b) (b ∷ rest))
@@ -396,17 +396,17 @@ first_mark b rest h d dot =
 -- All together
 
 by_dot : (b : ℕ) (rest : List ℕ) → begins_identifier b ≡ false → is_digit b ≡ false → (dot : Bool) → (b == 46) ≡ dot
-    → judged (longest spelled (suc (length rest)) (b ∷ rest)) ≡ cond dot (dot_read rest) (ok_or (first_match (marks_of b) (b ∷ rest)) L1)
-by_dot b rest h d true dot = let is : b ≡ 46 = eqb-true b 46 dot in ap (λ c. judged (longest spelled (suc (length rest)) (c ∷ rest))) is ∙ first_dot rest
+    → front_token (longest spelled (suc (length rest)) (b ∷ rest)) ≡ cond dot (dot_read rest) (ok_or (first_match (marks_of b) (b ∷ rest)) L1)
+by_dot b rest h d true dot = let is : b ≡ 46 = eqb-true b 46 dot in ap (λ c. front_token (longest spelled (suc (length rest)) (c ∷ rest))) is ∙ first_dot rest
 by_dot b rest h d false dot = first_mark b rest h d dot
 
 by_digit : (b : ℕ) (rest : List ℕ) → begins_identifier b ≡ false → (digit : Bool) → is_digit b ≡ digit
-    → judged (longest spelled (suc (length rest)) (b ∷ rest)) ≡ cond digit (number_read (b ∷ rest)) (cond (b == 46) (dot_read rest) (ok_or (first_match (marks_of b) (b ∷ rest)) L1))
+    → front_token (longest spelled (suc (length rest)) (b ∷ rest)) ≡ cond digit (number_read (b ∷ rest)) (cond (b == 46) (dot_read rest) (ok_or (first_match (marks_of b) (b ∷ rest)) L1))
 by_digit b rest h true d = first_number b rest h d
 by_digit b rest h false d = by_dot b rest h d (b == 46) refl
 
 by_letter : (b : ℕ) (rest : List ℕ) → (letter : Bool) → begins_identifier b ≡ letter
-    → judged (longest spelled (suc (length rest)) (b ∷ rest)) ≡ cond letter (name_read b rest) (bare_read b (b ∷ rest) rest)
+    → front_token (longest spelled (suc (length rest)) (b ∷ rest)) ≡ cond letter (name_read b rest) (bare_read b (b ∷ rest) rest)
 by_letter b rest true h = first_name b rest h
 by_letter b rest false h = by_digit b rest h (is_digit b) refl
 

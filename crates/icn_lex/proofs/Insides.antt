@@ -4,7 +4,7 @@ use Rattle.std.proofs.lemmas.Bool.{cond-true, cond-false, ne_eqb}
 use Rattle.icn_tree.specs.declared.lines.SourceLine.{SourceLine}
 use Rattle.icn_tree.specs.Literals.{Literal, with_byte, escape_of}
 use Rattle.icn_tree.specs.Numbers.{is_nothing}
-use Rattle.icn_tree.specs.Tokens.{Broken, State, Between, Inside, bytes_from, closed_then, escape_found, unclosed}
+use Rattle.icn_tree.specs.Tokens.{Broken, State, Between, Inside, bytes_from, closed_then, escape_found, unclosed_literal}
 use Rattle.icn_tree.specs.declared.rule.Rule.TheVariants.{L3}
 use Rattle.icn_tree.proofs.Scanning.{skip}
 use Rattle.icn_lex.specs.Literals.{Later, scan_inside, scan_escape}
@@ -37,7 +37,7 @@ at_plain line literal b rest later h e n =
     cond-false (b == literal.quote) _ _ (ne_eqb b literal.quote h) ∙ (cond-false (b == 92) _ _ (ne_eqb b 92 e) ∙ cond-false (b == 95 && is_nothing rest) _ _ n)
 
 -- a line's end inside a literal
-pub at_end : (line : SourceLine) (literal : Literal) (bytes : List ℕ) (later : Later) → length bytes ≡ 0 → scan_inside line literal bytes later ≡ unclosed literal
+pub at_end : (line : SourceLine) (literal : Literal) (bytes : List ℕ) (later : Later) → length bytes ≡ 0 → scan_inside line literal bytes later ≡ unclosed_literal literal
 unfolding bytes_from
 at_end line literal [] later h = refl
 at_end line literal (b ∷ rest) later h = absurd (omega arith)

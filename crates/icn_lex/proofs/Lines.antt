@@ -7,7 +7,7 @@ use Rattle.icn_tree.specs.declared.rule.Rule.TheVariants.{L2}
 use Rattle.icn_tree.specs.declared.lines.SourceLine.{SourceLine}
 use Rattle.icn_tree.specs.declared.token.Token.{Token}
 use Rattle.icn_tree.specs.Literals.{Literal}
-use Rattle.icn_tree.specs.Tokens.{Found, Broken, Scanned, Fault, line_from, lines_from, finished, tokens_of}
+use Rattle.icn_tree.specs.Tokens.{Found, Broken, Scanned, Fault, line_from, lines_from, finish_scan, tokens_of}
 use Rattle.icn_lex.specs.declared.fault.LexFault.{LexFault}
 use Rattle.icn_lex.specs.declared.fault.LexFault.TheVariants.{Broken as BrokenFault, NoMemory}
 use Rattle.icn_lex.specs.Literals.{Later, scan_line}
@@ -34,21 +34,21 @@ pub fault_outcome : {Z : Type 0} (lines : List SourceLine) (fault : LexFault) �
     → let result : Result (Vec Token Z) LexFault = Err fault in (result ≡ Err NoMemory) ⊎ (outcome_of result ≡ Some (tokens_of lines))
 unfolding tokens_of
 fault_outcome lines NoMemory e = inl refl
-fault_outcome lines (BrokenFault rule file line) e = inr (ap (λ scan. Some (finished scan)) (sym e))
+fault_outcome lines (BrokenFault rule file line) e = inr (ap (λ scan. Some (finish_scan scan)) (sym e))
 
 pub unclosed_outcome : {Z : Type 0} (lines : List SourceLine) (found : List Token) (i : ℕ) (literal : Literal) → length lines ≤ i → Reads (lines_from lines None) found (lines_from (drop i lines) (Some literal))
     → let result : Result (Vec Token Z) LexFault = Err (BrokenFault L2 literal.file literal.line) in (result ≡ Err NoMemory) ⊎ (outcome_of result ≡ Some (tokens_of lines))
 unfolding tokens_of lines_from
 unclosed_outcome lines found i literal h r =
     let here : lines_from (drop i lines) (Some literal) ≡ Broken L2 literal.line literal.file = ap (λ rest. lines_from rest (Some literal)) (drop_all i lines h) in
-    inr (ap (λ scan. Some (finished scan)) (sym (reads_fault (lines_from lines None) found _ L2 literal.line literal.file here r)))
+    inr (ap (λ scan. Some (finish_scan scan)) (sym (reads_fault (lines_from lines None) found _ L2 literal.line literal.file here r)))
 
 pub scanned_outcome : (lines : List SourceLine) (found : List Token) (i : ℕ) → length lines ≤ i → Reads (lines_from lines None) found (lines_from (drop i lines) None) → Scanned found ≡ tokens_of lines
 unfolding tokens_of lines_from
 scanned_outcome lines found i h r =
     let here : lines_from (drop i lines) None ≡ Found [] = ap (λ rest. lines_from rest None) (drop_all i lines h) in
     let ends = reads_end (lines_from lines None) found (reads_same (lines_from lines None) found _ (Found []) here r) in
-    ap Scanned ends.2 ∙ ap finished (sym ends.1)
+    ap Scanned ends.2 ∙ ap finish_scan (sym ends.1)
 
 -- What an answer of `tokens` tells a caller
 

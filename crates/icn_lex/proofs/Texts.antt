@@ -8,7 +8,7 @@ use Rattle.icn_tree.specs.declared.token.Token.{Token}
 use Rattle.icn_tree.specs.Characters.{is_space, begins_comment, is_quote}
 use Rattle.icn_tree.specs.Literals.{Literal}
 use Rattle.icn_tree.specs.Semicolons.{Piece}
-use Rattle.icn_tree.specs.Tokens.{Scan, Broken, Between, bytes_from, before, piece_on, token_then, opened, first_of, spelled, closed_then}
+use Rattle.icn_tree.specs.Tokens.{Scan, Broken, Between, bytes_from, before, piece_on, token_then, open_literal, first_of, spelled, closed_then}
 use Rattle.icn_lex.specs.declared.fault.LexFault.{LexFault}
 use Rattle.icn_lex.specs.declared.fault.LexFault.TheVariants.{Broken as BrokenFault, NoMemory}
 use Rattle.icn_lex.specs.Literals.{Later, scan_inside, scan_text}
@@ -35,7 +35,7 @@ at_text_end line is_first [] later h = refl
 at_text_end line is_first (b ∷ rest) later h = absurd (omega arith)
 
 pub at_opening : (line : SourceLine) (is_first : Bool) (b : ℕ) (rest bytes : List ℕ) (later : Later) → bytes ≡ b ∷ rest → is_space b ≡ false → begins_comment b ≡ false → is_quote b ≡ true
-    → scan_text line is_first bytes later ≡ scan_inside line (opened line is_first b) rest later
+    → scan_text line is_first bytes later ≡ scan_inside line (open_literal line is_first b) rest later
 unfolding bytes_from
 at_opening line is_first b rest bytes later is h e q =
     ap (λ text. scan_text line is_first text later) is ∙ (cond-false (is_space b) _ _ h ∙ (cond-false (begins_comment b) _ _ e ∙ cond-true (is_quote b) _ _ q))

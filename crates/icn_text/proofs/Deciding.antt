@@ -6,12 +6,12 @@ use Rattle.std.specs.Int.{w64}
 use Rattle.std.specs.Option.{option_and_then, option_map}
 use Rattle.std.specs.Result.{OkIff}
 use Rattle.icn_text.specs.Integers.{signed, WritesInteger}
-use Rattle.icn_text.specs.Reading.{held, pair_held, integer_read}
+use Rattle.icn_text.specs.Reading.{in_64_bits, pair_held, integer_read}
 use Rattle.icn_text.proofs.Completing.{integer_again}
 use Rattle.icn_text.proofs.DigitSteps.{some_held}
 use Rattle.icn_text.proofs.Sounding.{integer_sound}
 
-held_pair : (is_negative negative : Bool) (n m : ℕ) (found : Option ℕ) → held m ≡ found → Some (is_negative, n) ≡ option_map {U = Bool × ℕ} (λ k. (negative, k)) found → (negative ≡ is_negative) × (m ≡ n)
+held_pair : (is_negative negative : Bool) (n m : ℕ) (found : Option ℕ) → in_64_bits m ≡ found → Some (is_negative, n) ≡ option_map {U = Bool × ℕ} (λ k. (negative, k)) found → (negative ≡ is_negative) × (m ≡ n)
 held_pair is_negative negative n m None is h = absurd (none-some (is_negative, n) (sym h))
 held_pair is_negative negative n m (Some k) is h =
     let same : (is_negative, n) ≡ (negative, k) = same_Some (is_negative, n) (negative, k) h in
@@ -20,7 +20,7 @@ held_pair is_negative negative n m (Some k) is h =
 from_held : (is_negative : Bool) (n : ℕ) (found : Option (Bool × ℕ)) → Some (is_negative, n) ≡ option_and_then pair_held found → found ≡ Some (is_negative, n)
 from_held is_negative n None h = absurd (none-some (is_negative, n) (sym h))
 from_held is_negative n (Some (negative, m)) h =
-    let same = held_pair is_negative negative n m (held m) refl h in
+    let same = held_pair is_negative negative n m (in_64_bits m) refl h in
     ap Some (ap (λ b. (b, m)) same.0 ∙ ap (λ k. (is_negative, k)) same.1)
 
 magnitude_fits : (is_negative : Bool) (n : ℕ) → FitsSigned w64 (signed is_negative n) → n < 2 ^ 64

@@ -7,4 +7,4 @@ mod Sounding
 mod Deciding
 mod Powers
 mod Fitting
-mod Written
+mod WrittenIntegers

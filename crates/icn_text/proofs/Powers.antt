@@ -9,7 +9,7 @@ use Rattle.std.specs.Prelude.{int_rem}
 use Rattle.std.proofs.lemmas.Int.{to_z-of_z}
 use Rattle.icn_text.specs.declared.arithmetic.Arith.{Arith}
 use Rattle.icn_text.specs.IntegerArithmetic.{power}
-use Rattle.icn_text.specs.Reading.{held}
+use Rattle.icn_text.specs.Reading.{in_64_bits}
 use Rattle.icn_text.proofs.DigitSteps.{held_not, none_above, some_held}
 
 -- a power past 64 bits stays past them at a greater exponent
@@ -18,7 +18,7 @@ grows zero zero e h past = absurd (let small : 2 ^ 64 ≤ 1 = past in omega arit
 grows zero (suc k) e h past = absurd (let small : 2 ^ 64 ≤ zero ^ k * zero = rw (sym (pow-suc zero k)) past in omega arith)
 grows (suc b) k e h past = le_trans past (pow-le-pow_right (omega arith) h)
 
-pub half_overflows : (b e : ℕ) → held (b ^ (e / 2)) ≡ None → held (b ^ e) ≡ None
+pub half_overflows : (b e : ℕ) → in_64_bits (b ^ (e / 2)) ≡ None → in_64_bits (b ^ e) ≡ None
 half_overflows b e h = held_not (b ^ e) (grows b (e / 2) e (omega arith) (none_above (b ^ (e / 2)) h))
 
 square_of : (b k half : ℕ) → half ≡ b ^ k → half * half ≡ b ^ (k + k)
@@ -27,26 +27,26 @@ square_of b k half h = ap (λ n. n * n) h ∙ sym (pow-add b k k)
 not_below : (n : ℕ) → ¬ (n < 2 ^ 64) → 2 ^ 64 ≤ n
 not_below n h = elim (cases_lt n (2 ^ 64)) [ inl small ↦ absurd (h small) | inr large ↦ large ]
 
-pub square_overflows : (b e half : ℕ) → Some half ≡ held (b ^ (e / 2)) → ¬ (half * half < 2 ^ 64) → held (b ^ e) ≡ None
+pub square_overflows : (b e half : ℕ) → Some half ≡ in_64_bits (b ^ (e / 2)) → ¬ (half * half < 2 ^ 64) → in_64_bits (b ^ e) ≡ None
 square_overflows b e half h past =
     let square = square_of b (e / 2) half (some_held (b ^ (e / 2)) half h).0 in
     let above : 2 ^ 64 ≤ b ^ (e / 2 + e / 2) = rw (sym square) (not_below (half * half) past) in
     held_not (b ^ e) (grows b (e / 2 + e / 2) e (omega arith) above)
 
-is_held : (n : ℕ) → n < 2 ^ 64 → Some n ≡ held n
+is_held : (n : ℕ) → n < 2 ^ 64 → Some n ≡ in_64_bits n
 is_held n h = sym (ap (λ b. cond b (Some n) None) (lt-ltb n (2 ^ 64) h))
 
-pub even_power : (b e half square : ℕ) → e % 2 ≡ 0 → Some half ≡ held (b ^ (e / 2)) → square ≡ half * half → half * half < 2 ^ 64 → Some square ≡ held (b ^ e)
+pub even_power : (b e half square : ℕ) → e % 2 ≡ 0 → Some half ≡ in_64_bits (b ^ (e / 2)) → square ≡ half * half → half * half < 2 ^ 64 → Some square ≡ in_64_bits (b ^ e)
 even_power b e half square even h is fits =
     let twice : e / 2 + e / 2 ≡ e = omega arith in
     let same : square ≡ b ^ e = is ∙ square_of b (e / 2) half (some_held (b ^ (e / 2)) half h).0 ∙ ap (λ n. b ^ n) twice in
-    is_held square (rw is fits) ∙ ap held same
+    is_held square (rw is fits) ∙ ap in_64_bits same
 
-by_product : (n m : ℕ) (result : Option ℕ) → n ≡ m → SomeIff result (n < 2 ^ 64) n → result ≡ held m
+by_product : (n m : ℕ) (result : Option ℕ) → n ≡ m → SomeIff result (n < 2 ^ 64) n → result ≡ in_64_bits m
 by_product n m None is h = sym (held_not m (rw (sym is) (not_below n h)))
-by_product n m (Some x) is h = ap Some h.1 ∙ is_held n h.0 ∙ ap held is
+by_product n m (Some x) is h = ap Some h.1 ∙ is_held n h.0 ∙ ap in_64_bits is
 
-pub odd_power : (b e half square : ℕ) (result : Option ℕ) → e % 2 ≢ 0 → Some half ≡ held (b ^ (e / 2)) → square ≡ half * half → SomeIff result (square * b < 2 ^ 64) (square * b) → result ≡ held (b ^ e)
+pub odd_power : (b e half square : ℕ) (result : Option ℕ) → e % 2 ≢ 0 → Some half ≡ in_64_bits (b ^ (e / 2)) → square ≡ half * half → SomeIff result (square * b < 2 ^ 64) (square * b) → result ≡ in_64_bits (b ^ e)
 odd_power b e half square result odd h is times =
     let k = e / 2 in
     let more : suc (k + k) ≡ e = omega arith in

@@ -7,8 +7,8 @@ use Rattle.icn_text.specs.IntegerArithmetic.{fitting}
 use Rattle.icn_text.specs.Integers.{is_space, is_digit_of, is_radix_mark, signed}
 
 -- a number that 64 bits hold
-abbrev pub held : ℕ → Option ℕ
-held n = if nat_lt n (2 ^ 64) then Some n else None
+abbrev pub in_64_bits : ℕ → Option ℕ
+in_64_bits n = if nat_lt n (2 ^ 64) then Some n else None
 
 -- digits of the radix, behind which white space alone stands
 abbrev pub digits_read : ℕ → List ℕ → Option ℕ
@@ -38,7 +38,7 @@ abbrev pub integer_read : List ℕ → Option (Bool × ℕ)
 integer_read text = signed_read (drop (prefix_len is_space text) text)
 
 abbrev pub pair_held : Bool × ℕ → Option (Bool × ℕ)
-pair_held found = option_map (λ n. (found.0, n)) (held found.1)
+pair_held found = option_map (λ n. (found.0, n)) (in_64_bits found.1)
 
 -- the integer of 64 bits that a text writes
 abbrev pub written_integer : List ℕ → Option ℤ

@@ -2,7 +2,7 @@
 ghost use Rattle.std.specs.Prelude.{◌≡◌, ◌^◌, ◌<◌, ℤ, pos, neg_ℤ, FitsSigned};
 ghost use Rattle.std.specs.Int.{int_pow};
 ghost use Rattle.icn_text.specs.IntegerArithmetic.{within_64_bits, sum, difference, product, quotient, remainder, power};
-ghost use Rattle.icn_text.specs.Reading.{held};
+ghost use Rattle.icn_text.specs.Reading.{in_64_bits};
 
 use crate::integer::signed;
 
@@ -85,7 +85,7 @@ fn natural_power(base: i64, exponent: u64) -> Result<i64, Arith>
 // By repeated squaring. The power of half the exponent is no greater than the power, and neither is its square,
 // so that what overflows is never more than what is asked for.
 fn magnitude_power(base: u64, exponent: u64) -> Option<u64>
-    ensures { result ≡ held (base ^ exponent) }
+    ensures { result ≡ in_64_bits (base ^ exponent) }
 {
     if exponent == 0 {
         return Some(1);

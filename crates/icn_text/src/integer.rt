@@ -7,7 +7,7 @@ ghost use Rattle.std.specs.List.{prefix_len, list_all};
 ghost use Rattle.std.specs.Option.{option_and_then};
 ghost use Rattle.std.specs.Str.Parse.{digits_value};
 ghost use Rattle.icn_text.specs.Integers.{is_space, is_digit_of, is_radix_mark, signed, WritesInteger};
-ghost use Rattle.icn_text.specs.Reading.{held, pair_held, digits_read, radix_read, numeral_read, signed_read, integer_read, written_integer};
+ghost use Rattle.icn_text.specs.Reading.{in_64_bits, pair_held, digits_read, radix_read, numeral_read, signed_read, integer_read, written_integer};
 
 /// A text writes no integer of 64 bits.
 #[derive(Clone, Copy, Debug, PartialEq, Eq)]
@@ -50,7 +50,7 @@ fn integer(text: &[u8]) -> Option<(bool, u64)>
 
 // The number of a numeral, behind which white space alone stands.
 fn numeral(text: &[u8]) -> Option<u64>
-    ensures { result ≡ option_and_then held (numeral_read text.now) }
+    ensures { result ≡ option_and_then in_64_bits (numeral_read text.now) }
 {
     let (radix, rest) = text.split_at(digits_len(text, 10));
     match rest.split_first() {
@@ -61,7 +61,7 @@ fn numeral(text: &[u8]) -> Option<u64>
 
 // The number of the digits that stand behind a radix and its mark.
 fn radix_numeral(radix: u64, text: &[u8]) -> Option<u64>
-    ensures { result ≡ option_and_then held (radix_read radix text.now) }
+    ensures { result ≡ option_and_then in_64_bits (radix_read radix text.now) }
 {
     if (2..=36).contains(&radix) {
         digits(text, radix as u32)
@@ -73,7 +73,7 @@ fn radix_numeral(radix: u64, text: &[u8]) -> Option<u64>
 // The number of the digits of a radix, behind which white space alone stands.
 fn digits(text: &[u8], radix: u32) -> Option<u64>
     requires { 2 ≤ radix }
-    ensures { result ≡ option_and_then held (digits_read radix text.now) }
+    ensures { result ≡ option_and_then in_64_bits (digits_read radix text.now) }
 {
     let count = digits_len(text, radix);
     let (digits, rest) = text.split_at(count);
@@ -87,7 +87,7 @@ fn digits(text: &[u8], radix: u32) -> Option<u64>
 // The number that digits write, where 64 bits hold it.
 fn value(digits: &[u8], radix: u32) -> Option<u64>
     requires { 2 ≤ radix }
-    ensures { result ≡ held (digits_value radix digits.now) }
+    ensures { result ≡ in_64_bits (digits_value radix digits.now) }
 {
     let mut value = 0u64;
     for digit in digits {
@@ -98,7 +98,7 @@ fn value(digits: &[u8], radix: u32) -> Option<u64>
 
 // The number with one more digit at its end.
 fn appended(value: u64, radix: u32, digit: u8) -> Option<u64>
-    ensures { result ≡ held (value * radix + digit_value digit) }
+    ensures { result ≡ in_64_bits (value * radix + digit_value digit) }
 {
     value
         .checked_mul(u64::from(radix))?

@@ -8,7 +8,7 @@ use Rattle.std.proofs.lemmas.List.Folds.{list_all_at}
 use Rattle.std.proofs.lemmas.List.Sums.{prefix_len_stops}
 use Rattle.icn_tree.specs.declared.rule.Rule.{Rule}
 use Rattle.icn_tree.specs.declared.token.Kind.{Kind}
-use Rattle.icn_tree.specs.Tokens.{longer, longest, judged}
+use Rattle.icn_tree.specs.Tokens.{longer, longest, front_token}
 
 abbrev Sense : Type 0
 Sense = List ℕ → Option (Result Kind Rule)
@@ -66,7 +66,7 @@ same_count : (k kind : Kind) (m count : ℕ) → ◌≡◌ {A = Result (Kind × 
 unfolding count_of
 same_count k kind m count e = ap count_of e
 
-judged_within : (sense : Sense) (n : ℕ) (bytes : List ℕ) (kind : Kind) (count : ℕ) (found : Option (Result Kind Rule × ℕ)) → longest sense n bytes ≡ found → judged found ≡ Ok (kind, count)
+judged_within : (sense : Sense) (n : ℕ) (bytes : List ℕ) (kind : Kind) (count : ℕ) (found : Option (Result Kind Rule × ℕ)) → longest sense n bytes ≡ found → front_token found ≡ Ok (kind, count)
     → (0 < count) × (count ≤ n)
 judged_within sense n bytes kind count None is e = absurd (cc)
 judged_within sense n bytes kind count (Some (Ok k, m)) is e =
@@ -75,7 +75,7 @@ judged_within sense n bytes kind count (Some (Ok k, m)) is e =
     (omega (arith, within.0, same), omega (arith, within.1, same))
 judged_within sense n bytes kind count (Some (Err rule, m)) is e = absurd (cc)
 
-pub first_within : (sense : Sense) (n : ℕ) (bytes : List ℕ) (kind : Kind) (count : ℕ) → judged (longest sense n bytes) ≡ Ok (kind, count) → (0 < count) × (count ≤ n)
+pub first_within : (sense : Sense) (n : ℕ) (bytes : List ℕ) (kind : Kind) (count : ℕ) → front_token (longest sense n bytes) ≡ Ok (kind, count) → (0 < count) × (count ≤ n)
 first_within sense n bytes kind count e = judged_within sense n bytes kind count (longest sense n bytes) refl e
 
 -- Runs of bytes

@@ -18,7 +18,7 @@ use Rattle.icn_tree.specs.Numbers.{is_nothing, is_radix_mark, is_real_mark, numb
 use Rattle.icn_tree.specs.Semicolons.{Piece, with_semicolons}
 use Rattle.icn_tree.specs.Spellings.{lookup_text, marks_of}
 use Rattle.icn_tree.specs.TokenSpellings.{is_special, quoted, Spells, bare, string, cset, SpellsAll, nothing, last, more}
-use Rattle.icn_tree.specs.Tokens.{name, dotted, mark, spelled, judged, first_of, Scan, Found, before, piece_on, token_then, opened, closed_then, escape_found, Between, Inside, bytes_from, lines_from, Scanned, finished, tokens_of}
+use Rattle.icn_tree.specs.Tokens.{name, dot_number, mark, spelled, front_token, first_of, Scan, Found, before, piece_on, token_then, open_literal, closed_then, escape_found, Between, Inside, bytes_from, lines_from, Scanned, finish_scan, tokens_of}
 use Rattle.icn_tree.proofs.Fronts.{longest_is}
 use Rattle.icn_tree.proofs.Scanning.{skip, TokensSound, tokens_sound, choose_rows}
 
@@ -100,7 +100,7 @@ number_clean bytes =
     subst (λ (text : List ℕ). Clean (number_by (take n bytes) (drop n bytes)) text) (take-append-drop n bytes)
     (number_by_clean (take n bytes) (drop n bytes) (all_clean is_digit (take n bytes) refl (run_passes is_digit bytes)))
 
-dotted_clean : (rest : List ℕ) → Clean (dotted rest) (46 ∷ rest)
+dotted_clean : (rest : List ℕ) → Clean (dot_number rest) (46 ∷ rest)
 dotted_clean [] = refl
 dotted_clean (b ∷ []) = choose_clean (is_digit b) _ None (46 ∷ b ∷ []) (λ e. and_true (no_blank b) true (passes_no_blank is_digit b refl e) refl) (λ e. tt)
 dotted_clean (b ∷ c ∷ rest) = tt
@@ -135,9 +135,9 @@ spelled_clean : (text : List ℕ) → Clean (spelled text) text
 unfolding spelled
 spelled_clean [] = tt
 spelled_clean (b ∷ rest) =
-    choose_clean (begins_identifier b) (name b rest) (cond (is_digit b) (number (b ∷ rest)) (cond (b == 46) (dotted rest) (mark b rest))) (b ∷ rest) (λ e. name_clean b rest e)
-    (λ e. choose_clean (is_digit b) (number (b ∷ rest)) (cond (b == 46) (dotted rest) (mark b rest)) (b ∷ rest) (λ e. number_clean (b ∷ rest))
-    (λ e. choose_clean (b == 46) (dotted rest) (mark b rest) (b ∷ rest) (λ e. subst (λ (c : ℕ). Clean (dotted rest) (c ∷ rest)) (sym (eqb-true b 46 e)) (dotted_clean rest))
+    choose_clean (begins_identifier b) (name b rest) (cond (is_digit b) (number (b ∷ rest)) (cond (b == 46) (dot_number rest) (mark b rest))) (b ∷ rest) (λ e. name_clean b rest e)
+    (λ e. choose_clean (is_digit b) (number (b ∷ rest)) (cond (b == 46) (dot_number rest) (mark b rest)) (b ∷ rest) (λ e. number_clean (b ∷ rest))
+    (λ e. choose_clean (b == 46) (dot_number rest) (mark b rest) (b ∷ rest) (λ e. subst (λ (c : ℕ). Clean (dot_number rest) (c ∷ rest)) (sym (eqb-true b 46 e)) (dotted_clean rest))
     (λ e. rows_clean (marks_of b) (b ∷ rest) (marks_clean b))))
 
 pub blank_none : (text : List ℕ) → is_clean text ≡ false → spelled text ≡ None
@@ -228,7 +228,7 @@ unfolding first_of
 first_alone b rest tail kind e s =
     let text = b ∷ rest in
     let size : length (text ++ tail) ≡ length text + length tail = length-append text tail in
-    ap judged (longest_is spelled (length (text ++ tail)) (length text) (text ++ tail) (Ok kind) (omega arith) (omega (arith, size))
+    ap front_token (longest_is spelled (length (text ++ tail)) (length text) (text ++ tail) (Ok kind) (omega arith) (omega (arith, size))
     (ap spelled (take-append_seam text tail) ∙ e) (λ m l g. longer_none text tail m s l g))
 
 bare_step : (later : Option Literal → Scan) (line : SourceLine) (is_first : Bool) (text tail : List ℕ) (kind : Kind) → spelled text ≡ Some (Ok kind) → Stops tail
@@ -335,8 +335,8 @@ literal_step : (later : Option Literal → Scan) (line : SourceLine) (is_first :
 unfolding bytes_from with_bytes
 literal_step later line is_first q bytes tail s c h size =
     cond-false (is_space q) _ _ s ∙ (cond-false (begins_comment q) _ _ c ∙ (cond-true (is_quote q) _ _ h
-    ∙ (ap (bytes_from later line (Inside (opened line is_first q)) zero) (append_assoc (quoted bytes) (q ∷ []) tail)
-    ∙ (inside_quoted later line (opened line is_first q) bytes tail h
+    ∙ (ap (bytes_from later line (Inside (open_literal line is_first q)) zero) (append_assoc (quoted bytes) (q ∷ []) tail)
+    ∙ (inside_quoted later line (open_literal line is_first q) bytes tail h
     ∙ cond-true (nat_le (length bytes) 65535) _ _ (small (length bytes) size))))) where
       small : (n : ℕ) → n ≤ 65535 → nat_le n 65535 ≡ true
       small n h = grind (arith, nat_tests)
@@ -393,7 +393,7 @@ pub spelled_again : (kinds : List Kind) (line : SourceLine) → SpellsAll kinds 
     → tokens_of (line ∷ []) ≡ Scanned (map (λ (kind : Kind). let token : Token = record { kind = kind; line = line.number; file = line.file } in token) kinds)
 unfolding tokens_of token_on
 spelled_again kinds line s =
-    ap finished (one_line line ∙ all_steps (λ begun. lines_from [] begun) line true kinds line.bytes no_lines s) ∙ ap Scanned (no_semicolons line true kinds)
+    ap finish_scan (one_line line ∙ all_steps (λ begun. lines_from [] begun) line true kinds line.bytes no_lines s) ∙ ap Scanned (no_semicolons line true kinds)
 
 spelling_next : (kind : Kind) (text : List ℕ) (kinds : List Kind) (rest : List ℕ) → Spells kind text → SpellsAll kinds rest → (all : List ℕ) × SpellsAll (kind ∷ kinds) all
 spelling_next kind text [] rest s r = (text, last kind text s)

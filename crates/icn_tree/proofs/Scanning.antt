@@ -17,14 +17,14 @@ use Rattle.icn_tree.specs.declared.token.Word.{Word}
 use Rattle.icn_tree.specs.ByteSets.{members_of}
 use Rattle.icn_tree.specs.Characters.{is_space, is_blank, begins_comment, begins_identifier, is_digit, continues_identifier, is_alphanumeric, is_quote, is_between}
 use Rattle.icn_tree.specs.Literals.{Literal, with_byte, escape_of}
-use Rattle.icn_tree.specs.Numbers.{is_nothing, is_radix_mark, is_real_mark, are_digits, number_in, sized, bounded, integer, number_by, number}
+use Rattle.icn_tree.specs.Numbers.{is_nothing, is_radix_mark, is_real_mark, are_digits, number_in, sized, integer_kind, integer, number_by, number}
 use Rattle.icn_tree.specs.Semicolons.{Piece, is_ender, is_beginner, semicolon_at, between, with_semicolons}
 use Rattle.icn_tree.specs.SourceTexts.{joined_len}
 use Rattle.icn_tree.specs.Spellings.{lookup_text, word_of, name_of, marks_of}
 use Rattle.icn_tree.specs.TokenBounds.{IsScanRule, IsSized, IsFormed, is_name, is_augmented}
 use Rattle.icn_tree.proofs.Members.{members_ascend}
 use Rattle.icn_tree.specs.TokenSpellings.{Spells, bare, string, cset}
-use Rattle.icn_tree.specs.Tokens.{name, dotted, mark, spelled, longer, longest, judged, first_of, Scan, Found, Broken, before, piece_on, token_then, opened, literal_piece, closed_then, escape_found, escape_then, State, Between, Inside, bytes_from, line_from, lines_from, after_blanks, Outcome, Scanned, Fault, finished, tokens_of}
+use Rattle.icn_tree.specs.Tokens.{name, dot_number, mark, spelled, longer, longest, front_token, first_of, Scan, Found, Broken, before, piece_on, token_then, open_literal, literal_piece, closed_then, escape_found, escape_then, State, Between, Inside, bytes_from, line_from, lines_from, after_blanks, Outcome, Scanned, Fault, finish_scan, tokens_of}
 
 -- One token
 
@@ -62,14 +62,14 @@ name_sized b rest begins = choose_found_so (list_all continues_identifier rest) 
     (λ goes_on. choose_sense (nat_le (length (b ∷ rest)) 65535) (Ok (name_of (b ∷ rest))) (Err L7)
     (λ h. word_sized (word_of (b ∷ rest)) (b ∷ rest) refl (ap (λ first. first && list_all continues_identifier rest) begins ∙ goes_on) (omega arith) (at_most (length (b ∷ rest)) 65535 h)) tt) tt
 
-bounded_sized : (n : ℕ) → SenseSized (bounded n)
+bounded_sized : (n : ℕ) → SenseSized (integer_kind n)
 bounded_sized n = choose_sense (nat_le n 9223372036854775807) (Ok (Integer (pos n))) (Err L4) (λ h. (at_most n 9223372036854775807 h, tt)) tt
 
 integer_sized : (radix : ℕ) (digits : List ℕ) → SenseSized (integer radix digits)
-integer_sized radix digits = choose_sense (is_between 2 36 radix && are_digits radix digits) (bounded (number_in radix digits)) (Err L5) (λ h. bounded_sized (number_in radix digits)) tt
+integer_sized radix digits = choose_sense (is_between 2 36 radix && are_digits radix digits) (integer_kind (number_in radix digits)) (Err L5) (λ h. bounded_sized (number_in radix digits)) tt
 
 number_by_sized : (digits rest : List ℕ) → FoundSized (number_by digits rest)
-number_by_sized digits [] = choose_sense (nat_le (length digits) 65535) (bounded (number_in 10 digits)) (Err L7) (λ h. bounded_sized (number_in 10 digits)) tt
+number_by_sized digits [] = choose_sense (nat_le (length digits) 65535) (integer_kind (number_in 10 digits)) (Err L7) (λ h. bounded_sized (number_in 10 digits)) tt
 number_by_sized digits (c ∷ rest) =
     choose_found (is_radix_mark c && list_all is_alphanumeric rest) (Some (sized (digits ++ c ∷ rest) (integer (number_in 10 digits) rest))) (cond (is_real_mark c && is_nothing rest) (Some (Err L6)) None)
     (choose_sense (nat_le (length (digits ++ c ∷ rest)) 65535) (integer (number_in 10 digits) rest) (Err L7) (λ h. integer_sized (number_in 10 digits) rest) tt)
@@ -79,7 +79,7 @@ number_sized : (bytes : List ℕ) → FoundSized (number bytes)
 unfolding number
 number_sized bytes = number_by_sized (take (prefix_len is_digit bytes) bytes) (drop (prefix_len is_digit bytes) bytes)
 
-dotted_sized : (rest : List ℕ) → FoundSized (dotted rest)
+dotted_sized : (rest : List ℕ) → FoundSized (dot_number rest)
 dotted_sized [] = (tt, tt)
 dotted_sized (b ∷ []) = choose_found (is_digit b) (Some (Err L6)) None tt tt
 dotted_sized (b ∷ c ∷ rest) = tt
@@ -139,9 +139,9 @@ spelled_sized : (text : List ℕ) → FoundSized (spelled text)
 unfolding spelled
 spelled_sized [] = tt
 spelled_sized (b ∷ rest) =
-    choose_found_so (begins_identifier b) (name b rest) (cond (is_digit b) (number (b ∷ rest)) (cond (b == 46) (dotted rest) (mark b rest))) (name_sized b rest)
-    (choose_found (is_digit b) (number (b ∷ rest)) (cond (b == 46) (dotted rest) (mark b rest)) (number_sized (b ∷ rest))
-    (choose_found (b == 46) (dotted rest) (mark b rest) (dotted_sized rest) (rows_sized (marks_of b) (b ∷ rest) (marks_are b))))
+    choose_found_so (begins_identifier b) (name b rest) (cond (is_digit b) (number (b ∷ rest)) (cond (b == 46) (dot_number rest) (mark b rest))) (name_sized b rest)
+    (choose_found (is_digit b) (number (b ∷ rest)) (cond (b == 46) (dot_number rest) (mark b rest)) (number_sized (b ∷ rest))
+    (choose_found (b == 46) (dot_number rest) (mark b rest) (dotted_sized rest) (rows_sized (marks_of b) (b ∷ rest) (marks_are b))))
 
 -- a token is within its bounds, is formed as the scanner forms tokens, and has a spelling
 pub record IsSound (kind : Kind) : Type 0 where
@@ -168,7 +168,7 @@ abbrev FirstSound : Result (Kind × ℕ) Rule → Type 0
 FirstSound (Ok first) = IsSound first.0
 FirstSound (Err rule) = IsScanRule rule
 
-judged_sound : (found : Option (Result Kind Rule × ℕ)) → LongestSound found → FirstSound (judged found)
+judged_sound : (found : Option (Result Kind Rule × ℕ)) → LongestSound found → FirstSound (front_token found)
 judged_sound None h = tt
 judged_sound (Some (Ok kind, count)) h = h
 judged_sound (Some (Err rule, count)) h = h
@@ -225,7 +225,7 @@ bytes_sound later h line (Inside literal) (suc taken) (b ∷ rest) = bytes_sound
 bytes_sound later h line (Between is_first) zero (b ∷ rest) =
     choose_scan (is_space b) _ _ (λ e. bytes_sound later h line (Between is_first) zero rest)
     (choose_scan (begins_comment b) _ _ (λ e. h None)
-    (choose_scan (is_quote b) _ _ (λ e. bytes_sound later h line (Inside (opened line is_first b)) zero rest)
+    (choose_scan (is_quote b) _ _ (λ e. bytes_sound later h line (Inside (open_literal line is_first b)) zero rest)
     (token_sound line is_first (first_of (b ∷ rest)) (λ count. bytes_from later line (Between false) (count - 1) rest) (first_sound (b ∷ rest)) (λ count. bytes_sound later h line (Between false) (count - 1) rest))))
 bytes_sound later h line (Inside literal) zero (b ∷ rest) =
     choose_scan (b == literal.quote) _ _ (λ e. closed_sound literal (bytes_from later line (Between false) zero rest) (bytes_sound later h line (Between false) zero rest))
@@ -257,7 +257,7 @@ rule_of : Outcome → Rule → Rule
 rule_of (Scanned tokens) other = other
 rule_of (Fault rule file line) other = rule
 
-fault_of : (scan : Scan) (rule : Rule) (file line : ℕ) → ScanSound scan → finished scan ≡ Fault rule file line → IsScanRule rule
+fault_of : (scan : Scan) (rule : Rule) (file line : ℕ) → ScanSound scan → finish_scan scan ≡ Fault rule file line → IsScanRule rule
 unfolding rule_of
 fault_of (Found pieces) rule file line h e = absurd (cc)
 fault_of (Broken found l f) rule file line h e = subst IsScanRule (ap (λ outcome. rule_of outcome rule) e) h
@@ -288,7 +288,7 @@ tokens_in : Outcome → List Token
 tokens_in (Scanned tokens) = tokens
 tokens_in (Fault rule file line) = []
 
-scanned_of : (scan : Scan) (tokens : List Token) → ScanSound scan → finished scan ≡ Scanned tokens → TokensSound tokens
+scanned_of : (scan : Scan) (tokens : List Token) → ScanSound scan → finish_scan scan ≡ Scanned tokens → TokensSound tokens
 unfolding tokens_in
 scanned_of (Found pieces) tokens h e = subst TokensSound (ap tokens_in e) (semicolons_sound pieces h)
 scanned_of (Broken rule line file) tokens h e = absurd (cc)
@@ -434,7 +434,7 @@ bytes_cost counts later n h line (Inside literal) (suc taken) (b ∷ rest) = ome
 bytes_cost counts later n h line (Between is_first) zero (b ∷ rest) =
     choose_cost counts (is_space b) _ _ _ (omega (arith, bytes_cost counts later n h line (Between is_first) zero rest))
     (choose_cost counts (begins_comment b) _ _ _ (omega (arith, h counts None))
-    (choose_cost counts (is_quote b) _ _ _ (omega (arith, bytes_cost counts later n h line (Inside (opened line is_first b)) zero rest))
+    (choose_cost counts (is_quote b) _ _ _ (omega (arith, bytes_cost counts later n h line (Inside (open_literal line is_first b)) zero rest))
     (let each : (count : ℕ) → cost true (bytes_from later line (Between false) (count - 1) rest) ≤ length rest + n = λ count. omega (arith, bytes_cost true later n h line (Between false) (count - 1) rest) in
     omega (arith, token_cost counts line is_first (first_of (b ∷ rest)) (λ count. bytes_from later line (Between false) (count - 1) rest) (length rest + n) each))))
 bytes_cost counts later n h line (Inside literal) zero (b ∷ rest) =
@@ -474,7 +474,7 @@ all_cost [] = omega arith
 all_cost (line ∷ lines) =
     omega (arith, ended_joined line lines, line_cost false (λ begun. lines_from lines begun) (ended_len lines) (λ counts begun. lines_cost lines counts begun) line None)
 
-count_of : (scan : Scan) (tokens : List Token) (n : ℕ) → cost false scan ≤ n → finished scan ≡ Scanned tokens → length tokens ≤ n
+count_of : (scan : Scan) (tokens : List Token) (n : ℕ) → cost false scan ≤ n → finish_scan scan ≡ Scanned tokens → length tokens ≤ n
 unfolding tokens_in
 count_of (Found pieces) tokens n h e = omega (arith, semicolons_price pieces, ap (λ outcome. length (tokens_in outcome)) e)
 count_of (Broken rule line file) tokens n h e = absurd (cc)

@@ -22,10 +22,10 @@ abbrev pub name : ℕ → List ℕ → Option (Result Kind Rule)
 name b rest = if list_all continues_identifier rest then Some (sized (b ∷ rest) (Ok (name_of (b ∷ rest)))) else None
 
 -- a dot, which with a digit behind it begins a number that is not whole
-abbrev pub dotted : List ℕ → Option (Result Kind Rule)
-dotted [] = Some (Ok (Operator Dot))
-dotted (b ∷ []) = if is_digit b then Some (Err L6) else None
-dotted (b ∷ c ∷ rest) = None
+abbrev pub dot_number : List ℕ → Option (Result Kind Rule)
+dot_number [] = Some (Ok (Operator Dot))
+dot_number (b ∷ []) = if is_digit b then Some (Err L6) else None
+dot_number (b ∷ c ∷ rest) = None
 
 abbrev pub mark : ℕ → List ℕ → Option (Result Kind Rule)
 mark b rest = option_map (λ kind. Ok kind) (lookup_text (marks_of b) (b ∷ rest))
@@ -35,7 +35,7 @@ unfoldable pub spelled : List ℕ → Option (Result Kind Rule)
 spelled [] = None
 spelled (b ∷ rest) =
     if begins_identifier b then name b rest
-    else (if is_digit b then number (b ∷ rest) else (if b == 46 then dotted rest else mark b rest))
+    else (if is_digit b then number (b ∷ rest) else (if b == 46 then dot_number rest else mark b rest))
 
 abbrev pub longer : Option (Result Kind Rule) → ℕ → Option (Result Kind Rule × ℕ) → Option (Result Kind Rule × ℕ)
 longer (Some sense) count shorter = Some (sense, count)
@@ -47,14 +47,14 @@ longest sense zero bytes = None
 longest sense (suc n) bytes = longer (sense (take (suc n) bytes)) (suc n) (longest sense n bytes)
 
 -- where no front is, the first byte begins no token
-abbrev pub judged : Option (Result Kind Rule × ℕ) → Result (Kind × ℕ) Rule
-judged None = Err L1
-judged (Some (Ok kind, count)) = Ok (kind, count)
-judged (Some (Err rule, count)) = Err rule
+abbrev pub front_token : Option (Result Kind Rule × ℕ) → Result (Kind × ℕ) Rule
+front_token None = Err L1
+front_token (Some (Ok kind, count)) = Ok (kind, count)
+front_token (Some (Err rule, count)) = Err rule
 
 -- the token at the front of the bytes, the longest that fits, with the number of its bytes
 unfoldable pub first_of : List ℕ → Result (Kind × ℕ) Rule
-first_of bytes = judged (longest spelled (length bytes) bytes)
+first_of bytes = front_token (longest spelled (length bytes) bytes)
 
 -- All tokens
 
@@ -77,11 +77,11 @@ token_then line is_first (Ok first) later = before (piece_on line is_first first
 token_then line is_first (Err rule) later = Broken rule line.number line.file
 
 -- a literal that begins with a quote on a line
-abbrev pub opened : SourceLine → Bool → ℕ → Literal
-opened line is_first quote = record { quote = quote; bytes = []; line = line.number; file = line.file; is_first = is_first }
+abbrev pub open_literal : SourceLine → Bool → ℕ → Literal
+open_literal line is_first quote = record { quote = quote; bytes = []; line = line.number; file = line.file; is_first = is_first }
 
-abbrev pub unclosed : Literal → Scan
-unclosed literal = Broken L2 literal.line literal.file
+abbrev pub unclosed_literal : Literal → Scan
+unclosed_literal literal = Broken L2 literal.line literal.file
 
 abbrev pub literal_piece : Literal → Piece
 literal_piece literal = record { token = record { kind = literal_kind literal.quote literal.bytes; line = literal.line; file = literal.file }; is_first = literal.is_first }
@@ -96,7 +96,7 @@ escape_found line None later = Broken L3 line.number line.file
 escape_found line (Some found) later = later found.0 found.1
 
 abbrev pub escape_then : SourceLine → Literal → List ℕ → (ℕ → ℕ → Scan) → Scan
-escape_then line literal [] later = unclosed literal
+escape_then line literal [] later = unclosed_literal literal
 escape_then line literal (b ∷ rest) later = escape_found line (escape_of (b ∷ rest)) later
 
 -- what comes next: a token, which is the first on its line or not, or more of a literal
@@ -108,12 +108,12 @@ pub data State : Type 0 where
 -- literal goes on over the line's end where its last byte is a `_` of its own.
 unfoldable pub bytes_from : (Option Literal → Scan) → SourceLine → State → ℕ → List ℕ → Scan
 bytes_from later line (Between is_first) taken [] = later None
-bytes_from later line (Inside literal) taken [] = unclosed literal
+bytes_from later line (Inside literal) taken [] = unclosed_literal literal
 bytes_from later line state (suc taken) (b ∷ rest) = bytes_from later line state taken rest
 bytes_from later line (Between is_first) zero (b ∷ rest) =
     if is_space b then bytes_from later line (Between is_first) zero rest
     else (if begins_comment b then later None
-    else (if is_quote b then bytes_from later line (Inside (opened line is_first b)) zero rest
+    else (if is_quote b then bytes_from later line (Inside (open_literal line is_first b)) zero rest
     else token_then line is_first (first_of (b ∷ rest)) (λ count. bytes_from later line (Between false) (count - 1) rest)))
 bytes_from later line (Inside literal) zero (b ∷ rest) =
     if b == literal.quote then closed_then literal (bytes_from later line (Between false) zero rest)
@@ -131,7 +131,7 @@ line_from later line (Some literal) = bytes_from later line (Inside literal) zer
 
 unfoldable pub lines_from : List SourceLine → Option Literal → Scan
 lines_from [] None = Found []
-lines_from [] (Some literal) = unclosed literal
+lines_from [] (Some literal) = unclosed_literal literal
 lines_from (line ∷ lines) begun = line_from (λ literal. lines_from lines literal) line begun
 
 -- the tokens with their semicolons, or the first fault: its rule, file and line
@@ -139,9 +139,9 @@ pub data Outcome : Type 0 where
   Scanned : List Token → Outcome
   Fault : Rule → (file line : ℕ) → Outcome
 
-abbrev pub finished : Scan → Outcome
-finished (Found pieces) = Scanned (with_semicolons pieces)
-finished (Broken rule line file) = Fault rule file line
+abbrev pub finish_scan : Scan → Outcome
+finish_scan (Found pieces) = Scanned (with_semicolons pieces)
+finish_scan (Broken rule line file) = Fault rule file line
 
 unfoldable pub tokens_of : List SourceLine → Outcome
-tokens_of lines = finished (lines_from lines None)
+tokens_of lines = finish_scan (lines_from lines None)

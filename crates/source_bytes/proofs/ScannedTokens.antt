@@ -15,10 +15,10 @@ use Rattle.icn_tree.specs.declared.token.Word.{Word}
 use Rattle.icn_tree.specs.ByteSets.{members_of}
 use Rattle.icn_tree.specs.Characters.{is_space, is_blank, begins_comment, begins_identifier, is_digit, continues_identifier, is_alphanumeric, is_quote, is_between}
 use Rattle.icn_tree.specs.Literals.{Literal, with_byte, escape_of}
-use Rattle.icn_tree.specs.Numbers.{is_nothing, is_radix_mark, is_real_mark, are_digits, number_in, sized, bounded, integer, number_by, number}
+use Rattle.icn_tree.specs.Numbers.{is_nothing, is_radix_mark, is_real_mark, are_digits, number_in, sized, integer_kind, integer, number_by, number}
 use Rattle.icn_tree.specs.Semicolons.{Piece, is_ender, is_beginner, semicolon_at, with_semicolons}
 use Rattle.icn_tree.specs.Spellings.{lookup_text, word_of, name_of, marks_of}
-use Rattle.icn_tree.specs.Tokens.{name, dotted, mark, spelled, longer, longest, judged, first_of, Scan, Found, Broken, before, piece_on, token_then, opened, literal_piece, closed_then, escape_found, escape_then, Between, Inside, bytes_from, line_from, lines_from, after_blanks, Outcome, Scanned, Fault, finished, tokens_of}
+use Rattle.icn_tree.specs.Tokens.{name, dot_number, mark, spelled, longer, longest, front_token, first_of, Scan, Found, Broken, before, piece_on, token_then, open_literal, literal_piece, closed_then, escape_found, escape_then, Between, Inside, bytes_from, line_from, lines_from, after_blanks, Outcome, Scanned, Fault, finish_scan, tokens_of}
 use Rattle.icn_tree.proofs.Members.{members_ascend}
 use Rattle.icn_tree.proofs.Scanning.{choose_rows}
 use Rattle.source_bytes.specs.LineBytes.{line_is_of_bytes, lines_are_of_bytes}
@@ -55,16 +55,16 @@ name_found b rest h = found_chosen (list_all continues_identifier rest)
     (sense_chosen (nat_le (length (b ∷ rest)) 65535) (Ok (name_of (b ∷ rest))) (Err L7)
     (word_sense (word_of (b ∷ rest)) (b ∷ rest) h) tt) tt
 
-bounded_sense : (n : ℕ) → IsSense (bounded n)
+bounded_sense : (n : ℕ) → IsSense (integer_kind n)
 bounded_sense n = sense_chosen (nat_le n 9223372036854775807) (Ok (Integer (pos n))) (Err L4) refl tt
 
 integer_sense : (radix : ℕ) (digits : List ℕ) → IsSense (integer radix digits)
 integer_sense radix digits = sense_chosen (is_between 2 36 radix && are_digits radix digits)
-    (bounded (number_in radix digits)) (Err L5)
+    (integer_kind (number_in radix digits)) (Err L5)
     (bounded_sense (number_in radix digits)) tt
 
 number_found_by : (digits rest : List ℕ) → IsFound (number_by digits rest)
-number_found_by digits [] = sense_chosen (nat_le (length digits) 65535) (bounded (number_in 10 digits)) (Err L7)
+number_found_by digits [] = sense_chosen (nat_le (length digits) 65535) (integer_kind (number_in 10 digits)) (Err L7)
     (bounded_sense (number_in 10 digits)) tt
 number_found_by digits (c ∷ rest) =
     found_chosen (is_radix_mark c && list_all is_alphanumeric rest)
@@ -79,7 +79,7 @@ unfolding number
 number_found bytes = number_found_by (take (prefix_len is_digit bytes) bytes)
     (drop (prefix_len is_digit bytes) bytes)
 
-dotted_found : (rest : List ℕ) → IsFound (dotted rest)
+dotted_found : (rest : List ℕ) → IsFound (dot_number rest)
 dotted_found [] = refl
 dotted_found (b ∷ []) = found_chosen (is_digit b) (Some (Err L6)) None tt tt
 dotted_found (b ∷ c ∷ rest) = tt
@@ -125,11 +125,11 @@ unfolding spelled
 spelled_found [] h = tt
 spelled_found (b ∷ rest) h =
     found_chosen (begins_identifier b) (name b rest)
-    (cond (is_digit b) (number (b ∷ rest)) (cond (b == 46) (dotted rest) (mark b rest)))
+    (cond (is_digit b) (number (b ∷ rest)) (cond (b == 46) (dot_number rest) (mark b rest)))
     (name_found b rest h)
-    (found_chosen (is_digit b) (number (b ∷ rest)) (cond (b == 46) (dotted rest) (mark b rest))
+    (found_chosen (is_digit b) (number (b ∷ rest)) (cond (b == 46) (dot_number rest) (mark b rest))
     (number_found (b ∷ rest))
-    (found_chosen (b == 46) (dotted rest) (mark b rest) (dotted_found rest)
+    (found_chosen (b == 46) (dot_number rest) (mark b rest) (dotted_found rest)
     (rows_found (marks_of b) (b ∷ rest) (marks_are b))))
 
 abbrev IsLongest : Option (Result Kind Rule × ℕ) → Type 0
@@ -153,7 +153,7 @@ abbrev IsFirst : Result (Kind × ℕ) Rule → Type 0
 IsFirst (Ok first) = kind_is_of_bytes first.0 ≡ true
 IsFirst (Err rule) = Unit {0}
 
-judged_first : (found : Option (Result Kind Rule × ℕ)) → IsLongest found → IsFirst (judged found)
+judged_first : (found : Option (Result Kind Rule × ℕ)) → IsLongest found → IsFirst (front_token found)
 judged_first None h = tt
 judged_first (Some (Ok kind, count)) h = h
 judged_first (Some (Err rule, count)) h = tt
@@ -237,7 +237,7 @@ module _ (later : Option Literal → Scan)
     between_scan is_first zero (b ∷ rest) h =
         scan_chosen (is_space b) _ _ (between_scan is_first zero rest (other_bytes h))
         (scan_chosen (begins_comment b) _ _ (known None tt)
-        (scan_chosen (is_quote b) _ _ (inside_scan (opened line is_first b) zero rest no_bytes (other_bytes h))
+        (scan_chosen (is_quote b) _ _ (inside_scan (open_literal line is_first b) zero rest no_bytes (other_bytes h))
         (token_scan line is_first (first_of (b ∷ rest))
         (λ count. bytes_from later line (Between false) (count - 1) rest)
         (first_found (b ∷ rest) h) (λ count. between_scan false (count - 1) rest (other_bytes h)))))
@@ -296,7 +296,7 @@ tokens_in : Outcome → List Token
 tokens_in (Scanned tokens) = tokens
 tokens_in (Fault rule file line) = []
 
-scanned_are : (scan : Scan) (tokens : List Token) → IsScan scan → finished scan ≡ Scanned tokens
+scanned_are : (scan : Scan) (tokens : List Token) → IsScan scan → finish_scan scan ≡ Scanned tokens
     → tokens_are_of_bytes tokens ≡ true
 unfolding tokens_in
 scanned_are (Found pieces) tokens h e = subst (λ (found : List Token). tokens_are_of_bytes found ≡ true)

@@ -1,5 +1,5 @@
 use Rattle.icn_text.proofs.Deciding.{no_integer, read, refused}
-use Rattle.icn_text.proofs.Written.{read_is, unwritten}
+use Rattle.icn_text.proofs.WrittenIntegers.{read_is, unwritten}
 use Rattle.icn_text.proofs.integer.read_integer.Goals as goal
 use Rattle.std.proofs.Common.{sym}
 

@@ -1,4 +1,4 @@
-use Rattle.icn_text.proofs.Written.{decimal_writes, decimal_found}
+use Rattle.icn_text.proofs.WrittenIntegers.{decimal_writes, decimal_found}
 use Rattle.icn_text.proofs.laws.decimal_read_back.Goals as goal
 
 pub returns-clause-writes : goal.returns-clause-writes

@@ -1,4 +1,4 @@
-use Rattle.icn_text.proofs.Written.{written, so_written}
+use Rattle.icn_text.proofs.WrittenIntegers.{written, so_written}
 use Rattle.icn_text.proofs.laws.found_integer.Goals as goal
 
 pub returns-clause-found : goal.returns-clause-found
