@@ -4,7 +4,7 @@ use Rattle.std.proofs.lemmas.Option.{none-some}
 use Rattle.icn_tree.specs.declared.rule.Rule.{Rule}
 use Rattle.icn_tree.specs.declared.tree.Name.{Name}
 use Rattle.icn_decls.specs.Contexts.{Fault}
-use Rattle.icn_decls.specs.Faults.{with_names, repeated, all_repeated}
+use Rattle.icn_decls.specs.Faults.{with_names, fault_if_met, all_repeated}
 use Rattle.icn_tree.specs.NameSets.{NameTest, with_name}
 use Rattle.icn_decls.specs.declared.fault.ContextFault.{ContextFault}
 use Rattle.icn_decls.specs.declared.fault.ContextFault.TheVariants.{Broken as BrokenFault, NoMemory}
@@ -28,8 +28,8 @@ first_kept (y ∷ a) b x e = sym e
 pub all_repeated-append : (rule : Rule) (met : NameTest) (xs ys : List Name) → all_repeated rule met (xs ++ ys) ≡ all_repeated rule met xs ++ all_repeated rule (with_names met xs) ys
 all_repeated-append rule met [] ys = refl
 all_repeated-append rule met (x ∷ xs) ys =
-    ap (λ later. repeated rule met x ++ later) (all_repeated-append rule (with_name met x.text) xs ys)
-    ∙ sym (append_assoc (repeated rule met x) (all_repeated rule (with_name met x.text) xs) (all_repeated rule (with_names (with_name met x.text) xs) ys))
+    ap (λ later. fault_if_met rule met x ++ later) (all_repeated-append rule (with_name met x.text) xs ys)
+    ∙ sym (append_assoc (fault_if_met rule met x) (all_repeated rule (with_name met x.text) xs) (all_repeated rule (with_names (with_name met x.text) xs) ys))
 
 -- a check of lists that begin alike
 pub checks_as : (a b : List Fault) (result : Result (Unit {0}) ContextFault) → first_of a ≡ first_of b → Checks a result → Checks b result

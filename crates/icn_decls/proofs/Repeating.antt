@@ -8,15 +8,15 @@ use Rattle.icn_tree.specs.declared.tree.Name.{Name}
 use Rattle.icn_decls.specs.Contexts.{Fault}
 use Rattle.icn_decls.specs.Faults.{all_repeated}
 use Rattle.icn_tree.specs.NameSets.{NameTest, none_met, with_name}
-use Rattle.icn_decls.specs.Repeats.{Unmet, Once}
+use Rattle.icn_decls.specs.Repeats.{NoneMet, Once}
 use Rattle.icn_decls.specs.Views.{first_of}
 
-with_unmet : (met : NameTest) (text : List ℕ) (names : List Name) → Unmet (bytes_eq text) names → Unmet met names → Unmet (with_name met text) names
+with_unmet : (met : NameTest) (text : List ℕ) (names : List Name) → NoneMet (bytes_eq text) names → NoneMet met names → NoneMet (with_name met text) names
 with_unmet met text [] a u = tt
 with_unmet met text (name ∷ names) (e, a) (f, u) = (rw e f, with_unmet met text names a u)
 
 -- none is told of
-untold : (rule : Rule) (met : NameTest) (names : List Name) → Unmet met names → Once names → all_repeated rule met names ≡ []
+untold : (rule : Rule) (met : NameTest) (names : List Name) → NoneMet met names → Once names → all_repeated rule met names ≡ []
 untold rule met [] u o = refl
 untold rule met (name ∷ names) (e, u) (a, o) = rw e (untold rule (with_name met name.text) names (with_unmet met name.text names a u) o)
 
@@ -24,7 +24,7 @@ both_false : (b c : Bool) → (if b then true else c) ≡ false → (b ≡ false
 both_false true c h = absurd (false≢true (sym h))
 both_false false c h = (refl, h)
 
-unmet_with : (met : NameTest) (text : List ℕ) (names : List Name) → Unmet (with_name met text) names → Unmet (bytes_eq text) names × Unmet met names
+unmet_with : (met : NameTest) (text : List ℕ) (names : List Name) → NoneMet (with_name met text) names → NoneMet (bytes_eq text) names × NoneMet met names
 unmet_with met text [] h = (tt, tt)
 unmet_with met text (name ∷ names) (h, hs) =
     let p = both_false (bytes_eq text name.text) (met name.text) h in
@@ -36,7 +36,7 @@ nothing_told true fault rest h = absurd (none-some fault (sym (ap first_of h)))
 nothing_told false fault rest h = (refl, h)
 
 -- names of which none is told
-once : (rule : Rule) (met : NameTest) (names : List Name) → all_repeated rule met names ≡ [] → Unmet met names × Once names
+once : (rule : Rule) (met : NameTest) (names : List Name) → all_repeated rule met names ≡ [] → NoneMet met names × Once names
 once rule met [] h = (tt, tt)
 once rule met (name ∷ names) h =
     let p = nothing_told (met name.text) (record { rule = rule; place = name.place }) (all_repeated rule (with_name met name.text) names) h in
@@ -44,7 +44,7 @@ once rule met (name ∷ names) h =
     let r = unmet_with met name.text names q.0 in
     ((p.0, r.1), (r.0, q.1))
 
-unmet_none : (names : List Name) → Unmet none_met names
+unmet_none : (names : List Name) → NoneMet none_met names
 unmet_none [] = tt
 unmet_none (name ∷ names) = (refl, unmet_none names)
 

@@ -20,20 +20,20 @@ abbrev pub outermost : Context
 outermost = record { in_create = false; loops = [] }
 
 -- what a co-expression evaluates
-abbrev pub created : Context
-created = record { in_create = true; loops = [] }
+abbrev pub create_context : Context
+create_context = record { in_create = true; loops = [] }
 
 -- in one more loop, where `next` may stand or not
-abbrev pub looped : Bool → Context → Context
-looped next context = record { in_create = context.in_create; loops = next ∷ context.loops }
+abbrev pub enter_loop : Bool → Context → Context
+enter_loop next context = record { in_create = context.in_create; loops = next ∷ context.loops }
 
 abbrev pub others : List Bool → List Bool
 others [] = []
 others (loop ∷ loops) = loops
 
 -- outside the innermost loop
-abbrev pub left : Context → Context
-left context = record { in_create = context.in_create; loops = others context.loops }
+abbrev pub leave_loop : Context → Context
+leave_loop context = record { in_create = context.in_create; loops = others context.loops }
 
 abbrev pub fault : Rule → Place → List Fault
 fault rule place = record { rule = rule; place = place } ∷ []

@@ -9,7 +9,7 @@ use Rattle.icn_tree.specs.declared.tree.Name.{Name}
 use Rattle.icn_tree.specs.declared.tree.Place.{Place}
 use Rattle.icn_tree.specs.Trees.{Tree, MaybeTree, Trees, Clause, Clauses, Initial, NoInitial, Initially, Procedure, Declaration, Global, Link, Invocable, Record, ProcedureOf, Empty, Constant, Identifier, Keyword, Parentheses, Listing, Compound, Call, CoCall, Subscript, Section, Field, Prefix, Not, Binary, To, If, Case, Loop, Repeat, Create, Next, Fail, Break, Return, Suspend, Absent, Present, NoTrees, More, Default, Guarded, NoClauses, MoreClauses}
 use Rattle.icn_tree.specs.NameSets.{NameTest, none_met, with_name}
-use Rattle.icn_decls.specs.Contexts.{Fault, Context, outermost, created, looped, left, fault, result_faults, break_faults, next_faults}
+use Rattle.icn_decls.specs.Contexts.{Fault, Context, outermost, create_context, enter_loop, leave_loop, fault, result_faults, break_faults, next_faults}
 
 -- `next` may stand in the control expression of `while` and `until`, and not in that of `every`
 abbrev pub next_in_control : LoopKind → Bool
@@ -31,7 +31,7 @@ abbrev mutual
   faults context (Listing place elements) = all_faults context elements
   faults context (Compound place exprs) = all_faults context exprs
   faults context (Call place callee arguments) = faults context callee ++ all_faults context arguments
-  faults context (CoCall place callee arguments) = faults context callee ++ all_faults created arguments
+  faults context (CoCall place callee arguments) = faults context callee ++ all_faults create_context arguments
   faults context (Subscript place subject subscripts) = faults context subject ++ all_faults context subscripts
   faults context (Section place kind subject from to) = faults context subject ++ (faults context from ++ faults context to)
   faults context (Field place subject name) = faults context subject
@@ -41,12 +41,12 @@ abbrev mutual
   faults context (To place from to by) = faults context from ++ (faults context to ++ maybe_faults context by)
   faults context (If place condition first second) = faults context condition ++ (faults context first ++ maybe_faults context second)
   faults context (Case place subject clauses) = faults context subject ++ clauses_faults context false clauses
-  faults context (Loop place kind control body) = faults (looped (next_in_control kind) context) control ++ maybe_faults (looped true context) body
-  faults context (Repeat place body) = faults (looped true context) body
-  faults context (Create place body) = faults created body
+  faults context (Loop place kind control body) = faults (enter_loop (next_in_control kind) context) control ++ maybe_faults (enter_loop true context) body
+  faults context (Repeat place body) = faults (enter_loop true context) body
+  faults context (Create place body) = faults create_context body
   faults context (Next place) = next_faults context place
   faults context (Fail place) = result_faults context place
-  faults context (Break place value) = break_faults context place ++ faults (left context) value
+  faults context (Break place value) = break_faults context place ++ faults (leave_loop context) value
   faults context (Return place value) = result_faults context place ++ faults context value
   faults context (Suspend place value body) = result_faults context place ++ (faults context value ++ maybe_faults context body)
 
@@ -78,13 +78,13 @@ with_names met [] = met
 with_names met (name ∷ names) = with_names (with_name met name.text) names
 
 -- a name that was met
-abbrev pub repeated : Rule → NameTest → Name → List Fault
-repeated rule met name = if met name.text then fault rule name.place else []
+abbrev pub fault_if_met : Rule → NameTest → Name → List Fault
+fault_if_met rule met name = if met name.text then fault rule name.place else []
 
 -- names that were met, or that stand among those before them
 abbrev pub all_repeated : Rule → NameTest → List Name → List Fault
 all_repeated rule met [] = []
-all_repeated rule met (name ∷ names) = repeated rule met name ++ all_repeated rule (with_name met name.text) names
+all_repeated rule met (name ∷ names) = fault_if_met rule met name ++ all_repeated rule (with_name met name.text) names
 
 -- more than 65535 names at once
 abbrev pub too_many : ℕ → Name → List Fault
@@ -99,11 +99,11 @@ initial_faults NoInitial = []
 initial_faults (Initially place value) = faults outermost value
 
 abbrev pub procedure_faults : NameTest → Procedure → List Fault
-procedure_faults met procedure = too_many (length (declared_names procedure)) procedure.name ++ (repeated C8 met procedure.name
+procedure_faults met procedure = too_many (length (declared_names procedure)) procedure.name ++ (fault_if_met C8 met procedure.name
     ++ (all_repeated C1 none_met (declared_names procedure) ++ (initial_faults procedure.initial ++ all_faults outermost procedure.body)))
 
 abbrev pub record_faults : NameTest → Name → List Name → List Fault
-record_faults met name fields = too_many (length fields) name ++ (repeated C8 met name ++ all_repeated C6 none_met fields)
+record_faults met name fields = too_many (length fields) name ++ (fault_if_met C8 met name ++ all_repeated C6 none_met fields)
 
 -- the names of procedures and records, behind a declaration
 abbrev pub names_after : NameTest → Declaration → NameTest

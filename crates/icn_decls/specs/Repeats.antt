@@ -5,11 +5,11 @@ use Rattle.icn_tree.specs.declared.tree.Name.{Name}
 use Rattle.icn_tree.specs.NameSets.{NameTest}
 
 -- none of them was met
-abbrev pub Unmet : NameTest → List Name → Type 0
-Unmet met [] = Unit {0}
-Unmet met (name ∷ names) = (met name.text ≡ false) × Unmet met names
+abbrev pub NoneMet : NameTest → List Name → Type 0
+NoneMet met [] = Unit {0}
+NoneMet met (name ∷ names) = (met name.text ≡ false) × NoneMet met names
 
 -- the text of each is none of those behind it
 abbrev pub Once : List Name → Type 0
 Once [] = Unit {0}
-Once (name ∷ names) = Unmet (bytes_eq name.text) names × Once names
+Once (name ∷ names) = NoneMet (bytes_eq name.text) names × Once names

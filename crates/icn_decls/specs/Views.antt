@@ -31,6 +31,6 @@ Checks faults (Err (BrokenFault rule file line)) = Some (record { rule = rule; p
 Checks faults (Err NoMemory) = Unit {0}
 
 -- the same of a check that hands something on
-abbrev pub done : {T : Type 0} → Result T ContextFault → Result (Unit {0}) ContextFault
-done (Ok taken) = Ok tt
-done (Err fault) = Err fault
+abbrev pub check_result : {T : Type 0} → Result T ContextFault → Result (Unit {0}) ContextFault
+check_result (Ok taken) = Ok tt
+check_result (Err fault) = Err fault

@@ -3,7 +3,7 @@ ghost use Rattle.std.specs.Prelude.{◌≡◌, [], IfOk};
 ghost use Rattle.icn_tree.specs.TreeOf.{declarations_of};
 ghost use Rattle.icn_decls.specs.Faults.{context_faults};
 ghost use Rattle.icn_decls.specs.Spelled.{IsSpelled};
-ghost use Rattle.icn_decls.specs.Views.{Checks, done};
+ghost use Rattle.icn_decls.specs.Views.{Checks, check_result};
 
 use crate::decl::check_declarations;
 use crate::fault::ContextFault;
@@ -38,7 +38,7 @@ impl Checked {
 /// rules' numbers. `NoMemory` where memory ran out.
 pub fn check(alloc: Global, file: File) -> Result<Checked, ContextFault>
     requires spelled { IsSpelled (declarations_of file) }
-    ensures first { Checks (context_faults (declarations_of file)) (done result) }
+    ensures first { Checks (context_faults (declarations_of file)) (check_result result) }
     ensures same { IfOk result (λ checked. checked.text ≡ file) }
 {
     check_declarations(alloc, &file.decls)?;

@@ -1,6 +1,6 @@
 // What stands round a place of a procedure.
 ghost use Rattle.std.specs.Prelude.{◌≡◌, Some};
-ghost use Rattle.icn_decls.specs.Contexts.{result_faults, break_faults, next_faults, left, loopless, outermost, created};
+ghost use Rattle.icn_decls.specs.Contexts.{result_faults, break_faults, next_faults, leave_loop, loopless, outermost, create_context};
 ghost use Rattle.icn_decls.specs.Views.{context_of, first_of, fault_of};
 
 use crate::fault::Broken;
@@ -35,7 +35,7 @@ impl<'a> Context<'a> {
 
     /// What stands round the operand of a `create`.
     pub fn created() -> Self
-        ensures { context_of result ≡ created }
+        ensures { context_of result ≡ create_context }
     {
         Context {
             in_create: true,
@@ -87,7 +87,7 @@ impl<'a> Context<'a> {
 
     /// What stands round the operand of a `break`.
     pub fn left(self) -> Context<'a>
-        ensures { context_of result ≡ left (context_of self.entry) }
+        ensures { context_of result ≡ leave_loop (context_of self.entry) }
     {
         let loops = match self.loops {
             Loops::None => self.loops,

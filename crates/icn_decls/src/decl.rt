@@ -3,7 +3,7 @@ ghost use Rattle.std.specs.Prelude.{◌≡◌, ◌++◌, [], OnOk, length, map, 
 ghost use Rattle.std.specs.List.{flat_map};
 ghost use Rattle.icn_tree.specs.TreeOf.{locals_of, procedure_of, declaration_of};
 ghost use Rattle.icn_decls.specs.Contexts.{fault, outermost};
-ghost use Rattle.icn_decls.specs.Faults.{all_faults, repeated, all_repeated, with_names, declared_names, initial_faults, procedure_faults, record_faults, names_after, declaration_faults, context_faults};
+ghost use Rattle.icn_decls.specs.Faults.{all_faults, fault_if_met, all_repeated, with_names, declared_names, initial_faults, procedure_faults, record_faults, names_after, declaration_faults, context_faults};
 ghost use Rattle.icn_tree.specs.NameSets.{none_met, with_name, has};
 ghost use Rattle.icn_decls.specs.Views.{Checks, fault_of, first_of};
 
@@ -18,7 +18,7 @@ const MOST: usize = 65535;
 
 // The rule that a name breaks which was met, and otherwise meets it.
 fn check_name<'a>(met: &mut NameSet<'a>, name: &'a Name, rule: Rule) -> Result<(), ContextFault>
-    ensures first { Checks (repeated rule (has met.old) name.now) result }
+    ensures first { Checks (fault_if_met rule (has met.old) name.now) result }
     ensures has { OnOk result (has met.new ≡ with_name (has met.old) name.now.text) }
 {
     if met.meet(name.text.as_slice())? {

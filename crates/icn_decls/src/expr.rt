@@ -1,7 +1,7 @@
 // The first context rule that an expression breaks.
 ghost use Rattle.std.specs.Prelude.{◌≡◌, false};
 ghost use Rattle.icn_tree.specs.TreeOf.{tree_of, all_of, clause_of, all_clauses_of};
-ghost use Rattle.icn_decls.specs.Contexts.{looped};
+ghost use Rattle.icn_decls.specs.Contexts.{enter_loop};
 ghost use Rattle.icn_decls.specs.Faults.{faults, all_faults, clauses_faults, clause_faults, is_default, default_faults, next_in_control};
 ghost use Rattle.icn_decls.specs.Views.{context_of, first_of, fault_of};
 
@@ -128,7 +128,7 @@ pub fn check(expr: &Expr, context: Context<'_>) -> Result<(), Broken>
 // The same in one more loop, where `next` may stand or not.
 #[cycle(check)]
 fn check_looped(expr: &Expr, context: Context<'_>, next: bool) -> Result<(), Broken>
-    ensures { fault_of result ≡ first_of (faults (looped next (context_of context.entry)) (tree_of expr.now)) }
+    ensures { fault_of result ≡ first_of (faults (enter_loop next (context_of context.entry)) (tree_of expr.now)) }
 {
     let loops = Loops::Inside(next, context.loops);
     let inside = Context {

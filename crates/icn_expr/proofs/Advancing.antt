@@ -4,7 +4,7 @@ use Rattle.icn_tree.specs.declared.token.Token.{Token}
 use Rattle.icn_tree.specs.Trees.{Tree, Trees, Clauses}
 use Rattle.icn_expr.specs.Automata.{step}
 use Rattle.icn_expr.specs.Capped.{Capped, capped}
-use Rattle.icn_expr.specs.Reading.{left, end_of}
+use Rattle.icn_expr.specs.Reading.{steps_left, end_of}
 use Rattle.icn_expr.specs.Views.{CappedState}
 use Rattle.icn_expr.proofs.Ending.{is_over, step_less, end_steps}
 
@@ -13,5 +13,5 @@ pub same_end : (state next : CappedState) → is_over (Capped Tree) (Capped Tree
 same_end state next going is = ap (end_of capped) is ∙ end_steps (Capped Tree) (Capped Trees) (Capped Clauses) capped state going
 
 -- a step leaves less to do
-pub less_left : (state next : CappedState) → is_over (Capped Tree) (Capped Trees) (Capped Clauses) capped state ≡ false → next ≡ step capped state → left next < left state
-less_left state next going is = subst (λ s. left s < left state) (sym is) (step_less (Capped Tree) (Capped Trees) (Capped Clauses) capped state going)
+pub less_left : (state next : CappedState) → is_over (Capped Tree) (Capped Trees) (Capped Clauses) capped state ≡ false → next ≡ step capped state → steps_left next < steps_left state
+less_left state next going is = subst (λ s. steps_left s < steps_left state) (sym is) (step_less (Capped Tree) (Capped Trees) (Capped Clauses) capped state going)

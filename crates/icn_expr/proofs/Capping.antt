@@ -3,7 +3,7 @@ use Rattle.std.proofs.Common.{◌≡◌, ℕ, zero, suc, ◌+◌, ◌<◌, ◌�
 use Rattle.std.proofs.lemmas.Bool.{leb-false, leb-true, lt-leb, le-leb}
 use Rattle.icn_tree.specs.Trees.{Tree, MaybeTree, Trees, Clause, Clauses, Empty, Constant, Identifier, Keyword, Parentheses, Listing, Compound, Call, CoCall, Subscript, Section, Field, Prefix, Not, Binary, To, If, Case, Loop, Repeat, Create, Next, Fail, Break, Return, Suspend, Absent, Present, NoTrees, More, Default, Guarded, NoClauses, MoreClauses}
 use Rattle.icn_expr.specs.Heights.{height, highest, highest_clause, clause_height}
-use Rattle.icn_expr.specs.Capped.{with_last, with_last_clause, Capped, capped_at, one, two, three, one_if, two_if, joined, joined_three, has_none, capped}
+use Rattle.icn_expr.specs.Capped.{with_last, with_last_clause, Capped, capped_at, one, two, three, one_if, two_if, join_capped, joined_three, has_none, capped}
 use Rattle.icn_expr.proofs.Showing.{Shows}
 
 kept : {A : Type 0} (x : A) (h : ℕ) → nat_le h 2000 ≡ true → capped_at x h ≡ Some (x, h)
@@ -43,9 +43,9 @@ three_law make x y z h k l = by_height h (λ b. capped_at (make x y z) (suc (max
     (λ f. above (make x y z) (suc (max h (max k l))) (omega (arith, leb-false k 2000 f))))
     (λ e. above (make x y z) (suc (max h (max k l))) (omega (arith, leb-false h 2000 e)))
 
-joined_law : {A B D : Type 0} (make : A → B → D) (x : A) (y : B) (h k : ℕ) → capped_at (make x y) (max h k) ≡ joined make (capped_at x h) (capped_at y k)
-joined_law make x y h k = by_height h (λ b. capped_at (make x y) (max h k) ≡ joined make (cond b (Some (x, h)) None) (capped_at y k))
-    (λ e. by_height k (λ c. capped_at (make x y) (max h k) ≡ joined make (Some (x, h)) (cond c (Some (y, k)) None))
+joined_law : {A B D : Type 0} (make : A → B → D) (x : A) (y : B) (h k : ℕ) → capped_at (make x y) (max h k) ≡ join_capped make (capped_at x h) (capped_at y k)
+joined_law make x y h k = by_height h (λ b. capped_at (make x y) (max h k) ≡ join_capped make (cond b (Some (x, h)) None) (capped_at y k))
+    (λ e. by_height k (λ c. capped_at (make x y) (max h k) ≡ join_capped make (Some (x, h)) (cond c (Some (y, k)) None))
     (λ f. kept (make x y) (max h k) (le-leb (max h k) 2000 (omega (arith, leb-true h 2000 e, leb-true k 2000 f))))
     (λ f. above (make x y) (max h k) (omega (arith, leb-false k 2000 f))))
     (λ e. above (make x y) (max h k) (omega (arith, leb-false h 2000 e)))

@@ -32,7 +32,7 @@ use Rattle.icn_tree.proofs.LevelFacts.{edge}
 use Rattle.icn_tree.proofs.Finding.{part_started, started_begins}
 use Rattle.icn_tree.proofs.Expressions.{found as found_tree}
 use Rattle.icn_expr.proofs.Leading.{Leads, Found, FoundList, FoundMore, FoundClause, FoundClauses, FoundMoreClauses, part_read, optional_read, list_found, no_more_found, more_found, default_found, guarded_found, clauses_found, no_more_clauses_found, more_clauses_found}
-use Rattle.icn_expr.proofs.Led.{found_constant, found_identifier, found_keyword, found_parentheses, found_listing, found_compound, found_call, found_co_call, found_subscript, found_section, found_field, found_binary, found_to, found_to_by, found_prefix, found_not, found_if, found_if_else, found_case, found_loop, found_loop_do, found_repeat, found_create, found_next, found_fail, found_break, found_return, found_suspend, found_suspend_do}
+use Rattle.icn_expr.proofs.FormReading.{found_constant, found_identifier, found_keyword, found_parentheses, found_listing, found_compound, found_call, found_co_call, found_subscript, found_section, found_field, found_binary, found_to, found_to_by, found_prefix, found_not, found_if, found_if_else, found_case, found_loop, found_loop_do, found_repeat, found_create, found_next, found_fail, found_break, found_return, found_suspend, found_suspend_do}
 
 found_empty : Found Empty
 found_empty zero frames here after r t fits s longest ends g = absurd (omega (arith, fits))

@@ -7,7 +7,7 @@ use Rattle.icn_tree.specs.Grammar.{Part, Spells}
 use Rattle.icn_expr.proofs.Automaton.{State, Starting, Climbing, Closing, Finished, Broken, run}
 use Rattle.icn_expr.specs.Automata as G
 use Rattle.icn_expr.specs.Automata.{Builds}
-use Rattle.icn_expr.specs.Reading.{left, result, expression_read}
+use Rattle.icn_expr.specs.Reading.{steps_left, result, expression_read}
 use Rattle.icn_expr.proofs.Leading.{Leads, one_more, part_read, optional_read}
 use Rattle.icn_expr.proofs.Complete.{found}
 use Rattle.icn_expr.proofs.Standing.{Ends, ends_alone}
@@ -48,7 +48,7 @@ module _ (V L C : Type 0) (make : Builds V L C) (show : Shows V L C make) where
 
   pub expression_sound : (level : ℕ) (here after : List Token) (value : V) → level ≤ 12 → expression_read make level here ≡ Some (value, after) → IsPart show.tree level value here after
   expression_sound level here after value bound e =
-      let n : ℕ = left {V = V} {L = L} {C = C} (G.Starting level [] here) in
+      let n : ℕ = steps_left {V = V} {L = L} {C = C} (G.Starting level [] here) in
       let f = finished_at (run n (Starting level [] here)) value after (ap result (run_shown V L C make show n (Starting level [] here)) ∙ e) in
       let s = reads_part level here after f.0 n bound f.1 in
       record { tree = f.0; part = s.0; ends = s.1; is = f.2 }

@@ -1,6 +1,6 @@
 pub mod Automaton
 pub mod Leading
-pub mod Led
+pub mod FormReading
 pub mod Complete
 pub mod Standing
 pub mod Sound

@@ -83,7 +83,7 @@ module _ (V L C : Type 0) (make : G.Builds V L C) (show : Shows V L C make) wher
   bracket (CoArguments callee) = G.CoArguments (show.tree callee)
   bracket (Subscripts subject) = G.Subscripts (show.tree subject)
 
-  abbrev holding : Holding → G.Holding V L C
+  abbrev holding : Holding → G.PartialForm V L C
   holding (Elements b done) = G.Elements (bracket b) (show.trees done)
   holding (SectionEnd kind subject from) = G.SectionEnd kind (show.tree subject) (show.tree from)
   holding (PrefixOperand operator) = G.PrefixOperand operator
@@ -192,7 +192,7 @@ module _ (V L C : Type 0) (make : G.Builds V L C) (show : Shows V L C make) wher
   climb_shown level place tree frames [] = refl
   climb_shown level place tree frames (token ∷ tokens) = climb_by_shown (nat_le level (kind_goes_on token.kind)) level place tree token frames tokens
 
-  bracketed_shown : (b : Bracket) (place : Place) (trees : Trees) → show.tree (bracketed b place trees) ≡ G.bracketed make (bracket b) place (show.trees trees)
+  bracketed_shown : (b : Bracket) (place : Place) (trees : Trees) → show.tree (bracketed b place trees) ≡ G.bracket_tree make (bracket b) place (show.trees trees)
   bracketed_shown Round place trees = show.parentheses place trees
   bracketed_shown Square place trees = show.listing place trees
   bracketed_shown Curly place trees = show.compound place trees
@@ -257,10 +257,10 @@ module _ (V L C : Type 0) (make : G.Builds V L C) (show : Shows V L C make) wher
   element_shown : (separated closes : Bool) (b : Bracket) (done : Trees) (level : ℕ) (place : Place) (tree : Tree) (present : Bool) (frames : List Frame) (tokens : List Token)
       → shown (element_by separated closes b done level place tree present frames tokens) ≡ G.element_by make separated closes (bracket b) (show.trees done) level place (show.tree tree) present (frames_ frames) tokens
   element_shown true closes b done level place tree present frames tokens = ap (λ l. G.Starting 0 (G.frame level place (G.Elements (bracket b) l) ∷ frames_ frames) (behind tokens)) (show.with_element done tree)
-  element_shown false true b done level place tree present frames tokens = climbing level place frames (behind tokens) _ _ (bracketed_shown b place (with_last done tree) ∙ ap (G.bracketed make (bracket b) place) (show.with_element done tree))
+  element_shown false true b done level place tree present frames tokens = climbing level place frames (behind tokens) _ _ (bracketed_shown b place (with_last done tree) ∙ ap (G.bracket_tree make (bracket b) place) (show.with_element done tree))
   element_shown false false b done level place tree present frames tokens = subject_shown b done present level place tree frames (behind tokens) (section_kind (next tokens))
 
-  provided_shown : (b : Bool) (state : State) (other : G.State V L C) → shown state ≡ other → shown (provided b state) ≡ G.provided b other
+  provided_shown : (b : Bool) (state : State) (other : G.State V L C) → shown state ≡ other → shown (provided b state) ≡ G.state_if b other
   provided_shown true state other e = e
   provided_shown false state other e = refl
 

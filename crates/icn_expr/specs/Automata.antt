@@ -69,35 +69,35 @@ pub data Bracket (V : Type 0) : Type 0 where
   Subscripts : V → Bracket V
 
 -- what was read of a form, up to the part that is being read
-pub data Holding (V L C : Type 0) : Type 0 where
-  Elements : Bracket V → L → Holding V L C
-  SectionEnd : SectionKind → V → V → Holding V L C
-  PrefixOperand : Operator → Holding V L C
-  NotOperand : Holding V L C
-  RightOperand : Infix → V → Holding V L C
-  ToOperand : V → Holding V L C
-  ByOperand : V → V → Holding V L C
-  Condition : Holding V L C
-  Consequence : V → Holding V L C
-  Alternative : V → V → Holding V L C
-  CaseSubject : Holding V L C
-  ClauseGuard : V → C → Place → Holding V L C
-  GuardedValue : V → C → Place → V → Holding V L C
-  DefaultValue : V → C → Place → Holding V L C
-  Control : LoopKind → Holding V L C
-  LoopBody : LoopKind → V → Holding V L C
-  RepeatBody : Holding V L C
-  CreateBody : Holding V L C
-  BreakValue : Holding V L C
-  ReturnValue : Holding V L C
-  SuspendValue : Holding V L C
-  SuspendBody : V → Holding V L C
+pub data PartialForm (V L C : Type 0) : Type 0 where
+  Elements : Bracket V → L → PartialForm V L C
+  SectionEnd : SectionKind → V → V → PartialForm V L C
+  PrefixOperand : Operator → PartialForm V L C
+  NotOperand : PartialForm V L C
+  RightOperand : Infix → V → PartialForm V L C
+  ToOperand : V → PartialForm V L C
+  ByOperand : V → V → PartialForm V L C
+  Condition : PartialForm V L C
+  Consequence : V → PartialForm V L C
+  Alternative : V → V → PartialForm V L C
+  CaseSubject : PartialForm V L C
+  ClauseGuard : V → C → Place → PartialForm V L C
+  GuardedValue : V → C → Place → V → PartialForm V L C
+  DefaultValue : V → C → Place → PartialForm V L C
+  Control : LoopKind → PartialForm V L C
+  LoopBody : LoopKind → V → PartialForm V L C
+  RepeatBody : PartialForm V L C
+  CreateBody : PartialForm V L C
+  BreakValue : PartialForm V L C
+  ReturnValue : PartialForm V L C
+  SuspendValue : PartialForm V L C
+  SuspendBody : V → PartialForm V L C
 
 -- an open form: the level of the expression that it belongs to, and where that expression began
 pub record Frame (V L C : Type 0) : Type 0 where
   pub level : ℕ
   pub place : Place
-  pub holds : Holding V L C
+  pub holds : PartialForm V L C
 
 pub data State (V L C : Type 0) : Type 0 where
   -- an expression of this level, or of level 0 an empty one, begins here
@@ -185,9 +185,9 @@ abbrev pub unless_broken : {A V L C : Type 0} → Option A → (A → State V L 
 unless_broken None f = Broken
 unless_broken (Some x) f = f x
 
-abbrev pub provided : {V L C : Type 0} → Bool → State V L C → State V L C
-provided true state = state
-provided false state = Broken
+abbrev pub state_if : {V L C : Type 0} → Bool → State V L C → State V L C
+state_if true state = state
+state_if false state = Broken
 
 -- Starting
 
@@ -196,7 +196,7 @@ abbrev pub climbing_level : ℕ → ℕ
 climbing_level zero = 1
 climbing_level (suc level) = suc level
 
-abbrev pub frame : {V L C : Type 0} → ℕ → Place → Holding V L C → Frame V L C
+abbrev pub frame : {V L C : Type 0} → ℕ → Place → PartialForm V L C → Frame V L C
 frame level place holds = record { level = level; place = place; holds = holds }
 
 abbrev pub word_step : {V L C : Type 0} → Builds V L C → ℕ → Place → Word → List (Frame V L C) → List Token → State V L C
@@ -291,13 +291,13 @@ is_closer (Arguments tree) kind = is_close_parenthesis kind
 is_closer (CoArguments tree) kind = is_close_brace kind
 is_closer (Subscripts tree) kind = is_close_bracket kind
 
-abbrev pub bracketed : {V L C : Type 0} → Builds V L C → Bracket V → Place → L → V
-bracketed make Round place trees = make.parentheses place trees
-bracketed make Square place trees = make.listing place trees
-bracketed make Curly place trees = make.compound place trees
-bracketed make (Arguments tree) place trees = make.call place tree trees
-bracketed make (CoArguments tree) place trees = make.co_call place tree trees
-bracketed make (Subscripts tree) place trees = make.subscript place tree trees
+abbrev pub bracket_tree : {V L C : Type 0} → Builds V L C → Bracket V → Place → L → V
+bracket_tree make Round place trees = make.parentheses place trees
+bracket_tree make Square place trees = make.listing place trees
+bracket_tree make Curly place trees = make.compound place trees
+bracket_tree make (Arguments tree) place trees = make.call place tree trees
+bracket_tree make (CoArguments tree) place trees = make.co_call place tree trees
+bracket_tree make (Subscripts tree) place trees = make.subscript place tree trees
 
 -- the subject of a section, where this element may be its first position
 abbrev pub section_subject : {V L C : Type 0} → Builds V L C → Bracket V → Bool → Bool → Option V
@@ -310,12 +310,12 @@ section_by make _ _ level place from frames tokens = Broken
 
 abbrev pub element_by : {V L C : Type 0} → Builds V L C → Bool → Bool → Bracket V → L → ℕ → Place → V → Bool → List (Frame V L C) → List Token → State V L C
 element_by make true closer bracket trees level place tree present frames tokens = Starting 0 (frame level place (Elements bracket (make.with_element trees tree)) ∷ frames) (behind tokens)
-element_by make false true bracket trees level place tree present frames tokens = Climbing level place (bracketed make bracket place (make.with_element trees tree)) frames (behind tokens)
+element_by make false true bracket trees level place tree present frames tokens = Climbing level place (bracket_tree make bracket place (make.with_element trees tree)) frames (behind tokens)
 element_by make false false bracket trees level place tree present frames tokens = section_by make (section_subject make bracket (make.has_none trees) present) (section_kind (next tokens)) level place tree frames (behind tokens)
 
 -- a clause begins here
 abbrev pub clause_by : {V L C : Type 0} → Builds V L C → Bool → ℕ → Place → V → C → List (Frame V L C) → List Token → State V L C
-clause_by make true level place subject clauses frames tokens = provided (is_colon (next (behind tokens))) (Starting 1 (frame level place (DefaultValue subject clauses (place_of tokens)) ∷ frames) (behind (behind tokens)))
+clause_by make true level place subject clauses frames tokens = state_if (is_colon (next (behind tokens))) (Starting 1 (frame level place (DefaultValue subject clauses (place_of tokens)) ∷ frames) (behind (behind tokens)))
 clause_by make false level place subject clauses frames tokens = Starting 1 (frame level place (ClauseGuard subject clauses (place_of tokens)) ∷ frames) tokens
 
 abbrev pub clause_step : {V L C : Type 0} → Builds V L C → ℕ → Place → V → C → List (Frame V L C) → List Token → State V L C
@@ -324,7 +324,7 @@ clause_step make level place subject clauses frames tokens = clause_by make (is_
 -- a clause is complete
 abbrev pub clause_end : {V L C : Type 0} → Builds V L C → Bool → ℕ → Place → V → C → List (Frame V L C) → List Token → State V L C
 clause_end make true level place subject clauses frames tokens = clause_step make level place subject clauses frames (behind tokens)
-clause_end make false level place subject clauses frames tokens = provided (is_close_brace (next tokens)) (Climbing level place (make.case_form place subject clauses) frames (behind tokens))
+clause_end make false level place subject clauses frames tokens = state_if (is_close_brace (next tokens)) (Climbing level place (make.case_form place subject clauses) frames (behind tokens))
 
 -- where this token stands next a further part follows, else the form is complete
 abbrev pub part_or : {V L C : Type 0} → Builds V L C → Bool → Frame V L C → V → List (Frame V L C) → List Token → State V L C
@@ -335,19 +335,19 @@ abbrev pub by_or : {V L C : Type 0} → Builds V L C → Bool → Frame V L C �
 by_or make true more tree frames tokens = Starting 5 (more ∷ frames) (behind tokens)
 by_or make false more tree frames tokens = Climbing more.level more.place tree frames tokens
 
-abbrev pub close_by : {V L C : Type 0} → Builds V L C → Holding V L C → ℕ → Place → V → Bool → List (Frame V L C) → List Token → State V L C
+abbrev pub close_by : {V L C : Type 0} → Builds V L C → PartialForm V L C → ℕ → Place → V → Bool → List (Frame V L C) → List Token → State V L C
 close_by make (Elements bracket trees) level place tree present frames tokens = element_by make (is_separator (separator_of bracket) (next tokens)) (is_closer bracket (next tokens)) bracket trees level place tree present frames tokens
-close_by make (SectionEnd kind subject from) level place tree present frames tokens = provided (is_close_bracket (next tokens)) (Climbing level place (make.section place kind subject from tree) frames (behind tokens))
+close_by make (SectionEnd kind subject from) level place tree present frames tokens = state_if (is_close_bracket (next tokens)) (Climbing level place (make.section place kind subject from tree) frames (behind tokens))
 close_by make (PrefixOperand operator) level place tree present frames tokens = Climbing level place (make.prefix place operator tree) frames tokens
 close_by make NotOperand level place tree present frames tokens = Climbing level place (make.not_form place tree) frames tokens
 close_by make (RightOperand operator left) level place tree present frames tokens = Climbing level place (make.binary place operator left tree) frames tokens
 close_by make (ToOperand from) level place tree present frames tokens = by_or make (is_by (next tokens)) (frame level place (ByOperand from tree)) (make.to_form place from tree None) frames tokens
 close_by make (ByOperand from to) level place tree present frames tokens = Climbing level place (make.to_form place from to (Some tree)) frames tokens
-close_by make Condition level place tree present frames tokens = provided (is_then (next tokens)) (Starting 1 (frame level place (Consequence tree) ∷ frames) (behind tokens))
+close_by make Condition level place tree present frames tokens = state_if (is_then (next tokens)) (Starting 1 (frame level place (Consequence tree) ∷ frames) (behind tokens))
 close_by make (Consequence condition) level place tree present frames tokens = part_or make (is_else (next tokens)) (frame level place (Alternative condition tree)) (make.if_form place condition tree None) frames tokens
 close_by make (Alternative condition first) level place tree present frames tokens = Climbing level place (make.if_form place condition first (Some tree)) frames tokens
-close_by make CaseSubject level place tree present frames tokens = provided (is_of (next tokens) && is_open_brace (next (behind tokens))) (clause_step make level place tree make.no_clauses frames (behind (behind tokens)))
-close_by make (ClauseGuard subject clauses at) level place tree present frames tokens = provided (is_colon (next tokens)) (Starting 1 (frame level place (GuardedValue subject clauses at tree) ∷ frames) (behind tokens))
+close_by make CaseSubject level place tree present frames tokens = state_if (is_of (next tokens) && is_open_brace (next (behind tokens))) (clause_step make level place tree make.no_clauses frames (behind (behind tokens)))
+close_by make (ClauseGuard subject clauses at) level place tree present frames tokens = state_if (is_colon (next tokens)) (Starting 1 (frame level place (GuardedValue subject clauses at tree) ∷ frames) (behind tokens))
 close_by make (GuardedValue subject clauses at guard) level place tree present frames tokens = clause_end make (is_separator BySemicolon (next tokens)) level place subject (make.with_guarded clauses at guard tree) frames tokens
 close_by make (DefaultValue subject clauses at) level place tree present frames tokens = clause_end make (is_separator BySemicolon (next tokens)) level place subject (make.with_default clauses at tree) frames tokens
 close_by make (Control kind) level place tree present frames tokens = part_or make (is_do (next tokens)) (frame level place (LoopBody kind tree)) (make.loop_form place kind tree None) frames tokens

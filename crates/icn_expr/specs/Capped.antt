@@ -17,9 +17,9 @@ abbrev pub capped_at : {A : Type 0} → A → ℕ → Capped A
 capped_at tree height = if nat_le height 2000 then Some (tree, height) else None
 
 -- the tree alone, where it is kept
-abbrev pub kept : {A : Type 0} → Capped A → Option A
-kept None = None
-kept (Some a) = Some a.0
+abbrev pub kept_tree : {A : Type 0} → Capped A → Option A
+kept_tree None = None
+kept_tree (Some a) = Some a.0
 
 -- one higher than the highest part
 abbrev pub one : {A B : Type 0} → (A → B) → Capped A → Capped B
@@ -44,9 +44,9 @@ two_if make a b None = two (λ x y. make x y Absent) a b
 two_if make a b (Some c) = three (λ x y z. make x y (Present z)) a b c
 
 -- no higher than the highest part
-abbrev pub joined : {A B D : Type 0} → (A → B → D) → Capped A → Capped B → Capped D
-joined make (Some a) (Some b) = Some (make a.0 b.0, max a.1 b.1)
-joined make _ _ = None
+abbrev pub join_capped : {A B D : Type 0} → (A → B → D) → Capped A → Capped B → Capped D
+join_capped make (Some a) (Some b) = Some (make a.0 b.0, max a.1 b.1)
+join_capped make _ _ = None
 
 abbrev pub joined_three : {A B D F : Type 0} → (A → B → D → F) → Capped A → Capped B → Capped D → Capped F
 joined_three make (Some a) (Some b) (Some c) = Some (make a.0 b.0 c.0, max a.1 (max b.1 c.1))
@@ -98,9 +98,9 @@ capped = record {
   return_form = λ place value. one (Return place) value;
   suspend_form = λ place value body. one_if (Suspend place) value body;
   no_elements = Some (NoTrees, 0);
-  with_element = λ elements last. joined with_last elements last;
+  with_element = λ elements last. join_capped with_last elements last;
   has_none = has_none;
   no_clauses = Some (NoClauses, 0);
-  with_default = λ clauses place value. joined (λ c v. with_last_clause c (Default place v)) clauses value;
+  with_default = λ clauses place value. join_capped (λ c v. with_last_clause c (Default place v)) clauses value;
   with_guarded = λ clauses place guard value. joined_three (λ c g v. with_last_clause c (Guarded place g v)) clauses guard value;
 }

@@ -30,19 +30,19 @@ weight [] = 0
 weight (token ∷ tokens) = kind_weight token.kind + weight tokens
 
 -- a number that falls at each step, so that so many steps come to the end
-abbrev pub left : {V L C : Type 0} → State V L C → ℕ
-left (Starting level frames tokens) = 8 * weight tokens + 4 * length frames + 3
-left (Climbing level place tree frames tokens) = 8 * weight tokens + 4 * length frames + 2
-left (Closing tree present frames tokens) = 8 * weight tokens + 4 * length frames + 1
-left (Finished tree tokens) = 0
-left Broken = 0
+abbrev pub steps_left : {V L C : Type 0} → State V L C → ℕ
+steps_left (Starting level frames tokens) = 8 * weight tokens + 4 * length frames + 3
+steps_left (Climbing level place tree frames tokens) = 8 * weight tokens + 4 * length frames + 2
+steps_left (Closing tree present frames tokens) = 8 * weight tokens + 4 * length frames + 1
+steps_left (Finished tree tokens) = 0
+steps_left Broken = 0
 
 abbrev pub result : {V L C : Type 0} → State V L C → Option (V × List Token)
 result (Finished tree tokens) = Some (tree, tokens)
 result _ = None
 
 abbrev pub end_of : {V L C : Type 0} → Builds V L C → State V L C → Option (V × List Token)
-end_of make state = result (run make (left state) state)
+end_of make state = result (run make (steps_left state) state)
 
 -- an expression of this level in front of the tokens, as long as it can be, and the tokens behind it
 abbrev pub expression_read : {V L C : Type 0} → Builds V L C → ℕ → List Token → Option (V × List Token)

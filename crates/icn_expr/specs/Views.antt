@@ -19,7 +19,7 @@ use Rattle.icn_expr.specs.declared.reader.Progress.{Progress}
 use Rattle.icn_expr.specs.declared.reader.Progress.TheVariants as P
 use Rattle.icn_expr.specs.Reading.{end_of}
 use Rattle.icn_expr.specs.Capped.{Capped, capped_at, capped}
-use Rattle.icn_expr.specs.Automata.{Bracket, Round, Square, Curly, Arguments, CoArguments, Subscripts, Holding, Elements, SectionEnd, PrefixOperand, NotOperand, RightOperand, ToOperand, ByOperand, Condition, Consequence, Alternative, CaseSubject, ClauseGuard, GuardedValue, DefaultValue, Control, LoopBody, RepeatBody, CreateBody, BreakValue, ReturnValue, SuspendValue, SuspendBody, Frame, State, Starting, Climbing, Closing, Finished, Broken}
+use Rattle.icn_expr.specs.Automata.{Bracket, Round, Square, Curly, Arguments, CoArguments, Subscripts, PartialForm, Elements, SectionEnd, PrefixOperand, NotOperand, RightOperand, ToOperand, ByOperand, Condition, Consequence, Alternative, CaseSubject, ClauseGuard, GuardedValue, DefaultValue, Control, LoopBody, RepeatBody, CreateBody, BreakValue, ReturnValue, SuspendValue, SuspendBody, Frame, State, Starting, Climbing, Closing, Finished, Broken}
 
 abbrev pub capped_of : Value → Capped Tree
 capped_of value = capped_at (tree_of value.expr) value.height
@@ -38,7 +38,7 @@ bracket_of (B.Arguments callee) = Arguments (capped_of callee)
 bracket_of (B.CoArguments callee) = CoArguments (capped_of callee)
 bracket_of (B.Subscripts subject) = Subscripts (capped_of subject)
 
-abbrev pub holding_of : HoldingValue → Holding (Capped Tree) (Capped Trees) (Capped Clauses)
+abbrev pub holding_of : HoldingValue → PartialForm (Capped Tree) (Capped Trees) (Capped Clauses)
 holding_of (H.Elements bracket done) = Elements (bracket_of bracket) (elements_of done)
 holding_of (H.SectionEnd kind subject from) = SectionEnd kind (capped_of subject) (capped_of from)
 holding_of (H.PrefixOperand operator) = PrefixOperand operator

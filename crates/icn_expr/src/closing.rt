@@ -3,7 +3,7 @@ ghost use Rattle.std.specs.Prelude.{◌≡◌, List, ◌∷◌, Some, None, true
 ghost use Rattle.icn_tree.specs.declared.token.Token.{Token};
 ghost use Rattle.icn_tree.specs.Phrases.{next};
 ghost use Rattle.icn_tree.specs.Grammar.{BySemicolon};
-ghost use Rattle.icn_expr.specs.Automata.{behind as behind_first, Elements as ElementsHolding, SectionEnd, ToOperand, Consequence, Condition as ConditionHolding, CaseSubject, ClauseGuard, GuardedValue, DefaultValue, Control, SuspendValue, element_by, section_by, section_subject, separator_of, is_closer, bracketed, is_separator, section_kind, clause_by, clause_step, clause_end, part_or, by_or, close_by, close_step, frame as frame_at};
+ghost use Rattle.icn_expr.specs.Automata.{behind as behind_first, Elements as ElementsHolding, SectionEnd, ToOperand, Consequence, Condition as ConditionHolding, CaseSubject, ClauseGuard, GuardedValue, DefaultValue, Control, SuspendValue, element_by, section_by, section_subject, separator_of, is_closer, bracket_tree, is_separator, section_kind, clause_by, clause_step, clause_end, part_or, by_or, close_by, close_step, frame as frame_at};
 ghost use Rattle.icn_expr.specs.Capped.{capped};
 ghost use Rattle.icn_expr.specs.Views.{OpenFrame, capped_of, elements_of, branches_of, bracket_of, holding_of, stack_of, state_of};
 
@@ -386,7 +386,7 @@ fn in_brackets(
     place: Place,
     elements: Elements,
 ) -> Result<Value, AllocError>
-    ensures { IfOk result (λ value. capped_of value ≡ bracketed capped (bracket_of bracket) place (elements_of elements)) }
+    ensures { IfOk result (λ value. capped_of value ≡ bracket_tree capped (bracket_of bracket) place (elements_of elements)) }
 {
     match bracket {
         Bracket::Round => Ok(Value::parentheses(place, elements)),

@@ -2,7 +2,7 @@
 ghost use Rattle.std.specs.Prelude.{◌≡◌, ◌<◌, IfOk};
 ghost use Rattle.std.specs.Option.{option_map};
 ghost use Rattle.icn_expr.specs.Capped.{capped};
-ghost use Rattle.icn_expr.specs.Reading.{left, end_of, expression_read};
+ghost use Rattle.icn_expr.specs.Reading.{steps_left, end_of, expression_read};
 ghost use Rattle.icn_expr.specs.Views.{capped_of, stack_of, state_of, progress_end, IsGoing};
 
 use crate::closing::close;
@@ -32,7 +32,7 @@ fn advance<'a>(
     tokens: &'a [Token],
 ) -> Result<Progress<'a>, AllocError>
     ensures same { IfOk result (λ p. progress_end p (stack_of stack.new) ≡ end_of capped (state_of state (stack_of stack.old) tokens.now)) }
-    ensures less { IfOk result (λ p. IsGoing p (λ next rest. left (state_of next (stack_of stack.new) rest) < left (state_of state (stack_of stack.old) tokens.now))) }
+    ensures less { IfOk result (λ p. IsGoing p (λ next rest. steps_left (state_of next (stack_of stack.new) rest) < steps_left (state_of state (stack_of stack.old) tokens.now))) }
 {
     match state {
         State::Finished { value } => Ok(Progress::Found(value, tokens)),

@@ -3,7 +3,7 @@ ghost use Rattle.std.specs.Prelude.{◌≡◌, ◌<◌, Some, None, IfOk, box_va
 ghost use Rattle.icn_tree.specs.Trees.{Parentheses, Listing, Compound, Call, CoCall, Subscript, Case};
 ghost use Rattle.icn_tree.specs.TreeOf.{tree_of, all_of, all_clauses_of};
 ghost use Rattle.std.specs.Option.{option_map};
-ghost use Rattle.icn_expr.specs.Capped.{capped, kept};
+ghost use Rattle.icn_expr.specs.Capped.{capped, kept_tree};
 ghost use Rattle.icn_expr.specs.Views.{capped_of, elements_of, branches_of};
 
 use icn_tree::{Clause, Expr, Infix, Literal, LoopKind, Name, Operator, Place, SectionKind};
@@ -116,7 +116,7 @@ fn case_expr(place: Place, subject: Box<Expr>, clauses: Vec<Clause>) -> Expr
 impl Value {
     /// The tree, unless it is higher than 2000.
     pub fn into_expr(self) -> Option<Expr>
-        ensures { option_map tree_of result ≡ kept (capped_of self) }
+        ensures { option_map tree_of result ≡ kept_tree (capped_of self) }
     {
         if self.height > HIGHEST {
             discard(self);
@@ -712,7 +712,7 @@ impl Value {
 impl Elements {
     /// The elements, unless one of them is higher than 2000.
     pub fn into_exprs(self) -> Option<Vec<Expr>>
-        ensures { option_map (λ exprs. all_of exprs.items) result ≡ kept (elements_of self) }
+        ensures { option_map (λ exprs. all_of exprs.items) result ≡ kept_tree (elements_of self) }
     {
         if self.height > HIGHEST {
             discard_elements(self);

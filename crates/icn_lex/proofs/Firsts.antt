@@ -17,7 +17,7 @@ use Rattle.icn_tree.specs.Characters.{begins_identifier, continues_identifier, i
 use Rattle.icn_tree.specs.Numbers.{is_nothing, is_radix_mark, is_real_mark, number_in, number_by, number, sized, integer_kind, integer}
 use Rattle.icn_tree.specs.Spellings.{lookup_text, name_of, marks_of}
 use Rattle.icn_tree.specs.Tokens.{name, dot_number, spelled, longest, front_token, first_of}
-use Rattle.icn_lex.specs.Reading.{first_match, bounded_by, value_in, limited, with_count, counted, number_read_by, number_read, dot_read, bare_read, name_read, first_read}
+use Rattle.icn_lex.specs.Reading.{first_match, bounded_by, value_in, within_limit, with_count, with_length, number_read_by, number_read, dot_read, bare_read, name_read, first_read}
 use Rattle.icn_tree.proofs.Fronts.{longest_is, longest_none, longest_same, front_passes, front_fails, run_of_front, take_front, drop_front}
 
 -- What is said of the longest
@@ -26,7 +26,7 @@ judged_at : (sense : Result Kind Rule) (count : ℕ) → front_token (Some (sens
 judged_at (Ok kind) count = refl
 judged_at (Err rule) count = refl
 
-judged_sized : (text : List ℕ) (sense : Result Kind Rule) (count : ℕ) → length text ≡ count → front_token (Some (sized text sense, count)) ≡ counted count sense
+judged_sized : (text : List ℕ) (sense : Result Kind Rule) (count : ℕ) → length text ≡ count → front_token (Some (sized text sense, count)) ≡ with_length count sense
 judged_sized text sense count same = ap (λ n. front_token (Some (cond (nat_le n 65535) sense (Err L7), count))) same ∙ by_test (nat_le count 65535) where
   by_test : (test : Bool) → front_token (Some (cond test sense (Err L7), count)) ≡ cond test (with_count count sense) (Err L7)
   by_test true = judged_at sense count
@@ -71,7 +71,7 @@ number_front bytes k =
     ap (λ m. number_by (take m (take (n + k) bytes)) (drop m (take (n + k) bytes))) run
     ∙ (ap (λ ds. number_by ds (drop n (take (n + k) bytes))) (take_front n (n + k) bytes (omega arith)) ∙ ap (number_by (take n bytes)) (drop_front n k bytes))
 
-decimal_value : (n : ℕ) → bounded_by (limited n) ≡ integer_kind n
+decimal_value : (n : ℕ) → bounded_by (within_limit n) ≡ integer_kind n
 decimal_value n = by_test (nat_le n 9223372036854775807) where
   by_test : (test : Bool) → bounded_by (cond test (Some n) None) ≡ cond test (Ok (Integer (pos n))) (Err L4)
   by_test true = refl
@@ -138,13 +138,13 @@ digits_len : (b : ℕ) (rest : List ℕ) → let n = prefix_len is_digit (b ∷ 
 digits_len b rest = length-take-le (prefix_len is_digit (b ∷ rest)) (b ∷ rest) (prefix_len-le-length is_digit (b ∷ rest))
 
 decimal_read : (b : ℕ) (rest : List ℕ) → let n = prefix_len is_digit (b ∷ rest) in
-    front_token (Some (sized (take n (b ∷ rest)) (integer_kind (number_in 10 (take n (b ∷ rest)))), n + 0)) ≡ counted n (bounded_by (value_in 10 (take n (b ∷ rest))))
+    front_token (Some (sized (take n (b ∷ rest)) (integer_kind (number_in 10 (take n (b ∷ rest)))), n + 0)) ≡ with_length n (bounded_by (value_in 10 (take n (b ∷ rest))))
 decimal_read b rest =
     let n = prefix_len is_digit (b ∷ rest) in
     let digits = take n (b ∷ rest) in
     let none : n + 0 ≡ n = omega arith in
     ap (λ k. front_token (Some (sized digits (integer_kind (number_in 10 digits)), k))) none
-    ∙ (judged_sized digits (integer_kind (number_in 10 digits)) n (digits_len b rest) ∙ ap (counted n) (sym (decimal_value (number_in 10 digits))))
+    ∙ (judged_sized digits (integer_kind (number_in 10 digits)) n (digits_len b rest) ∙ ap (with_length n) (sym (decimal_value (number_in 10 digits))))
 
 take_none : (tail : List ℕ) → take 0 tail ≡ []
 take_none tail = refl
@@ -175,7 +175,7 @@ radix_size digits n c w more size fits = omega (arith, length-append digits (c �
 
 radix_read : (b : ℕ) (rest : List ℕ) (c : ℕ) (more : List ℕ) → begins_identifier b ≡ false → is_digit b ≡ true → Tail b rest c more → is_radix_mark c ≡ true
     → let n = prefix_len is_digit (b ∷ rest) in let written = prefix_len is_alphanumeric more in
-    front_token (longest spelled (suc (length rest)) (b ∷ rest)) ≡ counted (n + 1 + written) (integer (number_in 10 (take n (b ∷ rest))) (take written more))
+    front_token (longest spelled (suc (length rest)) (b ∷ rest)) ≡ with_length (n + 1 + written) (integer (number_in 10 (take n (b ∷ rest))) (take written more))
 radix_read b rest c more h d is r =
     let n = prefix_len is_digit (b ∷ rest) in
     let digits = take n (b ∷ rest) in
@@ -188,7 +188,7 @@ radix_read b rest c more h d is r =
     (tail_at b rest c more (suc w) is ∙ radix_at digits c (take w more) r (front_passes is_alphanumeric more w (omega arith)))
     (λ j l g. tail_at b rest c more j is ∙ not_longer_radix digits c more r j l (omega (arith, size, g))))
     ∙ (judged_sized (digits ++ c ∷ take w more) (integer (number_in 10 digits) (take w more)) (n + suc w) (radix_size digits n c w more (digits_len b rest) fits)
-    ∙ ap (λ k. counted k (integer (number_in 10 digits) (take w more))) total)
+    ∙ ap (λ k. with_length k (integer (number_in 10 digits) (take w more))) total)
 
 real_at : (digits : List ℕ) (c : ℕ) → is_radix_mark c ≡ false → is_real_mark c ≡ true → number_by digits (c ∷ []) ≡ Some (Err L6)
 real_at digits c r e = cond-false (is_radix_mark c && true) _ _ (rw r refl) ∙ cond-true (is_real_mark c && true) _ _ (rw e refl)
@@ -212,7 +212,7 @@ not_longer_decimal digits c more r e zero l = absurd (omega arith)
 not_longer_decimal digits c more r e (suc j) l = no_radix digits c (take j more) (and_left (is_radix_mark c) _ r) (and_left (is_real_mark c) _ e)
 
 plain_read : (b : ℕ) (rest : List ℕ) (c : ℕ) (more : List ℕ) → begins_identifier b ≡ false → is_digit b ≡ true → Tail b rest c more → is_radix_mark c ≡ false → is_real_mark c ≡ false
-    → let n = prefix_len is_digit (b ∷ rest) in front_token (longest spelled (suc (length rest)) (b ∷ rest)) ≡ counted n (bounded_by (value_in 10 (take n (b ∷ rest))))
+    → let n = prefix_len is_digit (b ∷ rest) in front_token (longest spelled (suc (length rest)) (b ∷ rest)) ≡ with_length n (bounded_by (value_in 10 (take n (b ∷ rest))))
 plain_read b rest c more h d is r e =
     let n = prefix_len is_digit (b ∷ rest) in
     let digits = take n (b ∷ rest) in
@@ -221,14 +221,14 @@ plain_read b rest c more h d is r e =
     ∙ decimal_read b rest
 
 by_real : (b : ℕ) (rest : List ℕ) (c : ℕ) (more : List ℕ) → begins_identifier b ≡ false → is_digit b ≡ true → Tail b rest c more → is_radix_mark c ≡ false → (real : Bool) → is_real_mark c ≡ real
-    → let n = prefix_len is_digit (b ∷ rest) in front_token (longest spelled (suc (length rest)) (b ∷ rest)) ≡ cond real (Err L6) (counted n (bounded_by (value_in 10 (take n (b ∷ rest)))))
+    → let n = prefix_len is_digit (b ∷ rest) in front_token (longest spelled (suc (length rest)) (b ∷ rest)) ≡ cond real (Err L6) (with_length n (bounded_by (value_in 10 (take n (b ∷ rest)))))
 by_real b rest c more h d is r true e = real_read b rest c more h d is r e
 by_real b rest c more h d is r false e = plain_read b rest c more h d is r e
 
 by_radix : (b : ℕ) (rest : List ℕ) (c : ℕ) (more : List ℕ) → begins_identifier b ≡ false → is_digit b ≡ true → Tail b rest c more → (radix : Bool) → is_radix_mark c ≡ radix
     → let n = prefix_len is_digit (b ∷ rest) in let written = prefix_len is_alphanumeric more in
     front_token (longest spelled (suc (length rest)) (b ∷ rest))
-    ≡ cond radix (counted (n + 1 + written) (integer (number_in 10 (take n (b ∷ rest))) (take written more))) (cond (is_real_mark c) (Err L6) (counted n (bounded_by (value_in 10 (take n (b ∷ rest))))))
+    ≡ cond radix (with_length (n + 1 + written) (integer (number_in 10 (take n (b ∷ rest))) (take written more))) (cond (is_real_mark c) (Err L6) (with_length n (bounded_by (value_in 10 (take n (b ∷ rest))))))
 by_radix b rest c more h d is true r = radix_read b rest c more h d is r
 by_radix b rest c more h d is false r = by_real b rest c more h d is r (is_real_mark c) refl
 

@@ -13,7 +13,7 @@ use Rattle.icn_lex.specs.declared.literals.Step.{Step}
 use Rattle.icn_lex.specs.declared.literals.Step.TheVariants.{Closed, Continued, More}
 use Rattle.icn_lex.specs.Literals.{Later}
 use Rattle.icn_lex.specs.Outcomes.{FaultIs, StepIs, Reads, all_before}
-use Rattle.icn_lex.specs.Reading.{joint}
+use Rattle.icn_lex.specs.Reading.{with_piece}
 
 -- Semicolons
 
@@ -24,7 +24,7 @@ last_append : (xs ys : List Token) → 0 < length ys → slice_get (xs ++ ys) (l
 last_append [] ys h = refl
 last_append (x ∷ xs) ys h = last_more x (xs ++ ys) (omega (arith, length-append xs ys)) ∙ last_append xs ys h
 
-joint_append : (xs ys : List Token) (next : Piece) → 0 < length ys → joint (xs ++ ys) next ≡ joint ys next
+joint_append : (xs ys : List Token) (next : Piece) → 0 < length ys → with_piece (xs ++ ys) next ≡ with_piece ys next
 joint_append xs ys next h = ap (λ last. option_map_or (λ a. between a next) last []) (last_append xs ys h)
 
 begins : (b : Piece) (rest : List Piece) → 0 < length (with_semicolons (b ∷ rest))
@@ -32,14 +32,14 @@ begins b [] = omega arith
 begins b (c ∷ rest) = omega arith
 
 -- one token more
-pub with_semicolons_push : (done : List Piece) (next : Piece) → with_semicolons (done ++ next ∷ []) ≡ with_semicolons done ++ joint (with_semicolons done) next ++ next.token ∷ []
+pub with_semicolons_push : (done : List Piece) (next : Piece) → with_semicolons (done ++ next ∷ []) ≡ with_semicolons done ++ with_piece (with_semicolons done) next ++ next.token ∷ []
 with_semicolons_push [] next = refl
 with_semicolons_push (a ∷ []) next = refl
 with_semicolons_push (a ∷ b ∷ rest) next =
     let front = a.token ∷ between a.token b in
     let later = with_semicolons (b ∷ rest) in
     ap (λ s. front ++ s) (with_semicolons_push (b ∷ rest) next)
-    ∙ (sym (append_assoc front (later ++ joint later next) (next.token ∷ [])) ∙ ap (λ s. s ++ next.token ∷ []) (sym (append_assoc front later (joint later next))))
+    ∙ (sym (append_assoc front (later ++ with_piece later next) (next.token ∷ [])) ∙ ap (λ s. s ++ next.token ∷ []) (sym (append_assoc front later (with_piece later next))))
     ∙ ap (λ s. front ++ later ++ s ++ next.token ∷ []) (sym (joint_append front later next (begins b rest)))
 
 -- Places
@@ -59,10 +59,10 @@ piece_before done next (Found pieces) = ap Found (append_assoc done (next ∷ []
 piece_before done next (Broken rule line file) = refl
 
 -- behind a token
-pub reads_token : (all : Scan) (found : List Token) (next : Piece) (later : Scan) → Reads all found (before next later) → Reads all (found ++ joint found next ++ next.token ∷ []) later
+pub reads_token : (all : Scan) (found : List Token) (next : Piece) (later : Scan) → Reads all found (before next later) → Reads all (found ++ with_piece found next ++ next.token ∷ []) later
 reads_token all found next later r = record {
   done = r.done ++ next ∷ [];
-  separated = ap (λ f. f ++ joint f next ++ next.token ∷ []) r.separated ∙ sym (with_semicolons_push r.done next);
+  separated = ap (λ f. f ++ with_piece f next ++ next.token ∷ []) r.separated ∙ sym (with_semicolons_push r.done next);
   reads = piece_before r.done next later ∙ r.reads;
 }
 

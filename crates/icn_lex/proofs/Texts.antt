@@ -13,7 +13,7 @@ use Rattle.icn_lex.specs.declared.fault.LexFault.{LexFault}
 use Rattle.icn_lex.specs.declared.fault.LexFault.TheVariants.{Broken as BrokenFault, NoMemory}
 use Rattle.icn_lex.specs.Literals.{Later, scan_inside, scan_text}
 use Rattle.icn_lex.specs.Outcomes.{FaultIs, FirstIs, Reads, begins_bare}
-use Rattle.icn_lex.specs.Reading.{first_read, joint}
+use Rattle.icn_lex.specs.Reading.{first_read, with_piece}
 use Rattle.icn_lex.proofs.Firsts.{first_is_longest}
 use Rattle.icn_tree.proofs.Fronts.{first_within}
 use Rattle.icn_tree.proofs.Scanning.{skip}
@@ -98,7 +98,7 @@ broken_all line is_first bytes later all found (BrokenFault rule file number) h 
 
 pub token_all : (line : SourceLine) (is_first : Bool) (bytes : List ℕ) (later : Later) (all : Scan) (found : List Token) (kind : Kind) (count : ℕ) → begins_bare bytes ≡ true
     → first_read bytes ≡ Ok (kind, count) → Reads all found (scan_text line is_first bytes later)
-    → let piece = piece_on line is_first kind in Reads all (found ++ joint found piece ++ piece.token ∷ []) (scan_text line false (drop count bytes) later)
+    → let piece = piece_on line is_first kind in Reads all (found ++ with_piece found piece ++ piece.token ∷ []) (scan_text line false (drop count bytes) later)
 token_all line is_first bytes later all found kind count h is r =
     reads_token all found (piece_on line is_first kind) (scan_text line false (drop count bytes) later)
     (reads_same all found _ _ (at_token line is_first bytes later kind count h is) r)
@@ -109,7 +109,7 @@ shorter bytes kind count is = let within = token_within bytes kind count is in o
 -- a literal that is closed
 pub closed_all : (all : Scan) (found : List Token) (here : Scan) (literal : Literal) (token : Token) (later : Scan) → here ≡ closed_then literal later
     → closed_then literal later ≡ before (record { token = token; is_first = literal.is_first }) later → Reads all found here
-    → let piece : Piece = record { token = token; is_first = literal.is_first } in Reads all (found ++ joint found piece ++ token ∷ []) later
+    → let piece : Piece = record { token = token; is_first = literal.is_first } in Reads all (found ++ with_piece found piece ++ token ∷ []) later
 closed_all all found here literal token later is closes r =
     let piece : Piece = record { token = token; is_first = literal.is_first } in
     reads_token all found piece later (reads_same all found here (before piece later) (is ∙ closes) r)

@@ -20,11 +20,11 @@ first_match [] bytes = None
 first_match (row ∷ rows) bytes = if starts_with nat_eq bytes row.0 then Some (row.1, length row.0) else first_match rows bytes
 
 -- a number that is not too large
-abbrev pub limited : ℕ → Option ℕ
-limited n = if nat_le n 9223372036854775807 then Some n else None
+abbrev pub within_limit : ℕ → Option ℕ
+within_limit n = if nat_le n 9223372036854775807 then Some n else None
 
 abbrev pub value_in : ℕ → List ℕ → Option ℕ
-value_in radix digits = limited (number_in radix digits)
+value_in radix digits = within_limit (number_in radix digits)
 
 abbrev pub bounded_by : Option ℕ → Result Kind Rule
 bounded_by None = Err L4
@@ -38,15 +38,15 @@ abbrev pub with_count : ℕ → Result Kind Rule → Result (Kind × ℕ) Rule
 with_count count (Ok kind) = Ok (kind, count)
 with_count count (Err rule) = Err rule
 
-abbrev pub counted : ℕ → Result Kind Rule → Result (Kind × ℕ) Rule
-counted count sense = if nat_le count 65535 then with_count count sense else Err L7
+abbrev pub with_length : ℕ → Result Kind Rule → Result (Kind × ℕ) Rule
+with_length count sense = if nat_le count 65535 then with_count count sense else Err L7
 
 -- the integer literal that begins with decimal digits, by what stands behind them
 abbrev pub number_read_by : List ℕ → ℕ → List ℕ → Result (Kind × ℕ) Rule
-number_read_by digits count [] = counted count (bounded_by (value_in 10 digits))
+number_read_by digits count [] = with_length count (bounded_by (value_in 10 digits))
 number_read_by digits count (mark ∷ rest) =
-    if is_radix_mark mark then (let written = prefix_len is_alphanumeric rest in counted (count + 1 + written) (integer (number_in 10 digits) (take written rest)))
-    else (if is_real_mark mark then Err L6 else counted count (bounded_by (value_in 10 digits)))
+    if is_radix_mark mark then (let written = prefix_len is_alphanumeric rest in with_length (count + 1 + written) (integer (number_in 10 digits) (take written rest)))
+    else (if is_real_mark mark then Err L6 else with_length count (bounded_by (value_in 10 digits)))
 
 abbrev pub number_read : List ℕ → Result (Kind × ℕ) Rule
 number_read bytes = let count = prefix_len is_digit bytes in number_read_by (take count bytes) count (drop count bytes)
@@ -71,8 +71,8 @@ first_read [] = Err L1
 first_read (b ∷ rest) = if begins_identifier b then name_read b rest else bare_read b (b ∷ rest) rest
 
 -- what stands between the last of the tokens and a further one
-abbrev pub joint : List Token → Piece → List Token
-joint tokens next = option_map_or (λ last. between last next) (slice_get tokens (length tokens - 1)) []
+abbrev pub with_piece : List Token → Piece → List Token
+with_piece tokens next = option_map_or (λ last. between last next) (slice_get tokens (length tokens - 1)) []
 
 -- the semicolon of a place, a line and a file, if there is one
 abbrev pub semicolon_of : Option (ℕ × ℕ) → List Token

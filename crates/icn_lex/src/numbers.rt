@@ -3,7 +3,7 @@ ghost use Rattle.std.specs.Prelude.{◌≡◌, ◌≤◌, ◌*◌, ◌+◌, IfSo
 ghost use Rattle.std.specs.List.{list_all};
 ghost use Rattle.icn_tree.specs.Characters.{digit_value};
 ghost use Rattle.icn_tree.specs.Numbers.{are_digits, integer, number_in};
-ghost use Rattle.icn_lex.specs.Reading.{bounded_by, counted, limited, number_read, value_in};
+ghost use Rattle.icn_lex.specs.Reading.{bounded_by, with_length, within_limit, number_read, value_in};
 
 use icn_tree::characters::{alphanumeric_len, digit_value, digits_len};
 use icn_tree::{Kind, Rule};
@@ -29,7 +29,7 @@ pub fn integer_literal(bytes: &[u8]) -> Result<(Kind, usize), Rule>
 
 // What a literal of so many bytes is, which may be too long.
 fn counted(count: usize, sense: Result<Kind, Rule>) -> Result<(Kind, usize), Rule>
-    ensures { result ≡ counted count sense }
+    ensures { result ≡ with_length count sense }
 {
     if count <= 65535 {
         Ok((sense?, count))
@@ -91,7 +91,7 @@ pub fn value(radix: u64, digits: &[u8]) -> Option<u64>
 
 // A number with one digit more, where it is not too large.
 fn with_digit(radix: u64, value: u64, digit: u8) -> Option<u64>
-    ensures { result ≡ limited (value * radix + digit_value digit) }
+    ensures { result ≡ within_limit (value * radix + digit_value digit) }
 {
     let longer = value
         .checked_mul(radix)?

@@ -1,7 +1,7 @@
 // The semicolons that the ends of lines stand for.
 ghost use Rattle.std.specs.Prelude.{◌≡◌, ◌∷◌, [], ◌++◌, OnOk};
 ghost use Rattle.icn_tree.specs.Semicolons.{is_ender, is_beginner, word_ends, mark_ends, word_begins, operator_begins, mark_begins};
-ghost use Rattle.icn_lex.specs.Reading.{joint, semicolon_of};
+ghost use Rattle.icn_lex.specs.Reading.{with_piece, semicolon_of};
 
 use icn_tree::{Kind, Operator, Punctuation, Token, Word};
 use std::alloc::AllocError;
@@ -9,7 +9,7 @@ use std::alloc::AllocError;
 // Adds a token, behind the semicolon that the end of a line before it stands for. Whether it is the first token on its line
 // is told.
 pub fn push(tokens: &mut Vec<Token>, is_first: bool, token: Token) -> Result<(), AllocError>
-    ensures { OnOk result (tokens.new.items ≡ tokens.old.items ++ joint tokens.old.items (record { token = token; is_first = is_first }) ++ token ∷ []) }
+    ensures { OnOk result (tokens.new.items ≡ tokens.old.items ++ with_piece tokens.old.items (record { token = token; is_first = is_first }) ++ token ∷ []) }
 {
     let end = statement_end(tokens, is_first, &token);
     if let Some((line, file)) = end {
@@ -22,7 +22,7 @@ pub fn push(tokens: &mut Vec<Token>, is_first: bool, token: Token) -> Result<(),
 
 // The place of the last token, where a semicolon stands between it and this one.
 fn statement_end(tokens: &[Token], is_first: bool, token: &Token) -> Option<(u32, u32)>
-    ensures { joint tokens.now (record { token = token.now; is_first = is_first }) ≡ semicolon_of result }
+    ensures { with_piece tokens.now (record { token = token.now; is_first = is_first }) ≡ semicolon_of result }
 {
     match tokens.last() {
         Some(last) if is_first && is_ender(&last.kind) && is_beginner(&token.kind) => {

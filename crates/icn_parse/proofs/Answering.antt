@@ -9,11 +9,11 @@ use Rattle.icn_tree.specs.declared.tree.Name.{Name}
 use Rattle.icn_tree.specs.Trees.{Tree, Trees, Clauses, Initial, NoInitial, Initially, Procedure, Declaration, Global, Link, Invocable, Record, ProcedureOf}
 use Rattle.icn_tree.specs.Declarations.{IsTreeOf, HasTree}
 use Rattle.icn_tree.proofs.Files.{one_file}
-use Rattle.icn_expr.specs.Capped.{Capped, capped_at, capped, kept}
+use Rattle.icn_expr.specs.Capped.{Capped, capped_at, capped, kept_tree}
 use Rattle.icn_expr.specs.Heights.{height, highest, initial_height, procedure_height}
 use Rattle.icn_expr.proofs.Capping.{capped_shows, shown_tree, shown_trees}
 use Rattle.icn_parse.specs.FileReading.{file_read}
-use Rattle.icn_parse.specs.Gathering.{CappedProcedure, CappedDeclaration, IsKept, IsTooHigh, finish_initial, finish_procedure, finish, high_with, done_with, gathered}
+use Rattle.icn_parse.specs.Gathering.{CappedProcedure, CappedDeclaration, IsKept, IsTooHigh, finish_initial, finish_procedure, finish, high_with, done_with, kept_declarations}
 use Rattle.icn_parse.specs.Outcomes.{Fault, UnknownKeyword, NotInProfile, Outcome, NoProgram, TooHigh, Faulty, IsTree, IsOutcome, no_program, too_high, faulty, is_tree, first_too_high, first_fault}
 use Rattle.icn_tree.specs.declared.rule.Rule.{Rule}
 use Rattle.icn_parse.specs.declared.fault.ParseFault.{ParseFault}
@@ -22,23 +22,23 @@ use Rattle.icn_parse.specs.declared.check.Unfit.{Unfit}
 use Rattle.icn_parse.specs.declared.check.Unfit.TheVariants as U
 use Rattle.icn_parse.specs.declared.stop.Stop.{Stop}
 use Rattle.icn_parse.specs.declared.stop.Stop.TheVariants.{NotHere, NoMemory}
-use Rattle.icn_parse.specs.Views.{Stopped, Breaks, IsLowTree, broken_by, fault_at, fault_of_stop, fault_of_unfit}
+use Rattle.icn_parse.specs.Views.{ReadsNothing, Breaks, IsLowTree, broken_by, fault_at, fault_of_stop, fault_of_unfit}
 use Rattle.icn_parse.proofs.DeclarationsExact as Exact
 
 -- what the code keeps of a declaration
 abbrev shown : Declaration → CappedDeclaration
 shown = Exact.shown_declaration (Capped Tree) (Capped Trees) (Capped Clauses) capped capped_shows
 
-kept_by : {A : Type 0} (x : A) (h : ℕ) (b : Bool) → nat_le h 2000 ≡ b → kept (capped_at x h) ≡ cond b (Some x) None
-kept_by x h true e = ap (λ b. kept (cond b (Some (x, h)) None)) e
-kept_by x h false e = ap (λ b. kept (cond b (Some (x, h)) None)) e
+kept_by : {A : Type 0} (x : A) (h : ℕ) (b : Bool) → nat_le h 2000 ≡ b → kept_tree (capped_at x h) ≡ cond b (Some x) None
+kept_by x h true e = ap (λ b. kept_tree (cond b (Some (x, h)) None)) e
+kept_by x h false e = ap (λ b. kept_tree (cond b (Some (x, h)) None)) e
 
-kept_at : {A : Type 0} (x : A) (h : ℕ) → kept (capped_at x h) ≡ cond (nat_le h 2000) (Some x) None
+kept_at : {A : Type 0} (x : A) (h : ℕ) → kept_tree (capped_at x h) ≡ cond (nat_le h 2000) (Some x) None
 kept_at x h = kept_by x h (nat_le h 2000) refl
 
 finish_first : (initial : Initial) → finish_initial (Exact.shown_initial (Capped Tree) (Capped Trees) (Capped Clauses) capped capped_shows initial) ≡ cond (nat_le (initial_height initial) 2000) (Some initial) None
 finish_first NoInitial = refl
-finish_first (Initially place value) = ap (λ v. option_map (Initially place) (kept v)) (shown_tree value) ∙ ap (option_map (Initially place)) (kept_at value (height value)) ∙ within (nat_le (height value) 2000)
+finish_first (Initially place value) = ap (λ v. option_map (Initially place) (kept_tree v)) (shown_tree value) ∙ ap (option_map (Initially place)) (kept_at value (height value)) ∙ within (nat_le (height value) 2000)
   where
     within : (b : Bool) → option_map (Initially place) (cond b (Some value) None) ≡ cond b (Some (Initially place value)) None
     within true = refl
@@ -65,13 +65,13 @@ by_heights p false false e f over n h = ap (λ (name : Name). IsTooHigh name.pla
 finish_shown : (p : Procedure) → finish (shown (ProcedureOf p)) ≡ cond (nat_le (procedure_height p) 2000) (IsKept (ProcedureOf p)) (IsTooHigh p.name.place)
 finish_shown p =
     let over : CappedProcedure = record { place = p.place; name = p.name; parameters = p.parameters; is_variadic = p.is_variadic; locals = p.locals; initial = Exact.shown_initial (Capped Tree) (Capped Trees) (Capped Clauses) capped capped_shows p.initial; body = capped_shows.trees p.body } in
-    ap (λ i. finish_procedure over i (kept (capped_shows.trees p.body))) (finish_first p.initial)
-    ∙ ap (λ b. finish_procedure over (cond (nat_le (initial_height p.initial) 2000) (Some p.initial) None) (kept b)) (shown_trees p.body)
+    ap (λ i. finish_procedure over i (kept_tree (capped_shows.trees p.body))) (finish_first p.initial)
+    ∙ ap (λ b. finish_procedure over (cond (nat_le (initial_height p.initial) 2000) (Some p.initial) None) (kept_tree b)) (shown_trees p.body)
     ∙ ap (finish_procedure over (cond (nat_le (initial_height p.initial) 2000) (Some p.initial) None)) (kept_at p.body (highest p.body))
     ∙ by_heights p (nat_le (initial_height p.initial) 2000) (nat_le (highest p.body) 2000) refl refl over refl refl
 
 -- the first tree that is too high is found
-high_stays : (place : Place) (done : List Declaration) (file : List CappedDeclaration) → (gathered (Some place) done file).0 ≡ Some place
+high_stays : (place : Place) (done : List Declaration) (file : List CappedDeclaration) → (kept_declarations (Some place) done file).0 ≡ Some place
 high_stays place done [] = refl
 high_stays place done (declaration ∷ others) = high_stays place (done_with done (finish declaration)) others
 
@@ -80,16 +80,16 @@ pub record Gathers (done file : List Declaration) (all : Option Place × List De
   pub high : all.0 ≡ first_too_high file
   pub tree : first_too_high file ≡ None → all.1 ≡ done ++ file
 
-gathers_more : (done : List Declaration) (declaration : Declaration) (others : List Declaration) → first_too_high (declaration ∷ others) ≡ first_too_high others → Gathers (done ++ declaration ∷ []) others (gathered None (done ++ declaration ∷ []) (map shown others)) → Gathers done (declaration ∷ others) (gathered None (done ++ declaration ∷ []) (map shown others))
+gathers_more : (done : List Declaration) (declaration : Declaration) (others : List Declaration) → first_too_high (declaration ∷ others) ≡ first_too_high others → Gathers (done ++ declaration ∷ []) others (kept_declarations None (done ++ declaration ∷ []) (map shown others)) → Gathers done (declaration ∷ others) (kept_declarations None (done ++ declaration ∷ []) (map shown others))
 gathers_more done declaration others first g = record {
   high = g.high ∙ sym first;
   tree = λ n. g.tree (sym first ∙ n) ∙ append_assoc done (declaration ∷ []) others;
 }
 
-gathers_procedure : (done : List Declaration) (p : Procedure) (others : List Declaration) (b : Bool) → nat_le (procedure_height p) 2000 ≡ b → Gathers (done ++ ProcedureOf p ∷ []) others (gathered None (done ++ ProcedureOf p ∷ []) (map shown others)) → Gathers done (ProcedureOf p ∷ others) (gathered None done (map shown (ProcedureOf p ∷ others)))
+gathers_procedure : (done : List Declaration) (p : Procedure) (others : List Declaration) (b : Bool) → nat_le (procedure_height p) 2000 ≡ b → Gathers (done ++ ProcedureOf p ∷ []) others (kept_declarations None (done ++ ProcedureOf p ∷ []) (map shown others)) → Gathers done (ProcedureOf p ∷ others) (kept_declarations None done (map shown (ProcedureOf p ∷ others)))
 gathers_procedure done p others true e g =
     let f : finish (shown (ProcedureOf p)) ≡ IsKept (ProcedureOf p) = finish_shown p ∙ ap (λ c. cond c (IsKept (ProcedureOf p)) (IsTooHigh p.name.place)) e in
-    let same = ap (λ x. gathered (high_with None x) (done_with done x) (map shown others)) f in
+    let same = ap (λ x. kept_declarations (high_with None x) (done_with done x) (map shown others)) f in
     let first : first_too_high (ProcedureOf p ∷ others) ≡ first_too_high others = ap (λ c. cond c (first_too_high others) (Some p.name.place)) e in
     record {
       high = ap (λ (a : Option Place × List Declaration). a.0) same ∙ g.high ∙ sym first;
@@ -99,11 +99,11 @@ gathers_procedure done p others false e g =
     let f : finish (shown (ProcedureOf p)) ≡ IsTooHigh p.name.place = finish_shown p ∙ ap (λ c. cond c (IsKept (ProcedureOf p)) (IsTooHigh p.name.place)) e in
     let first : first_too_high (ProcedureOf p ∷ others) ≡ Some p.name.place = ap (λ c. cond c (first_too_high others) (Some p.name.place)) e in
     record {
-      high = ap (λ x. (gathered (high_with None x) (done_with done x) (map shown others)).0) f ∙ high_stays p.name.place done (map shown others) ∙ sym first;
+      high = ap (λ x. (kept_declarations (high_with None x) (done_with done x) (map shown others)).0) f ∙ high_stays p.name.place done (map shown others) ∙ sym first;
       tree = λ n. absurd (none-some p.name.place (sym n ∙ first));
     }
 
-gathers : (done file : List Declaration) → Gathers done file (gathered None done (map shown file))
+gathers : (done file : List Declaration) → Gathers done file (kept_declarations None done (map shown file))
 gathers done [] = record { high = refl; tree = λ e. sym (append-nil done) }
 gathers done (ProcedureOf p ∷ others) = gathers_procedure done p others (nat_le (procedure_height p) 2000) refl (gathers (done ++ ProcedureOf p ∷ []) others)
 gathers done (Global place names ∷ others) = gathers_more done (Global place names) others refl (gathers (done ++ Global place names ∷ []) others)
@@ -117,14 +117,14 @@ pub record IsRead (tokens : List Token) (all : Option Place × List Declaration)
   pub is : IsTreeOf file tokens
   pub gathers : Gathers [] file all
 
-pub read_sound : (tokens : List Token) (n : ℕ) (all : Option Place × List Declaration) → option_map (gathered None []) (file_read capped n tokens) ≡ Some all → IsRead tokens all
+pub read_sound : (tokens : List Token) (n : ℕ) (all : Option Place × List Declaration) → option_map (kept_declarations None []) (file_read capped n tokens) ≡ Some all → IsRead tokens all
 read_sound tokens n all e = by_read (file_read capped n tokens) refl e
   where
-    by_read : (read : Option (List CappedDeclaration)) → file_read capped n tokens ≡ read → option_map (gathered None []) read ≡ Some all → IsRead tokens all
+    by_read : (read : Option (List CappedDeclaration)) → file_read capped n tokens ≡ read → option_map (kept_declarations None []) read ≡ Some all → IsRead tokens all
     by_read None r e = absurd (none-some all e)
     by_read (Some found) r e =
         let s = Exact.file_sound (Capped Tree) (Capped Trees) (Capped Clauses) capped capped_shows tokens n found r in
-        let same : gathered None [] (map shown s.0) ≡ all = ap (gathered None []) (sym s.2) ∙ same_Some (gathered None [] found) all e in
+        let same : kept_declarations None [] (map shown s.0) ≡ all = ap (kept_declarations None []) (sym s.2) ∙ same_Some (kept_declarations None [] found) all e in
         record { file = s.0; is = s.1; gathers = subst (Gathers [] s.0) same (gathers [] s.0) }
 
 pub nothing_read : (tokens : List Token) → file_read capped (length tokens) tokens ≡ None → HasTree tokens → ⊥
@@ -132,14 +132,14 @@ nothing_read tokens e h =
     none-some _ (sym e ∙ Exact.file_found (Capped Tree) (Capped Trees) (Capped Clauses) capped capped_shows h.0 tokens (length tokens) (omega arith) h.1)
 
 -- no tree is too high
-pub low_tree : (tokens : List Token) (n : ℕ) (decls : List Declaration) → option_map (gathered None []) (file_read capped n tokens) ≡ Some (None, decls) → IsLowTree tokens decls
+pub low_tree : (tokens : List Token) (n : ℕ) (decls : List Declaration) → option_map (kept_declarations None []) (file_read capped n tokens) ≡ Some (None, decls) → IsLowTree tokens decls
 low_tree tokens n decls e =
     let r = read_sound tokens n (None, decls) e in
     let none : first_too_high r.file ≡ None = sym r.gathers.high in
     let same : decls ≡ r.file = r.gathers.tree none in
     subst (IsLowTree tokens) (sym same) (r.is, none)
 
-pub high_tree : (tokens : List Token) (n : ℕ) (place : Place) (decls : List Declaration) → option_map (gathered None []) (file_read capped n tokens) ≡ Some (Some place, decls) → IsOutcome tokens (TooHigh place)
+pub high_tree : (tokens : List Token) (n : ℕ) (place : Place) (decls : List Declaration) → option_map (kept_declarations None []) (file_read capped n tokens) ≡ Some (Some place, decls) → IsOutcome tokens (TooHigh place)
 high_tree tokens n place decls e =
     let r = read_sound tokens n (Some place, decls) e in
     too_high r.file place r.is (sym r.gathers.high)
@@ -207,7 +207,7 @@ not_here_differs e = false≢true (sym (ap is_not_here e))
 pub broken_as : (IsIt : Outcome → Type 0) (outcome : Outcome) (rule : Rule) (place : Place) (fault : ParseFault) → fault ≡ Broken rule place.file place.line → broken_by outcome ≡ Some (rule, place) → IsIt outcome → Breaks IsIt fault
 broken_as IsIt outcome rule place fault e b o = subst (Breaks IsIt) (sym e) (outcome, o, b)
 
-pub stop_breaks : (tokens : List Token) (stop : Stop) → Stopped (file_read capped (length tokens) tokens) stop → Breaks (IsOutcome tokens) (fault_of_stop stop)
+pub stop_breaks : (tokens : List Token) (stop : Stop) → ReadsNothing (file_read capped (length tokens) tokens) stop → Breaks (IsOutcome tokens) (fault_of_stop stop)
 stop_breaks tokens NotHere (inl e) = absurd (not_here_differs e)
 stop_breaks tokens NotHere (inr e) = (NoProgram, no_program (nothing_read tokens e), refl)
 stop_breaks tokens NoMemory s = tt

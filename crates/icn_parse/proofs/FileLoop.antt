@@ -10,9 +10,9 @@ use Rattle.icn_tree.proofs.Framed.{declaration_framed}
 use Rattle.icn_expr.specs.Capped.{Capped, capped}
 use Rattle.icn_expr.proofs.Capping.{capped_shows}
 use Rattle.icn_parse.specs.FileReading.{◌>>=◌, declaration_read, file_read}
-use Rattle.icn_parse.specs.Gathering.{CappedDeclaration, Finish, finish, high_with, done_with, gathered}
+use Rattle.icn_parse.specs.Gathering.{CappedDeclaration, Finish, finish, high_with, done_with, kept_declarations}
 use Rattle.icn_parse.specs.declared.stop.Stop.{Stop}
-use Rattle.icn_parse.specs.Views.{Stopped, finished_read}
+use Rattle.icn_parse.specs.Views.{ReadsNothing, finished_read}
 use Rattle.icn_parse.proofs.DeclarationsExact.{declaration_sound}
 
 -- the declaration behind what it comes to
@@ -42,12 +42,12 @@ declaration_shorter rest after finished e =
 pub record FileSo (tokens : List Token) (high : Option Place) (done : List Declaration) (rest : List Token) : Type 0 where
   pub steps : ℕ
   pub enough : length rest ≤ steps
-  pub is : option_map (gathered None []) (file_read capped (length tokens) tokens) ≡ option_map (gathered high done) (file_read capped steps rest)
+  pub is : option_map (kept_declarations None []) (file_read capped (length tokens) tokens) ≡ option_map (kept_declarations high done) (file_read capped steps rest)
 
 pub file_begun : (tokens : List Token) → FileSo tokens None [] tokens
 file_begun tokens = record { steps = length tokens; enough = omega arith; is = refl }
 
-joins : (high : Option Place) (done : List Declaration) (declaration : CappedDeclaration) (others : Option (List CappedDeclaration)) → option_map (gathered high done) (others >>= λ o. Some (declaration ∷ o)) ≡ option_map (gathered (high_with high (finish declaration)) (done_with done (finish declaration))) others
+joins : (high : Option Place) (done : List Declaration) (declaration : CappedDeclaration) (others : Option (List CappedDeclaration)) → option_map (kept_declarations high done) (others >>= λ o. Some (declaration ∷ o)) ≡ option_map (kept_declarations (high_with high (finish declaration)) (done_with done (finish declaration))) others
 joins high done declaration None = refl
 joins high done declaration (Some others) = refl
 
@@ -55,16 +55,16 @@ pub file_more : (tokens : List Token) (high : Option Place) (done : List Declara
 file_more tokens high done [] after finished so e = absurd (omega (arith, declaration_shorter [] after finished e))
 file_more tokens high done (token ∷ rest) after finished so e = by_steps so.steps so.enough so.is
   where
-    by_steps : (steps : ℕ) → length (token ∷ rest) ≤ steps → option_map (gathered None []) (file_read capped (length tokens) tokens) ≡ option_map (gathered high done) (file_read capped steps (token ∷ rest)) → FileSo tokens (high_with high finished) (done_with done finished) after
+    by_steps : (steps : ℕ) → length (token ∷ rest) ≤ steps → option_map (kept_declarations None []) (file_read capped (length tokens) tokens) ≡ option_map (kept_declarations high done) (file_read capped steps (token ∷ rest)) → FileSo tokens (high_with high finished) (done_with done finished) after
     by_steps zero h is = absurd (omega (arith, h))
     by_steps (suc steps) h is =
         let r = reads_of (declaration_read capped (token ∷ rest)) finished after e in
         record {
           steps = steps;
           enough = omega (arith, h, declaration_shorter (token ∷ rest) after finished e);
-          is = is ∙ ap (λ (o : Option (CappedDeclaration × List Token)). option_map (gathered high done) (o >>= λ first. file_read capped steps first.1 >>= λ others. Some (first.0 ∷ others))) r.is
+          is = is ∙ ap (λ (o : Option (CappedDeclaration × List Token)). option_map (kept_declarations high done) (o >>= λ first. file_read capped steps first.1 >>= λ others. Some (first.0 ∷ others))) r.is
               ∙ joins high done r.declaration (file_read capped steps after)
-              ∙ ap (λ f. option_map (gathered (high_with high f) (done_with done f)) (file_read capped steps after)) r.finishes;
+              ∙ ap (λ f. option_map (kept_declarations (high_with high f) (done_with done f)) (file_read capped steps after)) r.finishes;
         }
 
 unread : (read : Option (CappedDeclaration × List Token)) → finished_read read ≡ None → read ≡ None
@@ -74,22 +74,22 @@ unread (Some found) e = absurd (none-some _ (sym e))
 -- what stands here is no declaration
 pub file_stops : (tokens : List Token) (high : Option Place) (done : List Declaration) (rest : List Token) → FileSo tokens high done rest → 0 < length rest → finished_read (declaration_read capped rest) ≡ None → file_read capped (length tokens) tokens ≡ None
 file_stops tokens high done [] so some e = absurd (omega (arith, some))
-file_stops tokens high done (token ∷ rest) so some e = none_before (file_read capped (length tokens) tokens) (so.is ∙ ap (option_map (gathered high done)) (by_steps so.steps))
+file_stops tokens high done (token ∷ rest) so some e = none_before (file_read capped (length tokens) tokens) (so.is ∙ ap (option_map (kept_declarations high done)) (by_steps so.steps))
   where
     by_steps : (steps : ℕ) → file_read capped steps (token ∷ rest) ≡ None
     by_steps zero = refl
     by_steps (suc steps) = ap (λ (o : Option (CappedDeclaration × List Token)). o >>= λ first. file_read capped steps first.1 >>= λ others. Some (first.0 ∷ others)) (unread (declaration_read capped (token ∷ rest)) e)
 
-    none_before : (o : Option (List CappedDeclaration)) → option_map (gathered None []) o ≡ None → o ≡ None
+    none_before : (o : Option (List CappedDeclaration)) → option_map (kept_declarations None []) o ≡ None → o ≡ None
     none_before None e = refl
     none_before (Some all) e = absurd (none-some _ (sym e))
 
-pub file_stopped : (tokens : List Token) (high : Option Place) (done : List Declaration) (rest : List Token) (stop : Stop) → FileSo tokens high done rest → 0 < length rest → Stopped (finished_read (declaration_read capped rest)) stop → Stopped (file_read capped (length tokens) tokens) stop
+pub file_stopped : (tokens : List Token) (high : Option Place) (done : List Declaration) (rest : List Token) (stop : Stop) → FileSo tokens high done rest → 0 < length rest → ReadsNothing (finished_read (declaration_read capped rest)) stop → ReadsNothing (file_read capped (length tokens) tokens) stop
 file_stopped tokens high done rest stop so some (inl is) = inl is
 file_stopped tokens high done rest stop so some (inr e) = inr (file_stops tokens high done rest so some e)
 
-pub file_end : (tokens : List Token) (high : Option Place) (done : List Declaration) → FileSo tokens high done [] → option_map (gathered None []) (file_read capped (length tokens) tokens) ≡ Some (high, done)
-file_end tokens high done so = so.is ∙ ap (option_map (gathered high done)) (nothing_left so.steps)
+pub file_end : (tokens : List Token) (high : Option Place) (done : List Declaration) → FileSo tokens high done [] → option_map (kept_declarations None []) (file_read capped (length tokens) tokens) ≡ Some (high, done)
+file_end tokens high done so = so.is ∙ ap (option_map (kept_declarations high done)) (nothing_left so.steps)
   where
     nothing_left : (steps : ℕ) → file_read capped steps [] ≡ Some []
     nothing_left zero = refl

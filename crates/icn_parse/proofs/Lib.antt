@@ -5,5 +5,5 @@ pub mod DeclarationsExact
 pub mod Looping
 pub mod BodyLoop
 pub mod FileLoop
-pub mod Unknown
+pub mod UnknownKeywords
 pub mod Answering

@@ -3,7 +3,7 @@ use Rattle.std.specs.Prelude.{List, [], ◌∷◌, ◌++◌, Option, Some, None}
 use Rattle.std.specs.Option.{option_map}
 use Rattle.icn_tree.specs.declared.tree.Place.{Place}
 use Rattle.icn_tree.specs.Trees.{Tree, Trees, Initial, NoInitial, Initially, Declaration, Global, Link, Invocable, Record, ProcedureOf}
-use Rattle.icn_expr.specs.Capped.{Capped, kept}
+use Rattle.icn_expr.specs.Capped.{Capped, kept_tree}
 use Rattle.icn_parse.specs.FileReading.{ProcedureOver, DeclarationOver, GlobalOver, LinkOver, InvocableOver, RecordOver, ProcedureIs}
 
 abbrev pub CappedProcedure : Type 0
@@ -19,7 +19,7 @@ pub data Finish : Type 0 where
 
 abbrev pub finish_initial : Option (Place × Capped Tree) → Option Initial
 finish_initial None = Some NoInitial
-finish_initial (Some initial) = option_map (Initially initial.0) (kept initial.1)
+finish_initial (Some initial) = option_map (Initially initial.0) (kept_tree initial.1)
 
 abbrev pub finish_procedure : CappedProcedure → Option Initial → Option Trees → Finish
 finish_procedure p (Some initial) (Some body) = IsKept (ProcedureOf (record { place = p.place; name = p.name; parameters = p.parameters; is_variadic = p.is_variadic; locals = p.locals; initial = initial; body = body }))
@@ -30,7 +30,7 @@ finish (GlobalOver place names) = IsKept (Global place names)
 finish (LinkOver place items) = IsKept (Link place items)
 finish (InvocableOver place items) = IsKept (Invocable place items)
 finish (RecordOver place name fields) = IsKept (Record place name fields)
-finish (ProcedureIs p) = finish_procedure p (finish_initial p.initial) (kept p.body)
+finish (ProcedureIs p) = finish_procedure p (finish_initial p.initial) (kept_tree p.body)
 
 -- where the first tree that is too high stands
 abbrev pub high_with : Option Place → Finish → Option Place
@@ -43,6 +43,6 @@ done_with done (IsKept declaration) = done ++ declaration ∷ []
 done_with done (IsTooHigh place) = done
 
 -- what is kept in the end, behind what was kept so far
-abbrev pub gathered : Option Place → List Declaration → List CappedDeclaration → Option Place × List Declaration
-gathered high done [] = (high, done)
-gathered high done (declaration ∷ others) = gathered (high_with high (finish declaration)) (done_with done (finish declaration)) others
+abbrev pub kept_declarations : Option Place → List Declaration → List CappedDeclaration → Option Place × List Declaration
+kept_declarations high done [] = (high, done)
+kept_declarations high done (declaration ∷ others) = kept_declarations (high_with high (finish declaration)) (done_with done (finish declaration)) others

@@ -55,11 +55,11 @@ abbrev mutual
   clauses_keywords NoClauses = []
   clauses_keywords (MoreClauses clause clauses) = clause_keywords clause ++ clauses_keywords clauses
 
-abbrev pub known : List KnownKeyword
-known = K.Ascii ∷ K.Cset ∷ K.Current ∷ K.Digits ∷ K.Errout ∷ K.Fail ∷ K.Input ∷ K.Lcase ∷ K.Letters ∷ K.Level ∷ K.Main ∷ K.Null ∷ K.Output ∷ K.Pos ∷ K.Random ∷ K.Source ∷ K.Subject ∷ K.Ucase ∷ []
+abbrev pub known_keywords : List KnownKeyword
+known_keywords = K.Ascii ∷ K.Cset ∷ K.Current ∷ K.Digits ∷ K.Errout ∷ K.Fail ∷ K.Input ∷ K.Lcase ∷ K.Letters ∷ K.Level ∷ K.Main ∷ K.Null ∷ K.Output ∷ K.Pos ∷ K.Random ∷ K.Source ∷ K.Subject ∷ K.Ucase ∷ []
 
 abbrev pub is_known : List ℕ → Bool
-is_known text = list_any (λ keyword. bytes_eq text (keyword_name keyword)) known
+is_known text = list_any (λ keyword. bytes_eq text (keyword_name keyword)) known_keywords
 
 -- where the first name stands that is no keyword
 abbrev pub first_unknown : List Name → Option Place

@@ -26,8 +26,8 @@ use Rattle.icn_parse.specs.Gathering.{CappedDeclaration, Finish, IsKept, IsTooHi
 use Rattle.icn_parse.specs.Outcomes.{Fault, UnknownKeyword, NotInProfile, Outcome, NoProgram, TooHigh, Faulty, IsTree, first_too_high}
 
 -- nothing is read, or memory ran out
-abbrev pub Stopped : {A : Type 0} → Option A → Stop → Type 0
-Stopped read stop = (stop ≡ NoMemory) ⊎ (read ≡ None)
+abbrev pub ReadsNothing : {A : Type 0} → Option A → Stop → Type 0
+ReadsNothing read stop = (stop ≡ NoMemory) ⊎ (read ≡ None)
 
 abbrev pub first_value : First → Place × Capped Tree
 first_value first = (first.place, capped_of first.value)

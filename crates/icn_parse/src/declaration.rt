@@ -6,7 +6,7 @@ ghost use Rattle.icn_tree.specs.TreeOf.{initial_of};
 ghost use Rattle.icn_expr.specs.Capped.{capped};
 ghost use Rattle.icn_parse.specs.FileReading.{record_read, declaration_by, declaration_read};
 ghost use Rattle.icn_parse.specs.Gathering.{finish, finish_initial};
-ghost use Rattle.icn_parse.specs.Views.{Stopped, first_value, finish_of, finished_read, outline_of};
+ghost use Rattle.icn_parse.specs.Views.{ReadsNothing, first_value, finish_of, finished_read, outline_of};
 
 use crate::names::{read_items, read_maybe_names, read_name, read_names};
 use crate::procedure::{First, Head, Outline, read_procedure};
@@ -84,7 +84,7 @@ fn read_record<'a>(
     place: Place,
     tokens: &'a [Token],
 ) -> Result<(Finished, &'a [Token]), Stop>
-    ensures { let read = finished_read (record_read place tokens.now) in MatchResult result (λ found. read ≡ Some (finish_of found.0, found.1.now)) (Stopped read) }
+    ensures { let read = finished_read (record_read place tokens.now) in MatchResult result (λ found. read ≡ Some (finish_of found.0, found.1.now)) (ReadsNothing read) }
 {
     let (name, rest) = read_name(alloc, tokens)?;
     let rest = sign(open_parenthesis_next(rest), rest)?;
@@ -107,7 +107,7 @@ fn read_behind<'a>(
     place: Place,
     tokens: &'a [Token],
 ) -> Result<(Finished, &'a [Token]), Stop>
-    ensures { let read = finished_read (declaration_by capped (Some kind.now) place tokens.now) in MatchResult result (λ found. read ≡ Some (finish_of found.0, found.1.now)) (Stopped read) }
+    ensures { let read = finished_read (declaration_by capped (Some kind.now) place tokens.now) in MatchResult result (λ found. read ≡ Some (finish_of found.0, found.1.now)) (ReadsNothing read) }
 {
     match kind {
         Kind::Word(Word::Global) => {
@@ -136,7 +136,7 @@ pub fn read_declaration<'a>(
     alloc: Global,
     tokens: &'a [Token],
 ) -> Result<(Finished, &'a [Token]), Stop>
-    ensures { let read = finished_read (declaration_read capped tokens.now) in MatchResult result (λ found. read ≡ Some (finish_of found.0, found.1.now)) (Stopped read) }
+    ensures { let read = finished_read (declaration_read capped tokens.now) in MatchResult result (λ found. read ≡ Some (finish_of found.0, found.1.now)) (ReadsNothing read) }
 {
     let Some((token, rest)) = tokens.split_first() else {
         return Err(Stop::NotHere);

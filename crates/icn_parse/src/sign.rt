@@ -4,7 +4,7 @@ ghost use Rattle.icn_tree.specs.Phrases.{next};
 ghost use Rattle.icn_expr.specs.Automata.{is_close_parenthesis, is_close_bracket};
 ghost use Rattle.icn_parse.specs.FileReading.{sign_by, is_semicolon, is_open_parenthesis, is_open_bracket, is_initial, is_end, local_kind as local_kind_of};
 ghost use Rattle.icn_parse.specs.PartReading.{is_comma_next};
-ghost use Rattle.icn_parse.specs.Views.{Stopped};
+ghost use Rattle.icn_parse.specs.Views.{ReadsNothing};
 
 use crate::stop::Stop;
 use icn_expr::behind;
@@ -12,7 +12,7 @@ use icn_tree::{Kind, LocalKind, Punctuation, Token, Word};
 
 /// The tokens behind a sign, where it stands next.
 pub fn sign(stands: bool, tokens: &[Token]) -> Result<&[Token], Stop>
-    ensures { MatchResult result (λ rest. sign_by stands tokens.now ≡ Some rest.now) (Stopped (sign_by stands tokens.now)) }
+    ensures { MatchResult result (λ rest. sign_by stands tokens.now ≡ Some rest.now) (ReadsNothing (sign_by stands tokens.now)) }
 {
     if !stands {
         return Err(Stop::NotHere);

@@ -7,7 +7,7 @@ use Rattle.std.proofs.lemmas.Option.{none-some}
 use Rattle.icn_prep.specs.declared.literal.LiteralState.{LiteralState}
 use Rattle.icn_prep.specs.declared.literal.LiteralState.TheVariants.{Outside}
 use Rattle.icn_prep.specs.Laws.{IsMade, none, defined, undefined_in, CountNeverBinds}
-use Rattle.icn_prep.specs.Replacement.{Read, read_from, as_it_stands, word_read, replaced}
+use Rattle.icn_prep.specs.Replacement.{ReplacedText, read_from, as_it_stands, word_read, replace_words}
 use Rattle.icn_prep.specs.Texts.{TextOf, Texts, without, undefined_by}
 
 abbrev is_among : List ℕ → List (List ℕ) → Bool
@@ -70,16 +70,16 @@ among : (names : List (List ℕ)) (texts : TextOf) (word text : List ℕ) → Co
 among names texts word text covers h = among_by (is_among word names) names texts word text refl covers h
 
 abbrev Same : ℕ → ℕ → Type 0
-Same n m = (names : List (List ℕ)) (texts : TextOf) → Covers names texts → length names ≤ n → length names ≤ m → replaced n texts ≡ replaced m texts
+Same n m = (names : List (List ℕ)) (texts : TextOf) → Covers names texts → length names ≤ n → length names ≤ m → replace_words n texts ≡ replace_words m texts
 
 word_same : (n m : ℕ) → Same n m → (names : List (List ℕ)) (texts : TextOf) (word : List ℕ) (text : Option (List ℕ)) → texts word ≡ text → Covers names texts
-    → length names ≤ suc n → length names ≤ suc m → word_read (replaced n) texts word text ≡ word_read (replaced m) texts word text
+    → length names ≤ suc n → length names ≤ suc m → word_read (replace_words n) texts word text ≡ word_read (replace_words m) texts word text
 word_same n m same names texts word None e covers a b = refl
 word_same n m same names texts word (Some text) e covers a b =
     let len = fewer word names (among names texts word text covers e) in
     ap (λ reads. reads Outside text) (same (others word names) (without texts word) (covers_others word names texts covers) (omega (arith, len, a)) (omega (arith, len, b)))
 
-stands : (n : ℕ) (texts : TextOf) (word : List ℕ) (text : Option (List ℕ)) → text ≡ None → as_it_stands word ≡ word_read (replaced n) texts word text
+stands : (n : ℕ) (texts : TextOf) (word : List ℕ) (text : Option (List ℕ)) → text ≡ None → as_it_stands word ≡ word_read (replace_words n) texts word text
 stands n texts word None e = refl
 stands n texts word (Some text) e = absurd (none-some text (sym e))
 

@@ -11,13 +11,13 @@ use Rattle.icn_prep.specs.declared.literal.LiteralState.{LiteralState}
 use Rattle.icn_prep.specs.declared.literal.LiteralState.TheVariants.{Outside, Inside, Joining, Escape, Control, Comment}
 use Rattle.icn_prep.specs.Directives.{is_directive, begins_directive}
 use Rattle.icn_prep.specs.FileLines.{begins_with, put_before, lines_of}
-use Rattle.icn_prep.specs.LiteralStates.{after, carried}
+use Rattle.icn_prep.specs.LiteralStates.{after, next_line_state}
 use Rattle.icn_prep.specs.Outcomes.{◌>>=◌}
 use Rattle.icn_prep.specs.PlainFiles.{has_no_directive, numbered_lines}
 use Rattle.icn_prep.specs.Places.{Place}
-use Rattle.icn_prep.specs.Replacement.{Read, behind, begins_word, as_it_stands, read_from, replaced}
+use Rattle.icn_prep.specs.Replacement.{ReplacedText, behind, begins_word, as_it_stands, read_from, replace_words}
 use Rattle.icn_prep.specs.Sizes.{ended_len}
-use Rattle.icn_prep.specs.SourceLines.{State, Outcome, Including, first_state, given, line_read, lines_read, named_file, included, source_of, source_lines}
+use Rattle.icn_prep.specs.SourceLines.{State, Outcome, IncludeStep, first_state, give_line, line_read, lines_read, named_file, include_file, source_of, source_lines}
 use Rattle.icn_prep.specs.Texts.{Texts, no_texts}
 use Rattle.icn_tree.specs.Characters.{continues_identifier}
 use Rattle.icn_prep.proofs.Giving.{given_short}
@@ -29,7 +29,7 @@ kept_by : (begins : Bool) (taken : ℕ) (b : ℕ) (rest : List ℕ) (word other 
 kept_by true taken b rest word other h g = ap (λ xs. b ∷ xs) (take-append-drop taken rest)
 kept_by false taken b rest word other h g = ap (λ xs. b ∷ xs) g
 
-bytes_by : (begins : Bool) (word front : List ℕ) (a b : Read) → (let read = cond begins (behind word a) (behind front b) in read).bytes ≡ cond begins (word ++ a.bytes) (front ++ b.bytes)
+bytes_by : (begins : Bool) (word front : List ℕ) (a b : ReplacedText) → (let read = cond begins (behind word a) (behind front b) in read).bytes ≡ cond begins (word ++ a.bytes) (front ++ b.bytes)
 bytes_by true word front a b = refl
 bytes_by false word front a b = refl
 
@@ -85,27 +85,27 @@ place_at file number = record { file = file; line = number; taken = true; condit
 abbrev line_at : ℕ → ℕ → List ℕ → SourceLine
 line_at file number line = record { bytes = line; file = file; number = number }
 
-abbrev read_of : State → List ℕ → Read
-read_of s line = replaced s.texts.count s.texts.text_of s.literal line
+abbrev read_of : State → List ℕ → ReplacedText
+read_of s line = replace_words s.texts.count s.texts.text_of s.literal line
 
 read_own : (s : State) (line : List ℕ) → s.texts ≡ no_texts → (read_of s line).bytes ≡ line
-read_own s line none = ap (λ (t : Texts). (replaced t.count t.text_of s.literal line).bytes) none ∙ own_bytes zero s.literal line
+read_own s line none = ap (λ (t : Texts). (replace_words t.count t.text_of s.literal line).bytes) none ∙ own_bytes zero s.literal line
 
 abbrev state_behind : State → ℕ → ℕ → List ℕ → State
-state_behind s file number line = record s { lines = s.lines ++ line_at file number line ∷ []; literal = carried (read_of s line).state }
+state_behind s file number line = record s { lines = s.lines ++ line_at file number line ∷ []; literal = next_line_state (read_of s line).state }
 
-line_own : (includes : Including) (s : State) (file number : ℕ) (line : List ℕ) → s.texts ≡ no_texts → begins_directive line ≡ false → ended_len s.lines + length line ≤ 16777216
+line_own : (includes : IncludeStep) (s : State) (file number : ℕ) (line : List ℕ) → s.texts ≡ no_texts → begins_directive line ≡ false → ended_len s.lines + length line ≤ 16777216
     → line_read includes s (place_at file number) line ≡ Ok (state_behind s file number line, place_at file (number + 1))
 line_own includes s file number line none plain l =
-    let literal = carried (read_of s line).state in
+    let literal = next_line_state (read_of s line).state in
     cond-false (is_directive s.literal line) _ _ (no_directive s.literal line plain)
-    ∙ (ap (λ bytes. given s (place_at file number) bytes literal >>= λ s'. Ok (s', place_at file (number + 1))) (read_own s line none)
+    ∙ (ap (λ bytes. give_line s (place_at file number) bytes literal >>= λ s'. Ok (s', place_at file (number + 1))) (read_own s line none)
     ∙ ap (λ o. o >>= λ s'. Ok (s', place_at file (number + 1))) (given_short s (place_at file number) line literal (ended_len s.lines) refl l))
 
 ended_more : (lines : List SourceLine) (line : SourceLine) → ended_len (lines ++ line ∷ []) ≡ ended_len lines + (length line.bytes + 1)
 ended_more lines line = sum_by-append (λ line. length line.bytes + 1) lines (line ∷ []) ∙ ap (λ n. ended_len lines + n) (omega arith)
 
-lines_own : (includes : Including) (s : State) (file number : ℕ) (lines : List (List ℕ)) → s.texts ≡ no_texts → has_no_directive lines ≡ true → ended_len s.lines + bytes_with_ends lines ≤ 16777217
+lines_own : (includes : IncludeStep) (s : State) (file number : ℕ) (lines : List (List ℕ)) → s.texts ≡ no_texts → has_no_directive lines ≡ true → ended_len s.lines + bytes_with_ends lines ≤ 16777217
     → (literal : LiteralState) × (lines_read includes s (place_at file number) lines ≡ Ok (record s { lines = s.lines ++ numbered_lines file number lines; literal = literal }))
 lines_own includes s file number [] none plain l =
     (s.literal, ap (λ lines. let outcome : Outcome = Ok (record s { lines = lines; literal = s.literal }) in outcome) (sym (append-nil s.lines)))
@@ -130,6 +130,6 @@ own_source files name bytes there short plain =
     let within : nat_lt 16777216 (length bytes) ≡ false = grind (arith, nat_tests) in
     let few = lines_within bytes in
     let s : State = record first_state { names = name ∷ [] } in
-    let own = lines_own (included files 32) s 0 1 (lines_of bytes) refl plain (omega arith) in
+    let own = lines_own (include_file files 32) s 0 1 (lines_of bytes) refl plain (omega arith) in
     own_file (named_file files name (files name)) (name ∷ []) (numbered_lines 0 1 (lines_of bytes)) no_texts own.0
     (ap (named_file files name) there ∙ (cond-false (nat_lt 16777216 (length bytes)) _ _ within ∙ own.1))

@@ -13,7 +13,7 @@ use Rattle.std.specs.Str.{bytes_eq}
 use Rattle.icn_prep.specs.declared.literal.LiteralState.{LiteralState}
 use Rattle.icn_prep.specs.declared.literal.LiteralState.TheVariants.{Outside, Inside, Joining, Escape, Control, Comment}
 use Rattle.icn_prep.specs.LiteralStates.{after}
-use Rattle.icn_prep.specs.Replacement.{Read, behind, begins_word, as_it_stands, read_from, word_read, replaced}
+use Rattle.icn_prep.specs.Replacement.{ReplacedText, behind, begins_word, as_it_stands, read_from, word_read, replace_words}
 use Rattle.icn_prep.specs.Texts.{TextOf, without}
 use Rattle.icn_tree.specs.Characters.{continues_identifier}
 use Rattle.icn_prep.specs.Words.{first_word, behind_word}
@@ -28,45 +28,45 @@ texts_left texts [] = texts
 texts_left texts (o ∷ outer) = without (texts_left texts outer) o.0.now
 
 -- what comes of a text and of all that stands behind it, where so many names are left
-abbrev pub pending : ℕ → TextOf → List Outer → LiteralState → List ℕ → Read
-pending n texts [] state rest = replaced n texts state rest
+abbrev pub pending : ℕ → TextOf → List Outer → LiteralState → List ℕ → ReplacedText
+pending n texts [] state rest = replace_words n texts state rest
 pending n texts (o ∷ outer) state rest =
-    let read = replaced n (texts_left texts (o ∷ outer)) state rest in
+    let read = replace_words n (texts_left texts (o ∷ outer)) state rest in
     behind read.bytes (pending (suc n) texts outer read.state o.1.now)
 
-behind_behind : (a b : List ℕ) (read : Read) → behind (a ++ b) read ≡ behind a (behind b read)
-behind_behind a b read = ap (λ bytes. let r : Read = record { bytes = bytes; state = read.state } in r) (append_assoc a b read.bytes)
+behind_behind : (a b : List ℕ) (read : ReplacedText) → behind (a ++ b) read ≡ behind a (behind b read)
+behind_behind a b read = ap (λ bytes. let r : ReplacedText = record { bytes = bytes; state = read.state } in r) (append_assoc a b read.bytes)
 
-behind_none : (read : Read) → behind [] read ≡ read
+behind_none : (read : ReplacedText) → behind [] read ≡ read
 behind_none read = refl
 
 -- what comes first of a text comes first of all
 pub pending_by : (n : ℕ) (texts : TextOf) (outer : List Outer) (state onward : LiteralState) (rest left front : List ℕ)
-    → replaced n (texts_left texts outer) state rest ≡ behind front (replaced n (texts_left texts outer) onward left)
+    → replace_words n (texts_left texts outer) state rest ≡ behind front (replace_words n (texts_left texts outer) onward left)
     → pending n texts outer state rest ≡ behind front (pending n texts outer onward left)
 pending_by n texts [] state onward rest left front h = h
 pending_by n texts (o ∷ outer) state onward rest left front h =
     ap (λ read. behind read.bytes (pending (suc n) texts outer read.state o.1.now)) h
-    ∙ behind_behind front (replaced n (texts_left texts (o ∷ outer)) onward left).bytes (pending (suc n) texts outer (replaced n (texts_left texts (o ∷ outer)) onward left).state o.1.now)
+    ∙ behind_behind front (replace_words n (texts_left texts (o ∷ outer)) onward left).bytes (pending (suc n) texts outer (replace_words n (texts_left texts (o ∷ outer)) onward left).state o.1.now)
 
 -- bytes that were taken are skipped
-skips : (becomes : List ℕ → Read) (n : ℕ) (state : LiteralState) (rest : List ℕ) → read_from becomes n state rest ≡ read_from becomes zero state (drop n rest)
+skips : (becomes : List ℕ → ReplacedText) (n : ℕ) (state : LiteralState) (rest : List ℕ) → read_from becomes n state rest ≡ read_from becomes zero state (drop n rest)
 skips becomes zero state rest = refl
 skips becomes (suc n) state [] = refl
 skips becomes (suc n) state (b ∷ rest) = skips becomes n state rest
 
 -- a byte that begins no word
-byte_by : (becomes : List ℕ → Read) (state : LiteralState) (b : ℕ) (rest : List ℕ) → begins_word state b ≡ false
+byte_by : (becomes : List ℕ → ReplacedText) (state : LiteralState) (b : ℕ) (rest : List ℕ) → begins_word state b ≡ false
     → read_from becomes zero state (b ∷ rest) ≡ behind (b ∷ []) (read_from becomes zero (after state b) rest)
 byte_by becomes state b rest h = rw h refl
 
 pub byte_read : (n : ℕ) (texts : TextOf) (state : LiteralState) (b : ℕ) (rest : List ℕ) → begins_word state b ≡ false
-    → replaced n texts state (b ∷ rest) ≡ behind (b ∷ []) (replaced n texts (after state b) rest)
+    → replace_words n texts state (b ∷ rest) ≡ behind (b ∷ []) (replace_words n texts (after state b) rest)
 byte_read zero texts state b rest h = byte_by as_it_stands state b rest h
-byte_read (suc n) texts state b rest h = byte_by (λ word. word_read (replaced n) texts word (texts word)) state b rest h
+byte_read (suc n) texts state b rest h = byte_by (λ word. word_read (replace_words n) texts word (texts word)) state b rest h
 
 -- a word at the front
-word_by : (becomes : List ℕ → Read) (state : LiteralState) (b : ℕ) (rest : List ℕ) → begins_word state b ≡ true
+word_by : (becomes : List ℕ → ReplacedText) (state : LiteralState) (b : ℕ) (rest : List ℕ) → begins_word state b ≡ true
     → let count = prefix_len continues_identifier rest in let read = becomes (b ∷ take count rest) in
     read_from becomes zero state (b ∷ rest) ≡ behind read.bytes (read_from becomes zero read.state (drop count rest))
 word_by becomes state b rest h =
@@ -83,15 +83,15 @@ begun (Control q) b h = absurd (false≢true h)
 begun Comment b h = absurd (false≢true h)
 
 -- what a word becomes, where so many names are left
-abbrev becomes : ℕ → TextOf → List ℕ → Read
+abbrev becomes : ℕ → TextOf → List ℕ → ReplacedText
 becomes zero texts word = as_it_stands word
-becomes (suc n) texts word = word_read (replaced n) texts word (texts word)
+becomes (suc n) texts word = word_read (replace_words n) texts word (texts word)
 
 word_front : (n : ℕ) (texts : TextOf) (b : ℕ) (rest : List ℕ) → continues_identifier b ≡ true
     → let count = prefix_len continues_identifier rest in let read = becomes n texts (b ∷ take count rest) in
-    replaced n texts Outside (b ∷ rest) ≡ behind read.bytes (replaced n texts read.state (drop count rest))
+    replace_words n texts Outside (b ∷ rest) ≡ behind read.bytes (replace_words n texts read.state (drop count rest))
 word_front zero texts b rest h = word_by as_it_stands Outside b rest h
-word_front (suc n) texts b rest h = word_by (λ word. word_read (replaced n) texts word (texts word)) Outside b rest h
+word_front (suc n) texts b rest h = word_by (λ word. word_read (replace_words n) texts word (texts word)) Outside b rest h
 
 front_by : (b : ℕ) (rest : List ℕ) (first : Bool) → first ≡ true
     → (take (cond first (1 + prefix_len continues_identifier rest) 0) (b ∷ rest) ≡ b ∷ take (prefix_len continues_identifier rest) rest)
@@ -106,7 +106,7 @@ front_of b rest h = front_by b rest (continues_identifier b) h
 
 -- a word at the front, by the code's cut
 pub word_first : (n : ℕ) (texts : TextOf) (b : ℕ) (others rest word left : List ℕ) → continues_identifier b ≡ true → rest ≡ b ∷ others → word ≡ first_word rest → left ≡ behind_word rest
-    → let read = becomes n texts word in replaced n texts Outside rest ≡ behind read.bytes (replaced n texts read.state left)
+    → let read = becomes n texts word in replace_words n texts Outside rest ≡ behind read.bytes (replace_words n texts read.state left)
 word_first n texts b others rest word left h is w l =
     let parts = front_of b others h in
     let here : word ≡ b ∷ take (prefix_len continues_identifier others) others = w ∙ (ap first_word is ∙ parts.0) in
@@ -142,32 +142,32 @@ left_at (o ∷ entries) texts word =
 
 -- how reading a line stands
 pub record ReadSo (count : ℕ) (texts : TextOf) (literal : LiteralState) (line : List ℕ) (most : ℕ) (given : List ℕ) (entries : List Outer) (state : LiteralState) (rest : List ℕ) : Type 0 where
-  pub whole : replaced count texts literal line ≡ behind given (pending (count - length entries) texts (reverse entries) state rest)
+  pub whole : replace_words count texts literal line ≡ behind given (pending (count - length entries) texts (reverse entries) state rest)
   pub within : length given ≤ most
   pub depth : length entries ≤ count
 
 -- nothing was read yet
 pub so_begins : (count : ℕ) (texts : TextOf) (literal : LiteralState) (line : List ℕ) (most : ℕ) → ReadSo count texts literal line most [] [] literal line
 so_begins count texts literal line most = record {
-  whole = ap (λ n. replaced n texts literal line) (omega arith);
+  whole = ap (λ n. replace_words n texts literal line) (omega arith);
   within = omega arith;
   depth = omega arith;
 }
 
-read_none : (n : ℕ) (texts : TextOf) (state : LiteralState) → replaced n texts state [] ≡ (let r : Read = record { bytes = []; state = state } in r)
+read_none : (n : ℕ) (texts : TextOf) (state : LiteralState) → replace_words n texts state [] ≡ (let r : ReplacedText = record { bytes = []; state = state } in r)
 read_none zero texts state = refl
 read_none (suc n) texts state = refl
 
 -- a text ended, and no other stands round it
 pub so_ends : (count : ℕ) (texts : TextOf) (literal : LiteralState) (line : List ℕ) (most : ℕ) (given : List ℕ) (entries : List Outer) (state : LiteralState) (rest : List ℕ)
-    → ReadSo count texts literal line most given entries state rest → entries ≡ [] → rest ≡ [] → replaced count texts literal line ≡ (let r : Read = record { bytes = given; state = state } in r)
+    → ReadSo count texts literal line most given entries state rest → entries ≡ [] → rest ≡ [] → replace_words count texts literal line ≡ (let r : ReplacedText = record { bytes = given; state = state } in r)
 so_ends count texts literal line most given entries state rest so none end =
-    let at_end : replaced count texts literal line ≡ behind given (pending (count - length entries) texts (reverse entries) state rest) = so.whole in
+    let at_end : replace_words count texts literal line ≡ behind given (pending (count - length entries) texts (reverse entries) state rest) = so.whole in
     at_end
     ∙ (ap (λ es. behind given (pending (count - length es) texts (reverse es) state rest)) none
-    ∙ (ap (λ r. behind given (replaced (count - 0) texts state r)) end
+    ∙ (ap (λ r. behind given (replace_words (count - 0) texts state r)) end
     ∙ (ap (behind given) (read_none (count - 0) texts state)
-    ∙ ap (λ bytes. let r : Read = record { bytes = bytes; state = state } in r) (append-nil given))))
+    ∙ ap (λ bytes. let r : ReplacedText = record { bytes = bytes; state = state } in r) (append-nil given))))
 
 reversed : (entries others : List Outer) (o : Outer) → entries ≡ others ++ o ∷ [] → reverse entries ≡ o ∷ reverse others
 reversed entries others o is = ap reverse is ∙ reverse-append others (o ∷ [])
@@ -185,7 +185,7 @@ so_pops count texts literal line most given entries others o state rest so is en
           so.whole
           ∙ (ap (λ es. behind given (pending n texts es state rest)) (reversed entries others o is)
           ∙ (ap (λ r. behind given (pending n texts (o ∷ reverse others) state r)) end
-          ∙ (ap (λ (read : Read). behind given (behind read.bytes (pending (suc n) texts (reverse others) read.state o.1.now))) (read_none n (texts_left texts (o ∷ reverse others)) state)
+          ∙ (ap (λ (read : ReplacedText). behind given (behind read.bytes (pending (suc n) texts (reverse others) read.state o.1.now))) (read_none n (texts_left texts (o ∷ reverse others)) state)
           ∙ ap (λ m. behind given (pending m texts (reverse others) state o.1.now)) level)));
       within = so.within;
       depth = omega arith;
@@ -194,7 +194,7 @@ so_pops count texts literal line most given entries others o state rest so is en
 becomes_by : (n : ℕ) (texts : TextOf) (word : List ℕ) → (n ≡ 0) ⊎ (texts word ≡ None) → becomes n texts word ≡ as_it_stands word
 becomes_by zero texts word h = refl
 becomes_by (suc n) texts word (inl h) = absurd (omega arith)
-becomes_by (suc n) texts word (inr h) = ap (word_read (replaced n) texts word) h
+becomes_by (suc n) texts word (inr h) = ap (word_read (replace_words n) texts word) h
 
 -- whether a word has a text that it is replaced by, as the code looks
 abbrev pub chosen : ℕ → TextOf → List Outer → List ℕ → Option (List ℕ)
@@ -239,7 +239,7 @@ word_stays count texts entries b others rest word left h is w l none =
     let n = count - length entries in
     let t = texts_left texts (reverse entries) in
     pending_by n texts (reverse entries) Outside Outside rest left word
-    (word_first n t b others rest word left h is w l ∙ ap (λ (read : Read). behind read.bytes (replaced n t read.state left)) (stays count texts entries word none))
+    (word_first n t b others rest word left h is w l ∙ ap (λ (read : ReplacedText). behind read.bytes (replace_words n t read.state left)) (stays count texts entries word none))
 
 pub byte_stays : (count : ℕ) (texts : TextOf) (entries : List Outer) (state : LiteralState) (b : ℕ) (others rest : List ℕ) → begins_word state b ≡ false → rest ≡ b ∷ others
     → pending (count - length entries) texts (reverse entries) state rest ≡ behind (b ∷ []) (pending (count - length entries) texts (reverse entries) (after state b) others)
@@ -247,7 +247,7 @@ byte_stays count texts entries state b others rest h is =
     let n = count - length entries in
     let t = texts_left texts (reverse entries) in
     pending_by n texts (reverse entries) state (after state b) rest others (b ∷ [])
-    (ap (replaced n t state) is ∙ byte_read n t state b others h)
+    (ap (replace_words n t state) is ∙ byte_read n t state b others h)
 
 -- bytes that stay join the given ones
 pub so_gives : (count : ℕ) (texts : TextOf) (literal : LiteralState) (line : List ℕ) (most : ℕ) (given : List ℕ) (entries : List Outer) (state onward : LiteralState) (rest left front : List ℕ)
@@ -266,11 +266,11 @@ so_gives count texts literal line most given entries state onward rest left fron
 pub so_long : (count : ℕ) (texts : TextOf) (literal : LiteralState) (line : List ℕ) (most : ℕ) (given : List ℕ) (entries : List Outer) (state onward : LiteralState) (rest left front : List ℕ)
     → ReadSo count texts literal line most given entries state rest
     → pending (count - length entries) texts (reverse entries) state rest ≡ behind front (pending (count - length entries) texts (reverse entries) onward left)
-    → most < length given + length front → most < length (replaced count texts literal line).bytes
+    → most < length given + length front → most < length (replace_words count texts literal line).bytes
 so_long count texts literal line most given entries state onward rest left front so step l =
     let p = pending (count - length entries) texts (reverse entries) onward left in
-    let whole : (replaced count texts literal line).bytes ≡ given ++ (front ++ p.bytes) = ap (λ (read : Read). read.bytes) (so.whole ∙ ap (behind given) step) in
-    let len : length (replaced count texts literal line).bytes ≡ length given + (length front + length p.bytes) = ap length whole ∙ (length-append given (front ++ p.bytes) ∙ ap (λ n. length given + n) (length-append front p.bytes)) in
+    let whole : (replace_words count texts literal line).bytes ≡ given ++ (front ++ p.bytes) = ap (λ (read : ReplacedText). read.bytes) (so.whole ∙ ap (behind given) step) in
+    let len : length (replace_words count texts literal line).bytes ≡ length given + (length front + length p.bytes) = ap length whole ∙ (length-append given (front ++ p.bytes) ∙ ap (λ n. length given + n) (length-append front p.bytes)) in
     omega arith
 
 -- a word is replaced: its text comes next
@@ -284,11 +284,11 @@ so_pushes count texts literal line most given entries b others rest word left te
     let len : length (entries ++ (word, left) ∷ []) ≡ length entries + 1 = length-append entries ((word, left) ∷ []) in
     let low : length entries < count = g.low in
     let level : count - length entries ≡ suc m = omega arith in
-    let read = replaced m (without t word.now) Outside text in
+    let read = replace_words m (without t word.now) Outside text in
     let step : pending (suc m) texts es Outside rest ≡ pending m texts ((word, left) ∷ es) Outside text =
     pending_by (suc m) texts es Outside read.state rest left.now read.bytes
     (word_first (suc m) t b others rest word.now left.now h is w l
-    ∙ ap (λ found. let r = word_read (replaced m) t word.now found in behind r.bytes (replaced (suc m) t r.state left.now)) g.has) in
+    ∙ ap (λ found. let r = word_read (replace_words m) t word.now found in behind r.bytes (replace_words (suc m) t r.state left.now)) g.has) in
     record {
       whole =
           so.whole

@@ -14,34 +14,34 @@ use Rattle.icn_prep.specs.FileLines.{lines_of}
 use Rattle.icn_prep.specs.Outcomes.{◌>>=◌}
 use Rattle.icn_prep.specs.Places.{Place, next_line, start_of}
 use Rattle.icn_prep.specs.PlaceViews.{place_of}
-use Rattle.icn_prep.specs.Refusals.{Refuses, stepped, resumed}
-use Rattle.icn_prep.specs.SourceLines.{State, Outcome, Step, Including, line_read, lines_read, first_state, left_empty, file_read, included, found, named_file, source_of}
+use Rattle.icn_prep.specs.Refusals.{Refuses, rest_of_line, rest_of_lines}
+use Rattle.icn_prep.specs.SourceLines.{State, Outcome, Step, IncludeStep, line_read, lines_read, first_state, left_empty, file_read, include_file, include_found, named_file, source_of}
 
 then_then : {A B C : Type 0} (a : Result A PrepFault) (f : A → Result B PrepFault) (g : B → Result C PrepFault) → ((a >>= f) >>= g) ≡ (a >>= λ x. f x >>= g)
 then_then (Ok a) f g = refl
 then_then (Err e) f g = refl
 
 -- so far reading the lines of a file gives what reading all of them gives
-pub record LinesSo (includes : Including) (s : State) (place : Place) (lines : List (List ℕ)) (s' : State) (place' : Place) (rest : List (List ℕ)) : Type 0 where
+pub record LinesSo (includes : IncludeStep) (s : State) (place : Place) (lines : List (List ℕ)) (s' : State) (place' : Place) (rest : List (List ℕ)) : Type 0 where
   pub same : lines_read includes s place lines ≡ lines_read includes s' place' rest
 
 -- the next line
-step_of : (includes : Including) (s : State) (place : Place) (line : List ℕ) (rest : List (List ℕ)) (step : Step) → line_read includes s place line ≡ step
+step_of : (includes : IncludeStep) (s : State) (place : Place) (line : List ℕ) (rest : List (List ℕ)) (step : Step) → line_read includes s place line ≡ step
     → lines_read includes s place (line ∷ rest) ≡ (step >>= λ after. lines_read includes after.0 after.1 rest)
 step_of includes s place line rest step is = ap (λ o. o >>= λ after. lines_read includes after.0 after.1 rest) is
 
-pub passes_line : (includes : Including) (s s' : State) (place place' : Place) (line : List ℕ) (lines rest : List (List ℕ)) → lines ≡ line ∷ rest → line_read includes s place line ≡ Ok (s', place')
+pub passes_line : (includes : IncludeStep) (s s' : State) (place place' : Place) (line : List ℕ) (lines rest : List (List ℕ)) → lines ≡ line ∷ rest → line_read includes s place line ≡ Ok (s', place')
     → lines_read includes s place lines ≡ lines_read includes s' place' rest
 passes_line includes s s' place place' line lines rest cut is = ap (lines_read includes s place) cut ∙ step_of includes s place line rest (Ok (s', place')) is
 
-pub stops_line : (includes : Including) (s s' : State) (place place' : Place) (line name : List ℕ) (lines rest : List (List ℕ)) → lines ≡ line ∷ rest → line_read includes s place line ≡ stepped includes (Some name) s' place'
+pub stops_line : (includes : IncludeStep) (s s' : State) (place place' : Place) (line name : List ℕ) (lines rest : List (List ℕ)) → lines ≡ line ∷ rest → line_read includes s place line ≡ rest_of_line includes (Some name) s' place'
     → lines_read includes s place lines ≡ (includes name s' place' >>= λ t. lines_read includes t (next_line place') rest)
 stops_line includes s s' place place' line name lines rest cut is =
     ap (lines_read includes s place) cut
-    ∙ (step_of includes s place line rest (stepped includes (Some name) s' place') is
+    ∙ (step_of includes s place line rest (rest_of_line includes (Some name) s' place') is
     ∙ then_then (includes name s' place') (λ t. Ok (t, next_line place')) (λ after. lines_read includes after.0 after.1 rest))
 
-pub refuses_line : (includes : Including) (s : State) (place : Place) (line : List ℕ) (lines rest : List (List ℕ)) (fault : PrepFault) → lines ≡ line ∷ rest → Refuses (line_read includes s place line) fault
+pub refuses_line : (includes : IncludeStep) (s : State) (place : Place) (line : List ℕ) (lines rest : List (List ℕ)) (fault : PrepFault) → lines ≡ line ∷ rest → Refuses (line_read includes s place line) fault
     → Refuses (lines_read includes s place lines) fault
 refuses_line includes s place line lines rest fault cut (inl e) = inl e
 refuses_line includes s place line lines rest fault cut (inr e) = inr (ap (lines_read includes s place) cut ∙ step_of includes s place line rest (Err fault) e)
@@ -50,7 +50,7 @@ refuses_line includes s place line lines rest fault cut (inr e) = inr (ap (lines
 abbrev pub stack_read : FileMap → List OpenFile → State → Outcome
 stack_read files [] s = Ok s
 stack_read files (f ∷ outer) s =
-    lines_read (included files (32 - length outer)) s (place_of f.place) (lines_of (drop f.at f.content.items)) >>= stack_read files outer
+    lines_read (include_file files (32 - length outer)) s (place_of f.place) (lines_of (drop f.at f.content.items)) >>= stack_read files outer
 
 -- so far reading files gives what reading them all gives
 abbrev pub StackSo : FileMap → Outcome → List OpenFile → State → Type 0
@@ -65,20 +65,20 @@ top_of stack others f is = ap reverse is ∙ reverse-append others (f ∷ [])
 
 -- the file on top
 pub on_top : (files : FileMap) (whole : Outcome) (stack others : List OpenFile) (f : OpenFile) (s : State) → StackSo files whole stack s → stack ≡ others ++ f ∷ []
-    → whole ≡ (lines_read (included files (32 - length others)) s (place_of f.place) (lines_of (drop f.at f.content.items)) >>= stack_read files (reverse others))
+    → whole ≡ (lines_read (include_file files (32 - length others)) s (place_of f.place) (lines_of (drop f.at f.content.items)) >>= stack_read files (reverse others))
 on_top files whole stack others f s so is =
     so ∙ (ap (λ fs. stack_read files fs s) (top_of stack others f is)
-    ∙ ap (λ n. lines_read (included files (32 - n)) s (place_of f.place) (lines_of (drop f.at f.content.items)) >>= stack_read files (reverse others)) (length-reverse others))
+    ∙ ap (λ n. lines_read (include_file files (32 - n)) s (place_of f.place) (lines_of (drop f.at f.content.items)) >>= stack_read files (reverse others)) (length-reverse others))
 
 -- the file on top ended
 pub file_ended : (files : FileMap) (whole : Outcome) (stack others : List OpenFile) (f : OpenFile) (s s' : State) → StackSo files whole stack s → stack ≡ others ++ f ∷ []
-    → lines_read (included files (32 - length others)) s (place_of f.place) (lines_of (drop f.at f.content.items)) ≡ Ok s' → StackSo files whole others s'
+    → lines_read (include_file files (32 - length others)) s (place_of f.place) (lines_of (drop f.at f.content.items)) ≡ Ok s' → StackSo files whole others s'
 file_ended files whole stack others f s s' so is step =
     on_top files whole stack others f s so is ∙ ap (λ o. o >>= stack_read files (reverse others)) step
 
 -- it was refused
 pub file_refused : (files : FileMap) (whole : Outcome) (stack others : List OpenFile) (f : OpenFile) (s : State) (fault : PrepFault) → StackSo files whole stack s → stack ≡ others ++ f ∷ []
-    → Refuses (lines_read (included files (32 - length others)) s (place_of f.place) (lines_of (drop f.at f.content.items))) fault → IsAnswer whole fault
+    → Refuses (lines_read (include_file files (32 - length others)) s (place_of f.place) (lines_of (drop f.at f.content.items))) fault → IsAnswer whole fault
 file_refused files whole stack others f s fault so is (inl e) = inl (inr e)
 file_refused files whole stack others f s fault so is (inr e) =
     inr (on_top files whole stack others f s so is ∙ ap (λ o. o >>= stack_read files (reverse others)) e)
@@ -86,11 +86,11 @@ file_refused files whole stack others f s fault so is (inr e) =
 -- it includes a file: what including gives, and then the rest
 abbrev pub including_so : FileMap → Outcome → List OpenFile → Place → List ℕ → Outcome → Type 0
 including_so files whole others place rest outcome =
-    whole ≡ ((outcome >>= λ t. lines_read (included files (32 - length others)) t (next_line place) (lines_of rest)) >>= stack_read files (reverse others))
+    whole ≡ ((outcome >>= λ t. lines_read (include_file files (32 - length others)) t (next_line place) (lines_of rest)) >>= stack_read files (reverse others))
 
 pub file_includes : (files : FileMap) (whole : Outcome) (stack others : List OpenFile) (f : OpenFile) (s s' : State) (place : Place) (name : List ℕ) (at : ℕ) → StackSo files whole stack s → stack ≡ others ++ f ∷ []
-    → lines_read (included files (32 - length others)) s (place_of f.place) (lines_of (drop f.at f.content.items)) ≡ resumed (included files (32 - length others)) (Some (name, at)) s' place f.content.items
-    → including_so files whole others place (drop at f.content.items) (included files (32 - length others) name s' place)
+    → lines_read (include_file files (32 - length others)) s (place_of f.place) (lines_of (drop f.at f.content.items)) ≡ rest_of_lines (include_file files (32 - length others)) (Some (name, at)) s' place f.content.items
+    → including_so files whole others place (drop at f.content.items) (include_file files (32 - length others) name s' place)
 file_includes files whole stack others f s s' place name at so is step =
     on_top files whole stack others f s so is ∙ ap (λ o. o >>= stack_read files (reverse others)) step
 
@@ -99,50 +99,50 @@ pub including_refused : (files : FileMap) (whole : Outcome) (others : List OpenF
     → including_so files whole others place rest outcome → IsAnswer outcome fault → IsAnswer whole fault
 including_refused files whole others place rest outcome fault so (inl e) = inl e
 including_refused files whole others place rest outcome fault so (inr e) =
-    inr (so ∙ ap (λ o. (o >>= λ t. lines_read (included files (32 - length others)) t (next_line place) (lines_of rest)) >>= stack_read files (reverse others)) e)
+    inr (so ∙ ap (λ o. (o >>= λ t. lines_read (include_file files (32 - length others)) t (next_line place) (lines_of rest)) >>= stack_read files (reverse others)) e)
 
 -- the file is there
 pub included_is : (files : FileMap) (depth : ℕ) (name bytes : List ℕ) (s : State) (place : Place) → depth < 32 → files name ≡ Some bytes → length bytes ≤ 16777216
-    → included files (32 - depth) name s place ≡ (left_empty s place >>= λ t. file_read (included files (32 - (depth + 1))) name t bytes)
+    → include_file files (32 - depth) name s place ≡ (left_empty s place >>= λ t. file_read (include_file files (32 - (depth + 1))) name t bytes)
 included_is files depth name bytes s place l there short =
     let level : 32 - depth ≡ suc (32 - (depth + 1)) = omega arith in
     let within : nat_lt 16777216 (length bytes) ≡ false = grind (arith, nat_tests) in
-    ap (λ n. included files n name s place) level
-    ∙ (ap (found (included files (32 - (depth + 1))) name s place) there
+    ap (λ n. include_file files n name s place) level
+    ∙ (ap (include_found (include_file files (32 - (depth + 1))) name s place) there
     ∙ cond-false (nat_lt 16777216 (length bytes)) _ _ within)
 
 pub line_refused : (files : FileMap) (depth : ℕ) (name bytes : List ℕ) (s : State) (place : Place) (fault : PrepFault) → depth < 32 → files name ≡ Some bytes → length bytes ≤ 16777216
-    → Refuses (left_empty s place) fault → IsAnswer (included files (32 - depth) name s place) fault
+    → Refuses (left_empty s place) fault → IsAnswer (include_file files (32 - depth) name s place) fault
 line_refused files depth name bytes s place fault l there short (inl e) = inl (inr e)
 line_refused files depth name bytes s place fault l there short (inr e) =
-    inr (included_is files depth name bytes s place l there short ∙ ap (λ o. o >>= λ t. file_read (included files (32 - (depth + 1))) name t bytes) e)
+    inr (included_is files depth name bytes s place l there short ∙ ap (λ o. o >>= λ t. file_read (include_file files (32 - (depth + 1))) name t bytes) e)
 
 -- the included file stands on top, and behind it the file that goes on
 pub file_begun : (files : FileMap) (whole : Outcome) (others : List OpenFile) (place : Place) (name bytes rest : List ℕ) (s t u : State) (onward next : OpenFile)
-    → including_so files whole others place rest (included files (32 - length others) name s place) → length others < 32 → files name ≡ Some bytes → length bytes ≤ 16777216
+    → including_so files whole others place rest (include_file files (32 - length others) name s place) → length others < 32 → files name ≡ Some bytes → length bytes ≤ 16777216
     → left_empty s place ≡ Ok t → u ≡ record t { names = t.names ++ name ∷ [] }
     → place_of onward.place ≡ next_line place → drop onward.at onward.content.items ≡ rest
     → place_of next.place ≡ start_of (length t.names) → drop next.at next.content.items ≡ bytes
     → StackSo files whole ((others ++ onward ∷ []) ++ next ∷ []) u
 file_begun files whole others place name bytes rest s t u onward next so l there short given named goes left starts all =
     let m = 32 - (length others + 1) in
-    let inner : included files (32 - length others) name s place ≡ lines_read (included files m) u (place_of next.place) (lines_of (drop next.at next.content.items)) =
+    let inner : include_file files (32 - length others) name s place ≡ lines_read (include_file files m) u (place_of next.place) (lines_of (drop next.at next.content.items)) =
     included_is files (length others) name bytes s place l there short
-    ∙ (ap (λ o. o >>= λ v. file_read (included files m) name v bytes) given
-    ∙ (ap (λ v. lines_read (included files m) v (start_of (length t.names)) (lines_of bytes)) (sym named)
-    ∙ (ap (λ p. lines_read (included files m) u p (lines_of bytes)) (sym starts)
-    ∙ ap (λ b. lines_read (included files m) u (place_of next.place) (lines_of b)) (sym all)))) in
+    ∙ (ap (λ o. o >>= λ v. file_read (include_file files m) name v bytes) given
+    ∙ (ap (λ v. lines_read (include_file files m) v (start_of (length t.names)) (lines_of bytes)) (sym named)
+    ∙ (ap (λ p. lines_read (include_file files m) u p (lines_of bytes)) (sym starts)
+    ∙ ap (λ b. lines_read (include_file files m) u (place_of next.place) (lines_of b)) (sym all)))) in
     let len : length (reverse others) ≡ length others = length-reverse others in
     let outer : length (onward ∷ reverse others) ≡ length others + 1 = omega arith in
     let back : reverse ((others ++ onward ∷ []) ++ next ∷ []) ≡ next ∷ onward ∷ reverse others =
     reverse-append (others ++ onward ∷ []) (next ∷ []) ∙ ap (λ fs. next ∷ fs) (reverse-append others (onward ∷ [])) in
     so
-    ∙ (ap (λ o. (o >>= λ v. lines_read (included files (32 - length others)) v (next_line place) (lines_of rest)) >>= stack_read files (reverse others)) inner
-    ∙ (then_then (lines_read (included files m) u (place_of next.place) (lines_of (drop next.at next.content.items))) (λ v. lines_read (included files (32 - length others)) v (next_line place) (lines_of rest)) (stack_read files (reverse others))
-    ∙ (ap (λ p. lines_read (included files m) u (place_of next.place) (lines_of (drop next.at next.content.items)) >>= λ v. lines_read (included files (32 - length others)) v p (lines_of rest) >>= stack_read files (reverse others)) (sym goes)
-    ∙ (ap (λ b. lines_read (included files m) u (place_of next.place) (lines_of (drop next.at next.content.items)) >>= λ v. lines_read (included files (32 - length others)) v (place_of onward.place) (lines_of b) >>= stack_read files (reverse others)) (sym left)
-    ∙ (ap (λ n. lines_read (included files m) u (place_of next.place) (lines_of (drop next.at next.content.items)) >>= λ v. lines_read (included files (32 - n)) v (place_of onward.place) (lines_of (drop onward.at onward.content.items)) >>= stack_read files (reverse others)) (sym len)
-    ∙ (ap (λ n. lines_read (included files (32 - n)) u (place_of next.place) (lines_of (drop next.at next.content.items)) >>= stack_read files (onward ∷ reverse others)) (sym outer)
+    ∙ (ap (λ o. (o >>= λ v. lines_read (include_file files (32 - length others)) v (next_line place) (lines_of rest)) >>= stack_read files (reverse others)) inner
+    ∙ (then_then (lines_read (include_file files m) u (place_of next.place) (lines_of (drop next.at next.content.items))) (λ v. lines_read (include_file files (32 - length others)) v (next_line place) (lines_of rest)) (stack_read files (reverse others))
+    ∙ (ap (λ p. lines_read (include_file files m) u (place_of next.place) (lines_of (drop next.at next.content.items)) >>= λ v. lines_read (include_file files (32 - length others)) v p (lines_of rest) >>= stack_read files (reverse others)) (sym goes)
+    ∙ (ap (λ b. lines_read (include_file files m) u (place_of next.place) (lines_of (drop next.at next.content.items)) >>= λ v. lines_read (include_file files (32 - length others)) v (place_of onward.place) (lines_of b) >>= stack_read files (reverse others)) (sym left)
+    ∙ (ap (λ n. lines_read (include_file files m) u (place_of next.place) (lines_of (drop next.at next.content.items)) >>= λ v. lines_read (include_file files (32 - n)) v (place_of onward.place) (lines_of (drop onward.at onward.content.items)) >>= stack_read files (reverse others)) (sym len)
+    ∙ (ap (λ n. lines_read (include_file files (32 - n)) u (place_of next.place) (lines_of (drop next.at next.content.items)) >>= stack_read files (onward ∷ reverse others)) (sym outer)
     ∙ ap (λ fs. stack_read files fs u) (sym back)))))))
 
 -- the whole, as it is answered
@@ -160,10 +160,10 @@ first_file files name bytes s f there short is starts all =
     let within : nat_lt 16777216 (length bytes) ≡ false = grind (arith, nat_tests) in
     ap (named_file files name) there
     ∙ (cond-false (nat_lt 16777216 (length bytes)) _ _ within
-    ∙ (ap (λ v. lines_read (included files 32) v (start_of 0) (lines_of bytes)) (sym is)
-    ∙ (ap (λ p. lines_read (included files 32) s p (lines_of bytes)) (sym starts)
-    ∙ (ap (λ b. lines_read (included files 32) s (place_of f.place) (lines_of b)) (sym all)
-    ∙ sym (then_ok (lines_read (included files 32) s (place_of f.place) (lines_of (drop f.at f.content.items))))))))
+    ∙ (ap (λ v. lines_read (include_file files 32) v (start_of 0) (lines_of bytes)) (sym is)
+    ∙ (ap (λ p. lines_read (include_file files 32) s p (lines_of bytes)) (sym starts)
+    ∙ (ap (λ b. lines_read (include_file files 32) s (place_of f.place) (lines_of b)) (sym all)
+    ∙ sym (then_ok (lines_read (include_file files 32) s (place_of f.place) (lines_of (drop f.at f.content.items))))))))
 
 -- what the exit of a `?` returns
 pub answered : (whole : Outcome) (result : Result Lines PrepFault) (fault given : PrepFault) → result ≡ Err given → given ≡ fault → IsAnswer whole fault → IsOutside result ⊎ (outcome_of result ≡ source_of whole)

@@ -4,8 +4,8 @@ use Rattle.icn_prep.specs.declared.place.Conditional.{Conditional}
 use Rattle.icn_prep.specs.Places.{Place}
 
 -- a conditional begins, whose first part is chosen or not
-abbrev pub opened : Place → Bool → Place
-opened place chosen = record place {
+abbrev pub open_conditional : Place → Bool → Place
+open_conditional place chosen = record place {
   taken = place.taken && chosen;
   conditionals = (record { around = place.taken; in_else = false; file = place.file; line = place.line }) ∷ place.conditionals;
 }
@@ -18,5 +18,5 @@ other_part place innermost others = record place {
 }
 
 -- the innermost one ends
-abbrev pub closed : Place → Conditional → List Conditional → Place
-closed place innermost others = record place { taken = innermost.around; conditionals = others }
+abbrev pub close_conditional : Place → Conditional → List Conditional → Place
+close_conditional place innermost others = record place { taken = innermost.around; conditionals = others }

@@ -6,9 +6,9 @@ use Rattle.icn_prep.specs.Answers.{IsTextFault}
 use Rattle.icn_prep.specs.FileLines.{lines_of}
 use Rattle.icn_prep.specs.PlainFiles.{has_no_directive, numbered_lines}
 use Rattle.icn_prep.specs.declared.literal.LiteralState.{LiteralState}
-use Rattle.icn_prep.specs.Replacement.{replaced}
+use Rattle.icn_prep.specs.Replacement.{replace_words}
 use Rattle.icn_prep.specs.SourceLines.{Source, source_lines}
-use Rattle.icn_prep.specs.Texts.{Texts, no_texts, with_text, undefined}
+use Rattle.icn_prep.specs.Texts.{Texts, no_texts, with_text, without_text}
 
 -- files and a name have one outcome, and no other
 abbrev pub OneOutcome : Type 0
@@ -28,10 +28,10 @@ TextFaults = (files : FileMap) (name : List ℕ) (fault : PrepFault) → source_
 pub data IsMade : Texts → Type 0 where
   none : IsMade no_texts
   defined : (texts : Texts) (name text : List ℕ) → IsMade texts → IsMade (with_text texts name text)
-  undefined_in : (texts : Texts) (name : List ℕ) → IsMade texts → IsMade (undefined texts name)
+  undefined_in : (texts : Texts) (name : List ℕ) → IsMade texts → IsMade (without_text texts name)
 
 -- words are counted down in a replacement so that it ends by its form alone: where more of them are allowed than names have
 -- a text, each line is replaced in the same way
 abbrev pub CountNeverBinds : Type 0
 CountNeverBinds = (texts : Texts) → IsMade texts → (more : ℕ) (state : LiteralState) (line : List ℕ)
-    → replaced (texts.count + more) texts.text_of state line ≡ replaced texts.count texts.text_of state line
+    → replace_words (texts.count + more) texts.text_of state line ≡ replace_words texts.count texts.text_of state line

@@ -4,16 +4,16 @@ use Rattle.icn_prep.specs.declared.literal.LiteralState.{LiteralState}
 use Rattle.icn_prep.specs.declared.literal.LiteralState.TheVariants.{Outside, Inside, Joining, Escape, Control, Comment}
 
 -- behind a byte in a literal of this quote
-abbrev pub within : ℕ → ℕ → LiteralState
-within quote b =
+abbrev pub after_in_literal : ℕ → ℕ → LiteralState
+after_in_literal quote b =
     if b == quote then Outside
     else (if b == 92 then Escape quote else (if b == 95 then Joining quote else Inside quote))
 
 -- behind a byte
 abbrev pub after : LiteralState → ℕ → LiteralState
 after Outside b = if b == 35 then Comment else (if (b == 34) || (b == 39) then Inside b else Outside)
-after (Inside quote) b = within quote b
-after (Joining quote) b = within quote b
+after (Inside quote) b = after_in_literal quote b
+after (Joining quote) b = after_in_literal quote b
 after (Escape quote) b = if b == 94 then Control quote else Inside quote
 after (Control quote) b = Inside quote
 after Comment b = Comment
@@ -32,10 +32,10 @@ abbrev pub after_in : Bool → LiteralState → ℕ → LiteralState
 after_in is_name state b = if is_name then unescaped (after state b) else after state b
 
 -- where the next line begins: inside a literal where this one ended with an underscore that joins them, else outside
-abbrev pub carried : LiteralState → LiteralState
-carried (Joining quote) = Inside quote
-carried Outside = Outside
-carried (Inside quote) = Outside
-carried (Escape quote) = Outside
-carried (Control quote) = Outside
-carried Comment = Outside
+abbrev pub next_line_state : LiteralState → LiteralState
+next_line_state (Joining quote) = Inside quote
+next_line_state Outside = Outside
+next_line_state (Inside quote) = Outside
+next_line_state (Escape quote) = Outside
+next_line_state (Control quote) = Outside
+next_line_state Comment = Outside

@@ -31,9 +31,9 @@ is_quote_alone (b ∷ []) = b == 34
 is_quote_alone (b ∷ c ∷ rest) = false
 
 -- what stands in double quotes, up to the next one, where nothing stands behind it
-abbrev pub quoted : List ℕ → Option (List ℕ)
-quoted [] = None
-quoted (b ∷ rest) =
+abbrev pub text_in_quotes : List ℕ → Option (List ℕ)
+text_in_quotes [] = None
+text_in_quotes (b ∷ rest) =
     if (b == 34) && is_quote_alone (drop (prefix_len is_unquoted rest) rest) then Some (take (prefix_len is_unquoted rest) rest)
     else None
 
@@ -47,7 +47,7 @@ file_name name = if not (is_empty name) && is_utf8 name then Some name else None
 
 -- the name of a file, in double quotes or as a run of bytes that begins with none
 abbrev pub file_operand : List ℕ → Option (List ℕ)
-file_operand operand = option_and_then file_name (if begins_with 34 operand then quoted operand else plain_run operand)
+file_operand operand = option_and_then file_name (if begins_with 34 operand then text_in_quotes operand else plain_run operand)
 
 -- the number that digits write
 abbrev pub number_of : List ℕ → ℕ
@@ -58,11 +58,11 @@ abbrev pub number_with : ℕ → Option (List ℕ) → Option (ℕ × Option (Li
 number_with number None = None
 number_with number (Some name) = Some (number, Some name)
 
-abbrev pub numbered : ℕ → List ℕ → Option (ℕ × Option (List ℕ))
-numbered number rest = if is_empty rest then Some (number, None) else number_with number (quoted rest)
+abbrev pub number_and_name : ℕ → List ℕ → Option (ℕ × Option (List ℕ))
+number_and_name number rest = if is_empty rest then Some (number, None) else number_with number (text_in_quotes rest)
 
 -- 1 to 9 digits, and perhaps a name in double quotes
 abbrev pub line_operand : List ℕ → Option (ℕ × Option (List ℕ))
 line_operand operand =
     let count = prefix_len is_digit operand in
-    if nat_le 1 count && nat_le count 9 then numbered (number_of (take count operand)) (trimmed_start (drop count operand)) else None
+    if nat_le 1 count && nat_le count 9 then number_and_name (number_of (take count operand)) (trimmed_start (drop count operand)) else None

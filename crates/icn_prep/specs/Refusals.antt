@@ -6,7 +6,7 @@ use Rattle.icn_prep.specs.declared.fault.PrepFault.TheVariants.{Missing, Broken,
 use Rattle.icn_prep.specs.FileLines.{lines_of}
 use Rattle.icn_prep.specs.Outcomes.{◌>>=◌}
 use Rattle.icn_prep.specs.Places.{Place, next_line}
-use Rattle.icn_prep.specs.SourceLines.{State, Outcome, Step, Including, lines_read}
+use Rattle.icn_prep.specs.SourceLines.{State, Outcome, Step, IncludeStep, lines_read}
 
 -- the fault that the definition gives, or want of memory
 abbrev pub Refuses : {A : Type 0} → Result A PrepFault → PrepFault → Type 0
@@ -20,11 +20,11 @@ IsOfText Missing = ⊥
 IsOfText FileFault = ⊥
 
 -- a line was read up to here, where it includes the file of a name, or else whole
-abbrev pub stepped : Including → Option (List ℕ) → State → Place → Step
-stepped includes None s place = Ok (s, place)
-stepped includes (Some name) s place = includes name s place >>= λ s'. Ok (s', next_line place)
+abbrev pub rest_of_line : IncludeStep → Option (List ℕ) → State → Place → Step
+rest_of_line includes None s place = Ok (s, place)
+rest_of_line includes (Some name) s place = includes name s place >>= λ s'. Ok (s', next_line place)
 
 -- lines were read up to one that includes the file of a name, behind which so many bytes were passed, or else to the end
-abbrev pub resumed : Including → Option (List ℕ × ℕ) → State → Place → List ℕ → Outcome
-resumed includes None s place content = Ok s
-resumed includes (Some stop) s place content = includes stop.0 s place >>= λ s'. lines_read includes s' (next_line place) (lines_of (drop stop.1 content))
+abbrev pub rest_of_lines : IncludeStep → Option (List ℕ × ℕ) → State → Place → List ℕ → Outcome
+rest_of_lines includes None s place content = Ok s
+rest_of_lines includes (Some stop) s place content = includes stop.0 s place >>= λ s'. lines_read includes s' (next_line place) (lines_of (drop stop.1 content))

@@ -8,12 +8,12 @@ use Rattle.icn_prep.specs.Texts.{TextOf, without}
 use Rattle.icn_tree.specs.Characters.{continues_identifier}
 
 -- the bytes that came of a text, and how the byte behind it stands
-pub record Read : Type 0 where
+pub record ReplacedText : Type 0 where
   pub bytes : List ℕ
   pub state : LiteralState
 
 -- these bytes, and then what was read
-abbrev pub behind : List ℕ → Read → Read
+abbrev pub behind : List ℕ → ReplacedText → ReplacedText
 behind front read = record { bytes = front ++ read.bytes; state = read.state }
 
 -- a word begins at a byte of a word outside literals and comments
@@ -25,11 +25,11 @@ begins_word (Escape quote) b = false
 begins_word (Control quote) b = false
 begins_word Comment b = false
 
-abbrev pub as_it_stands : List ℕ → Read
+abbrev pub as_it_stands : List ℕ → ReplacedText
 as_it_stands word = record { bytes = word; state = Outside }
 
 -- A text in which each word becomes what it is replaced by. The first `taken` bytes belong to a word that was replaced.
-abbrev pub read_from : (List ℕ → Read) → ℕ → LiteralState → List ℕ → Read
+abbrev pub read_from : (List ℕ → ReplacedText) → ℕ → LiteralState → List ℕ → ReplacedText
 read_from becomes taken state [] = record { bytes = []; state = state }
 read_from becomes (suc n) state (b ∷ rest) = read_from becomes n state rest
 read_from becomes zero state (b ∷ rest) =
@@ -39,11 +39,11 @@ read_from becomes zero state (b ∷ rest) =
     else behind (b ∷ []) (read_from becomes zero (after state b) rest)
 
 -- a word is replaced by its text, which is read with that word switched off
-abbrev pub word_read : (TextOf → LiteralState → List ℕ → Read) → TextOf → List ℕ → Option (List ℕ) → Read
+abbrev pub word_read : (TextOf → LiteralState → List ℕ → ReplacedText) → TextOf → List ℕ → Option (List ℕ) → ReplacedText
 word_read reads texts word None = as_it_stands word
 word_read reads texts word (Some text) = reads (without texts word) Outside text
 
 -- A text with its defined words replaced, where at most so many names have a text.
-abbrev pub replaced : ℕ → TextOf → LiteralState → List ℕ → Read
-replaced zero texts = read_from as_it_stands zero
-replaced (suc n) texts = read_from (λ word. word_read (replaced n) texts word (texts word)) zero
+abbrev pub replace_words : ℕ → TextOf → LiteralState → List ℕ → ReplacedText
+replace_words zero texts = read_from as_it_stands zero
+replace_words (suc n) texts = read_from (λ word. word_read (replace_words n) texts word (texts word)) zero

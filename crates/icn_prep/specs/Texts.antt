@@ -29,5 +29,5 @@ undefined_by texts name None = texts
 undefined_by texts name (Some text) = record { count = texts.count - 1; text_of = without texts.text_of name }
 
 -- a name has no text any more
-abbrev pub undefined : Texts → List ℕ → Texts
-undefined texts name = undefined_by texts name (texts.text_of name)
+abbrev pub without_text : Texts → List ℕ → Texts
+without_text texts name = undefined_by texts name (texts.text_of name)

@@ -3,8 +3,8 @@ ghost use Rattle.std.specs.Prelude.{◌≡◌, ◌≤◌, ◌<◌, ◌+◌, ◌-
 ghost use Rattle.std.specs.Option.{option_map};
 ghost use Rattle.icn_prep.specs.FileLines.{lines_of};
 ghost use Rattle.icn_prep.specs.PlaceViews.{place_of};
-ghost use Rattle.icn_prep.specs.Refusals.{Refuses, IsOfText, resumed};
-ghost use Rattle.icn_prep.specs.SourceLines.{Including, ended, lines_read};
+ghost use Rattle.icn_prep.specs.Refusals.{Refuses, IsOfText, rest_of_lines};
+ghost use Rattle.icn_prep.specs.SourceLines.{IncludeStep, end_file, lines_read};
 ghost use Rattle.icn_prep.specs.StateViews.{state_of};
 
 use crate::cut::first_line;
@@ -27,9 +27,9 @@ pub fn read_lines(
     requires named { place.old.file < vec_len reading.old.names }
     requires short { length content.now ≤ 16777216 }
     requires numbered { place.old.line + (length content.now - from) ≤ 1016777216 }
-    ensures exact { (includes : Including) → let outcome = lines_read includes (state_of reading.old) (place_of place.old) (lines_of (drop from content.now)) in
+    ensures exact { (includes : IncludeStep) → let outcome = lines_read includes (state_of reading.old) (place_of place.old) (lines_of (drop from content.now)) in
         MatchResult result
-        (λ stop. outcome ≡ resumed includes (option_map (λ s. (string_bytes s.0, s.1)) stop) (state_of reading.new) (place_of place.new) content.now)
+        (λ stop. outcome ≡ rest_of_lines includes (option_map (λ s. (string_bytes s.0, s.1)) stop) (state_of reading.new) (place_of place.new) content.now)
         (Refuses outcome) }
     ensures fault { IfErr result IsOfText }
     ensures named { IfOk result (λ stop. IfSome stop (λ _. place.new.file < vec_len reading.new.names)) }
@@ -55,7 +55,7 @@ pub fn read_lines(
 
 // A file closes what it began.
 fn end_file(reading: &Reading, place: &mut Place) -> Result<(), PrepFault>
-    ensures exact { let outcome = ended (state_of reading.now) (place_of place.old).conditionals in
+    ensures exact { let outcome = end_file (state_of reading.now) (place_of place.old).conditionals in
         MatchResult result (λ _. outcome ≡ Ok (state_of reading.now)) (Refuses outcome) }
     ensures fault { IfErr result IsOfText }
 {

@@ -6,7 +6,7 @@ ghost use Rattle.icn_prep.specs.declared.literal.LiteralState.TheVariants.{Outsi
 ghost use Rattle.icn_prep.specs.PlaceViews.{place_of};
 ghost use Rattle.icn_prep.specs.Places.{next_line};
 ghost use Rattle.icn_prep.specs.Refusals.{Refuses, IsOfText};
-ghost use Rattle.icn_prep.specs.SourceLines.{first_state, name_at, given, left_empty};
+ghost use Rattle.icn_prep.specs.SourceLines.{first_state, name_at, give_line, left_empty};
 ghost use Rattle.icn_prep.specs.StateViews.{state_of};
 
 use crate::fault::PrepFault;
@@ -75,7 +75,7 @@ pub fn give(
     literal: LiteralState,
 ) -> Result<(), PrepFault>
     requires { place.now.file < vec_len reading.old.names }
-    ensures exact { let step = given (state_of reading.old) (place_of place.now) bytes.items literal in
+    ensures exact { let step = give_line (state_of reading.old) (place_of place.now) bytes.items literal in
         MatchResult result (λ _. step ≡ Ok (state_of reading.new)) (Refuses step) }
     ensures fault { IfErr result IsOfText }
     ensures names { OnOk result (reading.new.names.items ≡ reading.old.names.items) }

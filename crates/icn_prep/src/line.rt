@@ -5,9 +5,9 @@ ghost use Rattle.icn_prep.specs.LineBounds.{LeavesLine};
 ghost use Rattle.icn_prep.specs.Operands.{is_empty, name_operand, define_operand, line_operand};
 ghost use Rattle.icn_prep.specs.PlaceViews.{place_of};
 ghost use Rattle.icn_prep.specs.Places.{next_line};
-ghost use Rattle.icn_prep.specs.Refusals.{Refuses, IsOfText, stepped};
-ghost use Rattle.icn_prep.specs.Replacement.{replaced};
-ghost use Rattle.icn_prep.specs.SourceLines.{Including, left_empty, passed, text_line, define_line, undef_line, if_line, else_line, endif_line, line_line, directive_line, where_taken, line_read, refused};
+ghost use Rattle.icn_prep.specs.Refusals.{Refuses, IsOfText, rest_of_line};
+ghost use Rattle.icn_prep.specs.Replacement.{replace_words};
+ghost use Rattle.icn_prep.specs.SourceLines.{IncludeStep, left_empty, pass_line, text_line, define_line, undef_line, if_line, else_line, endif_line, line_line, directive_line, where_taken, line_read, refuse};
 ghost use Rattle.icn_prep.specs.StateViews.{state_of};
 ghost use Rattle.icn_prep.specs.TextViews.{texts_of};
 
@@ -29,9 +29,9 @@ pub fn read_line<'a>(
 ) -> Result<Option<&'a str>, PrepFault>
     requires named { place.old.file < vec_len reading.old.names }
     requires numbered { place.old.line + 1 < 2 ^ 32 }
-    ensures exact { (includes : Including) → let step = line_read includes (state_of reading.old) (place_of place.old) line.now in
+    ensures exact { (includes : IncludeStep) → let step = line_read includes (state_of reading.old) (place_of place.old) line.now in
         MatchResult result
-        (λ name. step ≡ stepped includes (option_map (λ n. n.now) name) (state_of reading.new) (place_of place.new))
+        (λ name. step ≡ rest_of_line includes (option_map (λ n. n.now) name) (state_of reading.new) (place_of place.new))
         (Refuses step) }
     ensures fault { IfErr result IsOfText }
     ensures stays { IfOk result (λ name. IfSome name (λ _. place.new.line ≡ place.old.line)) }
@@ -55,7 +55,7 @@ fn text_line(reading: &mut Reading, place: &mut Place, line: &[u8]) -> Result<()
     requires named { place.old.file < vec_len reading.old.names }
     requires numbered { place.old.line + 1 < 2 ^ 32 }
     ensures exact { let s = state_of reading.old in
-        let step = text_line s (place_of place.old) (replaced s.texts.count s.texts.text_of s.literal line.now) in
+        let step = text_line s (place_of place.old) (replace_words s.texts.count s.texts.text_of s.literal line.now) in
         MatchResult result (λ _. step ≡ Ok (state_of reading.new, place_of place.new)) (Refuses step) }
     ensures fault { IfErr result IsOfText }
     ensures leaves { OnOk result (LeavesLine reading.old reading.new place.old place.new) }
@@ -74,7 +74,7 @@ fn text_line(reading: &mut Reading, place: &mut Place, line: &[u8]) -> Result<()
 fn skip(reading: &mut Reading, place: &mut Place) -> Result<(), PrepFault>
     requires named { place.old.file < vec_len reading.old.names }
     requires numbered { place.old.line + 1 < 2 ^ 32 }
-    ensures exact { let step = passed (state_of reading.old) (place_of place.old) (next_line (place_of place.old)) in
+    ensures exact { let step = pass_line (state_of reading.old) (place_of place.old) (next_line (place_of place.old)) in
         MatchResult result (λ _. step ≡ Ok (state_of reading.new, place_of place.new)) (Refuses step) }
     ensures fault { IfErr result IsOfText }
     ensures leaves { OnOk result (LeavesLine reading.old reading.new place.old place.new) }
@@ -93,9 +93,9 @@ fn directive<'a>(
 ) -> Result<Option<&'a str>, PrepFault>
     requires named { place.old.file < vec_len reading.old.names }
     requires numbered { place.old.line + 1 < 2 ^ 32 }
-    ensures exact { (includes : Including) → let step = directive_line includes (state_of reading.old) (place_of place.old) keyword operand.now in
+    ensures exact { (includes : IncludeStep) → let step = directive_line includes (state_of reading.old) (place_of place.old) keyword operand.now in
         MatchResult result
-        (λ name. step ≡ stepped includes (option_map (λ n. n.now) name) (state_of reading.new) (place_of place.new))
+        (λ name. step ≡ rest_of_line includes (option_map (λ n. n.now) name) (state_of reading.new) (place_of place.new))
         (Refuses step) }
     ensures fault { IfErr result IsOfText }
     ensures stays { IfOk result (λ name. IfSome name (λ _. place.new.line ≡ place.old.line)) }
@@ -194,7 +194,7 @@ fn else_line(reading: &mut Reading, place: &mut Place, operand: &[u8]) -> Result
     requires named { place.old.file < vec_len reading.old.names }
     requires numbered { place.old.line + 1 < 2 ^ 32 }
     ensures exact { let s = state_of reading.old in let at = place_of place.old in
-        let step = (if is_empty operand.now then else_line s at at.conditionals else refused s at Rule.P2) in
+        let step = (if is_empty operand.now then else_line s at at.conditionals else refuse s at Rule.P2) in
         MatchResult result (λ _. step ≡ Ok (state_of reading.new, place_of place.new)) (Refuses step) }
     ensures fault { IfErr result IsOfText }
     ensures leaves { OnOk result (LeavesLine reading.old reading.new place.old place.new) }
@@ -223,7 +223,7 @@ fn endif_line(reading: &mut Reading, place: &mut Place, operand: &[u8]) -> Resul
     requires named { place.old.file < vec_len reading.old.names }
     requires numbered { place.old.line + 1 < 2 ^ 32 }
     ensures exact { let s = state_of reading.old in let at = place_of place.old in
-        let step = (if is_empty operand.now then endif_line s at at.conditionals else refused s at Rule.P2) in
+        let step = (if is_empty operand.now then endif_line s at at.conditionals else refuse s at Rule.P2) in
         MatchResult result (λ _. step ≡ Ok (state_of reading.new, place_of place.new)) (Refuses step) }
     ensures fault { IfErr result IsOfText }
     ensures leaves { OnOk result (LeavesLine reading.old reading.new place.old place.new) }

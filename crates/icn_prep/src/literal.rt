@@ -1,6 +1,6 @@
 // How the bytes of a line stand to literals and comments.
 ghost use Rattle.std.specs.Prelude.{◌≡◌};
-ghost use Rattle.icn_prep.specs.LiteralStates.{within, after, after_in, carried, unescaped};
+ghost use Rattle.icn_prep.specs.LiteralStates.{after_in_literal, after, after_in, next_line_state, unescaped};
 
 /// How a byte stands to literals and comments. A literal goes by its quote.
 #[derive(Clone, Copy, Debug, PartialEq, Eq)]
@@ -59,7 +59,7 @@ impl LiteralState {
 
     /// How the next line begins, behind a line that ends so.
     pub fn carried(self) -> Self
-        ensures { result ≡ carried self }
+        ensures { result ≡ next_line_state self }
     {
         match self {
             LiteralState::Joining(quote) => LiteralState::Inside(quote),
@@ -70,7 +70,7 @@ impl LiteralState {
 
 // How the byte behind this one stands in a literal.
 fn within(quote: u8, byte: u8) -> LiteralState
-    ensures { result ≡ within quote byte }
+    ensures { result ≡ after_in_literal quote byte }
 {
     if byte == quote {
         LiteralState::Outside

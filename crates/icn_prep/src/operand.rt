@@ -3,7 +3,7 @@ ghost use Rattle.std.specs.Prelude.{◌≡◌, ◌≤◌, IfSome, length, true};
 ghost use Rattle.std.specs.List.{list_all};
 ghost use Rattle.std.specs.Option.{option_map};
 ghost use Rattle.icn_prep.specs.FileLines.{begins_with};
-ghost use Rattle.icn_prep.specs.Operands.{name_operand, define_operand, quoted, is_quote_alone, plain_run, file_name, file_operand, number_of, numbered, line_operand};
+ghost use Rattle.icn_prep.specs.Operands.{name_operand, define_operand, text_in_quotes, is_quote_alone, plain_run, file_name, file_operand, number_of, number_and_name, line_operand};
 ghost use Rattle.icn_tree.specs.Characters.{is_digit};
 
 use crate::bytes::{has_blank, is_name, trimmed, trimmed_start, unquoted_len};
@@ -115,7 +115,7 @@ pub fn line_operand(operand: &[u8]) -> Option<(u32, Option<&[u8]>)>
 
 // The number, and perhaps a name in double quotes.
 fn numbered(number: u32, rest: &[u8]) -> Option<(u32, Option<&[u8]>)>
-    ensures read { option_map (λ found. (found.0, option_map (λ name. name.now) found.1)) result ≡ numbered number rest.now }
+    ensures read { option_map (λ found. (found.0, option_map (λ name. name.now) found.1)) result ≡ number_and_name number rest.now }
     ensures same { IfSome result (λ found. found.0 ≡ number) }
 {
     if rest.is_empty() {

@@ -3,7 +3,7 @@ ghost use Rattle.std.specs.Prelude.{◌≡◌, ◌<◌, ◌&&◌, ◌^◌, IfOk,
 ghost use Rattle.std.specs.Option.{option_map};
 ghost use Rattle.std.specs.Str.{bytes_eq};
 ghost use Rattle.indexmap.specs.IndexMap.{get_by, index_map_len};
-ghost use Rattle.icn_prep.specs.Replacement.{begins_word, replaced};
+ghost use Rattle.icn_prep.specs.Replacement.{begins_word, replace_words};
 ghost use Rattle.icn_prep.specs.TextViews.{texts_of};
 
 use crate::literal::LiteralState;
@@ -24,7 +24,7 @@ pub fn replaced<'a>(
     line: &'a [u8],
     most: usize,
 ) -> Result<Option<(Vec<u8>, LiteralState)>, AllocError>
-    ensures { IfOk result (λ found. let all = replaced (texts_of texts.now).count (texts_of texts.now).text_of literal line.now in
+    ensures { IfOk result (λ found. let all = replace_words (texts_of texts.now).count (texts_of texts.now).text_of literal line.now in
         MatchOption found (most < length all.bytes) (λ read. all ≡ record { bytes = read.0.items; state = read.1 })) }
 {
     let mut given = Vec::with_capacity(alloc, line.len().min(most))?;

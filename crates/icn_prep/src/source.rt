@@ -5,7 +5,7 @@ ghost use Rattle.icn_prep.specs.declared.fault.PrepFault.TheVariants.{Broken, Fi
 ghost use Rattle.icn_prep.specs.Answers.{IsOutside, IsAbsence, IsAnswer, outcome_of};
 ghost use Rattle.icn_prep.specs.PlaceViews.{place_of};
 ghost use Rattle.icn_prep.specs.Places.{start_of};
-ghost use Rattle.icn_prep.specs.SourceLines.{included, named_file, source_lines};
+ghost use Rattle.icn_prep.specs.SourceLines.{include_file, named_file, source_lines};
 ghost use Rattle.icn_prep.specs.StateViews.{state_of};
 
 use crate::fault::PrepFault;
@@ -121,7 +121,7 @@ fn included_content<F: Files>(
 ) -> Result<Vec<u8>, PrepFault>
     ensures exact { IfSome (F.held files.old) (λ held. MatchResult result
         (λ content. held name.now ≡ Some content.items)
-        (IsAnswer (included held (32 - depth) name.now (state_of reading.now) (place_of place.now)))) }
+        (IsAnswer (include_file held (32 - depth) name.now (state_of reading.now) (place_of place.now)))) }
     ensures deep { OnOk result (depth < 32) }
     ensures short { IfOk result (λ content. vec_len content ≤ 16777216) }
     ensures file_fault { CountsOnce (F.faults files.old) (F.faults files.new) (IsErrOf result FileFault) }

@@ -12,7 +12,7 @@ pub struct Texts {
 }
 
 impl Texts {
-    ghost use Rattle.icn_prep.specs.Texts.{no_texts, with_text, undefined};
+    ghost use Rattle.icn_prep.specs.Texts.{no_texts, with_text, without_text};
     ghost use Rattle.icn_prep.specs.TextViews.{texts_of};
 
     pub fn new(alloc: Global) -> Self
@@ -54,7 +54,7 @@ impl Texts {
 
     // Takes the text of a name away.
     pub fn undefine(&mut self, name: &[u8])
-        ensures { texts_of self.new ≡ undefined (texts_of self.old) name.now }
+        ensures { texts_of self.new ≡ without_text (texts_of self.old) name.now }
     {
         self.texts.swap_remove(name);
     }

@@ -17,7 +17,7 @@ use Rattle.icn_tree.specs.Grammar.{identifier}
 use Rattle.icn_tree.specs.Trees.{Trees, NoTrees, More, Locals, Initial, NoInitial, Initially, Procedure, Declaration, Global, Link, Invocable, Record, ProcedureOf}
 use Rattle.icn_parse.specs.Outcomes.{first_unknown, initial_keywords, all_keywords, declaration_fault, first_fault, fault_or, Fault, UnknownKeyword, IsTree, IsOutcome, is_tree}
 use Rattle.icn_decls.specs.Contexts.{outermost, Fault as ContextFault}
-use Rattle.icn_decls.specs.Faults.{initial_faults, all_faults, all_repeated, repeated, too_many, declared_names, procedure_faults, declaration_faults, declarations_faults, names_after, context_faults}
+use Rattle.icn_decls.specs.Faults.{initial_faults, all_faults, all_repeated, fault_if_met, too_many, declared_names, procedure_faults, declaration_faults, declarations_faults, names_after, context_faults}
 use Rattle.icn_tree.specs.NameSets.{NameTest, none_met}
 use Rattle.icn_meaning.specs.Program.{joined, procedures_of}
 use Rattle.icn_decls.specs.Spelled.{IsSpelled}
@@ -139,7 +139,7 @@ unmapped (Some place) h = absurd (cc)
 procedure_part : (met : NameTest) (p : Procedure) → procedure_faults met p ≡ [] → initial_faults p.initial
     ++ all_faults outermost p.body ≡ []
 procedure_part met p h = none_behind (all_repeated C1 none_met (declared_names p)) _
-    (none_behind (repeated C8 met p.name) _ (none_behind (too_many (length (declared_names p)) p.name) _ h))
+    (none_behind (fault_if_met C8 met p.name) _ (none_behind (too_many (length (declared_names p)) p.name) _ h))
 
 sound_procedures : (met : NameTest) (file : List Declaration) → Each IsFormedProcedure (procedures_of file)
     → first_fault file ≡ None → declarations_faults met file ≡ [] → Each IsSoundProcedure (procedures_of file)

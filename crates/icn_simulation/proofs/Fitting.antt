@@ -21,8 +21,8 @@ use Rattle.icn_tree.specs.declared.tree.LoopKind.{LoopKind}
 use Rattle.icn_tree.specs.declared.tree.LoopKind.TheVariants.{While, Until, Every}
 use Rattle.icn_tree.specs.TokenBounds.{is_augmented}
 use Rattle.icn_tree.specs.Trees.{Tree, Trees, MaybeTree, Clauses, Initial, NoInitial, Initially, Empty, Constant, Identifier, Keyword, Parentheses, Listing, Compound, Call, CoCall, Subscript, Section, Field, Prefix, Not, Binary, To, If, Case, Loop, Repeat, Create, Next, Fail, Break, Return, Suspend, Absent, Present, NoTrees, More, Default, Guarded, NoClauses, MoreClauses, elements_of}
-use Rattle.icn_parse.specs.Outcomes.{keywords, keywords_if, all_keywords, clauses_keywords, initial_keywords, known, is_known, first_unknown}
-use Rattle.icn_decls.specs.Contexts.{Fault, Context, outermost, created, looped, left, result_faults, break_faults, next_faults}
+use Rattle.icn_parse.specs.Outcomes.{keywords, keywords_if, all_keywords, clauses_keywords, initial_keywords, known_keywords, is_known, first_unknown}
+use Rattle.icn_decls.specs.Contexts.{Fault, Context, outermost, create_context, enter_loop, leave_loop, result_faults, break_faults, next_faults}
 use Rattle.icn_decls.specs.Faults.{faults, maybe_faults, all_faults, clauses_faults, initial_faults, is_default, next_in_control}
 use Rattle.icn_value.specs.declared.cset.Cset.{Cset}
 use Rattle.icn_value.specs.Values.{Value, Chars, Val, Var, Whole}
@@ -43,12 +43,12 @@ use Rattle.icn_simulation.proofs.Formed.{is_before, is_between, IsInfix, FormedI
 
 data Around : Nest → Context → Type 0 where
   r_top : Around top outermost
-  r_create : Around in_create created
+  r_create : Around in_create create_context
   r_mark : {n : Nest} {c : Context} → Around n c → Around (in_mark n) c
   r_scan : {n : Nest} {c : Context} → Around n c → Around (in_scan n) c
-  r_loop : {n : Nest} {c : Context} {l g : ℕ} → Around n c → Around (in_loop l g n) (looped true c)
-  r_control : {n : Nest} {c : Context} {l g : ℕ} → Around n c → Around (in_control l g n) (looped false c)
-  r_each : {n : Nest} {c : Context} {l g : ℕ} → Around n c → Around (in_each l g n) (looped true c)
+  r_loop : {n : Nest} {c : Context} {l g : ℕ} → Around n c → Around (in_loop l g n) (enter_loop true c)
+  r_control : {n : Nest} {c : Context} {l g : ℕ} → Around n c → Around (in_control l g n) (enter_loop false c)
+  r_each : {n : Nest} {c : Context} {l g : ℕ} → Around n c → Around (in_each l g n) (enter_loop true c)
 
 -- a result may be given in a procedure, outside `create`
 proper : {n : Nest} {c : Context} (place : Place) → Around n c → result_faults c place ≡ [] → Proper n
@@ -81,7 +81,7 @@ has_next place (r_control r) h = absurd (cc)
 has_next place (r_each r) h = x_each
 
 -- the operand of `break` stands outside the loop
-outer : {n : Nest} {c : Context} → Around n c → Around (outside n) (left c)
+outer : {n : Nest} {c : Context} → Around n c → Around (outside n) (leave_loop c)
 outer r_top = r_top
 outer r_create = r_create
 outer (r_mark r) = outer r
@@ -146,13 +146,13 @@ body_in Until l g n = in_loop l g n
 body_in Every l g n = in_each l g n
 
 around_control : {n : Nest} {c : Context} (l g : ℕ) (kind : LoopKind) → Around n c
-    → Around (control_in kind l g n) (looped (next_in_control kind) c)
+    → Around (control_in kind l g n) (enter_loop (next_in_control kind) c)
 around_control l g While r = r_loop r
 around_control l g Until r = r_loop r
 around_control l g Every r = r_control r
 
 around_body : {n : Nest} {c : Context} (l g : ℕ) (kind : LoopKind) → Around n c
-    → Around (body_in kind l g n) (looped true c)
+    → Around (body_in kind l g n) (enter_loop true c)
 around_body l g While r = r_loop r
 around_body l g Until r = r_loop r
 around_body l g Every r = r_each r
@@ -445,7 +445,7 @@ module _ (L : Linkage) (N : Names) (j : ℕ) (named : AreNamed L N j) where
     fit_all (More e es) r f x = fits_cons (fit e r f.0 (before _ _ _ x)) (fit_all es r f.1 (behind _ _ _ x))
 
     fit_bodies : (es : Trees) → FormedAll es
-        → CleanHere (all_faults created es) (all_keywords es) (all_mentions es) → FitsBodies L N j es
+        → CleanHere (all_faults create_context es) (all_keywords es) (all_mentions es) → FitsBodies L N j es
     fit_bodies NoTrees f x = fits_no_body
     fit_bodies (More e es) f x = fits_body (fit e (r_mark r_create) f.0 (before _ _ _ x))
         (fit_bodies es f.1 (behind _ _ _ x))

@@ -13,7 +13,7 @@ use Rattle.icn_tree.specs.declared.tree.LocalKind.{LocalKind}
 use Rattle.icn_tree.specs.declared.tree.LocalKind.TheVariants as Kept
 use Rattle.icn_tree.specs.Trees.{Locals, Procedure}
 use Rattle.icn_decls.specs.Contexts.{fault, outermost}
-use Rattle.icn_decls.specs.Faults.{repeated, all_repeated, too_many, declared_names, initial_faults, all_faults, procedure_faults}
+use Rattle.icn_decls.specs.Faults.{fault_if_met, all_repeated, too_many, declared_names, initial_faults, all_faults, procedure_faults}
 use Rattle.icn_tree.specs.NameSets.{NameTest, none_met, with_name}
 use Rattle.icn_unit.specs.declared.unit.NameKind.{NameKind}
 use Rattle.icn_unit.specs.declared.unit.NameKind.TheVariants.{Parameter, Undeclared}
@@ -45,7 +45,7 @@ met_again met name x h = by (bytes_eq name x)
 pub met_now : (met : NameTest) (name : List ℕ) → with_name met name name ≡ true
 met_now met name = ap (λ b. if b then true else met name) (same_text name)
 
-not_met : (rule : Rule) (met : NameTest) (name : Name) → repeated rule met name ≡ [] → met name.text ≡ false
+not_met : (rule : Rule) (met : NameTest) (name : Name) → fault_if_met rule met name ≡ [] → met name.text ≡ false
 not_met rule met name h = by (met name.text) h
   where
     by : (b : Bool) → (if b then fault rule name.place else []) ≡ [] → b ≡ false
@@ -64,8 +64,8 @@ none_again : (rule : Rule) (met : NameTest) (names : List Name) (x : List ℕ) �
     → list_any (λ y. bytes_eq x y) (texts_of names) ≡ false
 none_again rule met [] x h g = refl
 none_again rule met (name ∷ names) x h g =
-    let here = none_before (repeated rule met name) (all_repeated rule (with_name met name.text) names) g in
-    let later = none_behind (repeated rule met name) (all_repeated rule (with_name met name.text) names) g in
+    let here = none_before (fault_if_met rule met name) (all_repeated rule (with_name met name.text) names) g in
+    let later = none_behind (fault_if_met rule met name) (all_repeated rule (with_name met name.text) names) g in
     nor_of (bytes_eq x name.text) (list_any (λ y. bytes_eq x y) (texts_of names))
     (differs met x name.text h (not_met rule met name here))
     (none_again rule (with_name met name.text) names x (met_again met name.text x h) later)
@@ -75,7 +75,7 @@ pub texts_differ : (rule : Rule) (met : NameTest) (names : List Name) → all_re
     ≡ true
 texts_differ rule met [] h = refl
 texts_differ rule met (name ∷ names) h =
-    let later = none_behind (repeated rule met name) (all_repeated rule (with_name met name.text) names) h in
+    let later = none_behind (fault_if_met rule met name) (all_repeated rule (with_name met name.text) names) h in
     is_not (list_any (λ y. bytes_eq name.text y) (texts_of names)) (names_differ (texts_of names))
     (none_again rule (with_name met name.text) names name.text (met_now met name.text) later)
     (texts_differ rule (with_name met name.text) names later)
@@ -209,7 +209,7 @@ module _ (met : NameTest) (procedure : Procedure) (faultless : procedure_faults 
   declared_once : names_differ (declared_texts procedure) ≡ true
   declared_once =
       let many = too_many (length (declared_names procedure)) procedure.name in
-      let owned = repeated C8 met procedure.name in
+      let owned = fault_if_met C8 met procedure.name in
       let twice = all_repeated C1 none_met (declared_names procedure) in
       let trees = initial_faults procedure.initial ++ all_faults outermost procedure.body in
       let once = none_before twice trees (none_behind owned (twice ++ trees)

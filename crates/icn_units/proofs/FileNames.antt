@@ -8,7 +8,7 @@ use Rattle.icn_tree.specs.declared.tree.Item.{Item}
 use Rattle.icn_tree.specs.declared.tree.Name.{Name}
 use Rattle.icn_tree.specs.Trees.{Declaration, Global, Link, Invocable, Record, ProcedureOf}
 use Rattle.icn_decls.specs.Contexts.{Fault, fault}
-use Rattle.icn_decls.specs.Faults.{repeated, names_after, declaration_faults, declarations_faults, all_repeated, too_many}
+use Rattle.icn_decls.specs.Faults.{fault_if_met, names_after, declaration_faults, declarations_faults, all_repeated, too_many}
 use Rattle.icn_tree.specs.NameSets.{NameTest, with_name, none_met}
 use Rattle.icn_unit.specs.PlainUnits.{Decl, proc_names, owned_name, owned_names, declared_name, declared_names}
 use Rattle.icn_unit.specs.PlainUnits.{Global as GlobalLine, Link as LinkLine}
@@ -112,7 +112,7 @@ names_are_same declarations =
 
 -- No name stands twice
 
-not_owned : (met : NameTest) (name : Name) → repeated C8 met name ≡ [] → met name.text ≡ false
+not_owned : (met : NameTest) (name : Name) → fault_if_met C8 met name ≡ [] → met name.text ≡ false
 not_owned met name h = by (met name.text) h
   where
     by : (b : Bool) → (if b then fault C8 name.place else []) ≡ [] → b ≡ false
@@ -120,10 +120,10 @@ not_owned met name h = by (met name.text) h
     by false h = refl
 
 -- the name of a declaration was not met, where it breaks no rule
-record_new : (met : NameTest) (name : Name) (many fields : List Fault) → many ++ (repeated C8 met name ++ fields) ≡ []
+record_new : (met : NameTest) (name : Name) (many fields : List Fault) → many ++ (fault_if_met C8 met name ++ fields) ≡ []
     → met name.text ≡ false
 record_new met name many fields h = not_owned met name
-    (none_before (repeated C8 met name) fields (none_behind many (repeated C8 met name ++ fields) h))
+    (none_before (fault_if_met C8 met name) fields (none_behind many (fault_if_met C8 met name ++ fields) h))
 
 module _ (met : NameTest) (declaration : Declaration) (others : List Declaration)
     (h : declarations_faults met (declaration ∷ others) ≡ []) where
@@ -232,10 +232,10 @@ all_pass test line h [] = refl
 all_pass test line h (x ∷ xs) = ap (λ b. b && list_all test (map line xs)) (h x) ∙ all_pass test line h xs
 
 record_fields : (met : NameTest) (name : Name) (many : List Fault) (fields : List Name)
-    → many ++ (repeated C8 met name ++ all_repeated C6 none_met fields) ≡ [] → names_differ (texts_of fields) ≡ true
+    → many ++ (fault_if_met C8 met name ++ all_repeated C6 none_met fields) ≡ [] → names_differ (texts_of fields) ≡ true
 record_fields met name many fields h =
-    texts_differ C6 none_met fields (none_behind (repeated C8 met name) (all_repeated C6 none_met fields)
-    (none_behind many (repeated C8 met name ++ all_repeated C6 none_met fields) h))
+    texts_differ C6 none_met fields (none_behind (fault_if_met C8 met name) (all_repeated C6 none_met fields)
+    (none_behind many (fault_if_met C8 met name ++ all_repeated C6 none_met fields) h))
 
 line_fields : (met : NameTest) (declaration : Declaration) → declaration_faults met declaration ≡ []
     → list_all fields_differ (lines_in declaration) ≡ true

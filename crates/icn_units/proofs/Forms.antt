@@ -11,7 +11,7 @@ use Rattle.icn_tree.specs.declared.tree.LoopKind.{LoopKind}
 use Rattle.icn_tree.specs.declared.tree.LoopKind.TheVariants.{While, Until, Every}
 use Rattle.icn_tree.specs.Trees.{Initial, NoInitial, Initially, Tree, MaybeTree, Trees, Clause, Clauses, Empty, Constant, Identifier, Keyword, Parentheses, Listing, Compound, Call, CoCall, Subscript, Section, Field, Prefix, Not, Binary, To, If, Case, Loop, Repeat, Create, Next, Fail, Break, Return, Suspend, Absent, Present, NoTrees, More, Default, Guarded, NoClauses, MoreClauses}
 use Rattle.icn_text.specs.declared.op.Op.TheVariants as O
-use Rattle.icn_decls.specs.Contexts.{Fault, Context, outermost, created as created_context, looped, left, others, break_by, next_by}
+use Rattle.icn_decls.specs.Contexts.{Fault, Context, outermost, create_context as created_context, enter_loop, leave_loop, others, break_by, next_by}
 use Rattle.icn_decls.specs.Faults.{faults, maybe_faults, all_faults, clauses_faults, clause_faults, initial_faults, is_default, next_in_control}
 use Rattle.icn_unit.specs.declared.unit.UnitInstr.{UnitInstr}
 use Rattle.icn_unit.specs.declared.unit.UnitInstr.TheVariants as I
@@ -523,17 +523,17 @@ module _ (S : Keeps) where
         (case_runs (guarded_run o c false clauses (none_behind _ _ x) (second_told _ _ w))
         (default_part_runs o c false clauses (none_behind _ _ x) (second_told _ _ w)))
     tree_runs o c (Loop place kind e b) x w = kinds_run kind
-        (tree_runs (in_control kind o) (looped (next_in_control kind) c) e (none_before _ _ x) (first_told _ _ w))
+        (tree_runs (in_control kind o) (enter_loop (next_in_control kind) c) e (none_before _ _ x) (first_told _ _ w))
         (looped_part_runs (Marked (in_body kind o)) c b (none_behind _ _ x) (second_told _ _ w))
     tree_runs o c (Repeat place b) x w = loop_runs
-        (looped_runs (tree_runs (Marked (Looped o)) (looped true c) b x w))
+        (looped_runs (tree_runs (Marked (Looped o)) (enter_loop true c) b x w))
     tree_runs o c (Create place e) x w = created_runs (tree_runs Outermost created_context e x w)
     tree_runs o c (Next place) x w = subst (λ n. Runs S n (translate o (Next place)))
         (sym (next_inside c.in_create c.loops place x)) (next_runs o)
     tree_runs o c (Fail place) x w = put_runs I.Pfail refl refl refl (λ h. refl)
     tree_runs o c (Break place e) x w = subst (λ n. Runs S n (translate o (Break place e)))
         (sym (break_inside c.in_create c.loops place (none_before _ _ x)))
-        (break_runs o (tree_runs (around o) (left c) e (none_behind _ _ x) w))
+        (break_runs o (tree_runs (around o) (leave_loop c) e (none_behind _ _ x) w))
     tree_runs o c (Return place e) x w = let r = tree_runs (Marked o) c e (none_behind _ _ x) w in
         record {
           run = λ d h. (from d h ▸ labelled I.Mark
@@ -630,11 +630,11 @@ module _ (S : Keeps) where
               ▸ placed).leads;
         }
 
-    looped_part_runs : (o : Open) (c : Context) (b : MaybeTree) → maybe_faults (looped true c) b ≡ []
+    looped_part_runs : (o : Open) (c : Context) (b : MaybeTree) → maybe_faults (enter_loop true c) b ≡ []
         → Told S.asks (maybe_fits S.passes b)
         → Runs S (suc (length c.loops)) (looped_part o b)
     looped_part_runs o c Absent x w = nothing_runs
-    looped_part_runs o c (Present b) x w = looped_runs (tree_runs o (looped true c) b x w)
+    looped_part_runs o c (Present b) x w = looped_runs (tree_runs o (enter_loop true c) b x w)
 
     suspended_part_runs : (o : Open) (c : Context) (b : MaybeTree) → maybe_faults c b ≡ []
         → Told S.asks (maybe_fits S.passes b)

@@ -7,7 +7,7 @@ use Rattle.std.proofs.lemmas.Bool.Decides.{eqb_tells}
 use Rattle.icn_tree.specs.Trees.{Procedure}
 use Rattle.icn_tree.specs.declared.rule.Rule.TheVariants.{C1, C8}
 use Rattle.icn_decls.specs.Contexts.{outermost}
-use Rattle.icn_decls.specs.Faults.{too_many, repeated, all_repeated, declared_names, initial_faults, all_faults, procedure_faults}
+use Rattle.icn_decls.specs.Faults.{too_many, fault_if_met, all_repeated, declared_names, initial_faults, all_faults, procedure_faults}
 use Rattle.icn_tree.specs.NameSets.{NameTest, none_met}
 use Rattle.icn_unit.specs.declared.unit.UnitInstr.{UnitInstr}
 use Rattle.icn_unit.specs.declared.unit.UnitInstr.TheVariants as I
@@ -27,7 +27,7 @@ pub told_leads : (K : Keeps) (met : NameTest) (procedure : Procedure) → proced
     → Told K.asks (procedure_fits K.passes procedure) → K.Leads (begun procedure) (drafted procedure) []
 told_leads K met procedure x w =
     let many = too_many (length (declared_names procedure)) procedure.name in
-    let owned = repeated C8 met procedure.name in
+    let owned = fault_if_met C8 met procedure.name in
     let twice = all_repeated C1 none_met (declared_names procedure) in
     let first = initial_faults procedure.initial in
     let others = all_faults outermost procedure.body in

@@ -12,7 +12,7 @@ use Rattle.icn_tree.specs.declared.tree.Item.TheVariants as Items
 use Rattle.icn_tree.specs.declared.tree.Name.{Name}
 use Rattle.icn_tree.specs.Trees.{Procedure, Declaration, Global, Link, Invocable, Record, ProcedureOf}
 use Rattle.icn_decls.specs.Contexts.{fault, outermost}
-use Rattle.icn_decls.specs.Faults.{names_after, declared_names, too_many, repeated, all_repeated, initial_faults, all_faults, procedure_faults, declarations_faults, context_faults}
+use Rattle.icn_decls.specs.Faults.{names_after, declared_names, too_many, fault_if_met, all_repeated, initial_faults, all_faults, procedure_faults, declarations_faults, context_faults}
 use Rattle.icn_tree.specs.NameSets.{NameTest, none_met}
 use Rattle.icn_decls.specs.Spelled.{IsSpelled}
 use Rattle.icn_unit.specs.declared.unit.UnitInstr.{UnitInstr}
@@ -147,7 +147,7 @@ module _ (met : NameTest) (procedure : Procedure) (faultless : procedure_faults 
   few_params : is_number (params_in (proc_code procedure).names) ≡ true
   few_params =
       let many = too_many (length (declared_names procedure)) procedure.name in
-      let rest = repeated C8 met procedure.name
+      let rest = fault_if_met C8 met procedure.name
       ++ (all_repeated C1 none_met (declared_names procedure)
       ++ (initial_faults procedure.initial ++ all_faults outermost procedure.body)) in
       let few = at_most (length (declared_names procedure)) procedure.name (none_before many rest faultless) in

@@ -6,8 +6,8 @@ use Rattle.icn_tree.specs.declared.rule.Rule.TheVariants.{C1, C2, C3, C4, C5, C6
 use Rattle.icn_tree.specs.declared.tree.Name.{Name}
 use Rattle.icn_tree.specs.declared.tree.Place.{Place}
 use Rattle.icn_tree.specs.Trees.{Tree, MaybeTree, Trees, Clause, Clauses, Initial, NoInitial, Initially, Procedure, Declaration, Global, Link, Invocable, Record, ProcedureOf, Empty, Constant, Identifier, Keyword, Parentheses, Listing, Compound, Call, CoCall, Subscript, Section, Field, Prefix, Not, Binary, To, If, Case, Loop, Repeat, Create, Next, Fail, Break, Return, Suspend, Absent, Present, NoTrees, More, Default, Guarded, NoClauses, MoreClauses}
-use Rattle.icn_decls.specs.Contexts.{Fault, Context, outermost, created, looped, left, fault, result_faults, loopless, break_by, next_by}
-use Rattle.icn_decls.specs.Faults.{next_in_control, default_faults, faults, maybe_faults, all_faults, clauses_faults, clause_faults, is_default, repeated, all_repeated, too_many, declared_names, initial_faults, procedure_faults, names_after, declaration_faults, declarations_faults, context_faults}
+use Rattle.icn_decls.specs.Contexts.{Fault, Context, outermost, create_context, enter_loop, leave_loop, fault, result_faults, loopless, break_by, next_by}
+use Rattle.icn_decls.specs.Faults.{next_in_control, default_faults, faults, maybe_faults, all_faults, clauses_faults, clause_faults, is_default, fault_if_met, all_repeated, too_many, declared_names, initial_faults, procedure_faults, names_after, declaration_faults, declarations_faults, context_faults}
 use Rattle.icn_tree.specs.NameSets.{NameTest, none_met, with_name}
 use Rattle.icn_decls.specs.Views.{first_of}
 use Rattle.icont_units.specs.Sources.{IsTreeRule}
@@ -59,7 +59,7 @@ mutual
   tree_rules context (Listing place elements) = trees_rules context elements
   tree_rules context (Compound place exprs) = trees_rules context exprs
   tree_rules context (Call place callee arguments) = both _ _ (tree_rules context callee) (trees_rules context arguments)
-  tree_rules context (CoCall place callee arguments) = both _ _ (tree_rules context callee) (trees_rules created arguments)
+  tree_rules context (CoCall place callee arguments) = both _ _ (tree_rules context callee) (trees_rules create_context arguments)
   tree_rules context (Subscript place subject subscripts) = both _ _ (tree_rules context subject) (trees_rules context subscripts)
   tree_rules context (Section place kind subject from to) = both _ _ (tree_rules context subject) (both _ _ (tree_rules context from) (tree_rules context to))
   tree_rules context (Field place subject name) = tree_rules context subject
@@ -69,12 +69,12 @@ mutual
   tree_rules context (To place from to by) = both _ _ (tree_rules context from) (both _ _ (tree_rules context to) (maybe_rules context by))
   tree_rules context (If place condition first second) = both _ _ (tree_rules context condition) (both _ _ (tree_rules context first) (maybe_rules context second))
   tree_rules context (Case place subject clauses) = both _ _ (tree_rules context subject) (clauses_rules context false clauses)
-  tree_rules context (Loop place kind control body) = both _ _ (tree_rules (looped (next_in_control kind) context) control) (maybe_rules (looped true context) body)
-  tree_rules context (Repeat place body) = tree_rules (looped true context) body
-  tree_rules context (Create place body) = tree_rules created body
+  tree_rules context (Loop place kind control body) = both _ _ (tree_rules (enter_loop (next_in_control kind) context) control) (maybe_rules (enter_loop true context) body)
+  tree_rules context (Repeat place body) = tree_rules (enter_loop true context) body
+  tree_rules context (Create place body) = tree_rules create_context body
   tree_rules context (Next place) = next_of context.in_create context.loops place
   tree_rules context (Fail place) = result_of context place
-  tree_rules context (Break place value) = both _ _ (break_of context.in_create context.loops place) (tree_rules (left context) value)
+  tree_rules context (Break place value) = both _ _ (break_of context.in_create context.loops place) (tree_rules (leave_loop context) value)
   tree_rules context (Return place value) = both _ _ (result_of context place) (tree_rules context value)
   tree_rules context (Suspend place value body) = both _ _ (result_of context place) (both _ _ (tree_rules context value) (maybe_rules context body))
 
@@ -94,7 +94,7 @@ mutual
   clause_rules context has_default (Default place value) = both _ _ (default_of has_default place) (tree_rules context value)
   clause_rules context has_default (Guarded place guard value) = both _ _ (tree_rules context guard) (tree_rules context value)
 
-repeated_of : (rule : Rule) (met : NameTest) (name : Name) → IsTreeRule rule → AreOf (repeated rule met name)
+repeated_of : (rule : Rule) (met : NameTest) (name : Name) → IsTreeRule rule → AreOf (fault_if_met rule met name)
 repeated_of rule met name h = where_true (met name.text) (fault rule name.place) (one rule name.place h)
 
 all_repeated_of : (rule : Rule) (met : NameTest) (names : List Name) → IsTreeRule rule → AreOf (all_repeated rule met names)

@@ -14,13 +14,13 @@ use Rattle.icn_prep.specs.declared.literal.LiteralState.{LiteralState}
 use Rattle.icn_prep.specs.declared.place.Conditional.{Conditional}
 use Rattle.icn_prep.specs.Directives.{is_directive, directive_name, operand, keyword_of}
 use Rattle.icn_prep.specs.FileLines.{lines_of}
-use Rattle.icn_prep.specs.LiteralStates.{carried}
+use Rattle.icn_prep.specs.LiteralStates.{next_line_state}
 use Rattle.icn_prep.specs.Operands.{is_empty, name_operand, define_operand, file_operand, line_operand}
 use Rattle.icn_prep.specs.Outcomes.{◌>>=◌}
 use Rattle.icn_prep.specs.Places.{Place, start_of, next_line}
-use Rattle.icn_prep.specs.Replacement.{Read, replaced}
-use Rattle.icn_prep.specs.Texts.{with_text, undefined}
-use Rattle.icn_prep.specs.SourceLines.{State, Source, Outcome, Step, first_state, name_at, Including, given, given_more, left_empty, passed, text_line, define_again, define_line, undef_line, include_line, if_line, else_line, endif_line, renumbered, line_line, where_taken, directive_line, line_read, ended, lines_read, file_read, too_deep, found, included, named_file, source_of, source_lines}
+use Rattle.icn_prep.specs.Replacement.{ReplacedText, replace_words}
+use Rattle.icn_prep.specs.Texts.{with_text, without_text}
+use Rattle.icn_prep.specs.SourceLines.{State, Source, Outcome, Step, first_state, name_at, IncludeStep, give_line, given_more, left_empty, pass_line, text_line, define_again, define_line, undef_line, include_line, if_line, else_line, endif_line, renumber, line_line, where_taken, directive_line, line_read, end_file, lines_read, file_read, too_deep, include_found, include_file, named_file, source_of, source_lines}
 
 abbrev Within : State → Type 0
 Within s = joined_len s.lines ≤ 16777216
@@ -38,7 +38,7 @@ of_step after = after.0
 breaks : {A : Type 0} {state : A → State} (fault : PrepFault) → Bounded state (Err fault)
 breaks fault = record { lines = tt }
 
-abbrev IncludesBounded : Including → Type 0
+abbrev IncludesBounded : IncludeStep → Type 0
 IncludesBounded includes = (name : List ℕ) (s : State) (place : Place) → Within s → Bounded of_outcome (includes name s place)
 
 then_bound : {A B : Type 0} {at : A → State} {state : B → State} (a : Result A PrepFault) (f : A → Result B PrepFault) → Bounded at a → ((x : A) → Within (at x) → Bounded state (f x)) → Bounded state (a >>= f)
@@ -55,10 +55,10 @@ more_bound s literal lines = by_test (nat_lt 16777216 (joined_len lines)) refl w
   by_test true e = breaks _
   by_test false e = record { lines = grind (arith, nat_tests) }
 
-given_bound : (s : State) (place : Place) (bytes : List ℕ) (literal : LiteralState) → Bounded of_outcome (given s place bytes literal)
+given_bound : (s : State) (place : Place) (bytes : List ℕ) (literal : LiteralState) → Bounded of_outcome (give_line s place bytes literal)
 given_bound s place bytes literal = more_bound s literal _
 
-passed_bound : (s : State) (place onward : Place) → Bounded of_step (passed s place onward)
+passed_bound : (s : State) (place onward : Place) → Bounded of_step (pass_line s place onward)
 passed_bound s place onward = then_bound (left_empty s place) _ (given_bound s place [] _) (λ s' w. record { lines = w })
 
 taken_bound : (s : State) (place : Place) (step : Step) → Bounded of_step step → Bounded of_step (where_taken s place step)
@@ -74,9 +74,9 @@ define_bound s place (Some named) = again_bound s place named.0 named.1 (s.texts
 
 undef_bound : (s : State) (place : Place) (name : Option (List ℕ)) → Bounded of_step (undef_line s place name)
 undef_bound s place None = breaks _
-undef_bound s place (Some name) = passed_bound (record s { texts = undefined s.texts name }) place (next_line place)
+undef_bound s place (Some name) = passed_bound (record s { texts = without_text s.texts name }) place (next_line place)
 
-include_bound : (includes : Including) → IncludesBounded includes → (s : State) (place : Place) (name : Option (List ℕ)) → Within s → Bounded of_step (include_line includes s place name)
+include_bound : (includes : IncludeStep) → IncludesBounded includes → (s : State) (place : Place) (name : Option (List ℕ)) → Within s → Bounded of_step (include_line includes s place name)
 include_bound includes h s place None w = breaks _
 include_bound includes h s place (Some name) w = then_bound (includes name s place) _ (h name s place w) (λ s' v. record { lines = v })
 
@@ -92,7 +92,7 @@ endif_bound : (s : State) (place : Place) (conditionals : List Conditional) → 
 endif_bound s place [] = breaks _
 endif_bound s place (innermost ∷ others) = passed_bound s place _
 
-renumbered_bound : (s : State) (place : Place) (number : ℕ) (name : Option (List ℕ)) → Bounded of_step (renumbered s place number name)
+renumbered_bound : (s : State) (place : Place) (number : ℕ) (name : Option (List ℕ)) → Bounded of_step (renumber s place number name)
 renumbered_bound s place number None = passed_bound s place (record place { line = number })
 renumbered_bound s place number (Some name) = passed_bound (record s { names = s.names ++ name ∷ [] }) place (record place { file = length s.names; line = number })
 
@@ -100,7 +100,7 @@ line_bound : (s : State) (place : Place) (numbered : Option (ℕ × Option (List
 line_bound s place None = breaks _
 line_bound s place (Some numbered) = renumbered_bound s place numbered.0 numbered.1
 
-directive_bound : (includes : Including) → IncludesBounded includes → (s : State) (place : Place) (keyword : Option Keyword) (text : List ℕ) → Within s → Bounded of_step (directive_line includes s place keyword text)
+directive_bound : (includes : IncludeStep) → IncludesBounded includes → (s : State) (place : Place) (keyword : Option Keyword) (text : List ℕ) → Within s → Bounded of_step (directive_line includes s place keyword text)
 directive_bound includes h s place None text w = taken_bound s place _ (breaks _)
 directive_bound includes h s place (Some Define) text w = taken_bound s place _ (define_bound s place (define_operand text))
 directive_bound includes h s place (Some Undef) text w = taken_bound s place _ (undef_bound s place (name_operand text))
@@ -112,40 +112,40 @@ directive_bound includes h s place (Some Endif) text w = either (is_empty text) 
 directive_bound includes h s place (Some Line) text w = taken_bound s place _ (line_bound s place (line_operand text))
 directive_bound includes h s place (Some Error) text w = taken_bound s place _ (breaks _)
 
-text_bound : (s : State) (place : Place) (read : Read) → Bounded of_step (text_line s place read)
-text_bound s place read = then_bound (given s place read.bytes (carried read.state)) _ (given_bound s place read.bytes (carried read.state)) (λ s' w. record { lines = w })
+text_bound : (s : State) (place : Place) (read : ReplacedText) → Bounded of_step (text_line s place read)
+text_bound s place read = then_bound (give_line s place read.bytes (next_line_state read.state)) _ (given_bound s place read.bytes (next_line_state read.state)) (λ s' w. record { lines = w })
 
-read_bound : (includes : Including) → IncludesBounded includes → (s : State) (place : Place) (line : List ℕ) → Within s → Bounded of_step (line_read includes s place line)
+read_bound : (includes : IncludeStep) → IncludesBounded includes → (s : State) (place : Place) (line : List ℕ) → Within s → Bounded of_step (line_read includes s place line)
 read_bound includes h s place line w =
     either (is_directive s.literal line) _ _ (directive_bound includes h s place (keyword_of (directive_name line)) (operand line) w)
-    (taken_bound s place _ (text_bound s place (replaced s.texts.count s.texts.text_of s.literal line)))
+    (taken_bound s place _ (text_bound s place (replace_words s.texts.count s.texts.text_of s.literal line)))
 
-ended_bound : (s : State) (conditionals : List Conditional) → Within s → Bounded of_outcome (ended s conditionals)
+ended_bound : (s : State) (conditionals : List Conditional) → Within s → Bounded of_outcome (end_file s conditionals)
 ended_bound s [] w = record { lines = w }
 ended_bound s (innermost ∷ others) w = breaks _
 
-lines_bound : (includes : Including) → IncludesBounded includes → (s : State) (place : Place) (lines : List (List ℕ)) → Within s → Bounded of_outcome (lines_read includes s place lines)
+lines_bound : (includes : IncludeStep) → IncludesBounded includes → (s : State) (place : Place) (lines : List (List ℕ)) → Within s → Bounded of_outcome (lines_read includes s place lines)
 lines_bound includes h s place [] w = ended_bound s place.conditionals w
 lines_bound includes h s place (line ∷ rest) w = then_bound (line_read includes s place line) _ (read_bound includes h s place line w) (λ after v. lines_bound includes h after.0 after.1 rest v)
 
-file_bound : (includes : Including) → IncludesBounded includes → (name : List ℕ) (s : State) (bytes : List ℕ) → Within s → Bounded of_outcome (file_read includes name s bytes)
+file_bound : (includes : IncludeStep) → IncludesBounded includes → (name : List ℕ) (s : State) (bytes : List ℕ) → Within s → Bounded of_outcome (file_read includes name s bytes)
 file_bound includes h name s bytes w = lines_bound includes h (record s { names = s.names ++ name ∷ [] }) (start_of (length s.names)) (lines_of bytes) w
 
 deep_bound : (name : List ℕ) (s : State) (place : Place) (content : Option (List ℕ)) → Bounded of_outcome (too_deep name s place content)
 deep_bound name s place None = breaks _
 deep_bound name s place (Some bytes) = breaks _
 
-found_bound : (includes : Including) → IncludesBounded includes → (name : List ℕ) (s : State) (place : Place) (content : Option (List ℕ)) → Bounded of_outcome (found includes name s place content)
+found_bound : (includes : IncludeStep) → IncludesBounded includes → (name : List ℕ) (s : State) (place : Place) (content : Option (List ℕ)) → Bounded of_outcome (include_found includes name s place content)
 found_bound includes h name s place None = breaks _
 found_bound includes h name s place (Some bytes) = either _ _ _ (breaks _) (then_bound (left_empty s place) _ (given_bound s place [] _) (λ s' w. file_bound includes h name s' bytes w))
 
-included_bound : (files : FileMap) (n : ℕ) → IncludesBounded (included files n)
+included_bound : (files : FileMap) (n : ℕ) → IncludesBounded (include_file files n)
 included_bound files zero name s place w = deep_bound name s place (files name)
-included_bound files (suc n) name s place w = found_bound (included files n) (included_bound files n) name s place (files name)
+included_bound files (suc n) name s place w = found_bound (include_file files n) (included_bound files n) name s place (files name)
 
 named_bound : (files : FileMap) (name : List ℕ) (content : Option (List ℕ)) → Bounded of_outcome (named_file files name content)
 named_bound files name None = breaks _
-named_bound files name (Some bytes) = either _ _ _ (breaks _) (file_bound (included files 32) (included_bound files 32) name first_state bytes (omega arith))
+named_bound files name (Some bytes) = either _ _ _ (breaks _) (file_bound (include_file files 32) (included_bound files 32) name first_state bytes (omega arith))
 
 source_bound : (outcome : Outcome) (source : Source) → Bounded of_outcome outcome → source_of outcome ≡ Ok source → joined_len source.lines ≤ 16777216
 source_bound (Ok s) source h is = subst (λ (lines : List SourceLine). joined_len lines ≤ 16777216) (same_lines s source is) h.lines where

@@ -5,7 +5,7 @@ use Rattle.icn_tree.specs.declared.tree.Place.{Place}
 use Rattle.icn_tree.specs.declared.tree.Infix.TheVariants.{Plain, Augmented}
 use Rattle.icn_tree.specs.declared.tree.LoopKind.TheVariants.{While, Until, Every}
 use Rattle.icn_tree.specs.Trees.{Tree, MaybeTree, Trees, Clause, Clauses, Empty, Constant, Identifier, Keyword, Parentheses, Listing, Compound, Call, CoCall, Subscript, Section, Field, Prefix, Not, Binary, To, If, Case, Loop, Repeat, Create, Next, Fail, Break, Return, Suspend, Absent, Present, NoTrees, More, Default, Guarded, NoClauses, MoreClauses}
-use Rattle.icn_decls.specs.Contexts.{Fault, Context, created as created_context, looped, left, others, break_by, next_by}
+use Rattle.icn_decls.specs.Contexts.{Fault, Context, create_context as created_context, enter_loop, leave_loop, others, break_by, next_by}
 use Rattle.icn_decls.specs.Faults.{faults, maybe_faults, all_faults, clauses_faults, clause_faults, is_default}
 use Rattle.icn_code.specs.declared.instr.Instr.{Instr}
 use Rattle.icn_code.specs.declared.instr.Instr.TheVariants as I
@@ -191,15 +191,15 @@ module _ {S : Scope} {N : X.Names} {F : List (List ℕ)} (agree : AgreeOn S N F)
         case_gives (tree_gives (Marked o) c e (none_before _ _ x) V R w) (λ last. guarded_give o c false clauses (none_behind _ _ x) V R w)
         (λ last. default_part_gives o c false clauses (none_behind _ _ x) V R w)
     tree_gives o c (Loop place While e b) x V R w =
-        while_gives (λ v. tree_gives (Marked (Looped o)) (looped true c) e (none_before _ _ x) (v ∷ V) R (inside o c V true v w))
+        while_gives (λ v. tree_gives (Marked (Looped o)) (enter_loop true c) e (none_before _ _ x) (v ∷ V) R (inside o c V true v w))
         (λ v. looped_part_gives (Marked (Looped o)) c b (none_behind _ _ x) v V R (inside o c V true v w)) (looped_ends N (depths (Marked (Looped o))) V b)
     tree_gives o c (Loop place Until e b) x V R w =
-        until_gives (λ v. tree_gives (Marked (Looped o)) (looped true c) e (none_before _ _ x) (v ∷ V) R (inside o c V true v w))
+        until_gives (λ v. tree_gives (Marked (Looped o)) (enter_loop true c) e (none_before _ _ x) (v ∷ V) R (inside o c V true v w))
         (λ v. looped_part_gives (Marked (Looped o)) c b (none_behind _ _ x) v V R (inside o c V true v w)) (looped_ends N (depths (Marked (Looped o))) V b)
     tree_gives o c (Loop place Every e b) x V R w =
-        every_gives (λ v. tree_gives (Each o) (looped false c) e (none_before _ _ x) (v ∷ V) R (inside o c V false v w))
+        every_gives (λ v. tree_gives (Each o) (enter_loop false c) e (none_before _ _ x) (v ∷ V) R (inside o c V false v w))
         (λ v. looped_part_gives (Marked (Each o)) c b (none_behind _ _ x) v V R (inside o c V true v w)) (looped_ends N (depths (Marked (Each o))) V b)
-    tree_gives o c (Repeat place b) x V R w = repeat_gives (λ v. tree_gives (Marked (Looped o)) (looped true c) b x (v ∷ V) R (inside o c V true v w))
+    tree_gives o c (Repeat place b) x V R w = repeat_gives (λ v. tree_gives (Marked (Looped o)) (enter_loop true c) b x (v ∷ V) R (inside o c V true v w))
     tree_gives o c (Create place e) x V R w = created_gives (tree_gives Outermost created_context e x [] (V ++ R) (refl, refl))
     tree_gives o c (Next place) x V R w =
         let n = length (others c.loops) in
@@ -210,7 +210,7 @@ module _ {S : Scope} {N : X.Names} {F : List (List ℕ)} (agree : AgreeOn S N F)
         let n = length (others c.loops) in
         let h = break_inside c.in_create c.loops place (none_before _ _ x) in
         let around_open = loops_around o n (sym w.0 ∙ h) in
-        let inner = tree_gives (around o) (left c) e (none_behind _ _ x) (X.around V) R
+        let inner = tree_gives (around o) (leave_loop c) e (none_behind _ _ x) (X.around V) R
         (sym around_open, around_ways V n (w.1 ∙ sym w.0 ∙ h) ∙ sym around_open) in
         break_gives o n (sym w.0 ∙ h) V R (w.1 ∙ sym w.0 ∙ h)
         (subst (λ (D : List X.Depth). Gives S F (X.around V ++ R) E (translate (around o) e) (X.size D e) (λ p. X.code N D (X.around V) p e) none)
@@ -301,11 +301,11 @@ module _ {S : Scope} {N : X.Names} {F : List (List ℕ)} (agree : AgreeOn S N F)
     to_step_gives o c Absent x V R w = puts_as (U.Int (pos 1)) (I.Int (N.integer (pos 1))) (ap (λ k. I.Int k ∷ []) (agree.integer (pos 1)))
     to_step_gives o c (Present e) x V R w = tree_gives o c e x V R w
 
-    looped_part_gives : (o : Open) (c : Context) (b : MaybeTree) → maybe_faults (looped true c) b ≡ [] → (v : X.Ways) (V R : List X.Ways)
-        → Within o (looped true c) (v ∷ V) → {E : List ℕ}
+    looped_part_gives : (o : Open) (c : Context) (b : MaybeTree) → maybe_faults (enter_loop true c) b ≡ [] → (v : X.Ways) (V R : List X.Ways)
+        → Within o (enter_loop true c) (v ∷ V) → {E : List ℕ}
         → Gives S F (v ∷ V ++ R) E (looped_part o b) (X.body_size (depths o) b) (λ p. looped_code N (depths o) V v p b) none
     looped_part_gives o c Absent x v V R w = nothing
-    looped_part_gives o c (Present b) x v V R w = looped_gives (tree_gives o (looped true c) b x (v ∷ V) R w)
+    looped_part_gives o c (Present b) x v V R w = looped_gives (tree_gives o (enter_loop true c) b x (v ∷ V) R w)
 
     suspended_part_gives : (o : Open) (c : Context) (b : MaybeTree) → maybe_faults c b ≡ [] → (V R : List X.Ways) → Within o c V → {E : List ℕ}
         → Gives S F (V ++ R) E (suspended_part o b) (X.body_size (depths o) b) (λ p. X.body_code N (depths o) V p b) none

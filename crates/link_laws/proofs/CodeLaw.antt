@@ -2,7 +2,7 @@
 use Rattle.std.proofs.Common.{◌≡◌, ℕ, ◌+◌, List, [], ◌∷◌, ◌++◌, length, refl, ap, ◌∙◌, append_assoc, append-nil, if◌then◌else◌, arith}
 use Rattle.icn_tree.specs.Trees.{Initial, NoInitial, Initially, Trees, NoTrees, More, Procedure}
 use Rattle.icn_decls.specs.Contexts.{outermost}
-use Rattle.icn_decls.specs.Faults.{too_many, repeated, all_repeated, declared_names, initial_faults, all_faults, procedure_faults}
+use Rattle.icn_decls.specs.Faults.{too_many, fault_if_met, all_repeated, declared_names, initial_faults, all_faults, procedure_faults}
 use Rattle.icn_tree.specs.NameSets.{NameTest, none_met}
 use Rattle.icn_tree.specs.declared.rule.Rule.TheVariants.{C1, C8}
 use Rattle.icn_code.specs.declared.instr.Instr.{Instr}
@@ -74,7 +74,7 @@ trees_faultless : (met : NameTest) (procedure : Procedure) → procedure_faults 
     → (initial_faults procedure.initial ≡ []) × (all_faults outermost procedure.body ≡ [])
 trees_faultless met procedure x =
     let many = too_many (length (declared_names procedure)) procedure.name in
-    let owned = repeated C8 met procedure.name in
+    let owned = fault_if_met C8 met procedure.name in
     let twice = all_repeated C1 none_met (declared_names procedure) in
     let first = initial_faults procedure.initial in
     let others = all_faults outermost procedure.body in

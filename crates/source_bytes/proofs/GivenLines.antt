@@ -18,13 +18,13 @@ use Rattle.icn_prep.specs.declared.literal.LiteralState.TheVariants.{Outside}
 use Rattle.icn_prep.specs.declared.place.Conditional.{Conditional}
 use Rattle.icn_prep.specs.Directives.{is_directive, is_comment, uncommented, directive_text, directive_name, names_file, operand, keyword_of}
 use Rattle.icn_prep.specs.FileLines.{begins_with, put_before, lines_of}
-use Rattle.icn_prep.specs.LiteralStates.{after, after_in as state_in, carried}
+use Rattle.icn_prep.specs.LiteralStates.{after, after_in as state_in, next_line_state}
 use Rattle.icn_prep.specs.Operands.{is_empty, name_operand, define_operand, file_operand, line_operand}
 use Rattle.icn_prep.specs.Outcomes.{◌>>=◌}
 use Rattle.icn_prep.specs.Places.{Place, start_of, next_line}
-use Rattle.icn_prep.specs.Replacement.{Read, behind, begins_word, as_it_stands, read_from, word_read, replaced}
-use Rattle.icn_prep.specs.SourceLines.{State, Source, Outcome, Step, first_state, Including, given, left_empty, passed, text_line, define_again, define_line, undef_line, include_line, if_line, else_line, endif_line, renumbered, line_line, where_taken, directive_line, line_read, ended, lines_read, file_read, too_deep, found, included, named_file, source_of, source_lines}
-use Rattle.icn_prep.specs.Texts.{TextOf, without, with_text, undefined, undefined_by}
+use Rattle.icn_prep.specs.Replacement.{ReplacedText, behind, begins_word, as_it_stands, read_from, word_read, replace_words}
+use Rattle.icn_prep.specs.SourceLines.{State, Source, Outcome, Step, first_state, IncludeStep, give_line, left_empty, pass_line, text_line, define_again, define_line, undef_line, include_line, if_line, else_line, endif_line, renumber, line_line, where_taken, directive_line, line_read, end_file, lines_read, file_read, too_deep, include_found, include_file, named_file, source_of, source_lines}
+use Rattle.icn_prep.specs.Texts.{TextOf, without, with_text, without_text, undefined_by}
 use Rattle.icn_tree.specs.Characters.{continues_identifier, is_blank}
 use Rattle.icn_tree.specs.TokenBounds.{is_name}
 use Rattle.icn_prep.specs.Words.{first_word, behind_word, trimmed, trimmed_start}
@@ -103,11 +103,11 @@ texts_with texts name text h g = texts_updated texts name (Some text) h
 
 -- A line with its words replaced
 
-read_chosen : (test : Bool) (a b : Read) → AreBytes a.bytes → AreBytes b.bytes → AreBytes (cond test a b).bytes
+read_chosen : (test : Bool) (a b : ReplacedText) → AreBytes a.bytes → AreBytes b.bytes → AreBytes (cond test a b).bytes
 read_chosen true a b h g = h
 read_chosen false a b h g = g
 
-read_bytes : (becomes : List ℕ → Read) → ((word : List ℕ) → AreBytes word → AreBytes (becomes word).bytes)
+read_bytes : (becomes : List ℕ → ReplacedText) → ((word : List ℕ) → AreBytes word → AreBytes (becomes word).bytes)
     → (taken : ℕ) (state : LiteralState) (bytes : List ℕ) → AreBytes bytes
     → AreBytes (read_from becomes taken state bytes).bytes
 read_bytes becomes r taken state [] h = no_bytes
@@ -123,7 +123,7 @@ read_bytes becomes r zero state (b ∷ rest) h =
     (bytes_joined (with_first (first_byte h) no_bytes)
     (read_bytes becomes r zero (after state b) rest (other_bytes h)))
 
-word_bytes : (reads : TextOf → LiteralState → List ℕ → Read)
+word_bytes : (reads : TextOf → LiteralState → List ℕ → ReplacedText)
     → ((texts : TextOf) → HaveBytes texts → (state : LiteralState) (bytes : List ℕ) → AreBytes bytes
     → AreBytes (reads texts state bytes).bytes)
     → (texts : TextOf) → HaveBytes texts → (word : List ℕ) (held : Option (List ℕ)) → texts word ≡ held
@@ -135,11 +135,11 @@ word_bytes reads r texts h word (Some text) e g = r (without texts word)
 
 replaced_bytes : (n : ℕ) (texts : TextOf) → HaveBytes texts → (state : LiteralState) (bytes : List ℕ)
     → AreBytes bytes
-    → AreBytes (replaced n texts state bytes).bytes
+    → AreBytes (replace_words n texts state bytes).bytes
 replaced_bytes zero texts h state bytes g = read_bytes as_it_stands (λ word w. w) zero state bytes g
 replaced_bytes (suc n) texts h state bytes g = read_bytes
-    (λ word. word_read (replaced n) texts word (texts word))
-    (λ word w. word_bytes (replaced n) (λ t k s b q. replaced_bytes n t k s b q) texts h word
+    (λ word. word_read (replace_words n) texts word (texts word))
+    (λ word w. word_bytes (replace_words n) (λ t k s b q. replaced_bytes n t k s b q) texts h word
     (texts word) refl w) zero state bytes g
 
 -- What reading has come to
@@ -161,7 +161,7 @@ of_step after = after.0
 breaks : {A : Type 0} {state : A → State} (fault : PrepFault) → Gives state (Err fault)
 breaks fault = record { known = tt }
 
-abbrev IncludesKnown : Including → Type 0
+abbrev IncludesKnown : IncludeStep → Type 0
 IncludesKnown includes = (name : List ℕ) (s : State) (place : Place) → Known s
     → Gives of_outcome (includes name s place)
 
@@ -183,7 +183,7 @@ line_more lines line h g = list_all-append line_is_of_bytes lines (line ∷ [])
     ∙ and_from _ _ h (and_from _ _ g.are refl)
 
 given_known : (s : State) (place : Place) (bytes : List ℕ) (literal : LiteralState) → Known s → AreBytes bytes
-    → Gives of_outcome (given s place bytes literal)
+    → Gives of_outcome (give_line s place bytes literal)
 given_known s place bytes literal k h =
     let line : SourceLine = record { bytes = bytes; file = place.file; number = place.line } in
     let more : lines_are_of_bytes (s.lines ++ line ∷ []) ≡ true = line_more s.lines line k.lines h in
@@ -191,7 +191,7 @@ given_known s place bytes literal k h =
     (Ok (record s { lines = s.lines ++ line ∷ []; literal = literal })) (breaks _)
     (record { known = record { lines = more; texts = k.texts } })
 
-passed_known : (s : State) (place onward : Place) → Known s → Gives of_step (passed s place onward)
+passed_known : (s : State) (place onward : Place) → Known s → Gives of_step (pass_line s place onward)
 passed_known s place onward k = then_known (left_empty s place) _ (given_known s place [] _ k no_bytes)
     (λ s' w. record { known = w })
 
@@ -226,11 +226,11 @@ undefined_known s name (Some text) k = texts_without s.texts.text_of name k.text
 undef_known : (s : State) (place : Place) (name : Option (List ℕ)) → Known s
     → Gives of_step (undef_line s place name)
 undef_known s place None k = breaks _
-undef_known s place (Some name) k = passed_known (record s { texts = undefined s.texts name }) place
+undef_known s place (Some name) k = passed_known (record s { texts = without_text s.texts name }) place
     (next_line place)
     (record { lines = k.lines; texts = undefined_known s name (s.texts.text_of name) k })
 
-include_known : (includes : Including) → IncludesKnown includes
+include_known : (includes : IncludeStep) → IncludesKnown includes
     → (s : State) (place : Place) (name : Option (List ℕ)) → Known s
     → Gives of_step (include_line includes s place name)
 include_known includes h s place None k = breaks _
@@ -253,7 +253,7 @@ endif_known s place [] k = breaks _
 endif_known s place (innermost ∷ others) k = passed_known s place _ k
 
 renumbered_known : (s : State) (place : Place) (number : ℕ) (name : Option (List ℕ)) → Known s
-    → Gives of_step (renumbered s place number name)
+    → Gives of_step (renumber s place number name)
 renumbered_known s place number None k = passed_known s place (record place { line = number }) k
 renumbered_known s place number (Some name) k = passed_known (record s { names = s.names ++ name ∷ [] }) place
     (record place { file = length s.names; line = number }) (record { lines = k.lines; texts = k.texts })
@@ -263,7 +263,7 @@ line_known : (s : State) (place : Place) (numbered : Option (ℕ × Option (List
 line_known s place None k = breaks _
 line_known s place (Some numbered) k = renumbered_known s place numbered.0 numbered.1 k
 
-directive_known : (includes : Including) → IncludesKnown includes
+directive_known : (includes : IncludeStep) → IncludesKnown includes
     → (s : State) (place : Place) (keyword : Option Keyword) (text : List ℕ)
     → Known s → AreBytes text → Gives of_step (directive_line includes s place keyword text)
 directive_known includes h s place None text k w = taken_known s place _ k (breaks _)
@@ -283,26 +283,26 @@ directive_known includes h s place (Some Line) text k w = taken_known s place _ 
     (line_known s place (line_operand text) k)
 directive_known includes h s place (Some Error) text k w = taken_known s place _ k (breaks _)
 
-text_known : (s : State) (place : Place) (read : Read) → Known s → AreBytes read.bytes
+text_known : (s : State) (place : Place) (read : ReplacedText) → Known s → AreBytes read.bytes
     → Gives of_step (text_line s place read)
-text_known s place read k h = then_known (given s place read.bytes (carried read.state)) _
-    (given_known s place read.bytes (carried read.state) k h) (λ s' w. record { known = w })
+text_known s place read k h = then_known (give_line s place read.bytes (next_line_state read.state)) _
+    (given_known s place read.bytes (next_line_state read.state) k h) (λ s' w. record { known = w })
 
-read_known : (includes : Including) → IncludesKnown includes → (s : State) (place : Place) (line : List ℕ)
+read_known : (includes : IncludeStep) → IncludesKnown includes → (s : State) (place : Place) (line : List ℕ)
     → Known s → AreBytes line
     → Gives of_step (line_read includes s place line)
 read_known includes h s place line k w =
     either (is_directive s.literal line) _ _
     (directive_known includes h s place (keyword_of (directive_name line)) (operand line) k
     (operand_bytes line w))
-    (taken_known s place _ k (text_known s place (replaced s.texts.count s.texts.text_of s.literal line) k
+    (taken_known s place _ k (text_known s place (replace_words s.texts.count s.texts.text_of s.literal line) k
     (replaced_bytes s.texts.count s.texts.text_of k.texts s.literal line w)))
 
-ended_known : (s : State) (conditionals : List Conditional) → Known s → Gives of_outcome (ended s conditionals)
+ended_known : (s : State) (conditionals : List Conditional) → Known s → Gives of_outcome (end_file s conditionals)
 ended_known s [] k = record { known = k }
 ended_known s (innermost ∷ others) k = breaks _
 
-lines_known : (includes : Including) → IncludesKnown includes
+lines_known : (includes : IncludeStep) → IncludesKnown includes
     → (s : State) (place : Place) (lines : List (List ℕ)) → Known s → AreLines lines
     → Gives of_outcome (lines_read includes s place lines)
 lines_known includes h s place [] k w = ended_known s place.conditionals k
@@ -310,7 +310,7 @@ lines_known includes h s place (line ∷ rest) k w = then_known (line_read inclu
     (read_known includes h s place line k w.0)
     (λ after v. lines_known includes h after.0 after.1 rest v w.1)
 
-file_known : (includes : Including) → IncludesKnown includes → (name : List ℕ) (s : State) (bytes : List ℕ)
+file_known : (includes : IncludeStep) → IncludesKnown includes → (name : List ℕ) (s : State) (bytes : List ℕ)
     → Known s → AreBytes bytes
     → Gives of_outcome (file_read includes name s bytes)
 file_known includes h name s bytes k w = lines_known includes h (record s { names = s.names ++ name ∷ [] })
@@ -328,24 +328,24 @@ module _ (files : FileMap) (hold : HoldBytes files) where
   content_bytes : (name bytes : List ℕ) → files name ≡ Some bytes → AreBytes bytes
   content_bytes name bytes e = bytes_held bytes (hold name bytes e)
 
-  found_known : (includes : Including) → IncludesKnown includes
+  found_known : (includes : IncludeStep) → IncludesKnown includes
       → (name : List ℕ) (s : State) (place : Place) (content : Option (List ℕ))
-      → files name ≡ content → Known s → Gives of_outcome (found includes name s place content)
+      → files name ≡ content → Known s → Gives of_outcome (include_found includes name s place content)
   found_known includes h name s place None e k = breaks _
   found_known includes h name s place (Some bytes) e k = either _ _ _ (breaks _)
       (then_known (left_empty s place) _ (given_known s place [] _ k no_bytes)
       (λ s' w. file_known includes h name s' bytes w (content_bytes name bytes e)))
 
-  included_known : (n : ℕ) → IncludesKnown (included files n)
+  included_known : (n : ℕ) → IncludesKnown (include_file files n)
   included_known zero name s place k = deep_known name s place (files name)
-  included_known (suc n) name s place k = found_known (included files n) (included_known n) name s place
+  included_known (suc n) name s place k = found_known (include_file files n) (included_known n) name s place
       (files name) refl k
 
   named_known : (name : List ℕ) (content : Option (List ℕ)) → files name ≡ content
       → Gives of_outcome (named_file files name content)
   named_known name None e = breaks _
   named_known name (Some bytes) e = either _ _ _ (breaks _)
-      (file_known (included files 32) (included_known 32) name first_state bytes
+      (file_known (include_file files 32) (included_known 32) name first_state bytes
       (record { lines = refl; texts = record { text = λ other text none. absurd (none-some text none) } })
       (content_bytes name bytes e))
 

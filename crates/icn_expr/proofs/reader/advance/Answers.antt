@@ -4,7 +4,7 @@ use Rattle.icn_tree.specs.Grammar.{before}
 use Rattle.std.specs.Prelude.{Some}
 use Rattle.icn_expr.specs.Automata.{Starting, Climbing, Closing}
 use Rattle.icn_expr.specs.Capped.{Capped, capped}
-use Rattle.icn_expr.specs.Reading.{left, end_of}
+use Rattle.icn_expr.specs.Reading.{steps_left, end_of}
 use Rattle.icn_expr.specs.Views.{capped_of, stack_of, state_of}
 use Rattle.icn_expr.proofs.Advancing.{same_end, less_left}
 use Rattle.icn_expr.proofs.Ending.{end_finished, end_broken}

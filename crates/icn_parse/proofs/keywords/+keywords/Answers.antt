@@ -3,7 +3,7 @@ use Rattle.icn_tree.proofs.TreeRows.{row_trees, row_clauses}
 use Rattle.icn_tree.specs.declared.tree.Expr.{the_lemmas}
 use Rattle.icn_tree.specs.TreeOf.{tree_of, all_of, clause_of, all_clauses_of}
 use Rattle.icn_parse.specs.Outcomes.{first_unknown, keywords, all_keywords, clause_keywords, clauses_keywords}
-use Rattle.icn_parse.proofs.Unknown.{unknown_then, unknown_kept, unknown_passed, exprs_at, clauses_at}
+use Rattle.icn_parse.proofs.UnknownKeywords.{unknown_then, unknown_kept, unknown_passed, exprs_at, clauses_at}
 use Rattle.icn_parse.proofs.keywords.+keywords.Goals as goal
 
 pub check-returns-in-Parentheses : goal.check-returns-in-Parentheses

@@ -1,5 +1,5 @@
 use Rattle.std.proofs.Common.{sym, ◌∙◌}
-use Rattle.icn_parse.proofs.Unknown.{name_unknown}
+use Rattle.icn_parse.proofs.UnknownKeywords.{name_unknown}
 use Rattle.icn_parse.proofs.keywords.check_name.Goals as goal
 
 pub returns-in-None : goal.returns-in-None

@@ -3,7 +3,7 @@ use Rattle.std.specs.Prelude.{vec_len, string_bytes}
 use Rattle.std.proofs.lemmas.Grind.{common_steps}
 use Rattle.std.proofs.lemmas.Result.{err_from_is_err_and}
 use Rattle.icn_prep.specs.PlaceViews.{place_of}
-use Rattle.icn_prep.specs.SourceLines.{named_file, included}
+use Rattle.icn_prep.specs.SourceLines.{named_file, include_file}
 use Rattle.icn_prep.specs.StateViews.{state_of}
 use Rattle.icn_prep.proofs.Sizing.{joined_within}
 use Rattle.icn_prep.proofs.Stores.{if_some_told, some_of}
@@ -15,7 +15,7 @@ returns-in_err-stop-clause-exact g c =
     if_some_told _ _
     (λ held told.
     let e = err_from_is_err_and c.from_residual-in_err-stop.result (c.from_residual-in_err-stop.ensures).1 in
-    let refused = c.in_err-stop.ensures.exact (included held (32 - length c.pop.new.self.items)) in
+    let refused = c.in_err-stop.ensures.exact (include_file held (32 - length c.pop.new.self.items)) in
     answered (named_file held c.args.name.now (held c.args.name.now)) _ c.in_err-stop.field-0.0 e.0 e.1 e.2
     (file_refused held (named_file held c.args.name.now (held c.args.name.now)) c.loop-file.stack.items c.pop.new.self.items c.in-Some.file (state_of c.loop-file.reading) c.in_err-stop.field-0.0 (c.loop-file.invariant.so held told) c.in-Some.ensures.items (rw c.deref.ensures.value at refused)))
 
@@ -24,7 +24,7 @@ returns-in_err-included-clause-exact g c =
     if_some_told _ _
     (λ held told.
     let e = err_from_is_err_and c.from_residual-in_err-included.result (c.from_residual-in_err-included.ensures).1 in
-    let step = c.in_ok-stop.ensures.exact (included held (32 - length c.pop.new.self.items)) in
+    let step = c.in_ok-stop.ensures.exact (include_file held (32 - length c.pop.new.self.items)) in
     let stops = rw c.in-Some-stop.is at step in
     let includes = file_includes held (named_file held c.args.name.now (held c.args.name.now)) c.loop-file.stack.items c.pop.new.self.items c.in-Some.file (state_of c.loop-file.reading) (state_of c.read_lines.new.reading) (place_of c.read_lines.new.place) _ c.in-Some-stop.at (c.loop-file.invariant.so held told) c.in-Some.ensures.items (rw c.deref.ensures.value at stops) in
     let depth : c.len.result ≡ length c.pop.new.self.items = omega (arith, c.len.ensures, c.pop.new.self.ok.0) in
@@ -32,14 +32,14 @@ returns-in_err-included-clause-exact g c =
     let now : g.F.Files.held c.loop-file.files ≡ Some held = c.loop-file.invariant.same ∙ told in
     let answer = some_of _ held _ now c.in_err-included.ensures.exact in
     answered (named_file held c.args.name.now (held c.args.name.now)) _ c.in_err-included.field-0.0 e.0 e.1 e.2
-    (including_refused held _ c.pop.new.self.items (place_of c.read_lines.new.place) (drop c.in-Some-stop.at c.in-Some.file.content.items) (included held (32 - length c.pop.new.self.items) (string_bytes c.in-Some-stop.name) (state_of c.read_lines.new.reading) (place_of c.read_lines.new.place)) c.in_err-included.field-0.0 includes (rw (← depth, ← named) answer)))
+    (including_refused held _ c.pop.new.self.items (place_of c.read_lines.new.place) (drop c.in-Some-stop.at c.in-Some.file.content.items) (include_file held (32 - length c.pop.new.self.items) (string_bytes c.in-Some-stop.name) (state_of c.read_lines.new.reading) (place_of c.read_lines.new.place)) c.in_err-included.field-0.0 includes (rw (← depth, ← named) answer)))
 
 pub returns-in_err-leave_empty-clause-exact : goal.returns-in_err-leave_empty-clause-exact
 returns-in_err-leave_empty-clause-exact g c =
     if_some_told _ _
     (λ held told.
     let e = err_from_is_err_and c.from_residual-in_err-leave_empty.result (c.from_residual-in_err-leave_empty.ensures).1 in
-    let step = c.in_ok-stop.ensures.exact (included held (32 - length c.pop.new.self.items)) in
+    let step = c.in_ok-stop.ensures.exact (include_file held (32 - length c.pop.new.self.items)) in
     let stops = rw c.in-Some-stop.is at step in
     let includes = file_includes held (named_file held c.args.name.now (held c.args.name.now)) c.loop-file.stack.items c.pop.new.self.items c.in-Some.file (state_of c.loop-file.reading) (state_of c.read_lines.new.reading) (place_of c.read_lines.new.place) _ c.in-Some-stop.at (c.loop-file.invariant.so held told) c.in-Some.ensures.items (rw c.deref.ensures.value at stops) in
     let depth : c.len.result ≡ length c.pop.new.self.items = omega (arith, c.len.ensures, c.pop.new.self.ok.0) in
@@ -49,13 +49,13 @@ returns-in_err-leave_empty-clause-exact g c =
     let short : length c.in_ok-included.included.items ≤ 16777216 = omega (arith, c.in_ok-included.ensures.short, c.in_ok-included.included.ok.0) in
     let low : length c.pop.new.self.items < 32 = omega (arith, c.in_ok-included.ensures.deep) in
     answered (named_file held c.args.name.now (held c.args.name.now)) _ c.in_err-leave_empty.field-0.0 e.0 e.1 e.2
-    (including_refused held _ c.pop.new.self.items (place_of c.read_lines.new.place) (drop c.in-Some-stop.at c.in-Some.file.content.items) (included held (32 - length c.pop.new.self.items) (string_bytes c.in-Some-stop.name) (state_of c.read_lines.new.reading) (place_of c.read_lines.new.place)) c.in_err-leave_empty.field-0.0 includes
+    (including_refused held _ c.pop.new.self.items (place_of c.read_lines.new.place) (drop c.in-Some-stop.at c.in-Some.file.content.items) (include_file held (32 - length c.pop.new.self.items) (string_bytes c.in-Some-stop.name) (state_of c.read_lines.new.reading) (place_of c.read_lines.new.place)) c.in_err-leave_empty.field-0.0 includes
     (line_refused held (length c.pop.new.self.items) (string_bytes c.in-Some-stop.name) c.in_ok-included.included.items (state_of c.read_lines.new.reading) (place_of c.read_lines.new.place) c.in_err-leave_empty.field-0.0 low there short c.in_err-leave_empty.ensures.exact)))
 
 pub loop-file-preserved-in-Some-stop : goal.loop-file-preserved-in-Some-stop
 loop-file-preserved-in-Some-stop g c = record {
   so = λ held told.
-      let step = c.in_ok-stop.ensures.exact (included held (32 - length c.pop.new.self.items)) in
+      let step = c.in_ok-stop.ensures.exact (include_file held (32 - length c.pop.new.self.items)) in
       let stops = rw c.in-Some-stop.is at step in
       let includes = file_includes held (named_file held c.args.name.now (held c.args.name.now)) c.loop-file.stack.items c.pop.new.self.items c.in-Some.file (state_of c.loop-file.reading) (state_of c.read_lines.new.reading) (place_of c.read_lines.new.place) _ c.in-Some-stop.at (c.loop-file.invariant.so held told) c.in-Some.ensures.items (rw c.deref.ensures.value at stops) in
       let depth : c.len.result ≡ length c.pop.new.self.items = omega (arith, c.len.ensures, c.pop.new.self.ok.0) in
@@ -89,7 +89,7 @@ loop-file-preserved-in-Some-stop g c = record {
 pub loop-file-preserved : goal.loop-file-preserved
 loop-file-preserved g c = record {
   so = λ held told.
-      let step = c.in_ok-stop.ensures.exact (included held (32 - length c.pop.new.self.items)) in
+      let step = c.in_ok-stop.ensures.exact (include_file held (32 - length c.pop.new.self.items)) in
       let ended = rw c.in_default-stop.is at step in
       file_ended held (named_file held c.args.name.now (held c.args.name.now)) c.loop-file.stack.items c.pop.new.self.items c.in-Some.file (state_of c.loop-file.reading) (state_of c.read_lines.new.reading) (c.loop-file.invariant.so held told) c.in-Some.ensures.items (rw c.deref.ensures.value at ended);
   same = grind (arith, common_steps);

@@ -12,7 +12,7 @@ use Rattle.icn_tree.specs.declared.tree.Name.{Name}
 use Rattle.icn_tree.specs.declared.tree.Expr.{Expr}
 use Rattle.icn_tree.specs.declared.tree.Clause.{Clause}
 use Rattle.icn_tree.specs.TreeOf.{tree_of, all_of, clause_of, all_clauses_of}
-use Rattle.icn_parse.specs.Outcomes.{keywords, all_keywords, clause_keywords, clauses_keywords, known, is_known, first_unknown}
+use Rattle.icn_parse.specs.Outcomes.{keywords, all_keywords, clause_keywords, clauses_keywords, known_keywords, is_known, first_unknown}
 use Rattle.icn_parse.specs.Views.{place_found}
 
 then_by : (t : Bool) (rest later all : Option Place) (place : Place) → None ≡ (if t then rest else Some place) → (None ≡ rest → later ≡ all) → (if t then later else Some place) ≡ all
@@ -73,4 +73,4 @@ none_by true place e = absurd (let clash : true ≡ false = e in cc)
 
 -- a name that none has
 pub name_unknown : (name : Name) → ((any : Keyword) → keyword_name any ≢ name.text) → Some name.place ≡ first_unknown (name ∷ [])
-name_unknown name none = none_by (is_known name.text) name.place (none_named name.text none known)
+name_unknown name none = none_by (is_known name.text) name.place (none_named name.text none known_keywords)
