@@ -9,7 +9,7 @@ use Rattle.icn_code.specs.declared.instr.Instr.TheVariants as I
 use Rattle.icn_verify.specs.declared.rows.Way.{Way}
 use Rattle.icn_verify.specs.declared.rows.Way.TheVariants as Ways
 use Rattle.icn_verify.specs.Shapes.{PlainShape, before_mark}
-use Rattle.icn_verify.specs.Rows.{row_of, after, next_by, next, forward, back, labeled}
+use Rattle.icn_verify.specs.Rows.{row_of, after, next_by, next, forward, back, with_label}
 use Rattle.icn_verify.specs.Reaching.{Reaches, starts, goes}
 use Rattle.icn_verify.specs.Faults.{LacksShape}
 use Rattle.icn_verify.specs.Given as V
@@ -113,7 +113,7 @@ forward_leads (I.Init l) s q t e = subst (λ q. Leads (I.Init l) q) (to_is e) e_
 forward_leads (I.Create l) s q t e = subst (λ q. Leads (I.Create l) q) (to_is e) e_create
 forward_leads i s q t e = absurd (no_some e)
 
-labeled_is : (l : ℕ) (s : Option PlainShape) (q : ℕ) (t : PlainShape) → labeled l s ≡ Some (q, t) → l ≡ q
+labeled_is : (l : ℕ) (s : Option PlainShape) (q : ℕ) (t : PlainShape) → with_label l s ≡ Some (q, t) → l ≡ q
 labeled_is l None q t e = absurd (no_some e)
 labeled_is l (Some s) q t e = to_is e
 

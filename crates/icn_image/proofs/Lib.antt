@@ -1,4 +1,4 @@
-pub mod Numbered
+pub mod InstrNumbers
 pub mod Loops
 pub mod Globals
 pub mod Bodies

@@ -10,12 +10,12 @@ use Rattle.icn_unit.specs.UnitRules.{keeps_rules as keeps_unit_rules}
 use Rattle.icn_link.specs.declared.fault.LinkFault.{LinkFault}
 use Rattle.icn_link.specs.Joined.{joined, joined_of}
 use Rattle.icn_link.specs.JoinableUnits.{is_joinable, is_joinable_decl, is_joinable_proc}
-use Rattle.icn_link.specs.LinkFaults.{first_fault, local_counts, missing, over, record_sizes, repeated, size_of, static_counts, table_sizes, too_large, too_large_of}
-use Rattle.icn_link.specs.Mentions.{globals, mentioned, mentioned_by, operands_in}
+use Rattle.icn_link.specs.LinkFaults.{first_fault, local_counts, missing, over, record_sizes, repeated_name, size_of, static_counts, table_sizes, too_large, too_large_of}
+use Rattle.icn_link.specs.Mentions.{globals, all_mentions, mentioned_by, operands_in}
 use Rattle.icn_link.specs.Units.{all_decls, all_procs}
 use Rattle.icn_link.specs.Views.{Joinable}
 use Rattle.icn_link.proofs.Each.{all_then}
-use Rattle.icn_link.proofs.Kept.{joined_kept}
+use Rattle.icn_link.proofs.JoinedRules.{joined_kept}
 use Rattle.icn_link.proofs.KeptUnits.{unit_joinable, units_decls, units_procs}
 
 neither : (a b : Option LinkFault) → option_or a b ≡ None → (a ≡ None) × (b ≡ None)
@@ -27,7 +27,7 @@ joinable : (D : List Decl) (P : List Proc) → list_all is_joinable_decl D ≡ t
     → too_large_of D P ≡ None → Joinable D P
 joinable D P d p h =
     let instrs = over 16777216 (sum_by size_of P ∷ []) in
-    let tables = over 65535 (table_sizes (mentioned D P) D P) in
+    let tables = over 65535 (table_sizes (all_mentions D P) D P) in
     let operands = over 65535 (mentioned_by operands_in P) in
     let records = over 65535 (record_sizes D) in
     let locals = over 65535 (local_counts (globals D P) P) in
@@ -57,8 +57,8 @@ joinable D P d p h =
 pub units_keep : (units : List UnitRead) → list_all is_joinable units ≡ true → first_fault units ≡ None
     → keeps_rules (joined units) ≡ true
 units_keep units all none =
-    let behind = neither (missing units) (option_or (repeated units) (too_large units)) none in
-    let small = neither (repeated units) (too_large units) behind.1 in
+    let behind = neither (missing units) (option_or (repeated_name units) (too_large units)) none in
+    let small = neither (repeated_name units) (too_large units) behind.1 in
     joined_kept (all_decls units) (all_procs units)
     (joinable (all_decls units) (all_procs units) (units_decls units all) (units_procs units all) small.1)
 

@@ -15,7 +15,7 @@ use Rattle.icn_unit.specs.PlainUnits.{Proc, Decl, Global as GlobalDecl, Procedur
 use Rattle.icn_unit.specs.UnitOperands.{is_name}
 use Rattle.icn_unit.specs.UnitRules.{is_byte, is_byte_text, is_integer}
 use Rattle.icn_link.specs.JoinableUnits.{is_joinable_decl, is_joinable_instr, is_joinable_proc}
-use Rattle.icn_link.specs.Mentions.{Mention, NoMention, AnInteger, AText, ASet, AField, Operands, mention_of, mentioned_in, mentioned_by, integer_in, text_in, field_in, global_in, fields_in, record_name_in, record_names, function_by, function_in, function_named, functions_in, declared, globals, fields, strings, string_mentions, integers}
+use Rattle.icn_link.specs.Mentions.{Mention, NoMention, AnInteger, AText, ASet, AField, Operands, mention_of, mentioned_in, mentioned_by, integer_in, text_in, field_in, global_in, fields_in, record_name_in, record_names, function_by, function_in, function_named, functions_in, declared_names, globals, fields, strings, string_mentions, integers}
 use Rattle.icn_link.proofs.Each.{both, all_of_flat, all_then, all_mapped, all_unmapped, texts_keep, integers_keep}
 
 -- Names and byte texts are strings
@@ -194,7 +194,7 @@ module _ (decls : List Decl) (procs : List Proc) (joinable_decls : list_all is_j
   records_named = all_of_flat is_name record_name_in decls (all_then _ _ decl_record decls joinable_decls)
 
   globals_named : list_all is_name (globals decls procs) ≡ true
-  globals_named = texts_keep is_name (declared decls) (flat_map functions_in procs)
+  globals_named = texts_keep is_name (declared_names decls) (flat_map functions_in procs)
       (texts_keep is_name [] (flat_map global_in decls) refl (all_of_flat is_name global_in decls (all_then _ _ decl_global decls joinable_decls)))
       (all_of_flat is_name functions_in procs (all_then _ _ functions_kept procs joinable_procs))
 

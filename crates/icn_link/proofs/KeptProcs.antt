@@ -25,8 +25,8 @@ use Rattle.icn_link.specs.Joined.{entry_of, proc_entry, scope_of, scope_with, va
 use Rattle.icn_link.specs.JoinableUnits.{is_joinable_instr, is_joinable_proc}
 use Rattle.icn_link.specs.LinkFaults.{is_instruction, size_of}
 use Rattle.icn_link.specs.Gathering.{integer_place, text_place}
-use Rattle.icn_link.specs.Mentions.{Mention, NoMention, AnInteger, AText, ASet, AField, Operands, Mentioned, mention_of}
-use Rattle.icn_link.specs.Resolving.{Scope, resolved, resolved_one, label_place, label_place_by}
+use Rattle.icn_link.specs.Mentions.{Mention, NoMention, AnInteger, AText, ASet, AField, Operands, AllMentions, mention_of}
+use Rattle.icn_link.specs.Resolving.{Scope, resolve, resolved_one, label_place, label_place_by}
 use Rattle.icn_link.specs.Views.{procs_seen}
 use Rattle.icn_link.proofs.Each.{both, has_text, has_place, has_integer_place, text_placed, all_of_flat, all_with}
 
@@ -184,13 +184,13 @@ one_length S U.Coret = refl
 one_length S U.Cofail = refl
 one_length S (U.Lab label) = refl
 
-pub resolved_length : (S : Scope) (instrs : List UnitInstr) → length (resolved S instrs) ≡ count_by is_instruction instrs
+pub resolved_length : (S : Scope) (instrs : List UnitInstr) → length (resolve S instrs) ≡ count_by is_instruction instrs
 resolved_length S [] = refl
 resolved_length S (instr ∷ instrs) =
     let sum = sum_by-cons (λ i. cond (is_instruction i) 1 0) instr instrs in
     let one = one_length S instr in
     let rest = resolved_length S instrs in
-    length-append (resolved_one S instr) (resolved S instrs) ∙ omega (arith, sum, one, rest)
+    length-append (resolved_one S instr) (resolve S instrs) ∙ omega (arith, sum, one, rest)
 
 label_within_by : (label : ℕ) (place : Option ℕ) (behind n : ℕ) → behind ≤ n
     → label_place_by label place behind ≤ cond (not (is_some place)) 1 0 + n
@@ -211,7 +211,7 @@ label_within label (instr ∷ instrs) =
 -- Instructions
 
 -- what an instruction mentions is in the tables
-unfoldable pub has_mention : Mentioned → Mention → Bool
+unfoldable pub has_mention : AllMentions → Mention → Bool
 has_mention M NoMention = true
 has_mention M (AnInteger n) = has_integer_place M.integers n
 has_mention M (AText text) = has_place M.strings text
@@ -220,7 +220,7 @@ has_mention M (AField name) = has_place M.fields name
 has_mention M (Operands count) = nat_le count 65535
 
 -- the tables are as long as what is mentioned
-pub record Long (M : Mentioned) (T : Tables) : Type 0 where
+pub record Long (M : AllMentions) (T : Tables) : Type 0 where
   pub strings : length T.strings ≡ length M.strings
   pub integers : length T.integers ≡ length M.integers
   pub sets : length T.csets ≡ length M.sets
@@ -232,7 +232,7 @@ record There (T : Tables) (proc : ProcEntry) (V : List Instr) (L : ℕ → ℕ) 
   variable : (k : ℕ) → nat_lt k n ≡ true → Rules.is_instr T proc (variable_at V k) ≡ true
   label : (l : ℕ) → nat_le (L l) (length proc.instrs) ≡ true
 
-instr_fits : (M : Mentioned) (T : Tables) (proc : ProcEntry) (V : List Instr) (L : ℕ → ℕ) (names : ℕ) → Long M T
+instr_fits : (M : AllMentions) (T : Tables) (proc : ProcEntry) (V : List Instr) (L : ℕ → ℕ) (names : ℕ) → Long M T
     → There T proc V L names → (instr : UnitInstr) → has_mention M (mention_of instr) ≡ true → is_joinable_instr names instr ≡ true
     → list_all (Rules.is_instr T proc) (resolved_one (scope_with M V L) instr) ≡ true
 unfolding has_mention
@@ -291,7 +291,7 @@ params_local globals (entry ∷ entries) =
     let rest = params_local globals entries in
     omega (arith, a, b, one, rest)
 
-pub proc_fits : (M : Mentioned) (T : Tables) → Long M T → (proc : Proc) → is_joinable_proc proc ≡ true
+pub proc_fits : (M : AllMentions) (T : Tables) → Long M T → (proc : Proc) → is_joinable_proc proc ≡ true
     → list_all (λ instr. has_mention M (mention_of instr)) proc.instrs ≡ true → has_place M.strings proc.name ≡ true
     → locals_in M.globals proc.names ≤ 65535 → statics_in M.globals proc.names ≤ 65535 → size_of proc ≤ 16777216
     → Rules.is_proc T (proc_entry M proc) ≡ true
@@ -318,14 +318,14 @@ proc_fits M T F proc kept mentions name locals statics size =
 
 -- The entry of a procedure
 
-pub entry_made : (M : Mentioned) (proc : Proc) (V : List Instr) (L : ℕ → ℕ) (locals statics : ℕ) (instrs : List Instr)
+pub entry_made : (M : AllMentions) (proc : Proc) (V : List Instr) (L : ℕ → ℕ) (locals statics : ℕ) (instrs : List Instr)
     → V ≡ variables M.globals 0 0 proc.names → ((label : ℕ) → L label ≡ label_place label proc.instrs)
-    → locals ≡ locals_in M.globals proc.names → statics ≡ statics_in M.globals proc.names → instrs ≡ resolved (scope_with M V L) proc.instrs
+    → locals ≡ locals_in M.globals proc.names → statics ≡ statics_in M.globals proc.names → instrs ≡ resolve (scope_with M V L) proc.instrs
     → entry_of M proc locals statics instrs ≡ proc_entry M proc
 entry_made M proc V L locals statics instrs v l a b is =
-    let same : instrs ≡ resolved (scope_of M proc) proc.instrs =
-    is ∙ ap (λ W. resolved (scope_with M W L) proc.instrs) v
-    ∙ ap (λ (K : ℕ → ℕ). resolved (scope_with M (variables M.globals 0 0 proc.names) K) proc.instrs) (λ i label. l label i) in
+    let same : instrs ≡ resolve (scope_of M proc) proc.instrs =
+    is ∙ ap (λ W. resolve (scope_with M W L) proc.instrs) v
+    ∙ ap (λ (K : ℕ → ℕ). resolve (scope_with M (variables M.globals 0 0 proc.names) K) proc.instrs) (λ i label. l label i) in
     ap (λ n. entry_of M proc n statics instrs) a ∙ ap (λ n. entry_of M proc (locals_in M.globals proc.names) n instrs) b
     ∙ ap (entry_of M proc (locals_in M.globals proc.names) (statics_in M.globals proc.names)) same
 

@@ -8,7 +8,7 @@ use Rattle.icn_unit.specs.declared.unit.UnitInstr.{UnitInstr}
 use Rattle.icn_unit.specs.declared.unit.UnitInstr.TheVariants as U
 use Rattle.icn_unit.specs.PlainUnits.{Proc, Decl, Global as GlobalDecl, Procedure, Link, Record, UnitRead, entry_names, owned_names, params_in, proc_names}
 use Rattle.icn_unit.specs.UnitOperands.{is_name}
-use Rattle.icn_unit.specs.UnitRules.{in_order, is_number, keeps_code, keeps_decl, keeps_decls, keeps_head, keeps_names, keeps_operand, keeps_proc, keeps_procs, keeps_rules, labels_differ, labels_placed, names_differ, placed, same_names}
+use Rattle.icn_unit.specs.UnitRules.{in_order, is_number, keeps_code, keeps_decl, keeps_decls, keeps_head, keeps_names, keeps_operand, keeps_proc, keeps_procs, keeps_rules, labels_differ, labels_placed, names_differ, placed_labels, same_names}
 use Rattle.icn_link.specs.JoinableUnits.{is_joinable, is_joinable_decl, is_joinable_instr, is_joinable_proc}
 use Rattle.icn_link.specs.Units.{all_decls, all_procs, unit_seen, units_seen}
 use Rattle.icn_link.proofs.Each.{all_then, both}
@@ -28,7 +28,7 @@ proc_joinable proc kept =
     let named = list_all is_name (entry_names proc.names) in
     let differ = names_differ (entry_names proc.names) in
     let operands = list_all (λ instr. keeps_operand (length proc.names) instr) proc.instrs in
-    let labels = labels_differ (placed proc.instrs) in
+    let labels = labels_differ (placed_labels proc.instrs) in
     let parts = and_parts (head && keeps_names proc.names) (keeps_code (length proc.names) proc.instrs) kept in
     let front = and_parts head (keeps_names proc.names) parts.0 in
     let first = and_parts (is_name proc.name && few) collects front.0 in

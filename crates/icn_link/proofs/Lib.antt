@@ -3,13 +3,13 @@ pub mod Exits
 pub mod FunctionNames
 pub mod ImageLengths
 pub mod JoinedUnits
-pub mod Kept
+pub mod JoinedRules
 pub mod KeptCsets
 pub mod KeptMentions
 pub mod KeptProcs
 pub mod KeptUnits
 pub mod LinkTexts
-pub mod Made
+pub mod JoinedTables
 pub mod Maps
 pub mod Places
 pub mod Repeating

@@ -8,7 +8,7 @@ use Rattle.std.specs.Str.{bytes_eq}
 use Rattle.std.proofs.lemmas.Bool.{false≢true}
 use Rattle.std.proofs.lemmas.Slice.Eq.{bytes_eq-Decides}
 use Rattle.icn_link.specs.Joined.{global_entry, global_with, place_of}
-use Rattle.icn_link.specs.Mentions.{Mentioned}
+use Rattle.icn_link.specs.Mentions.{AllMentions}
 use Rattle.icn_link.specs.Views.{places_in}
 
 -- what a map has after an insert
@@ -85,7 +85,7 @@ pub numbered_from_zero : (names : List (List ℕ)) (name : List ℕ) → numbere
 numbered_from_zero names name = from_zero (place_of names name)
 
 -- globals by maps that say where names stand first
-pub entries_same : (M : Mentioned) (f g : List ℕ → Option ℕ) (ps rs names : List (List ℕ)) → ((name : List ℕ) → f name ≡ place_of ps name)
+pub entries_same : (M : AllMentions) (f g : List ℕ → Option ℕ) (ps rs names : List (List ℕ)) → ((name : List ℕ) → f name ≡ place_of ps name)
     → ((name : List ℕ) → g name ≡ place_of rs name) → map (global_with M f g) names ≡ map (global_entry M ps rs) names
 entries_same M f g ps rs names h k =
     ap (λ (p : List ℕ → Option ℕ). map (global_with M p g) names) (λ i name. h name i)

@@ -10,20 +10,20 @@ use Rattle.icn_unit.specs.PlainUnits.{Proc, Decl, UnitRead}
 use Rattle.icn_link.specs.JoinableUnits.{is_joinable_decl, is_joinable_proc}
 use Rattle.icn_link.specs.declared.fault.LinkFault.{LinkFault}
 use Rattle.icn_link.specs.Joined.{joined, joined_of}
-use Rattle.icn_link.specs.LinkFaults.{IsFault, first_fault, local_counts, missing, over, record_sizes, repeated, size_of, static_counts, table_sizes, too_large, too_large_of}
-use Rattle.icn_link.specs.Mentions.{Mentioned, globals, mentioned, mentioned_by, operands_in}
+use Rattle.icn_link.specs.LinkFaults.{IsFault, first_fault, local_counts, missing, over, record_sizes, repeated_name, size_of, static_counts, table_sizes, too_large, too_large_of}
+use Rattle.icn_link.specs.Mentions.{AllMentions, globals, all_mentions, mentioned_by, operands_in}
 use Rattle.icn_link.specs.Units.{all_decls, all_procs}
 use Rattle.icn_link.specs.Views.{Joinable}
 use Rattle.icn_link.proofs.Exits.{both_kept, first_fault_is, later_fault, later_fault_is, later_kept, list_fault, list_kept}
 
 -- Declarations and procedures that are too large
 
-module _ (M : Mentioned) (D : List Decl) (P : List Proc) (is : M ≡ mentioned D P) where
+module _ (M : AllMentions) (D : List Decl) (P : List Proc) (is : M ≡ all_mentions D P) where
   abbrev instrs : Option LinkFault
   instrs = over 16777216 (sum_by size_of P ∷ [])
 
   abbrev tables : Option LinkFault
-  tables = over 65535 (table_sizes (mentioned D P) D P)
+  tables = over 65535 (table_sizes (all_mentions D P) D P)
 
   abbrev operands : Option LinkFault
   operands = over 65535 (mentioned_by operands_in P)
@@ -51,13 +51,13 @@ module _ (M : Mentioned) (D : List Decl) (P : List Proc) (is : M ≡ mentioned D
   statics_found = over 65535 (static_counts M.globals P)
 
   tables_same : tables_found ≡ tables
-  tables_same = ap (λ (N : Mentioned). over 65535 (table_sizes N D P)) is
+  tables_same = ap (λ (N : AllMentions). over 65535 (table_sizes N D P)) is
 
   locals_same : locals_found ≡ locals
-  locals_same = ap (λ (N : Mentioned). over 65535 (local_counts N.globals P)) is
+  locals_same = ap (λ (N : AllMentions). over 65535 (local_counts N.globals P)) is
 
   statics_same : statics_found ≡ statics
-  statics_same = ap (λ (N : Mentioned). over 65535 (static_counts N.globals P)) is
+  statics_same = ap (λ (N : AllMentions). over 65535 (static_counts N.globals P)) is
 
   -- what stands behind each rule
   abbrev behind_statics : Option LinkFault
@@ -146,16 +146,16 @@ sizes_same : (units : List UnitRead) (D : List Decl) (P : List Proc) → D ≡ a
 sizes_same units D P d p = ap (λ (E : List Decl). too_large_of E P) d ∙ ap (too_large_of (all_decls units)) p
 
 pub units_kept : {A : Type 0} (result : Result A LinkFault) (units : List UnitRead) (D : List Decl) (P : List Proc) → D ≡ all_decls units
-    → P ≡ all_procs units → missing units ≡ None → repeated units ≡ None → OnOk result (too_large_of D P ≡ None) → OnOk result (first_fault units ≡ None)
+    → P ≡ all_procs units → missing units ≡ None → repeated_name units ≡ None → OnOk result (too_large_of D P ≡ None) → OnOk result (first_fault units ≡ None)
 units_kept result units D P d p m r h =
-    later_kept result (missing units) (option_or (repeated units) (too_large units)) m
-    (later_kept result (repeated units) (too_large units) r (list_kept result (too_large_of D P) (too_large units) (sizes_same units D P d p) h))
+    later_kept result (missing units) (option_or (repeated_name units) (too_large units)) m
+    (later_kept result (repeated_name units) (too_large units) r (list_kept result (too_large_of D P) (too_large units) (sizes_same units D P d p) h))
 
 pub units_fault : {A : Type 0} (result : Result A LinkFault) (units : List UnitRead) (D : List Decl) (P : List Proc) → D ≡ all_decls units
-    → P ≡ all_procs units → missing units ≡ None → repeated units ≡ None → IfErr result (IsFault (too_large_of D P)) → IfErr result (IsFault (first_fault units))
+    → P ≡ all_procs units → missing units ≡ None → repeated_name units ≡ None → IfErr result (IsFault (too_large_of D P)) → IfErr result (IsFault (first_fault units))
 units_fault result units D P d p m r h =
-    later_fault result (missing units) (option_or (repeated units) (too_large units)) m
-    (later_fault result (repeated units) (too_large units) r (list_fault result (too_large_of D P) (too_large units) (sizes_same units D P d p) h))
+    later_fault result (missing units) (option_or (repeated_name units) (too_large units)) m
+    (later_fault result (repeated_name units) (too_large units) r (list_fault result (too_large_of D P) (too_large units) (sizes_same units D P d p) h))
 
 pub units_joined : (result : Result Code LinkFault) (units : List UnitRead) (D : List Decl) (P : List Proc) → D ≡ all_decls units → P ≡ all_procs units
     → IfOk result (λ code. tables_of code ≡ joined_of D P) → IfOk result (λ code. tables_of code ≡ joined units)
@@ -163,9 +163,9 @@ units_joined result units D P d p h =
     subst (λ (T : Tables). IfOk result (λ code. tables_of code ≡ T)) (ap (λ (E : List Decl). joined_of E P) d ∙ ap (joined_of (all_decls units)) p) h
 
 pub missing_exit : (units : List UnitRead) (fault : LinkFault) → IsFault (missing units) fault → IsFault (first_fault units) fault
-missing_exit units fault h = first_fault_is (missing units) (option_or (repeated units) (too_large units)) fault h
+missing_exit units fault h = first_fault_is (missing units) (option_or (repeated_name units) (too_large units)) fault h
 
-pub repeated_exit : (units : List UnitRead) (fault : LinkFault) → missing units ≡ None → IsFault (repeated units) fault → IsFault (first_fault units) fault
+pub repeated_exit : (units : List UnitRead) (fault : LinkFault) → missing units ≡ None → IsFault (repeated_name units) fault → IsFault (first_fault units) fault
 repeated_exit units fault m h =
-    later_fault_is (missing units) (option_or (repeated units) (too_large units)) fault m
-    (first_fault_is (repeated units) (too_large units) fault h)
+    later_fault_is (missing units) (option_or (repeated_name units) (too_large units)) fault m
+    (first_fault_is (repeated_name units) (too_large units) fault h)

@@ -19,8 +19,8 @@ use Rattle.icn_link.specs.declared.variable.Variable.TheVariants.{Local, Static,
 use Rattle.icn_unit.specs.declared.unit.UnitName.{UnitName}
 use Rattle.icn_unit.specs.PlainUnits.{Proc, Decl, Global as GlobalDecl, Procedure, Link, Record, UnitRead, params_in, proc_names}
 use Rattle.icn_link.specs.Gathering.{text_place, integer_place}
-use Rattle.icn_link.specs.Mentions.{Mentioned, mentioned, function_named, record_names}
-use Rattle.icn_link.specs.Resolving.{Scope, resolved, label_place}
+use Rattle.icn_link.specs.Mentions.{AllMentions, all_mentions, function_named, record_names}
+use Rattle.icn_link.specs.Resolving.{Scope, resolve, label_place}
 use Rattle.icn_link.specs.Units.{all_decls, all_procs}
 
 -- Names
@@ -88,7 +88,7 @@ variable_at instrs k = or_local (slice_get instrs k)
 -- Procedures
 
 -- where names are these variables and labels have these addresses
-abbrev pub scope_with : Mentioned → List Instr → (ℕ → ℕ) → Scope
+abbrev pub scope_with : AllMentions → List Instr → (ℕ → ℕ) → Scope
 scope_with tables variables label = record {
   integer = integer_place tables.integers;
   string = text_place tables.strings;
@@ -98,12 +98,12 @@ scope_with tables variables label = record {
   label = label;
 }
 
-abbrev pub scope_of : Mentioned → Proc → Scope
+abbrev pub scope_of : AllMentions → Proc → Scope
 scope_of tables proc =
     scope_with tables (variables tables.globals 0 0 proc.names) (λ label. label_place label proc.instrs)
 
 -- where so many names are locals, parameters among them, and so many statics
-abbrev pub entry_of : Mentioned → Proc → ℕ → ℕ → List Instr → ProcEntry
+abbrev pub entry_of : AllMentions → Proc → ℕ → ℕ → List Instr → ProcEntry
 entry_of tables proc locals statics instrs = record {
   name = text_place tables.strings proc.name;
   parameters = params_in proc.names;
@@ -113,19 +113,19 @@ entry_of tables proc locals statics instrs = record {
   instrs = instrs;
 }
 
-abbrev pub proc_entry : Mentioned → Proc → ProcEntry
+abbrev pub proc_entry : AllMentions → Proc → ProcEntry
 proc_entry tables proc =
-    entry_of tables proc (locals_in tables.globals proc.names) (statics_in tables.globals proc.names) (resolved (scope_of tables proc) proc.instrs)
+    entry_of tables proc (locals_in tables.globals proc.names) (statics_in tables.globals proc.names) (resolve (scope_of tables proc) proc.instrs)
 
 -- Records and globals
 
-abbrev pub record_entry : Mentioned → List ℕ → List (List ℕ) → RecordType
+abbrev pub record_entry : AllMentions → List ℕ → List (List ℕ) → RecordType
 record_entry tables name fields = record {
   name = text_place tables.strings name;
   fields = map (text_place tables.fields) fields;
 }
 
-abbrev pub records_in : Mentioned → Decl → List RecordType
+abbrev pub records_in : AllMentions → Decl → List RecordType
 records_in tables (Record name fields) = record_entry tables name fields ∷ []
 records_in tables (GlobalDecl name) = []
 records_in tables (Procedure name) = []
@@ -145,13 +145,13 @@ place_of [] name = None
 place_of (other ∷ names) name = if bytes_eq name other then Some zero else option_map suc (place_of names name)
 
 -- where procedures and records have these numbers by their names
-abbrev pub global_with : Mentioned → (List ℕ → Option ℕ) → (List ℕ → Option ℕ) → List ℕ → GlobalEntry
+abbrev pub global_with : AllMentions → (List ℕ → Option ℕ) → (List ℕ → Option ℕ) → List ℕ → GlobalEntry
 global_with tables procs records name = record {
   name = text_place tables.strings name;
   start = start_by (procs name) (records name) (is_among tables.declared name) (function_named name);
 }
 
-abbrev pub global_entry : Mentioned → List (List ℕ) → List (List ℕ) → List ℕ → GlobalEntry
+abbrev pub global_entry : AllMentions → List (List ℕ) → List (List ℕ) → List ℕ → GlobalEntry
 global_entry tables procs records name = global_with tables (place_of procs) (place_of records) name
 
 -- Csets
@@ -169,7 +169,7 @@ cset_of bytes = record { bits = with_bits (replicate 32 0) bytes }
 
 -- The code
 
-abbrev pub tables_with : Mentioned → List Decl → List Proc → Tables
+abbrev pub tables_with : AllMentions → List Decl → List Proc → Tables
 tables_with tables decls procs = record {
   strings = tables.strings;
   csets = map cset_of tables.sets;
@@ -181,7 +181,7 @@ tables_with tables decls procs = record {
 }
 
 abbrev pub joined_of : List Decl → List Proc → Tables
-joined_of decls procs = tables_with (mentioned decls procs) decls procs
+joined_of decls procs = tables_with (all_mentions decls procs) decls procs
 
 abbrev pub joined : List UnitRead → Tables
 joined units = joined_of (all_decls units) (all_procs units)

@@ -11,7 +11,7 @@ use Rattle.icn_link.specs.declared.fault.DeclPlace.{DeclPlace}
 use Rattle.icn_link.specs.declared.fault.LinkFault.{LinkFault}
 use Rattle.icn_link.specs.declared.fault.LinkFault.TheVariants.{K1, K2, K3, NoMemory}
 use Rattle.icn_link.specs.Joined.{joined_of, locals_in, statics_in}
-use Rattle.icn_link.specs.Mentions.{Mentioned, mentioned, mentioned_by, operands_in, globals}
+use Rattle.icn_link.specs.Mentions.{AllMentions, all_mentions, mentioned_by, operands_in, globals}
 use Rattle.icn_link.specs.Units.{all_decls, all_procs}
 
 -- Units that are linked and not there
@@ -86,8 +86,8 @@ repeated_from before [] = None
 repeated_from before (next ∷ others) = option_or (option_map (repeat_of next) (owner_named next.name before))
     (repeated_from (before ++ next ∷ []) others)
 
-abbrev pub repeated : List UnitRead → Option LinkFault
-repeated units = repeated_from [] (owners_from 0 units)
+abbrev pub repeated_name : List UnitRead → Option LinkFault
+repeated_name units = repeated_from [] (owners_from 0 units)
 
 -- Programs that are too large
 
@@ -115,7 +115,7 @@ field_counts (Link text) = []
 abbrev pub record_sizes : List Decl → List ℕ
 record_sizes decls = flat_map field_counts decls
 
-abbrev pub table_sizes : Mentioned → List Decl → List Proc → List ℕ
+abbrev pub table_sizes : AllMentions → List Decl → List Proc → List ℕ
 table_sizes tables decls procs = length tables.strings ∷ length tables.sets ∷ length tables.integers ∷ length tables.fields
     ∷ length (record_sizes decls) ∷ length tables.globals ∷ length procs ∷ []
 
@@ -134,7 +134,7 @@ a orelse b = option_or a b
 abbrev pub too_large_of : List Decl → List Proc → Option LinkFault
 too_large_of decls procs =
     over 16777216 (sum_by size_of procs ∷ [])
-    orelse over 65535 (table_sizes (mentioned decls procs) decls procs)
+    orelse over 65535 (table_sizes (all_mentions decls procs) decls procs)
     orelse over 65535 (mentioned_by operands_in procs)
     orelse over 65535 (record_sizes decls)
     orelse over 65535 (local_counts (globals decls procs) procs)
@@ -146,7 +146,7 @@ too_large units = too_large_of (all_decls units) (all_procs units)
 
 -- the first rule that units break
 abbrev pub first_fault : List UnitRead → Option LinkFault
-first_fault units = missing units orelse repeated units orelse too_large units
+first_fault units = missing units orelse repeated_name units orelse too_large units
 
 -- A fault is this one, or want of memory.
 abbrev pub IsFault : Option LinkFault → LinkFault → Type 0

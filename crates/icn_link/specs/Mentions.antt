@@ -154,12 +154,12 @@ functions_in proc = flat_map function_in proc.names
 -- The tables
 
 -- what declarations declare global, each name once
-abbrev pub declared : List Decl → List (List ℕ)
-declared decls = with_texts [] (flat_map global_in decls)
+abbrev pub declared_names : List Decl → List (List ℕ)
+declared_names decls = with_texts [] (flat_map global_in decls)
 
 -- the globals by their names: what is declared, and then the functions that are used and not declared
 abbrev pub globals : List Decl → List Proc → List (List ℕ)
-globals decls procs = with_texts (declared decls) (flat_map functions_in procs)
+globals decls procs = with_texts (declared_names decls) (flat_map functions_in procs)
 
 -- the fields by their names: those of records first
 abbrev pub fields : List Decl → List Proc → List (List ℕ)
@@ -181,7 +181,7 @@ abbrev pub integers : List Proc → List ℤ
 integers procs = with_integers [] (mentioned_by integer_in procs)
 
 -- all of these
-pub record Mentioned : Type 0 where
+pub record AllMentions : Type 0 where
   pub strings : List (List ℕ)
   pub sets : List (List ℕ)
   pub integers : List ℤ
@@ -189,12 +189,12 @@ pub record Mentioned : Type 0 where
   pub declared : List (List ℕ)
   pub globals : List (List ℕ)
 
-abbrev pub mentioned : List Decl → List Proc → Mentioned
-mentioned decls procs = record {
+abbrev pub all_mentions : List Decl → List Proc → AllMentions
+all_mentions decls procs = record {
   strings = strings decls procs;
   sets = sets procs;
   integers = integers procs;
   fields = fields decls procs;
-  declared = declared decls;
+  declared = declared_names decls;
   globals = globals decls procs;
 }

@@ -55,15 +55,15 @@ instr_in S U.Coret = Some I.Coret
 instr_in S U.Cofail = Some I.Cofail
 instr_in S (U.Lab label) = None
 
-abbrev pub listed : Option Instr → List Instr
-listed None = []
-listed (Some instr) = instr ∷ []
+abbrev pub instr_list : Option Instr → List Instr
+instr_list None = []
+instr_list (Some instr) = instr ∷ []
 
 abbrev pub resolved_one : Scope → UnitInstr → List Instr
-resolved_one S instr = listed (instr_in S instr)
+resolved_one S instr = instr_list (instr_in S instr)
 
-abbrev pub resolved : Scope → List UnitInstr → List Instr
-resolved S instrs = flat_map (resolved_one S) instrs
+abbrev pub resolve : Scope → List UnitInstr → List Instr
+resolve S instrs = flat_map (resolved_one S) instrs
 
 -- the address of a label: how many instructions stand before its place
 abbrev pub label_place_by : ℕ → Option ℕ → ℕ → ℕ

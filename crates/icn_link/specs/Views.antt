@@ -18,7 +18,7 @@ use Rattle.icn_link.specs.declared.repeats.Owner.{Owner as KeptOwner}
 use Rattle.icn_link.specs.JoinableUnits.{is_joinable_decl, is_joinable_proc}
 use Rattle.icn_link.specs.LinkFaults.{Owner, over, size_of, table_sizes, record_sizes, local_counts, static_counts}
 use Rattle.icn_link.specs.Resolving.{label_place}
-use Rattle.icn_link.specs.Mentions.{Mentioned, mentioned, mentioned_by, operands_in, globals, Mention, NoMention, AnInteger, AText, ASet, AField, Operands}
+use Rattle.icn_link.specs.Mentions.{AllMentions, all_mentions, mentioned_by, operands_in, globals, Mention, NoMention, AnInteger, AText, ASet, AField, Operands}
 
 abbrev pub decls_seen : List (Bor UnitDecl) → List Decl
 decls_seen decls = map (λ decl. decl_seen decl.now) decls
@@ -40,7 +40,7 @@ mention_seen (Kept.Operands count) = Operands count
 abbrev pub owner_seen : KeptOwner → Owner
 owner_seen owner = record { name = owner.name.now; place = owner.place }
 
-abbrev pub gathered_seen : Gathered → Mentioned
+abbrev pub gathered_seen : Gathered → AllMentions
 gathered_seen tables = record {
   strings = texts_seen tables.strings.keys;
   sets = texts_seen tables.sets.keys;
@@ -63,7 +63,7 @@ abbrev pub place_from : Labels → ℕ → List UnitInstr → ℕ
 place_from labels label rest = unwrap_or (get nat_eq labels.places label) (labels.end + label_place label rest)
 
 -- Each place in a table has 16 bits.
-pub record AreFew (tables : Mentioned) : Type 0 where
+pub record AreFew (tables : AllMentions) : Type 0 where
   pub strings : length tables.strings ≤ 65535
   pub sets : length tables.sets ≤ 65535
   pub integers : length tables.integers ≤ 65535
@@ -75,7 +75,7 @@ pub record Joinable (decls : List Decl) (procs : List Proc) : Type 0 where
   pub joinable_decls : list_all is_joinable_decl decls ≡ true
   pub joinable_procs : list_all is_joinable_proc procs ≡ true
   pub instrs : over 16777216 (sum_by size_of procs ∷ []) ≡ None
-  pub tables : over 65535 (table_sizes (mentioned decls procs) decls procs) ≡ None
+  pub tables : over 65535 (table_sizes (all_mentions decls procs) decls procs) ≡ None
   pub operands : over 65535 (mentioned_by operands_in procs) ≡ None
   pub records : over 65535 (record_sizes decls) ≡ None
   pub locals : over 65535 (local_counts (globals decls procs) procs) ≡ None

@@ -6,7 +6,7 @@ ghost use Rattle.icn_unit.specs.declared.unit.UnitName.{UnitName};
 ghost use Rattle.icn_unit.specs.PlainUnits.{Decl, Proc, proc_names};
 ghost use Rattle.icn_unit.specs.UnitViews.{decl_seen, proc_seen};
 ghost use Rattle.icn_link.specs.Gathering.{integer_place, text_place, with_integer, with_integers, with_text, with_texts};
-ghost use Rattle.icn_link.specs.Mentions.{declared, field_in, fields, fields_in, function_in, functions_in, function_named, global_in, globals, integer_in, integers, mention_of, mentioned, mentioned_by, mentioned_in, record_name_in, record_names, set_in, sets, string_mentions, strings, text_in};
+ghost use Rattle.icn_link.specs.Mentions.{declared_names, field_in, fields, fields_in, function_in, functions_in, function_named, global_in, globals, integer_in, integers, mention_of, all_mentions, mentioned_by, mentioned_in, record_name_in, record_names, set_in, sets, string_mentions, strings, text_in};
 ghost use Rattle.icn_link.specs.Views.{decls_seen, gathered_seen, procs_seen, texts_seen};
 
 use crate::mention::{Mention, mention_of};
@@ -38,7 +38,7 @@ pub fn gather<'a>(
     decls: &[&'a UnitDecl],
     procs: &[&'a ProcCode],
 ) -> Result<Gathered<'a>, AllocError>
-    ensures { IfOk result (λ tables. gathered_seen tables ≡ mentioned (decls_seen decls.now) (procs_seen procs.now)) }
+    ensures { IfOk result (λ tables. gathered_seen tables ≡ all_mentions (decls_seen decls.now) (procs_seen procs.now)) }
 {
     let declared = declared(alloc, decls)?;
     let globals = globals(alloc, decls, procs)?;
@@ -59,7 +59,7 @@ pub fn gather<'a>(
 // Globals
 
 fn declared<'a>(alloc: Global, decls: &[&'a UnitDecl]) -> Result<IndexSet<&'a [u8]>, AllocError>
-    ensures { IfOk result (λ names. texts_seen names.keys ≡ declared (decls_seen decls.now)) }
+    ensures { IfOk result (λ names. texts_seen names.keys ≡ declared_names (decls_seen decls.now)) }
 {
     let mut names = IndexSet::new(alloc);
     for decl in decls {

@@ -13,7 +13,7 @@ ghost use Rattle.icn_link.specs.Gathering.{text_place};
 ghost use Rattle.icn_link.specs.Joined.{cset_of, entry_of, global_entry, global_with, is_among, joined, joined_of, locals_in, place_of, proc_entry, record_entry, records_in, start_by, statics_in, tables_with, with_bit, with_bits};
 ghost use Rattle.icn_link.specs.JoinableUnits.{is_joinable_decl, is_joinable_proc};
 ghost use Rattle.icn_link.specs.LinkFaults.{first_fault, over, size_of, too_large_of, IsFault};
-ghost use Rattle.icn_link.specs.Mentions.{function_named, mentioned, record_name_in, record_names};
+ghost use Rattle.icn_link.specs.Mentions.{function_named, all_mentions, record_name_in, record_names};
 ghost use Rattle.icn_link.specs.Units.{units_seen};
 ghost use Rattle.icn_link.specs.Views.{decls_seen, gathered_seen, procs_seen, places_in, texts_seen, AreFew, Joinable};
 
@@ -82,7 +82,7 @@ fn join_with(
     decls: &[&UnitDecl],
     procs: &[&ProcCode],
 ) -> Result<Code, LinkFault>
-    requires tables { gathered_seen tables.now ≡ mentioned (decls_seen decls.now) (procs_seen procs.now) }
+    requires tables { gathered_seen tables.now ≡ all_mentions (decls_seen decls.now) (procs_seen procs.now) }
     requires decls { list_all is_joinable_decl (decls_seen decls.now) ≡ true }
     requires procs { list_all is_joinable_proc (procs_seen procs.now) ≡ true }
     requires instrs { over 16777216 (sum_by size_of (procs_seen procs.now) ∷ []) ≡ None }
@@ -116,7 +116,7 @@ fn code_of(
     decls: &[&UnitDecl],
     procs: &[&ProcCode],
 ) -> Result<Code, LinkFault>
-    requires tables { gathered_seen tables.now ≡ mentioned (decls_seen decls.now) (procs_seen procs.now) }
+    requires tables { gathered_seen tables.now ≡ all_mentions (decls_seen decls.now) (procs_seen procs.now) }
     requires joinable { Joinable (decls_seen decls.now) (procs_seen procs.now) }
     ensures joined { IfOk result (λ code. tables_of code ≡ joined_of (decls_seen decls.now) (procs_seen procs.now)) }
     ensures fault { IfErr result (λ fault. fault ≡ NoMemory) }

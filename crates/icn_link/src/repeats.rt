@@ -3,7 +3,7 @@ ghost use Rattle.std.specs.Prelude.{◌≡◌, ◌⊎◌, ◌++◌, [], List, ma
 ghost use Rattle.icn_unit.specs.PlainUnits.{Decl};
 ghost use Rattle.icn_unit.specs.UnitViews.{decl_seen};
 ghost use Rattle.icn_link.specs.declared.fault.LinkFault.TheVariants.{K1, NoMemory};
-ghost use Rattle.icn_link.specs.LinkFaults.{owner_in, owners_from, owners_in, repeat_of, repeated, repeated_from, IsFault, Owner};
+ghost use Rattle.icn_link.specs.LinkFaults.{owner_in, owners_from, owners_in, repeat_of, repeated_name, repeated_from, IsFault, Owner};
 ghost use Rattle.icn_link.specs.Units.{units_seen};
 ghost use Rattle.icn_link.specs.Views.{owner_seen};
 
@@ -23,8 +23,8 @@ pub struct Owner<'a> {
 
 /// Refuses units in which a name is procedure or record twice.
 pub fn check_owners(alloc: Global, units: &[Unit]) -> Result<(), LinkFault>
-    ensures none { OnOk result (repeated (units_seen units.now) ≡ None) }
-    ensures fault { IfErr result (IsFault (repeated (units_seen units.now))) }
+    ensures none { OnOk result (repeated_name (units_seen units.now) ≡ None) }
+    ensures fault { IfErr result (IsFault (repeated_name (units_seen units.now))) }
 {
     let owners = owners_of(alloc, units)?;
     check_repeats(alloc, &owners)

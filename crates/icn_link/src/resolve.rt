@@ -1,7 +1,7 @@
 // The instructions of linked code.
 ghost use Rattle.std.specs.Prelude.{◌≡◌, ◌++◌, IfOk, OnOk};
 ghost use Rattle.icn_link.specs.Joined.{scope_with, variable_at};
-ghost use Rattle.icn_link.specs.Resolving.{instr_in, listed, resolved, resolved_one};
+ghost use Rattle.icn_link.specs.Resolving.{instr_in, instr_list, resolve, resolved_one};
 ghost use Rattle.icn_link.specs.Views.{gathered_seen, place_in, AreFew};
 
 use crate::gathered::{Gathered, integer_place, text_place};
@@ -19,7 +19,7 @@ pub fn resolved(
     instrs: &[UnitInstr],
 ) -> Result<Vec<Instr>, AllocError>
     requires few { AreFew (gathered_seen tables.now) }
-    ensures { IfOk result (λ code. code.items ≡ resolved (scope_with (gathered_seen tables.now) variables.now (place_in labels.now)) instrs.now) }
+    ensures { IfOk result (λ code. code.items ≡ resolve (scope_with (gathered_seen tables.now) variables.now (place_in labels.now)) instrs.now) }
 {
     let mut code = Vec::new(alloc);
     for instr in instrs {
@@ -29,7 +29,7 @@ pub fn resolved(
 }
 
 fn put(code: &mut Vec<Instr>, instr: Option<Instr>) -> Result<(), AllocError>
-    ensures { OnOk result (code.new.items ≡ code.old.items ++ listed instr) }
+    ensures { OnOk result (code.new.items ≡ code.old.items ++ instr_list instr) }
 {
     match instr {
         Some(instr) => {

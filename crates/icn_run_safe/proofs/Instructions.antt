@@ -13,7 +13,7 @@ use Rattle.icn_code.specs.declared.instr.Instr.{Instr}
 use Rattle.icn_code.specs.declared.instr.Instr.TheVariants as Instrs
 use Rattle.icn_verify.specs.declared.shape.LevelKind.TheVariants as Levels
 use Rattle.icn_verify.specs.Shapes.{PlainShape, start_shape, with_more, with_fewer, with_mark, before_mark, with_scan, without_scan, same_kind}
-use Rattle.icn_verify.specs.Rows.{fits, next, forward, back, is_ended, has_operand, labeled}
+use Rattle.icn_verify.specs.Rows.{fits, next, forward, back, is_ended, has_operand, with_label}
 use Rattle.icn_run.specs.Rows.{Value, Null, Integer, Text, Chars, Procedure as ProcedureValue, ARecord, AList, ACoexp, Item, Val, Var, Global, Static, Local, Field, Whole, Part, Operation, apply, Standing, keyword_item, text_row, integer_of}
 use Rattle.icn_run.specs.Calls as Cs
 use Rattle.icn_run.specs.Calls.{Pair}
@@ -259,7 +259,7 @@ module _ (P : Program) (sh : ℕ → ℕ → Option PlainShape) (given : Shaped 
     instruction_ok (Instrs.Chfail l) fit on onward backward range =
         let f = (enough S.inner.operands 0 (is_some (slice_get S.outer 0) && same_kind S.inner.kind Levels.Plain) fit).1 in
         let d = both (is_some (slice_get S.outer 0)) (same_kind S.inner.kind Levels.Plain) f in
-        let to : (S' : PlainShape) → before_mark S ≡ Some S' → sh p l ≡ Some S' = λ S' e. (subst (λ x. IfSome (labeled l x) (λ to. (to.0 ≤ q) × (sh p to.0 ≡ Some to.1))) e backward).1 in
+        let to : (S' : PlainShape) → before_mark S ≡ Some S' → sh p l ≡ Some S' = λ S' e. (subst (λ x. IfSome (with_label l x) (λ to. (to.0 ≤ q) × (sh p to.0 ≡ Some to.1))) e backward).1 in
         let o = relabel_ok P sh l w st.active p S m h.now d.0 d.1 to in
         ok_found P sh given keep (C.relabel l m) (λ m. running m st) o.0 o.1 (ok_runs P sh given keep w p S o.0 st (record { now = o.2.now; store = h.store }) (ap (sh p) o.2.place ∙ stays on))
     instruction_ok (Instrs.Goto l) fit on onward backward range = goes l onward.1

@@ -7,7 +7,7 @@ use Rattle.icn_tree.specs.Trees.{Tree, Empty, Trees, NoTrees, More, elements_of}
 use Rattle.icn_tree.specs.TreeOf.{all_of, tree_of}
 use Rattle.icn_translate.specs.Drafts.{Draft}
 use Rattle.icn_translate.specs.Open.{Open, Marked, Outermost}
-use Rattle.icn_translate.specs.Translation.{count_of, elements, is_nothing, is_empty, is_no_element, either_step, unless_empty, bounded, created, translate, arguments, operands, creations, other_creations, compound}
+use Rattle.icn_translate.specs.Translation.{count_of, elements, is_nothing, is_empty, is_no_element, either_step, unless_empty, bounded_code, create_code, translate, arguments, operands, creations, other_creations, compound}
 
 pub count : (exprs : List Expr) → count_of (all_of exprs) ≡ length exprs
 count [] = refl
@@ -66,7 +66,7 @@ all_arguments o es d h = sym (arguments_by o es d false h)
 creations_by : (es : Trees) (d : Draft) (is : Bool) → is_no_element es ≡ is → creations es d ≡ (elim is as (λ is. Draft) [ true ↦ d | false ↦ other_creations es d ])
 creations_by NoTrees d true h = refl
 creations_by NoTrees d false h = refl
-creations_by (More e es) d is h = ap (λ is. elim is as (λ is. Draft) [ true ↦ d | false ↦ other_creations es (created (translate Outermost e) d) ]) h
+creations_by (More e es) d is h = ap (λ is. elim is as (λ is. Draft) [ true ↦ d | false ↦ other_creations es (create_code (translate Outermost e) d) ]) h
 
 pub no_creations : (es : Trees) (d : Draft) → is_no_element es ≡ true → d ≡ creations es d
 no_creations es d h = sym (creations_by es d true h)
@@ -82,9 +82,9 @@ last_at exprs i h = none_left (drop (i + 1) exprs) ∙ same_zero _ (length exprs
 
 -- one more expression of a compound
 pub compound_step : (o : Open) (exprs : List Expr) (i : ℕ) (first : Expr) (d later : Draft) → i < length exprs → first ≡ get_or exprs i first
-    → later ≡ either_step (i + 1 == length exprs) (translate o (tree_of first)) (unless_empty (tree_of first) (bounded (translate (Marked o) (tree_of first)))) d
+    → later ≡ either_step (i + 1 == length exprs) (translate o (tree_of first)) (unless_empty (tree_of first) (bounded_code (translate (Marked o) (tree_of first)))) d
     → compound o (all_of (drop (i + 1) exprs)) later ≡ compound o (all_of (drop i exprs)) d
 compound_step o exprs i first d later below is g =
-    ap (compound o (all_of (drop (i + 1) exprs))) (g ∙ ap (λ is. either_step is (translate o (tree_of first)) (unless_empty (tree_of first) (bounded (translate (Marked o) (tree_of first)))) d) (sym (last_at exprs i below)))
+    ap (compound o (all_of (drop (i + 1) exprs))) (g ∙ ap (λ is. either_step is (translate o (tree_of first)) (unless_empty (tree_of first) (bounded_code (translate (Marked o) (tree_of first)))) d) (sym (last_at exprs i below)))
     ∙ ap (λ (e : Expr). compound o (all_of (e ∷ drop (i + 1) exprs)) d) is
     ∙ sym (at_drop_more (λ xs. compound o (all_of xs) d) exprs i first below)

@@ -39,16 +39,16 @@ abbrev pub declared_texts : Procedure → List (List ℕ)
 declared_texts procedure = texts_of procedure.parameters ++ flat_map local_texts procedure.locals
 
 -- The draft before the first instruction. Rules of names see to it that each stands there once.
-abbrev pub begun : Procedure → Draft
-begun procedure = record { instrs = []; labels = 0; names = with_names [] (declared_texts procedure); loops = []; cases = [] }
+abbrev pub first_draft : Procedure → Draft
+first_draft procedure = record { instrs = []; labels = 0; names = with_names [] (declared_texts procedure); loops = []; cases = [] }
 
 -- the draft of the whole procedure
-abbrev pub drafted : Procedure → Draft
-drafted procedure = begun procedure ▹ initially procedure.initial ▹ body procedure.body ▹ put Pfail
+abbrev pub draft_of : Procedure → Draft
+draft_of procedure = first_draft procedure ▹ initially procedure.initial ▹ body procedure.body ▹ put Pfail
 
 -- the names that it uses and does not declare, in the order of their first uses
 abbrev pub undeclared : Procedure → List (List ℕ)
-undeclared procedure = drop (length (begun procedure).names) (drafted procedure).names
+undeclared procedure = drop (length (first_draft procedure).names) (draft_of procedure).names
 
 -- The code of a procedure: its names, and its instructions, whose labels are numbered from 1 in the order of their first
 -- mentions.
@@ -57,5 +57,5 @@ proc_code procedure = record {
   name = procedure.name.text;
   collects = procedure.is_variadic;
   names = declared_entries procedure ++ map (entry_of Undeclared) (undeclared procedure);
-  instrs = (drafted procedure).instrs;
+  instrs = (draft_of procedure).instrs;
 }

@@ -40,15 +40,15 @@ abbrev pub put_mark : Draft → Draft
 put_mark d = d ▹ with_label ▹ put (I.Mark (next_label d))
 
 -- a step in a mark with a new label, which stands behind it
-abbrev pub bounded : (Draft → Draft) → Draft → Draft
-bounded step d = d ▹ put_mark ▹ step ▹ put I.Unmark ▹ put (I.Lab (next_label d))
+abbrev pub bounded_code : (Draft → Draft) → Draft → Draft
+bounded_code step d = d ▹ put_mark ▹ step ▹ put I.Unmark ▹ put (I.Lab (next_label d))
 
 -- the body of a co-expression in what makes it, where its second label is this
 abbrev pub created_behind : ℕ → (Draft → Draft) → Draft → Draft
 created_behind outer body d = d ▹ put_mark ▹ body ▹ put I.Coret ▹ put I.Efail ▹ put (I.Lab (next_label d)) ▹ put I.Cofail ▹ put (I.Lab outer)
 
-abbrev pub created : (Draft → Draft) → Draft → Draft
-created body d = d ▹ with_label ▹ put (I.Create (next_label d)) ▹ created_behind (next_label d) body
+abbrev pub create_code : (Draft → Draft) → Draft → Draft
+create_code body d = d ▹ with_label ▹ put (I.Create (next_label d)) ▹ created_behind (next_label d) body
 
 -- the first mark of `if`, which has a label where there is an `else`
 abbrev pub if_mark : MaybeTree → Draft → Draft
@@ -167,7 +167,7 @@ abbrev mutual
       ▹ looped_part (Marked (in_body kind o)) b ▹ loop_end (back kind (next_label d))
   translate o (Repeat place b) d = d ▹ with_label ▹ put (I.Lab (next_label d)) ▹ in_loop unmentioned
       ▹ looped_body (translate (Marked (Looped o)) b) ▹ loop_end (I.Loop (next_label d))
-  translate o (Create place e) d = d ▹ created (translate Outermost e)
+  translate o (Create place e) d = d ▹ create_code (translate Outermost e)
   translate o (Next place) d = d ▹ unmarks_for_next o ▹ put_next I.Goto
   translate o (Fail place) d = d ▹ put I.Pfail
   translate o (Break place e) d = d ▹ unmarks_for_break o ▹ aside (translate (around o) e) ▹ put_last I.Goto
@@ -200,19 +200,19 @@ abbrev mutual
   -- each expression but the last is bounded; where it is empty it has no code
   pub compound : Open → Trees → Draft → Draft
   compound o NoTrees d = d
-  compound o (More e es) d = d ▹ either_step (is_nothing es) (translate o e) (unless_empty e (bounded (translate (Marked o) e))) ▹ compound o es
+  compound o (More e es) d = d ▹ either_step (is_nothing es) (translate o e) (unless_empty e (bounded_code (translate (Marked o) e))) ▹ compound o es
 
   -- a co-expression of each element
   pub creations : Trees → Draft → Draft
   creations NoTrees d = d
   creations (More e es) d = elim (is_no_element (More e es)) as (λ is. Draft) [
     | true ↦ d
-    | false ↦ d ▹ created (translate Outermost e) ▹ other_creations es
+    | false ↦ d ▹ create_code (translate Outermost e) ▹ other_creations es
   ]
 
   pub other_creations : Trees → Draft → Draft
   other_creations NoTrees d = d
-  other_creations (More e es) d = d ▹ created (translate Outermost e) ▹ other_creations es
+  other_creations (More e es) d = d ▹ create_code (translate Outermost e) ▹ other_creations es
 
   pub subscripts : Open → Trees → Draft → Draft
   subscripts o NoTrees d = d
@@ -235,7 +235,7 @@ abbrev mutual
 
   pub suspended_part : Open → MaybeTree → Draft → Draft
   suspended_part o Absent d = d ▹ with_label ▹ put (I.Lab (next_label d))
-  suspended_part o (Present b) d = d ▹ bounded (translate o b)
+  suspended_part o (Present b) d = d ▹ bounded_code (translate o b)
 
   -- the clauses but the default
   pub guarded : Open → Clauses → Draft → Draft
@@ -266,4 +266,4 @@ initially (Initially place e) d = d ▹ with_label ▹ put (I.Init (next_label d
 -- the expressions of a body; an empty one has no code
 abbrev pub body : Trees → Draft → Draft
 body NoTrees d = d
-body (More e es) d = d ▹ unless_empty e (bounded (translate Outermost e)) ▹ body es
+body (More e es) d = d ▹ unless_empty e (bounded_code (translate Outermost e)) ▹ body es

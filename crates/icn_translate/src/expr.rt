@@ -3,7 +3,7 @@ ghost use Rattle.std.specs.Prelude.{◌≡◌, IfOk, OnOk};
 ghost use Rattle.icn_tree.specs.TreeOf.{all_clauses_of, all_of, clause_of, tree_of};
 ghost use Rattle.icn_translate.specs.Drafts.{next_label};
 ghost use Rattle.icn_translate.specs.Open.{Marked, Outermost as OutermostOpen};
-ghost use Rattle.icn_translate.specs.Translation.{alternative, arguments, back, bounded, case_of, compound, conjunction, control_part, created, creations, default_part, either_step, elements, guarded, guarded_clause, in_body, in_control, is_empty, is_no_element, looped_body, operands, other_creations, prefix_by, subscripts, translate, unless_empty};
+ghost use Rattle.icn_translate.specs.Translation.{alternative, arguments, back, bounded_code, case_of, compound, conjunction, control_part, create_code, creations, default_part, either_step, elements, guarded, guarded_clause, in_body, in_control, is_empty, is_no_element, looped_body, operands, other_creations, prefix_by, subscripts, translate, unless_empty};
 ghost use Rattle.icn_translate.specs.Views.{draft_of, open_of};
 
 use crate::builder::{Builder, UNMENTIONED, counted};
@@ -311,7 +311,7 @@ impl<'a> Builder<'a> {
     /// Writes the code of an expression in a mark with a new label, where this is open in that mark.
     #[cycle(translate)]
     pub fn put_bounded(&mut self, expr: &'a Expr, marked: Open<'_>) -> Result<(), AllocError>
-        ensures { OnOk result (draft_of self.new ≡ bounded (translate (open_of marked.entry) (tree_of expr.now)) (draft_of self.old)) }
+        ensures { OnOk result (draft_of self.new ≡ bounded_code (translate (open_of marked.entry) (tree_of expr.now)) (draft_of self.old)) }
     {
         let label = self.put_mark()?;
         self.put_expr(expr, marked)?;
@@ -376,7 +376,7 @@ impl<'a> Builder<'a> {
     // A co-expression.
     #[cycle(translate)]
     fn put_created(&mut self, body: &'a Expr) -> Result<(), AllocError>
-        ensures { OnOk result (draft_of self.new ≡ created (translate OutermostOpen (tree_of body.now)) (draft_of self.old)) }
+        ensures { OnOk result (draft_of self.new ≡ create_code (translate OutermostOpen (tree_of body.now)) (draft_of self.old)) }
     {
         let outer = self.put_create()?;
         let inner = self.put_mark()?;
@@ -469,7 +469,7 @@ impl<'a> Builder<'a> {
         is_last: bool,
         within: Open<'_>,
     ) -> Result<(), AllocError>
-        ensures { OnOk result (draft_of self.new ≡ either_step is_last (translate (open_of within.entry) (tree_of expr.now)) (unless_empty (tree_of expr.now) (bounded (translate (Marked (open_of within.entry)) (tree_of expr.now)))) (draft_of self.old)) }
+        ensures { OnOk result (draft_of self.new ≡ either_step is_last (translate (open_of within.entry) (tree_of expr.now)) (unless_empty (tree_of expr.now) (bounded_code (translate (Marked (open_of within.entry)) (tree_of expr.now)))) (draft_of self.old)) }
     {
         if is_last {
             return self.put_expr(expr, within);

@@ -7,8 +7,8 @@ ghost use Rattle.icn_unit.specs.UnitViews.{proc_seen};
 ghost use Rattle.icn_translate.specs.Drafts.{put, with_names, ◌▹◌};
 ghost use Rattle.icn_unit.specs.declared.unit.UnitInstr.TheVariants.{Pfail};
 ghost use Rattle.icn_translate.specs.Open.{Outermost as OutermostOpen};
-ghost use Rattle.icn_translate.specs.ProcCodes.{begun, declared_entries, declared_texts, entry_of, kind_of, local_entries, local_texts, proc_code, texts_of};
-ghost use Rattle.icn_translate.specs.Translation.{body, bounded, initially, translate, unless_empty};
+ghost use Rattle.icn_translate.specs.ProcCodes.{first_draft, declared_entries, declared_texts, entry_of, kind_of, local_entries, local_texts, proc_code, texts_of};
+ghost use Rattle.icn_translate.specs.Translation.{body, bounded_code, initially, translate, unless_empty};
 ghost use Rattle.icn_translate.specs.Views.{draft_of};
 
 use crate::builder::{Builder, enter_name};
@@ -43,7 +43,7 @@ pub fn proc_code(alloc: Global, procedure: &Procedure) -> Result<ProcCode, Alloc
 
 // The draft before the first instruction: its names are those that are declared.
 fn begun<'a>(alloc: Global, procedure: &'a Procedure) -> Result<Builder<'a>, AllocError>
-    ensures { IfOk result (λ builder. draft_of builder ≡ begun (procedure_of procedure.now)) }
+    ensures { IfOk result (λ builder. draft_of builder ≡ first_draft (procedure_of procedure.now)) }
 {
     let names = declared_names(alloc, procedure)?;
     Ok(Builder::new(alloc, names))
@@ -117,7 +117,7 @@ fn put_body<'a>(builder: &mut Builder<'a>, exprs: &'a [Expr]) -> Result<(), Allo
 
 // An expression of a body. An empty one has no code.
 fn put_bounded<'a>(builder: &mut Builder<'a>, expr: &'a Expr) -> Result<(), AllocError>
-    ensures { OnOk result (draft_of builder.new ≡ unless_empty (tree_of expr.now) (bounded (translate OutermostOpen (tree_of expr.now))) (draft_of builder.old)) }
+    ensures { OnOk result (draft_of builder.new ≡ unless_empty (tree_of expr.now) (bounded_code (translate OutermostOpen (tree_of expr.now))) (draft_of builder.old)) }
 {
     if is_empty(expr) {
         return Ok(());

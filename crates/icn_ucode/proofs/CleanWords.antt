@@ -6,7 +6,7 @@ use Rattle.std.proofs.lemmas.Bool.Decides.{nat_tests}
 use Rattle.icn_tree.specs.declared.rule.Rule.{Rule}
 use Rattle.icn_tree.specs.Characters.{begins_identifier, continues_identifier}
 use Rattle.icn_unit.specs.OperandViews.{is_in_line}
-use Rattle.icn_unit.specs.UnitOperands.{behind, cut, is_inside, is_name}
+use Rattle.icn_unit.specs.UnitOperands.{behind, first_field, is_inside, is_name}
 use Rattle.icn_ucode.specs.UnitReading.{each_line, then_step}
 use Rattle.icn_ucode.proofs.Differing.{and_true, both}
 
@@ -54,18 +54,18 @@ clean_in_line text h = all_weaker is_word_byte is_in_line text (λ b t. (both (i
 
 -- Words of a line
 
-cut_more : (b : ℕ) (text : List ℕ) → is_inside b ≡ true → cut (b ∷ text) ≡ (b ∷ (cut text).0, (cut text).1)
+cut_more : (b : ℕ) (text : List ℕ) → is_inside b ≡ true → first_field (b ∷ text) ≡ (b ∷ (first_field text).0, (first_field text).1)
 cut_more b text h =
     let one : cond (is_inside b) (1 + prefix_len is_inside text) 0 ≡ suc (prefix_len is_inside text) = cond-true (is_inside b) _ _ h ∙ omega arith in
     ap (λ count. (take count (b ∷ text), behind (drop count (b ∷ text)))) one
 
-pub cut_word : (word rest : List ℕ) → clean word ≡ true → cut (word ++ 32 ∷ rest) ≡ (word, Some rest)
+pub cut_word : (word rest : List ℕ) → clean word ≡ true → first_field (word ++ 32 ∷ rest) ≡ (word, Some rest)
 cut_word [] rest h = refl
 cut_word (b ∷ word) rest h =
     let parts = both (is_word_byte b) (clean word) h in
     cut_more b (word ++ 32 ∷ rest) (both (is_inside b) (is_in_line b) parts.0).0 ∙ ap (λ (p : List ℕ × Option (List ℕ)). (b ∷ p.0, p.1)) (cut_word word rest parts.1)
 
-pub cut_last : (word : List ℕ) → clean word ≡ true → cut word ≡ (word, None)
+pub cut_last : (word : List ℕ) → clean word ≡ true → first_field word ≡ (word, None)
 cut_last [] h = refl
 cut_last (b ∷ word) h =
     let parts = both (is_word_byte b) (clean word) h in

@@ -3,7 +3,7 @@ use Rattle.std.proofs.Common.{◌==◌, ◌≡◌, ℕ, ◌+◌, ◌<◌, suc, B
 use Rattle.std.specs.List.{prefix_len}
 use Rattle.std.specs.Option.{option_and_then}
 use Rattle.std.proofs.lemmas.Bool.{cond-true, cond-false}
-use Rattle.icn_unit.specs.UnitOperands.{behind, cut, is_inside, is_name}
+use Rattle.icn_unit.specs.UnitOperands.{behind, first_field, is_inside, is_name}
 use Rattle.icn_unit.specs.UnitRules.{has_name}
 use Rattle.icn_ucode.specs.UnitReading.{with_field, fields_from}
 use Rattle.icn_ucode.proofs.TextLines.{shorter}
@@ -42,14 +42,14 @@ word_from fields word (b ∷ text) = by_blank (b == 32) refl (word_from fields (
       ∙ (ap (λ w. option_and_then (fields_next (behind (drop (word_len text) text))) (with_field fields w)) (append_assoc word (b ∷ []) (take (word_len text) text))
       ∙ ap (λ n. option_and_then (fields_next (behind (drop n (b ∷ text)))) (with_field fields (word ++ take n (b ∷ text)))) (sym (word_len_in b text t)))
 
-at_word : (fields : List (List ℕ)) (text name : List ℕ) (rest : Option (List ℕ)) → name ≡ (cut text).0 → rest ≡ (cut text).1 → fields_from fields [] text ≡ option_and_then (fields_next rest) (with_field fields name)
+at_word : (fields : List (List ℕ)) (text name : List ℕ) (rest : Option (List ℕ)) → name ≡ (first_field text).0 → rest ≡ (first_field text).1 → fields_from fields [] text ≡ option_and_then (fields_next rest) (with_field fields name)
 at_word fields text name rest is e = word_from fields [] text ∙ (ap (λ r. option_and_then (fields_next r) (with_field fields (take (word_len text) text))) (sym e) ∙ ap (λ w. option_and_then (fields_next rest) (with_field fields w)) (sym is))
 
 -- a word that is no further field
-pub bad_word : (fields : List (List ℕ)) (text name : List ℕ) (rest : Option (List ℕ)) → name ≡ (cut text).0 → rest ≡ (cut text).1 → (is_name name && not (has_name fields name)) ≡ false → fields_from fields [] text ≡ None
+pub bad_word : (fields : List (List ℕ)) (text name : List ℕ) (rest : Option (List ℕ)) → name ≡ (first_field text).0 → rest ≡ (first_field text).1 → (is_name name && not (has_name fields name)) ≡ false → fields_from fields [] text ≡ None
 bad_word fields text name rest is e bad = at_word fields text name rest is e ∙ ap (option_and_then (fields_next rest)) (cond-false (is_name name && not (has_name fields name)) _ _ bad)
 
-pub good_word : (fields : List (List ℕ)) (text name : List ℕ) (rest : Option (List ℕ)) → name ≡ (cut text).0 → rest ≡ (cut text).1 → (is_name name && not (has_name fields name)) ≡ true
+pub good_word : (fields : List (List ℕ)) (text name : List ℕ) (rest : Option (List ℕ)) → name ≡ (first_field text).0 → rest ≡ (first_field text).1 → (is_name name && not (has_name fields name)) ≡ true
     → fields_from fields [] text ≡ fields_left (fields ++ name ∷ []) rest
 good_word fields text name rest is e good = at_word fields text name rest is e ∙ ap (option_and_then (fields_next rest)) (cond-true (is_name name && not (has_name fields name)) _ _ good)
 
@@ -57,6 +57,6 @@ abbrev pub left_len : Option (List ℕ) → ℕ
 left_len None = 0
 left_len (Some text) = suc (length text)
 
-pub left_shorter : (text : List ℕ) (rest : Option (List ℕ)) → rest ≡ (cut text).1 → left_len rest < suc (length text)
+pub left_shorter : (text : List ℕ) (rest : Option (List ℕ)) → rest ≡ (first_field text).1 → left_len rest < suc (length text)
 left_shorter text None e = omega arith
 left_shorter text (Some rest) e = omega (arith, shorter text rest (word_len text) e)

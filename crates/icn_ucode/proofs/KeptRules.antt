@@ -13,9 +13,9 @@ use Rattle.icn_unit.specs.declared.unit.UnitInstr.{UnitInstr}
 use Rattle.icn_unit.specs.declared.unit.UnitName.{UnitName}
 use Rattle.icn_unit.specs.InstrWords.{instr_word_of}
 use Rattle.icn_unit.specs.PlainUnits.{Proc, Decl, Global, Procedure, Link, Record, entry_names, owned_name, owned_names, params_in, proc_names}
-use Rattle.icn_unit.specs.UnitOperands.{cut, is_name, number_of}
-use Rattle.icn_unit.specs.UnitRules.{has_label, has_name, in_order, is_number, keeps_code, keeps_decl, keeps_decls, keeps_head, keeps_names, keeps_operand, keeps_proc, keeps_procs, keeps_rules, labels_differ, labels_placed, names_differ, place_list, place_of, placed, rank, same_names}
-use Rattle.icn_ucode.specs.UnitReading.{Head, Stage, Heading, Outside, Naming, Coding, ProcsRead, DeclStage, DeclHeading, Declaring, Ended, DeclsRead, begun, bytes_read, code_line, coding_line, collects_read, decl_stage_end, decl_stage_line, declaring_line, decls_end, decls_line, decls_of, each_line, end_line, ended_line, entry_by, entry_named, entry_read, fields_from, fields_read, flag_of, global_read, head_by, head_read, instr_line, instr_of, is_indented, is_repeated, kind_of, last_rank, link_read, name_read, naming_line, or_bad, outside_line, params_read, procedure_read, procs_end, procs_line, procs_of, record_by, record_read, stage_end, stage_line, then_step, with_decl, with_entry, with_field, with_instr}
+use Rattle.icn_unit.specs.UnitOperands.{first_field, is_name, number_of}
+use Rattle.icn_unit.specs.UnitRules.{has_label, has_name, in_order, is_number, keeps_code, keeps_decl, keeps_decls, keeps_head, keeps_names, keeps_operand, keeps_proc, keeps_procs, keeps_rules, labels_differ, labels_placed, names_differ, place_list, place_of, placed_labels, rank, same_names}
+use Rattle.icn_ucode.specs.UnitReading.{Head, Stage, Heading, Outside, Naming, Coding, ProcsRead, DeclStage, DeclHeading, Declaring, Ended, DeclsRead, empty_proc, bytes_read, code_line, coding_line, collects_read, decl_stage_end, decl_stage_line, declaring_line, decls_end, decls_line, decls_of, each_line, end_line, ended_line, entry_by, entry_named, entry_read, fields_from, fields_read, flag_of, global_read, head_by, head_read, instr_line, instr_of, is_indented, is_repeated, kind_of, last_rank, link_read, name_read, naming_line, or_bad, outside_line, params_read, procedure_read, procs_end, procs_line, procs_of, record_by, record_read, stage_end, stage_line, then_step, with_decl, with_entry, with_field, with_instr}
 use Rattle.icn_ucode.proofs.Differing.{all_last, and_true, both, differ_last, in_order_last, not_true}
 use Rattle.icn_ucode.proofs.KeptInstrs.{bytes_kept, instr_kept, number_kept}
 use Rattle.icn_ucode.proofs.KnownNames.{bytes_turned, nat_turned, entries_named, more_placed}
@@ -59,7 +59,7 @@ record CodingKeeps (procs : List Proc) (proc : Proc) : Type 0 where
   head : keeps_head proc.name (params_in proc.names) proc.collects ≡ true
   names : keeps_names proc.names ≡ true
   operands : list_all (λ instr. keeps_operand (length proc.names) instr) proc.instrs ≡ true
-  labels : labels_differ (placed proc.instrs) ≡ true
+  labels : labels_differ (placed_labels proc.instrs) ≡ true
 
 unfoldable StageKeeps : List Proc → Stage → Type 0
 StageKeeps procs Heading = procs ≡ []
@@ -82,19 +82,19 @@ collects_keep name params (Some text) head e =
 
 params_keep : (name : List ℕ) (rest : Option (List ℕ)) (head : Head) → params_read name rest ≡ Some head → keeps_head head.name head.params head.collects ≡ true
 params_keep name None head e = absurd (none-some head e)
-params_keep name (Some text) head e = collects_keep name (cut text).0 (cut text).1 head e
+params_keep name (Some text) head e = collects_keep name (first_field text).0 (first_field text).1 head e
 
 head_keeps : (operand : Option (List ℕ)) (head : Head) → head_read operand ≡ Some head → keeps_head head.name head.params head.collects ≡ true
 head_keeps None head e = absurd (none-some head e)
-head_keeps (Some text) head e = params_keep (cut text).0 (cut text).1 head e
+head_keeps (Some text) head e = params_keep (first_field text).0 (first_field text).1 head e
 
 outside_keeps : (procs : List Proc) (word : List ℕ) (operand : Option (List ℕ)) (next : ProcsRead) → keeps_procs procs ≡ true → outside_line procs word operand ≡ Ok next → ReadKeeps next
 unfolding StageKeeps ReadKeeps
 outside_keeps procs word operand next good e = by_word (bytes_eq word (codes "proc")) e where
-  by_word : (test : Bool) → cond test (or_bad (head_read operand) (λ head. cond (has_name (proc_names procs) head.name) (Err U3) (Ok (record { procs = procs; stage = Naming head.params (begun head) })))) (Err U1) ≡ Ok next → ReadKeeps next
+  by_word : (test : Bool) → cond test (or_bad (head_read operand) (λ head. cond (has_name (proc_names procs) head.name) (Err U3) (Ok (record { procs = procs; stage = Naming head.params (empty_proc head) })))) (Err U1) ≡ Ok next → ReadKeeps next
   by_word true e =
-      let found = found_in (head_read operand) (λ head. cond (has_name (proc_names procs) head.name) (Err U3) (Ok (record { procs = procs; stage = Naming head.params (begun head) }))) next e in
-      let same = spared (has_name (proc_names procs) found.0.name) (record { procs = procs; stage = Naming found.0.params (begun found.0) }) U3 next found.2 in
+      let found = found_in (head_read operand) (λ head. cond (has_name (proc_names procs) head.name) (Err U3) (Ok (record { procs = procs; stage = Naming head.params (empty_proc head) }))) next e in
+      let same = spared (has_name (proc_names procs) found.0.name) (record { procs = procs; stage = Naming found.0.params (empty_proc found.0) }) U3 next found.2 in
       subst (λ (next : ProcsRead). ReadKeeps next) same.1 (record { before = good; further = same.0; head = head_keeps operand found.0 found.1; names = refl; codeless = refl })
   by_word false e = absurd (err_ok U1 next e)
 
@@ -122,7 +122,7 @@ named_keeps names kind (Some name) entry good e =
 
 name_line_keeps : (names : List UnitName) (operand : Option (List ℕ)) (entry : UnitName) → keeps_names names ≡ true → entry_read names operand ≡ Some entry → keeps_names (names ++ entry ∷ []) ≡ true
 name_line_keeps names None entry good e = absurd (none-some entry e)
-name_line_keeps names (Some text) entry good e = named_keeps names (cut text).0 (cut text).1 entry good e
+name_line_keeps names (Some text) entry good e = named_keeps names (first_field text).0 (first_field text).1 entry good e
 
 naming_keeps : (procs : List Proc) (params : ℕ) (proc : Proc) (word : List ℕ) (operand : Option (List ℕ)) (next : ProcsRead) → NamingKeeps procs params proc → naming_line procs params proc word operand ≡ Ok next → ReadKeeps next
 unfolding StageKeeps ReadKeeps
@@ -138,7 +138,7 @@ naming_keeps procs params proc word operand next good e = by_name (bytes_eq word
         head = ap (λ params. keeps_head proc.name params proc.collects) same ∙ good.head;
         names = good.names;
         operands = ap (λ instrs. list_all (λ instr. keeps_operand (length proc.names) instr) instrs) good.codeless;
-        labels = ap (λ instrs. labels_differ (placed instrs)) good.codeless;
+        labels = ap (λ instrs. labels_differ (placed_labels instrs)) good.codeless;
       })
 
   by_code : (test : Bool) → cond test (code_line procs params proc operand) (Err U1) ≡ Ok next → ReadKeeps next
@@ -153,18 +153,18 @@ naming_keeps procs params proc word operand next good e = by_name (bytes_eq word
   by_name false e = by_code (bytes_eq word (codes "code")) e
 
 -- one more instruction
-labels_keep : (instrs : List UnitInstr) (instr : UnitInstr) → labels_differ (placed instrs) ≡ true → is_repeated instrs instr ≡ false → labels_differ (placed (instrs ++ instr ∷ [])) ≡ true
+labels_keep : (instrs : List UnitInstr) (instr : UnitInstr) → labels_differ (placed_labels instrs) ≡ true → is_repeated instrs instr ≡ false → labels_differ (placed_labels (instrs ++ instr ∷ [])) ≡ true
 labels_keep instrs instr good further = ap (λ labels. labels_differ labels) (more_placed instrs instr) ∙ by_place (place_of instr) further where
-  by_place : (place : Option ℕ) → option_map_or (λ label. has_label (placed instrs) label) place false ≡ false → labels_differ (placed instrs ++ place_list place) ≡ true
-  by_place None further = ap (λ labels. labels_differ labels) (append-nil (placed instrs)) ∙ good
-  by_place (Some label) further = differ_last nat_eq nat_turned (placed instrs) label good further
+  by_place : (place : Option ℕ) → option_map_or (λ label. has_label (placed_labels instrs) label) place false ≡ false → labels_differ (placed_labels instrs ++ place_list place) ≡ true
+  by_place None further = ap (λ labels. labels_differ labels) (append-nil (placed_labels instrs)) ∙ good
+  by_place (Some label) further = differ_last nat_eq nat_turned (placed_labels instrs) label good further
 
 proc_keeps : (procs : List Proc) (proc : Proc) → CodingKeeps procs proc → labels_placed proc.instrs ≡ true → keeps_proc proc ≡ true
 proc_keeps procs proc good placed_all =
     and_true (keeps_head proc.name (params_in proc.names) proc.collects && keeps_names proc.names) (keeps_code (length proc.names) proc.instrs)
     (and_true (keeps_head proc.name (params_in proc.names) proc.collects) (keeps_names proc.names) good.head good.names)
-    (and_true (list_all (λ instr. keeps_operand (length proc.names) instr) proc.instrs && labels_differ (placed proc.instrs)) (labels_placed proc.instrs)
-    (and_true (list_all (λ instr. keeps_operand (length proc.names) instr) proc.instrs) (labels_differ (placed proc.instrs)) good.operands good.labels) placed_all)
+    (and_true (list_all (λ instr. keeps_operand (length proc.names) instr) proc.instrs && labels_differ (placed_labels proc.instrs)) (labels_placed proc.instrs)
+    (and_true (list_all (λ instr. keeps_operand (length proc.names) instr) proc.instrs) (labels_differ (placed_labels proc.instrs)) good.operands good.labels) placed_all)
 
 procs_named_more : (procs : List Proc) (proc : Proc) → proc_names (procs ++ proc ∷ []) ≡ proc_names procs ++ proc.name ∷ []
 procs_named_more [] proc = refl
@@ -208,9 +208,9 @@ unfolding StageKeeps ReadKeeps
 stage_keeps procs Heading line next good e =
     let found = heading_line (codes "U9.1") line (record { procs = procs; stage = Outside }) next e in
     subst (λ (next : ProcsRead). ReadKeeps next) found.1 (ap keeps_procs good)
-stage_keeps procs Outside line next good e = outside_keeps procs (cut line).0 (cut line).1 next good e
-stage_keeps procs (Naming params proc) line next good e = naming_keeps procs params proc (cut line).0 (cut line).1 next good e
-stage_keeps procs (Coding proc) line next good e = coding_keeps procs proc (cut line).0 (cut line).1 next good e
+stage_keeps procs Outside line next good e = outside_keeps procs (first_field line).0 (first_field line).1 next good e
+stage_keeps procs (Naming params proc) line next good e = naming_keeps procs params proc (first_field line).0 (first_field line).1 next good e
+stage_keeps procs (Coding proc) line next good e = coding_keeps procs proc (first_field line).0 (first_field line).1 next good e
 
 line_keeps : (read : ProcsRead) (line : List ℕ) (next : ProcsRead) → ReadKeeps read → procs_line read line ≡ Ok next → ReadKeeps next
 unfolding ReadKeeps procs_line
@@ -304,7 +304,7 @@ record_named_keeps procs decls name rest decl good e = by_test (is_name name && 
 
 record_keeps : (procs : List (List ℕ)) (decls : List Decl) (operand : Option (List ℕ)) (decl : Decl) → keeps_decls decls ≡ true → record_read procs decls operand ≡ Some decl → keeps_decls (decls ++ decl ∷ []) ≡ true
 record_keeps procs decls None decl good e = absurd (none-some decl e)
-record_keeps procs decls (Some text) decl good e = record_named_keeps procs decls (cut text).0 (cut text).1 decl good e
+record_keeps procs decls (Some text) decl good e = record_named_keeps procs decls (first_field text).0 (first_field text).1 decl good e
 
 proc_decl_keeps : (decls : List Decl) (operand : Option (List ℕ)) (decl : Decl) → keeps_decls decls ≡ true → procedure_read decls operand ≡ Some decl → keeps_decls (decls ++ decl ∷ []) ≡ true
 proc_decl_keeps decls operand decl good e =
@@ -352,7 +352,7 @@ unfolding DeclsKeep DeclReadKeeps
 decl_stage_keeps procs decls DeclHeading line next good e =
     let found = heading_line (codes "U9.2") line (record { decls = decls; stage = Declaring }) next e in
     subst (λ (next : DeclsRead). DeclReadKeeps next) found.1 (ap keeps_decls good)
-decl_stage_keeps procs decls Declaring line next good e = declaring_keeps procs decls (cut line).0 (cut line).1 next good e
+decl_stage_keeps procs decls Declaring line next good e = declaring_keeps procs decls (first_field line).0 (first_field line).1 next good e
 decl_stage_keeps procs decls Ended line next good e = absurd (err_ok U1 next e)
 
 decl_line_keeps : (procs : List (List ℕ)) (read : DeclsRead) (line : List ℕ) (next : DeclsRead) → DeclReadKeeps read → decls_line procs read line ≡ Ok next → DeclReadKeeps next

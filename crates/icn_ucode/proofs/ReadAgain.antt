@@ -15,10 +15,10 @@ use Rattle.icn_unit.specs.declared.unit.UnitName.{UnitName}
 use Rattle.icn_unit.specs.InstrWords.{word_of, word_text}
 use Rattle.icn_unit.specs.OperandViews.{is_in_line}
 use Rattle.icn_unit.specs.PlainUnits.{Proc, entry_names, params_in, proc_names}
-use Rattle.icn_unit.specs.UnitOperands.{cut, is_name}
-use Rattle.icn_unit.specs.UnitRules.{has_label, has_name, in_order, is_number, keeps_code, keeps_head, keeps_names, keeps_operand, keeps_proc, keeps_procs, labels_differ, labels_placed, names_differ, place_list, place_of, placed, rank}
+use Rattle.icn_unit.specs.UnitOperands.{first_field, is_name}
+use Rattle.icn_unit.specs.UnitRules.{has_label, has_name, in_order, is_number, keeps_code, keeps_head, keeps_names, keeps_operand, keeps_proc, keeps_procs, labels_differ, labels_placed, names_differ, place_list, place_of, placed_labels, rank}
 use Rattle.icn_unit.specs.UnitTexts.{flag_text, head_text, instr_text, kind_text, name_text, proc_text, procs_text}
-use Rattle.icn_ucode.specs.UnitReading.{Heading, Outside, Naming, Coding, ProcsRead, Stage, begun, coding_line, collects_read, each_line, entry_by, entry_named, entry_read, flag_of, head_by, head_read, instr_line as read_instr_line, is_indented, is_repeated, kind_of, last_rank, naming_line, or_bad, outside_line, params_read, procs_end, procs_line, procs_of, stage_line, then_step, with_entry, with_instr}
+use Rattle.icn_ucode.specs.UnitReading.{Heading, Outside, Naming, Coding, ProcsRead, Stage, empty_proc, coding_line, collects_read, each_line, entry_by, entry_named, entry_read, flag_of, head_by, head_read, instr_line as read_instr_line, is_indented, is_repeated, kind_of, last_rank, naming_line, or_bad, outside_line, params_read, procs_end, procs_line, procs_of, stage_line, then_step, with_entry, with_instr}
 use Rattle.icn_ucode.proofs.CleanWords.{Leads, all_of_both, clean, clean_in_line, cut_last, cut_word, in_line, leads_all, leads_then, line_leads, name_clean}
 use Rattle.icn_ucode.proofs.Differing.{all_at, and_true, both, differs_at, in_order_at, is_not}
 use Rattle.icn_ucode.proofs.KnownNames.{bytes_turned, nat_turned}
@@ -83,7 +83,7 @@ head_leads : (procs : List Proc) (name : List ℕ) (params : ℕ) (collects : Bo
 head_leads procs name params collects h free =
     stage_reads procs Outside (codes "proc " ++ head_words name params collects) (state procs (Naming params (named name collects []))) (head_in_line name params collects h) refl
     (ap (λ (words : List ℕ × Option (List ℕ)). outside_line procs words.0 words.1) (cut_word (codes "proc") (head_words name params collects) refl)
-    ∙ (ap (λ found. or_bad found (λ head. cond (has_name (proc_names procs) head.name) (Err U3) (Ok (state procs (Naming head.params (begun head)))))) (head_again name params collects h)
+    ∙ (ap (λ found. or_bad found (λ head. cond (has_name (proc_names procs) head.name) (Err U3) (Ok (state procs (Naming head.params (empty_proc head)))))) (head_again name params collects h)
     ∙ cond-false (has_name (proc_names procs) name) _ _ free))
 
 head_regrouped : (name digits flag : List ℕ) → ((name ++ 32 ∷ digits) ++ 32 ∷ flag) ++ 10 ∷ [] ≡ (name ++ 32 ∷ (digits ++ 32 ∷ flag)) ++ 10 ∷ []
@@ -162,21 +162,21 @@ code_leads procs name collects names =
 -- Instructions
 
 abbrev code_so_far : ℕ → List UnitInstr → Bool
-code_so_far names instrs = list_all (λ instr. keeps_operand names instr) instrs && labels_differ (placed instrs)
+code_so_far names instrs = list_all (λ instr. keeps_operand names instr) instrs && labels_differ (placed_labels instrs)
 
-placed_around : (done : List UnitInstr) (instr : UnitInstr) (rest : List UnitInstr) → placed (done ++ instr ∷ rest) ≡ placed done ++ (place_list (place_of instr) ++ placed rest)
+placed_around : (done : List UnitInstr) (instr : UnitInstr) (rest : List UnitInstr) → placed_labels (done ++ instr ∷ rest) ≡ placed_labels done ++ (place_list (place_of instr) ++ placed_labels rest)
 placed_around [] instr rest = refl
-placed_around (first ∷ done) instr rest = ap (λ labels. place_list (place_of first) ++ labels) (placed_around done instr rest) ∙ sym (append_assoc (place_list (place_of first)) (placed done) (place_list (place_of instr) ++ placed rest))
+placed_around (first ∷ done) instr rest = ap (λ labels. place_list (place_of first) ++ labels) (placed_around done instr rest) ∙ sym (append_assoc (place_list (place_of first)) (placed_labels done) (place_list (place_of instr) ++ placed_labels rest))
 
-not_repeated : (done : List UnitInstr) (instr : UnitInstr) (rest : List UnitInstr) → labels_differ (placed (done ++ instr ∷ rest)) ≡ true → is_repeated done instr ≡ false
+not_repeated : (done : List UnitInstr) (instr : UnitInstr) (rest : List UnitInstr) → labels_differ (placed_labels (done ++ instr ∷ rest)) ≡ true → is_repeated done instr ≡ false
 not_repeated done instr rest h = by_place (place_of instr) (ap (λ labels. labels_differ labels) (sym (placed_around done instr rest)) ∙ h) where
-  by_place : (place : Option ℕ) → labels_differ (placed done ++ (place_list place ++ placed rest)) ≡ true → option_map_or (λ label. has_label (placed done) label) place false ≡ false
+  by_place : (place : Option ℕ) → labels_differ (placed_labels done ++ (place_list place ++ placed_labels rest)) ≡ true → option_map_or (λ label. has_label (placed_labels done) label) place false ≡ false
   by_place None h = refl
-  by_place (Some label) h = differs_at nat_eq nat_turned (placed done) label (placed rest) h
+  by_place (Some label) h = differs_at nat_eq nat_turned (placed_labels done) label (placed_labels rest) h
 
 -- the words of an instruction's line
-instr_words_are : (word : InstrWord) (operand : Option (List ℕ)) → cut (word_text word ++ rest_text operand) ≡ (word_text word, operand)
-instr_words_are word None = ap cut (append-nil (word_text word)) ∙ cut_last (word_text word) (word_clean word)
+instr_words_are : (word : InstrWord) (operand : Option (List ℕ)) → first_field (word_text word ++ rest_text operand) ≡ (word_text word, operand)
+instr_words_are word None = ap first_field (append-nil (word_text word)) ∙ cut_last (word_text word) (word_clean word)
 instr_words_are word (Some text) = cut_word (word_text word) text (word_clean word)
 
 operand_in_line : (instr : UnitInstr) (names : ℕ) (line : InstrLine instr names) → in_line (rest_text line.operand) ≡ true
@@ -188,7 +188,7 @@ operand_in_line instr names line = by_operand line.operand line.clean where
 instr_leads : (procs : List Proc) (name : List ℕ) (collects : Bool) (names : List UnitName) (done : List UnitInstr) (instr : UnitInstr) (rest : List UnitInstr) → code_so_far (length names) (done ++ instr ∷ rest) ≡ true
     → LeadsProcs (state procs (Coding (coded name collects names done))) (instr_text instr) (state procs (Coding (coded name collects names (done ++ instr ∷ []))))
 instr_leads procs name collects names done instr rest h =
-    let parts = both (list_all (λ instr. keeps_operand (length names) instr) (done ++ instr ∷ rest)) (labels_differ (placed (done ++ instr ∷ rest))) h in
+    let parts = both (list_all (λ instr. keeps_operand (length names) instr) (done ++ instr ∷ rest)) (labels_differ (placed_labels (done ++ instr ∷ rest))) h in
     let line = instr_line instr (length names) (all_at (λ instr. keeps_operand (length names) instr) done instr rest parts.0) in
     let free = not_repeated done instr rest parts.1 in
     let proc = coded name collects names done in

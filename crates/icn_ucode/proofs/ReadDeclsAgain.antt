@@ -8,7 +8,7 @@ use Rattle.std.specs.Cmp.Lexicographic.{same_text}
 use Rattle.std.proofs.lemmas.Bool.{cond-true, cond-false, false≢true}
 use Rattle.icn_unit.specs.OperandViews.{is_in_line}
 use Rattle.icn_unit.specs.PlainUnits.{Decl, Global, Procedure, Link, Proc, Record, declared_name, declared_names, owned_name, owned_names, proc_names}
-use Rattle.icn_unit.specs.UnitOperands.{cut, is_inside, is_name}
+use Rattle.icn_unit.specs.UnitOperands.{first_field, is_inside, is_name}
 use Rattle.icn_unit.specs.UnitRules.{has_name, keeps_decl, keeps_decls, names_differ, same_names, same_texts}
 use Rattle.icn_unit.specs.UnitTexts.{behind_blank, bytes_text, decl_text, decls_text}
 use Rattle.icn_ucode.specs.UnitReading.{DeclHeading, Declaring, Ended, DeclStage, DeclsRead, decl_stage_line, declaring_line, decls_end, decls_line, decls_of, each_line, fields_from, fields_read, is_indented, name_read, or_bad, record_by, record_read, then_step, with_decl, with_field}
@@ -65,8 +65,8 @@ field_again done field (next ∷ rest) h g =
 
 -- the words of a record's line: the name alone, or with what stands behind the first blank
 record_words : (name : List ℕ) (fields : List (List ℕ)) → is_name name ≡ true → list_all is_name fields ≡ true → names_differ fields ≡ true
-    → (rest : Option (List ℕ)) × (cut (name ++ flat_map behind_blank fields) ≡ (name, rest)) × (fields_read rest ≡ Some fields)
-record_words name [] n h g = (None, ap cut (append-nil name) ∙ cut_last name (name_clean name n), refl)
+    → (rest : Option (List ℕ)) × (first_field (name ++ flat_map behind_blank fields) ≡ (name, rest)) × (fields_read rest ≡ Some fields)
+record_words name [] n h g = (None, ap first_field (append-nil name) ∙ cut_last name (name_clean name n), refl)
 record_words name (field ∷ fields) n h g = (Some (field ++ flat_map behind_blank fields), cut_word name (field ++ flat_map behind_blank fields) (name_clean name n), field_again [] field fields h g)
 
 record_again : (procs : List (List ℕ)) (decls : List Decl) (name : List ℕ) (fields : List (List ℕ)) → keeps_decl (Record name fields) ≡ true → has_name procs name ≡ false → has_name (owned_names decls) name ≡ false → record_read procs decls (Some (name ++ flat_map behind_blank fields)) ≡ Some (Record name fields)
@@ -88,7 +88,7 @@ record DeclLine (procs : List (List ℕ)) (decls : List Decl) (decl : Decl) : Ty
   spelled : decl_text decl ≡ (word ++ 32 ∷ operand) ++ 10 ∷ []
   plain : in_line (word ++ 32 ∷ operand) ≡ true
   flush : is_indented (word ++ 32 ∷ operand) ≡ false
-  words : cut (word ++ 32 ∷ operand) ≡ (word, Some operand)
+  words : first_field (word ++ 32 ∷ operand) ≡ (word, Some operand)
   read : declaring_line procs decls word (Some operand) ≡ with_decl decls decl
 
 abbrev IsFree : List Decl → Decl → Type 0

@@ -9,7 +9,7 @@ use Rattle.std.proofs.lemmas.Bool.{eqb-true}
 use Rattle.std.proofs.lemmas.Option.{none-some, same_Some}
 use Rattle.icn_tree.specs.declared.rule.Rule.{Rule}
 use Rattle.icn_tree.specs.declared.rule.Rule.TheVariants.{U1, U3, U6}
-use Rattle.icn_unit.specs.UnitOperands.{cut, is_name}
+use Rattle.icn_unit.specs.UnitOperands.{first_field, is_name}
 use Rattle.icn_unit.specs.PlainUnits.{Decl, Global, Procedure, Link, Record, owned_names}
 use Rattle.icn_unit.specs.UnitRules.{has_name}
 use Rattle.icn_ucode.specs.UnitReading.{global_read, is_indented, link_read, DeclStage, DeclHeading, Declaring, Ended, DeclsRead, bytes_read, decl_stage_end, decl_stage_line, declaring_line, decls_end, decls_line, decls_of, each_line, ended_line, fields_from, fields_read, name_read, or_bad, procedure_read, record_by, record_read, then_step, with_decl, with_field}
@@ -68,7 +68,7 @@ record_named procs decls name rest decl e = by_test (is_name name && not (has_na
 
 record_spelled : (procs : List (List ℕ)) (decls : List Decl) (operand : Option (List ℕ)) (decl : Decl) → record_read procs decls operand ≡ Some decl → decl_text decl ≡ (codes "record" ++ rest_text operand) ++ 10 ∷ []
 record_spelled procs decls None decl e = absurd (none-some decl e)
-record_spelled procs decls (Some text) decl e = record_named procs decls (cut text).0 (cut text).1 decl e ∙ ap (λ xs. codes "record " ++ xs ++ 10 ∷ []) (sym (cut_all text))
+record_spelled procs decls (Some text) decl e = record_named procs decls (first_field text).0 (first_field text).1 decl e ∙ ap (λ xs. codes "record " ++ xs ++ 10 ∷ []) (sym (cut_all text))
 
 proc_spelled : (decls : List Decl) (operand : Option (List ℕ)) (decl : Decl) → procedure_read decls operand ≡ Some decl → decl_text decl ≡ (codes "proc" ++ rest_text operand) ++ 10 ∷ []
 proc_spelled decls operand decl e =
@@ -157,7 +157,7 @@ stage_adds : (procs : List (List ℕ)) (decls : List Decl) (stage : DeclStage) (
 stage_adds procs decls DeclHeading line next good e =
     let found = heading_line (codes "U9.2") line (record { decls = decls; stage = Declaring }) next e in
     subst (λ (next : DeclsRead). Adds [] line next) found.1 (tt, ap declared good ∙ ap (λ l. l ++ 10 ∷ []) (sym found.0))
-stage_adds procs decls Declaring line next good e = subst (λ (l : List ℕ). Adds (declared decls) l next) (sym (cut_all line)) (declaring_adds procs decls (cut line).0 (cut line).1 next e)
+stage_adds procs decls Declaring line next good e = subst (λ (l : List ℕ). Adds (declared decls) l next) (sym (cut_all line)) (declaring_adds procs decls (first_field line).0 (first_field line).1 next e)
 stage_adds procs decls Ended line next good e = absurd (err_ok U1 next e)
 
 line_adds : (procs : List (List ℕ)) (read : DeclsRead) (line : List ℕ) (next : DeclsRead) → IsGood read → decls_line procs read line ≡ Ok next → Adds (spelled_so_far read) line next

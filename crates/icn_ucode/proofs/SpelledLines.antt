@@ -16,10 +16,10 @@ use Rattle.icn_unit.specs.declared.unit.NameKind.{NameKind}
 use Rattle.icn_unit.specs.declared.unit.NameKind.TheVariants.{Parameter, Local, Static, Undeclared}
 use Rattle.icn_unit.specs.declared.unit.UnitName.{UnitName}
 use Rattle.icn_unit.specs.InstrWords.{instr_word_of}
-use Rattle.icn_unit.specs.UnitOperands.{cut, number_of, is_name}
+use Rattle.icn_unit.specs.UnitOperands.{first_field, number_of, is_name}
 use Rattle.icn_unit.specs.PlainUnits.{Proc, entry_names, params_in, proc_names}
 use Rattle.icn_unit.specs.UnitRules.{has_name, labels_placed, rank}
-use Rattle.icn_ucode.specs.UnitReading.{alone, headed, is_indented, Head, Stage, Heading, Outside, Naming, Coding, ProcsRead, begun, collects_read, code_line, coding_line, each_line, end_line, entry_by, entry_named, entry_read, flag_of, head_by, head_read, instr_line, instr_of, is_repeated, kind_of, last_rank, naming_line, or_bad, outside_line, params_read, procs_end, procs_line, procs_of, stage_end, stage_line, then_step, with_entry, with_instr}
+use Rattle.icn_ucode.specs.UnitReading.{alone, with_heading, is_indented, Head, Stage, Heading, Outside, Naming, Coding, ProcsRead, empty_proc, collects_read, code_line, coding_line, each_line, end_line, entry_by, entry_named, entry_read, flag_of, head_by, head_read, instr_line, instr_of, is_repeated, kind_of, last_rank, naming_line, or_bad, outside_line, params_read, procs_end, procs_line, procs_of, stage_end, stage_line, then_step, with_entry, with_instr}
 use Rattle.icn_unit.specs.UnitTexts.{flag_text, instr_text, kind_text, name_text, proc_text, procs_text}
 use Rattle.icn_ucode.proofs.Spelling.{rest_text, cut_all, number_text, word_spelled, instr_spelled}
 
@@ -109,11 +109,11 @@ collects_spelled name params (Some text) head e =
 params_spelled : (name : List ℕ) (rest : Option (List ℕ)) (head : Head) → params_read name rest ≡ Some head → name ++ rest_text rest ≡ head_line head.name head.params head.collects
 params_spelled name None head e = absurd (none-some head e)
 params_spelled name (Some text) head e =
-    ap (λ xs. name ++ 32 ∷ xs) (cut_all text) ∙ (sym (append_assoc name (32 ∷ (cut text).0) (rest_text (cut text).1)) ∙ collects_spelled name (cut text).0 (cut text).1 head e)
+    ap (λ xs. name ++ 32 ∷ xs) (cut_all text) ∙ (sym (append_assoc name (32 ∷ (first_field text).0) (rest_text (first_field text).1)) ∙ collects_spelled name (first_field text).0 (first_field text).1 head e)
 
 head_spelled : (operand : Option (List ℕ)) (head : Head) → head_read operand ≡ Some head → rest_text operand ≡ 32 ∷ head_line head.name head.params head.collects
 head_spelled None head e = absurd (none-some head e)
-head_spelled (Some text) head e = ap (λ xs. 32 ∷ xs) (cut_all text ∙ params_spelled (cut text).0 (cut text).1 head e)
+head_spelled (Some text) head e = ap (λ xs. 32 ∷ xs) (cut_all text ∙ params_spelled (first_field text).0 (first_field text).1 head e)
 
 -- Names
 
@@ -149,7 +149,7 @@ named_spelled names kind (Some name) entry e =
 
 entry_spelled : (names : List UnitName) (operand : Option (List ℕ)) (entry : UnitName) → entry_read names operand ≡ Some entry → rest_text operand ≡ 32 ∷ (kind_text entry.kind ++ 32 ∷ entry.name)
 entry_spelled names None entry e = absurd (none-some entry e)
-entry_spelled names (Some text) entry e = ap (λ xs. 32 ∷ xs) (cut_all text ∙ named_spelled names (cut text).0 (cut text).1 entry e)
+entry_spelled names (Some text) entry e = ap (λ xs. 32 ∷ xs) (cut_all text ∙ named_spelled names (first_field text).0 (first_field text).1 entry e)
 
 -- Procedures
 
@@ -190,7 +190,7 @@ pub texts_more : {A B : Type 0} (text : A → List B) (xs : List A) (x : A) → 
 texts_more text [] x = append-nil (text x)
 texts_more text (y ∷ xs) x = ap (λ t. text y ++ t) (texts_more text xs x) ∙ sym (append_assoc (text y) (flat_map text xs) (text x))
 
-headed_by : {A : Type 0} (heading word : List ℕ) (operand : Option (List ℕ)) (value next : A) → headed heading word operand value ≡ Ok next → (word ++ rest_text operand ≡ heading) × (value ≡ next)
+headed_by : {A : Type 0} (heading word : List ℕ) (operand : Option (List ℕ)) (value next : A) → with_heading heading word operand value ≡ Ok next → (word ++ rest_text operand ≡ heading) × (value ≡ next)
 headed_by {A} heading word operand value next e = by_word (bytes_eq word heading) refl operand e where
   by_word : (test : Bool) → bytes_eq word heading ≡ test → (operand : Option (List ℕ)) → ◌≡◌ {A = Result A Rule} (cond test (alone operand value) (Err U1)) (Ok next) → (word ++ rest_text operand ≡ heading) × (value ≡ next)
   by_word true t None e = (append-nil word ∙ same_text word heading (sym t), ok_same value next e)
@@ -198,8 +198,8 @@ headed_by {A} heading word operand value next e = by_word (bytes_eq word heading
   by_word false t operand e = absurd (err_ok U1 next e)
 
 -- a heading is its line
-pub heading_line : {A : Type 0} (heading line : List ℕ) (value next : A) → headed heading (cut line).0 (cut line).1 value ≡ Ok next → (line ≡ heading) × (value ≡ next)
-heading_line heading line value next e = let found = headed_by heading (cut line).0 (cut line).1 value next e in (cut_all line ∙ found.0, found.1)
+pub heading_line : {A : Type 0} (heading line : List ℕ) (value next : A) → with_heading heading (first_field line).0 (first_field line).1 value ≡ Ok next → (line ≡ heading) × (value ≡ next)
+heading_line heading line value next e = let found = headed_by heading (first_field line).0 (first_field line).1 value next e in (cut_all line ∙ found.0, found.1)
 
 heading_adds : (procs : List Proc) (line : List ℕ) (next : ProcsRead) → procs ≡ [] → stage_line procs Heading line ≡ Ok next → Adds [] line next
 heading_adds procs line next none e =
@@ -209,10 +209,10 @@ heading_adds procs line next none e =
 outside_adds : (procs : List Proc) (word : List ℕ) (operand : Option (List ℕ)) (next : ProcsRead) → outside_line procs word operand ≡ Ok next → Adds (procs_text procs) (word ++ rest_text operand) next
 outside_adds procs word operand next e = by_word (bytes_eq word (codes "proc")) refl e where
   by_word : (test : Bool) → bytes_eq word (codes "proc") ≡ test
-      → cond test (or_bad (head_read operand) (λ head. cond (has_name (proc_names procs) head.name) (Err U3) (Ok (record { procs = procs; stage = Naming head.params (begun head) })))) (Err U1) ≡ Ok next → Adds (procs_text procs) (word ++ rest_text operand) next
+      → cond test (or_bad (head_read operand) (λ head. cond (has_name (proc_names procs) head.name) (Err U3) (Ok (record { procs = procs; stage = Naming head.params (empty_proc head) })))) (Err U1) ≡ Ok next → Adds (procs_text procs) (word ++ rest_text operand) next
   by_word true t e =
-      let found = found_in (head_read operand) (λ head. cond (has_name (proc_names procs) head.name) (Err U3) (Ok (record { procs = procs; stage = Naming head.params (begun head) }))) next e in
-      let same = not_chosen (has_name (proc_names procs) found.0.name) (record { procs = procs; stage = Naming found.0.params (begun found.0) }) U3 next found.2 in
+      let found = found_in (head_read operand) (λ head. cond (has_name (proc_names procs) head.name) (Err U3) (Ok (record { procs = procs; stage = Naming head.params (empty_proc head) }))) next e in
+      let same = not_chosen (has_name (proc_names procs) found.0.name) (record { procs = procs; stage = Naming found.0.params (empty_proc found.0) }) U3 next found.2 in
       let line : codes "proc" ++ 32 ∷ head_line found.0.name found.0.params found.0.collects ≡ word ++ rest_text operand =
       ap (λ xs. codes "proc" ++ xs) (sym (head_spelled operand found.0 found.1)) ∙ ap (λ w. w ++ rest_text operand) (sym (same_text word (codes "proc") (sym t))) in
       subst (λ (next : ProcsRead). Adds (procs_text procs) (word ++ rest_text operand) next) same
@@ -300,11 +300,11 @@ coding_adds procs proc word operand next e = by_end (bytes_eq word (codes "end")
 
 stage_adds : (procs : List Proc) (stage : Stage) (line : List ℕ) (next : ProcsRead) → StageGood procs stage → stage_line procs stage line ≡ Ok next → Adds (stage_spelled procs stage) line next
 stage_adds procs Heading line next good e = heading_adds procs line next good e
-stage_adds procs Outside line next good e = subst (λ (l : List ℕ). Adds (procs_text procs) l next) (sym (cut_all line)) (outside_adds procs (cut line).0 (cut line).1 next e)
+stage_adds procs Outside line next good e = subst (λ (l : List ℕ). Adds (procs_text procs) l next) (sym (cut_all line)) (outside_adds procs (first_field line).0 (first_field line).1 next e)
 stage_adds procs (Naming params proc) line next good e =
-    subst (λ (l : List ℕ). Adds (procs_text procs ++ opened params proc) l next) (sym (cut_all line)) (naming_adds procs params proc (cut line).0 (cut line).1 next good e)
+    subst (λ (l : List ℕ). Adds (procs_text procs ++ opened params proc) l next) (sym (cut_all line)) (naming_adds procs params proc (first_field line).0 (first_field line).1 next good e)
 stage_adds procs (Coding proc) line next good e =
-    subst (λ (l : List ℕ). Adds (procs_text procs ++ opened (params_in proc.names) proc ++ codes "code" ++ 10 ∷ flat_map instr_text proc.instrs) l next) (sym (cut_all line)) (coding_adds procs proc (cut line).0 (cut line).1 next e)
+    subst (λ (l : List ℕ). Adds (procs_text procs ++ opened (params_in proc.names) proc ++ codes "code" ++ 10 ∷ flat_map instr_text proc.instrs) l next) (sym (cut_all line)) (coding_adds procs proc (first_field line).0 (first_field line).1 next e)
 
 line_adds : (read : ProcsRead) (line : List ℕ) (next : ProcsRead) → IsGood read → procs_line read line ≡ Ok next → Adds (spelled_so_far read) line next
 unfolding procs_line

@@ -24,7 +24,7 @@ use Rattle.icn_unit.specs.InstrWords.{word_text, instr_words, instr_word_of, wor
 use Rattle.icn_ucode.specs.UnitReading.{instr_of, operand_instr}
 use Rattle.icn_tree.specs.ByteSets.{members_below, members_of}
 use Rattle.icn_tree.specs.Characters.{is_digit, is_between}
-use Rattle.icn_unit.specs.UnitOperands.{cut, behind, is_inside, number_of, value_from, label_of, is_hexadecimal, hexadecimal_value, hexadecimal_bytes, bytes_of, ascends, is_name, keyword_of, keywords}
+use Rattle.icn_unit.specs.UnitOperands.{first_field, behind, is_inside, number_of, value_from, label_of, is_hexadecimal, hexadecimal_value, hexadecimal_bytes, bytes_of, ascends, is_name, keyword_of, keywords}
 use Rattle.icn_ucode.proofs.Differing.{both}
 use Rattle.icn_unit.specs.UnitTexts.{hexadecimal_digit, byte_text, bytes_text, label_text, operand_text}
 
@@ -33,10 +33,10 @@ rest_text None = []
 rest_text (Some rest) = 32 ∷ rest
 
 -- the words of a line are the line
-pub cut_all : (text : List ℕ) → text ≡ (cut text).0 ++ rest_text (cut text).1
+pub cut_all : (text : List ℕ) → text ≡ (first_field text).0 ++ rest_text (first_field text).1
 cut_all [] = refl
 cut_all (b ∷ text) = by_blank (b == 32) refl (cut_all text) where
-  by_blank : (test : Bool) → (b == 32) ≡ test → text ≡ (cut text).0 ++ rest_text (cut text).1
+  by_blank : (test : Bool) → (b == 32) ≡ test → text ≡ (first_field text).0 ++ rest_text (first_field text).1
       → b ∷ text ≡ take (cond (cond test false true) (1 + prefix_len is_inside text) 0) (b ∷ text) ++ rest_text (behind (drop (cond (cond test false true) (1 + prefix_len is_inside text) 0) (b ∷ text)))
   by_blank true t rest = ap (λ c. c ∷ text) (eqb-true b 32 t)
   by_blank false t rest = let more : 1 + prefix_len is_inside text ≡ suc (prefix_len is_inside text) = omega arith in rw more (ap (λ xs. b ∷ xs) rest)

@@ -16,8 +16,8 @@ use Rattle.icn_unit.specs.declared.unit.NameKind.TheVariants.{Parameter, Local, 
 use Rattle.icn_unit.specs.declared.unit.UnitName.{UnitName}
 use Rattle.icn_unit.specs.InstrWords.{instr_word_of, alone_of, labelled_of}
 use Rattle.icn_unit.specs.PlainUnits.{Proc, Decl, Global, Procedure, Link, Record, UnitRead, params_in, proc_names, entry_names, owned_names}
-use Rattle.icn_unit.specs.UnitOperands.{cut, number_of, label_of, is_name, bytes_of, ascends, keyword_of}
-use Rattle.icn_unit.specs.UnitRules.{has_name, has_label, labels_placed, place_of, placed, rank, same_names}
+use Rattle.icn_unit.specs.UnitOperands.{first_field, number_of, label_of, is_name, bytes_of, ascends, keyword_of}
+use Rattle.icn_unit.specs.UnitRules.{has_name, has_label, labels_placed, place_of, placed_labels, rank, same_names}
 
 -- Steps
 
@@ -61,7 +61,7 @@ instr_of word (Some text) names = operand_instr word text names
 
 -- the place of a label that has one
 abbrev pub is_repeated : List UnitInstr → UnitInstr → Bool
-is_repeated instrs instr = option_map_or (λ label. has_label (placed instrs) label) (place_of instr) false
+is_repeated instrs instr = option_map_or (λ label. has_label (placed_labels instrs) label) (place_of instr) false
 
 -- Procedures
 
@@ -83,12 +83,12 @@ collects_read name params (Some collects) = option_and_then (λ p. option_and_th
 
 abbrev pub params_read : List ℕ → Option (List ℕ) → Option Head
 params_read name None = None
-params_read name (Some text) = let words = cut text in collects_read name words.0 words.1
+params_read name (Some text) = let words = first_field text in collects_read name words.0 words.1
 
 -- `NAME P C`
 abbrev pub head_read : Option (List ℕ) → Option Head
 head_read None = None
-head_read (Some text) = let words = cut text in params_read words.0 words.1
+head_read (Some text) = let words = first_field text in params_read words.0 words.1
 
 abbrev pub kind_of : List ℕ → Option NameKind
 kind_of (b ∷ []) = if b == 112 then Some Parameter else (if b == 108 then Some Local else (if b == 115 then Some Static else (if b == 117 then Some Undeclared else None)))
@@ -107,7 +107,7 @@ entry_named names kind (Some name) = option_and_then (λ k. entry_by names k nam
 -- `K NAME`
 abbrev pub entry_read : List UnitName → Option (List ℕ) → Option UnitName
 entry_read names None = None
-entry_read names (Some text) = let words = cut text in entry_named names words.0 words.1
+entry_read names (Some text) = let words = first_field text in entry_named names words.0 words.1
 
 -- what the lines so far come to, and what the next may be: the heading, a procedure, a name or an instruction of one
 pub data Stage : Type 0 where
@@ -120,12 +120,12 @@ pub record ProcsRead : Type 0 where
   pub procs : List Proc
   pub stage : Stage
 
-abbrev pub begun : Head → Proc
-begun head = record { name = head.name; collects = head.collects; names = []; instrs = [] }
+abbrev pub empty_proc : Head → Proc
+empty_proc head = record { name = head.name; collects = head.collects; names = []; instrs = [] }
 
 abbrev pub outside_line : List Proc → List ℕ → Option (List ℕ) → Result ProcsRead Rule
 outside_line procs word operand =
-    if bytes_eq word (codes "proc") then or_bad (head_read operand) (λ head. if has_name (proc_names procs) head.name then Err U3 else Ok (record { procs = procs; stage = Naming head.params (begun head) }))
+    if bytes_eq word (codes "proc") then or_bad (head_read operand) (λ head. if has_name (proc_names procs) head.name then Err U3 else Ok (record { procs = procs; stage = Naming head.params (empty_proc head) }))
     else Err U1
 
 abbrev pub code_line : List Proc → ℕ → Proc → Option (List ℕ) → Result ProcsRead Rule
@@ -161,14 +161,14 @@ alone None value = Ok value
 alone (Some text) value = Err U3
 
 -- the heading of a text
-abbrev pub headed : {B : Type 0} → List ℕ → List ℕ → Option (List ℕ) → B → Result B Rule
-headed heading word operand value = if bytes_eq word heading then alone operand value else Err U1
+abbrev pub with_heading : {B : Type 0} → List ℕ → List ℕ → Option (List ℕ) → B → Result B Rule
+with_heading heading word operand value = if bytes_eq word heading then alone operand value else Err U1
 
 abbrev pub stage_line : List Proc → Stage → List ℕ → Result ProcsRead Rule
-stage_line procs Heading line = let words = cut line in headed (codes "U9.1") words.0 words.1 (record { procs = procs; stage = Outside })
-stage_line procs Outside line = let words = cut line in outside_line procs words.0 words.1
-stage_line procs (Naming params proc) line = let words = cut line in naming_line procs params proc words.0 words.1
-stage_line procs (Coding proc) line = let words = cut line in coding_line procs proc words.0 words.1
+stage_line procs Heading line = let words = first_field line in with_heading (codes "U9.1") words.0 words.1 (record { procs = procs; stage = Outside })
+stage_line procs Outside line = let words = first_field line in outside_line procs words.0 words.1
+stage_line procs (Naming params proc) line = let words = first_field line in naming_line procs params proc words.0 words.1
+stage_line procs (Coding proc) line = let words = first_field line in coding_line procs proc words.0 words.1
 
 unfoldable pub procs_line : ProcsRead → List ℕ → Result ProcsRead Rule
 procs_line read line = if is_indented line then Err U3 else stage_line read.procs read.stage line
@@ -220,7 +220,7 @@ record_by procs decls name rest = if is_name name && not (has_name procs name) &
 -- `NAME` and its fields, where procedures have names
 abbrev pub record_read : List (List ℕ) → List Decl → Option (List ℕ) → Option Decl
 record_read procs decls None = None
-record_read procs decls (Some text) = let words = cut text in record_by procs decls words.0 words.1
+record_read procs decls (Some text) = let words = first_field text in record_by procs decls words.0 words.1
 
 abbrev pub procedure_read : List Decl → Option (List ℕ) → Option Decl
 procedure_read decls operand = option_and_then (λ name. if has_name (owned_names decls) name then None else Some (Procedure name)) (name_read operand)
@@ -250,8 +250,8 @@ declaring_line procs decls word operand =
     else (if bytes_eq word (codes "end") then ended_line decls operand else Err U1))))
 
 abbrev pub decl_stage_line : List (List ℕ) → List Decl → DeclStage → List ℕ → Result DeclsRead Rule
-decl_stage_line procs decls DeclHeading line = let words = cut line in headed (codes "U9.2") words.0 words.1 (record { decls = decls; stage = Declaring })
-decl_stage_line procs decls Declaring line = let words = cut line in declaring_line procs decls words.0 words.1
+decl_stage_line procs decls DeclHeading line = let words = first_field line in with_heading (codes "U9.2") words.0 words.1 (record { decls = decls; stage = Declaring })
+decl_stage_line procs decls Declaring line = let words = first_field line in declaring_line procs decls words.0 words.1
 decl_stage_line procs decls Ended line = Err U1
 
 -- a line, where the procedures of the first text have these names
@@ -276,12 +276,12 @@ pub data UnitOutcome : Type 0 where
   Whole : UnitRead → UnitOutcome
   Faulty : Rule → Bool → UnitOutcome
 
-abbrev pub matched : List ℕ → List Proc → List Decl → UnitOutcome
-matched name procs decls = if same_names procs decls then Whole (record { name = name; procs = procs; decls = decls }) else Faulty U7 true
+abbrev pub matched_unit : List ℕ → List Proc → List Decl → UnitOutcome
+matched_unit name procs decls = if same_names procs decls then Whole (record { name = name; procs = procs; decls = decls }) else Faulty U7 true
 
 abbrev pub with_decls : List ℕ → List Proc → Result (List Decl) Rule → UnitOutcome
 with_decls name procs (Err rule) = Faulty rule true
-with_decls name procs (Ok decls) = matched name procs decls
+with_decls name procs (Ok decls) = matched_unit name procs decls
 
 abbrev pub with_procs : List ℕ → Result (List Proc) Rule → List ℕ → UnitOutcome
 with_procs name (Err rule) u2 = Faulty rule false

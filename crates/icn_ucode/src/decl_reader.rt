@@ -2,11 +2,11 @@
 ghost use Rattle.std.specs.Prelude.{◌≡◌, ◌&&◌, codes, map, not, IfOk};
 ghost use Rattle.std.specs.Option.{option_copied, option_map};
 ghost use Rattle.icn_unit.specs.PlainUnits.{proc_names};
-ghost use Rattle.icn_unit.specs.UnitOperands.{cut, is_name};
+ghost use Rattle.icn_unit.specs.UnitOperands.{first_field, is_name};
 ghost use Rattle.icn_unit.specs.UnitRules.{has_name};
 ghost use Rattle.icn_unit.specs.UnitViews.{decl_seen, proc_seen};
 ghost use Rattle.icn_ucode.specs.DeclViews.{DeclsAre, LineIs, reading_seen, stage_seen};
-ghost use Rattle.icn_ucode.specs.UnitReading.{Declaring, bytes_read, decl_stage_end, decl_stage_line, decls_line, decls_of, ended_line, fields_read, global_read, headed, link_read, name_read, or_bad, procedure_read, record_read, with_decl};
+ghost use Rattle.icn_ucode.specs.UnitReading.{Declaring, bytes_read, decl_stage_end, decl_stage_line, decls_line, decls_of, ended_line, fields_read, global_read, with_heading, link_read, name_read, or_bad, procedure_read, record_read, with_decl};
 
 use crate::decl_lists::{DeclReading, DeclStage, Decls, Fields};
 use crate::proc_lists::Procs;
@@ -177,7 +177,7 @@ fn end<'a>(decls: Decls<'a>, operand: Option<&[u8]>) -> Result<DeclReading<'a>, 
 }
 
 fn heading<'a>(decls: Decls<'a>, line: &[u8]) -> Result<DeclReading<'a>, Stop>
-    ensures { LineIs result (headed (codes "U9.2") (cut line.now).0 (cut line.now).1 (record { decls = map decl_seen decls.entry.decls.items; stage = Declaring })) }
+    ensures { LineIs result (with_heading (codes "U9.2") (first_field line.now).0 (first_field line.now).1 (record { decls = map decl_seen decls.entry.decls.items; stage = Declaring })) }
 {
     let (word, operand) = cut(line);
     if word != b"U9.2".as_slice() {

@@ -2,11 +2,11 @@
 ghost use Rattle.std.specs.Prelude.{◌≡◌, ◌++◌, ◌∷◌, [], map, IfOk, OnOk};
 ghost use Rattle.std.specs.List.{list_all};
 ghost use Rattle.icn_unit.specs.PlainUnits.{entry_names, proc_names};
-ghost use Rattle.icn_unit.specs.UnitRules.{has_label, has_name, label_in, labels_placed, place_of, placed};
+ghost use Rattle.icn_unit.specs.UnitRules.{has_label, has_name, label_in, labels_placed, place_of, placed_labels};
 ghost use Rattle.icn_unit.specs.UnitViews.{proc_seen};
 ghost use Rattle.icn_ucode.specs.LabelSets.{has_place, holds, known_label, with_place};
 ghost use Rattle.icn_tree.specs.NameSets.{has};
-ghost use Rattle.icn_ucode.specs.UnitReading.{begun, is_repeated, with_entry, with_instr};
+ghost use Rattle.icn_ucode.specs.UnitReading.{empty_proc, is_repeated, with_entry, with_instr};
 
 use crate::labels::Labels;
 use icn_tree::{Bytes, NameSet};
@@ -74,7 +74,7 @@ impl<'a> Begun<'a> {
         collects: bool,
     ) -> Result<Self, AllocError>
         ensures params { IfOk result (λ made. made.params ≡ params) }
-        ensures procedure { IfOk result (λ made. proc_seen made.proc ≡ begun (record { name = name.now; params = params; collects = collects })) }
+        ensures procedure { IfOk result (λ made. proc_seen made.proc ≡ empty_proc (record { name = name.now; params = params; collects = collects })) }
     {
         let proc = ProcCode {
             name: Bytes::from_slice(alloc, name)?,
@@ -140,7 +140,7 @@ pub struct Coded<'a> {
     name: &'a [u8],
     labels: Labels,
     ghost named: { name.now ≡ proc.name },
-    ghost known: { holds labels ≡ has_label (placed proc.instrs.items) },
+    ghost known: { holds labels ≡ has_label (placed_labels proc.instrs.items) },
 }
 
 impl<'a> Coded<'a> {

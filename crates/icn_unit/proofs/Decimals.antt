@@ -12,7 +12,7 @@ use Rattle.icn_text.specs.declared.keyword.Keyword.TheVariants.{Ascii, Cset, Cur
 use Rattle.icn_text.specs.Keywords.{keyword_name}
 use Rattle.icn_tree.specs.Spellings.{lookup_text}
 use Rattle.icn_unit.specs.UnitOperands.{value_from, keywords, keyword_of, is_hexadecimal, hexadecimal_value, hexadecimal_bytes}
-use Rattle.icn_unit.specs.OperandViews.{limited, value_limited, byte_item}
+use Rattle.icn_unit.specs.OperandViews.{within_limit, value_limited, byte_item}
 
 -- a number with more digits is no smaller
 from_grows : (n : ℕ) (digits : List ℕ) → n ≤ value_from n digits
@@ -22,17 +22,17 @@ from_grows n (b ∷ rest) = omega (arith, from_grows (n * 10 + (b - 48)) rest)
 digit_more : (n : ℕ) (digits : List ℕ) (i all : ℕ) → i < length digits → value_from n (drop i digits) ≡ all → value_from (n * 10 + (get_or digits i 0 - 48)) (drop (i + 1) digits) ≡ all
 digit_more n digits i all within h = sym (at_drop_more (value_from n) digits i 0 within) ∙ h
 
-limited_none : (n : ℕ) → None ≡ limited n → 9223372036854775807 < n
+limited_none : (n : ℕ) → None ≡ within_limit n → 9223372036854775807 < n
 limited_none n h = by_test (nat_le n 9223372036854775807) refl h where
   by_test : (test : Bool) → nat_le n 9223372036854775807 ≡ test → None ≡ cond test (Some n) None → 9223372036854775807 < n
   by_test true t h = absurd (cc)
   by_test false t h = grind (arith, nat_tests)
 
-too_large : (n : ℕ) → 9223372036854775807 < n → limited n ≡ None
+too_large : (n : ℕ) → 9223372036854775807 < n → within_limit n ≡ None
 too_large n h = cond-false (nat_le n 9223372036854775807) _ _ (grind (arith, nat_tests))
 
 -- what a number came to before the last of its digits is too large
-pub stays_large : (n : ℕ) (digits : List ℕ) (i : ℕ) → i < length digits → value_from n (drop i digits) ≡ value_from 0 digits → None ≡ limited (n * 10 + (get_or digits i 0 - 48)) → None ≡ value_limited digits
+pub stays_large : (n : ℕ) (digits : List ℕ) (i : ℕ) → i < length digits → value_from n (drop i digits) ≡ value_from 0 digits → None ≡ within_limit (n * 10 + (get_or digits i 0 - 48)) → None ≡ value_limited digits
 stays_large n digits i within so_far none =
     let rest : value_from (n * 10 + (get_or digits i 0 - 48)) (drop (i + 1) digits) ≡ value_from 0 digits = digit_more n digits i _ within so_far in
     let large : 9223372036854775807 < n * 10 + (get_or digits i 0 - 48) = limited_none _ none in

@@ -6,11 +6,11 @@ use Rattle.icn_unit.specs.declared.fault.UcodeFault.{UcodeFault}
 use Rattle.icn_unit.specs.declared.fault.UcodeFault.TheVariants.{Broken, NoMemory}
 use Rattle.icn_unit.specs.UnitOperands.{value_from, is_hexadecimal, hexadecimal_value}
 
-abbrev pub limited : ℕ → Option ℕ
-limited n = if nat_le n 9223372036854775807 then Some n else None
+abbrev pub within_limit : ℕ → Option ℕ
+within_limit n = if nat_le n 9223372036854775807 then Some n else None
 
 abbrev pub value_limited : List ℕ → Option ℕ
-value_limited text = limited (value_from 0 text)
+value_limited text = within_limit (value_from 0 text)
 
 abbrev pub byte_item : ℕ → ℕ → Option ℕ
 byte_item a b = if is_hexadecimal a && is_hexadecimal b then Some (hexadecimal_value a * 16 + hexadecimal_value b) else None

@@ -18,8 +18,8 @@ abbrev pub behind : List ℕ → Option (List ℕ)
 behind [] = None
 behind (b ∷ rest) = Some rest
 
-abbrev pub cut : List ℕ → List ℕ × Option (List ℕ)
-cut text = let count = prefix_len is_inside text in (take count text, behind (drop count text))
+abbrev pub first_field : List ℕ → List ℕ × Option (List ℕ)
+first_field text = let count = prefix_len is_inside text in (take count text, behind (drop count text))
 
 -- the number that decimal digits write behind those of a number
 abbrev pub value_from : ℕ → List ℕ → ℕ

@@ -79,8 +79,8 @@ place_list None = []
 place_list (Some label) = label ∷ []
 
 -- the labels that have their places among instructions
-abbrev pub placed : List UnitInstr → List ℕ
-placed instrs = flat_map (λ instr. place_list (place_of instr)) instrs
+abbrev pub placed_labels : List UnitInstr → List ℕ
+placed_labels instrs = flat_map (λ instr. place_list (place_of instr)) instrs
 
 -- the label that an instruction goes to
 abbrev pub label_in : UnitInstr → Option ℕ
@@ -93,14 +93,14 @@ label_in (Create label) = Some label
 label_in _ = None
 
 abbrev pub label_placed : List UnitInstr → UnitInstr → Bool
-label_placed instrs instr = option_map_or (λ label. has_label (placed instrs) label) (label_in instr) true
+label_placed instrs instr = option_map_or (λ label. has_label (placed_labels instrs) label) (label_in instr) true
 
 -- each label that an instruction goes to has its place
 abbrev pub labels_placed : List UnitInstr → Bool
 labels_placed instrs = list_all (λ instr. label_placed instrs instr) instrs
 
 abbrev pub keeps_code : ℕ → List UnitInstr → Bool
-keeps_code names instrs = list_all (λ instr. keeps_operand names instr) instrs && labels_differ (placed instrs) && labels_placed instrs
+keeps_code names instrs = list_all (λ instr. keeps_operand names instr) instrs && labels_differ (placed_labels instrs) && labels_placed instrs
 
 -- Procedures
 

@@ -3,16 +3,16 @@ ghost use Rattle.std.specs.Prelude.{◌≡◌, ◌≤◌, ◌+◌, ◌-◌, ◌*
 ghost use Rattle.std.specs.List.{prefix_len, list_all};
 ghost use Rattle.std.specs.Option.{option_copied, option_map};
 ghost use Rattle.icn_tree.specs.Characters.{begins_identifier, continues_identifier};
-ghost use Rattle.icn_unit.specs.UnitOperands.{ascends, behind, bytes_of, cut, hexadecimal_bytes, hexadecimal_value, is_hexadecimal, is_inside, is_name, keyword_of, label_of, number_of};
-ghost use Rattle.icn_unit.specs.OperandViews.{below_first, byte_item, is_in_line, limited, value_limited};
+ghost use Rattle.icn_unit.specs.UnitOperands.{ascends, behind, bytes_of, first_field, hexadecimal_bytes, hexadecimal_value, is_hexadecimal, is_inside, is_name, keyword_of, label_of, number_of};
+ghost use Rattle.icn_unit.specs.OperandViews.{below_first, byte_item, is_in_line, within_limit, value_limited};
 
 use icn_text::{Keyword, decimal, keyword_named};
 use std::alloc::{AllocError, Global};
 
 /// What stands before the first blank, and what stands behind it.
 pub fn cut(text: &[u8]) -> (&[u8], Option<&[u8]>)
-    ensures word { result.0.now ≡ (cut text.now).0 }
-    ensures behind { option_copied result.1 ≡ (cut text.now).1 }
+    ensures word { result.0.now ≡ (first_field text.now).0 }
+    ensures behind { option_copied result.1 ≡ (first_field text.now).1 }
 {
     let count = inside_len(text);
     let (word, rest) = text.split_at(count);
@@ -56,7 +56,7 @@ fn value(text: &[u8]) -> Option<u64>
 }
 
 fn with_digit(value: u64, byte: u8) -> Option<u64>
-    ensures { result ≡ limited (value * 10 + (byte - 48)) }
+    ensures { result ≡ within_limit (value * 10 + (byte - 48)) }
 {
     let longer = value
         .checked_mul(10)?

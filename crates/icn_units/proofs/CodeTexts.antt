@@ -7,7 +7,7 @@ use Rattle.icn_decls.specs.Faults.{procedure_faults}
 use Rattle.icn_tree.specs.NameSets.{NameTest}
 use Rattle.icn_unit.specs.PlainUnits.{entry_names}
 use Rattle.icn_unit.specs.UnitOperands.{is_name}
-use Rattle.icn_translate.specs.ProcCodes.{texts_of, local_texts, declared_texts, begun, drafted, proc_code}
+use Rattle.icn_translate.specs.ProcCodes.{texts_of, local_texts, declared_texts, first_draft, draft_of, proc_code}
 use Rattle.icn_units.specs.Written.{operand_fits, name_fits, names_fit, all_locals_fit, initial_fits, trees_fit, procedure_fits}
 use Rattle.icn_units.proofs.WrittenTrees.{both, first_of, second_of}
 use Rattle.icn_units.proofs.Procedures.{told_leads}
@@ -46,8 +46,8 @@ module _ (passes : List ℕ → Bool) (met : NameTest) (procedure : Procedure) (
       (texts_fit procedure.parameters (first_of parameters (locals && trees) rest))
       (locals_fit procedure.locals (first_of locals trees (second_of parameters (locals && trees) rest)))
 
-  kept : Kept passes (begun procedure) (drafted procedure) []
-  kept = are_kept passes (begun procedure) (drafted procedure) []
+  kept : Kept passes (first_draft procedure) (draft_of procedure) []
+  kept = are_kept passes (first_draft procedure) (draft_of procedure) []
       (told_leads (texts passes) met procedure faultless (told_texts passes (λ test. procedure_fits test procedure) written))
 
   pub code_operands_fit : list_all (operand_fits passes) (proc_code procedure).instrs ≡ true

@@ -22,7 +22,7 @@ use Rattle.icn_unit.specs.declared.unit.UnitInstr.TheVariants as I
 use Rattle.icn_unit.specs.declared.unit.UnitName.{UnitName}
 use Rattle.icn_unit.specs.PlainUnits.{entry_names}
 use Rattle.icn_unit.specs.UnitRules.{names_differ, in_order, rank}
-use Rattle.icn_translate.specs.ProcCodes.{entry_of, texts_of, kind_of, local_entries, local_texts, declared_entries, declared_texts, begun, drafted, undeclared, proc_code}
+use Rattle.icn_translate.specs.ProcCodes.{entry_of, texts_of, kind_of, local_entries, local_texts, declared_entries, declared_texts, first_draft, draft_of, undeclared, proc_code}
 use Rattle.icn_units.proofs.Forms.{none_before, none_behind}
 use Rattle.icn_units.proofs.Naming.{once_each, nor_of, is_not, Names, naming, naming_asks, are_named}
 use Rattle.icn_units.proofs.Procedures.{procedure_leads}
@@ -217,24 +217,24 @@ module _ (met : NameTest) (procedure : Procedure) (faultless : procedure_faults 
       subst (λ (texts : List (List ℕ)). names_differ texts ≡ true) (names_declared procedure)
       (texts_differ C1 none_met (declared_names procedure) once)
 
-  pub begun_names : (begun procedure).names ≡ declared_texts procedure
+  pub begun_names : (first_draft procedure).names ≡ declared_texts procedure
   begun_names = once_each [] (declared_texts procedure) declared_once
 
-  whole_names : Names (begun procedure) (drafted procedure) []
-  whole_names = are_named (begun procedure) (drafted procedure) []
+  whole_names : Names (first_draft procedure) (draft_of procedure) []
+  whole_names = are_named (first_draft procedure) (draft_of procedure) []
       (procedure_leads naming naming_asks met procedure faultless)
 
   -- the names of the code are those of the draft
-  pub code_names : entry_names (proc_code procedure).names ≡ (drafted procedure).names
+  pub code_names : entry_names (proc_code procedure).names ≡ (draft_of procedure).names
   code_names =
       let names = whole_names in
-      let others : undeclared procedure ≡ names.rest = ap (drop (length (begun procedure).names)) names.first
-      ∙ drop-append_seam (begun procedure).names names.rest in
+      let others : undeclared procedure ≡ names.rest = ap (drop (length (first_draft procedure).names)) names.first
+      ∙ drop-append_seam (first_draft procedure).names names.rest in
       map-append (λ (entry : UnitName). entry.name) (declared_entries procedure)
       (map (entry_of Undeclared) (undeclared procedure))
       ∙ ap (λ texts. texts ++ entry_names (map (entry_of Undeclared) (undeclared procedure)))
       (declared_named procedure ∙ sym begun_names)
-      ∙ ap (λ texts. (begun procedure).names ++ texts) (others_named (undeclared procedure) ∙ others)
+      ∙ ap (λ texts. (first_draft procedure).names ++ texts) (others_named (undeclared procedure) ∙ others)
       ∙ sym names.first
 
   pub code_names_differ : names_differ (entry_names (proc_code procedure).names) ≡ true
@@ -245,13 +245,13 @@ module _ (met : NameTest) (procedure : Procedure) (faultless : procedure_faults 
   pub code_names_in_order : in_order (proc_code procedure).names ≡ true
   code_names_in_order = procedure_order procedure (undeclared procedure)
 
-  whole_vars : Vars (begun procedure) (drafted procedure) []
-  whole_vars = have_vars (begun procedure) (drafted procedure) []
+  whole_vars : Vars (first_draft procedure) (draft_of procedure) []
+  whole_vars = have_vars (first_draft procedure) (draft_of procedure) []
       (procedure_leads variables variables_asks met procedure faultless)
 
   pub code_variables_named : variables_are_named (proc_code procedure) ≡ true
   code_variables_named =
-      let long : length (proc_code procedure).names ≡ length (drafted procedure).names =
+      let long : length (proc_code procedure).names ≡ length (draft_of procedure).names =
       sym (names_length (proc_code procedure).names) ∙ ap length code_names in
-      all_named (length (proc_code procedure).names) (drafted procedure).instrs
-      (subst (λ n. AllBelow n (drafted procedure).instrs) (sym long) (whole_vars.below tt))
+      all_named (length (proc_code procedure).names) (draft_of procedure).instrs
+      (subst (λ n. AllBelow n (draft_of procedure).instrs) (sym long) (whole_vars.below tt))

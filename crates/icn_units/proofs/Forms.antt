@@ -24,7 +24,7 @@ use Rattle.icn_translate.specs.declared.forms.PrefixForm.TheVariants.{Activation
 use Rattle.icn_translate.specs.Drafts.{Draft, ◌▹◌, put, next_label, with_label, unmentioned, in_loop, outside_loop, aside, put_next, put_last, in_case, put_end}
 use Rattle.icn_translate.specs.Instructions.{literal_instr, known_keyword, keyword_by, keyword_instr, section_op, infix_form, prefix_form}
 use Rattle.icn_translate.specs.Open.{Open, Outermost, Marked, Looped, Each, unmarks_for_break, unmarks_for_next, around}
-use Rattle.icn_translate.specs.Translation.{is_empty, is_nothing, is_no_element, elements, bounded, created, if_mark, unless_empty, either_step, control_part, in_control, in_body, back, loop_end, prefix_by, plain_form, update, augmented_form, case_of, looped_body, translate, operands, arguments, conjunction, conjuncts, compound, creations, other_creations, subscripts, to_step, otherwise, looped_part, suspended_part, guarded, guarded_clause, default_part, default_clause, initially, body}
+use Rattle.icn_translate.specs.Translation.{is_empty, is_nothing, is_no_element, elements, bounded_code, create_code, if_mark, unless_empty, either_step, control_part, in_control, in_body, back, loop_end, prefix_by, plain_form, update, augmented_form, case_of, looped_body, translate, operands, arguments, conjunction, conjuncts, compound, creations, other_creations, subscripts, to_step, otherwise, looped_part, suspended_part, guarded, guarded_clause, default_part, default_clause, initially, body}
 use Rattle.icn_units.specs.Written.{operand_fits, name_fits, literal_fits, tree_fits, maybe_fits, trees_fit, clause_fits, clauses_fit, initial_fits}
 use Rattle.icn_units.proofs.WrittenTrees.{first_of, second_of}
 use Rattle.icn_units.proofs.Chains.{variable_in, Told, Keeps, Runs, Chain, ◌▸◌, here, on, plainly, label, labelled, placed, second_placed, outer_runs}
@@ -208,14 +208,14 @@ module _ (S : Keeps) where
   unless_runs : {n : ℕ} (e : Tree) {s : Draft → Draft} → Runs S n s → Runs S n (unless_empty e s)
   unless_runs e r = if_runs (is_empty e) r
 
-  bounded_runs : {n : ℕ} {s : Draft → Draft} → Runs S n s → Runs S n (bounded s)
+  bounded_runs : {n : ℕ} {s : Draft → Draft} → Runs S n s → Runs S n (bounded_code s)
   bounded_runs r = record {
     run = λ d h. (from d h ▸ labelled I.Mark
         (λ l. record { label = refl; place = refl; variable = refl; operand = λ passes. refl }) ▸ on r
         ▸ plainly I.Unmark refl refl refl (λ h. refl) ▸ placed).leads;
   }
 
-  created_runs : {n : ℕ} {s : Draft → Draft} → Runs S 0 s → Runs S n (created s)
+  created_runs : {n : ℕ} {s : Draft → Draft} → Runs S 0 s → Runs S n (create_code s)
   created_runs r = record {
     run = λ d h. (from d h ▸ labelled I.Create
         (λ l. record { label = refl; place = refl; variable = refl; operand = λ passes. refl })

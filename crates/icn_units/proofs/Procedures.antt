@@ -11,10 +11,10 @@ use Rattle.icn_decls.specs.Faults.{too_many, fault_if_met, all_repeated, declare
 use Rattle.icn_tree.specs.NameSets.{NameTest, none_met}
 use Rattle.icn_unit.specs.declared.unit.UnitInstr.{UnitInstr}
 use Rattle.icn_unit.specs.declared.unit.UnitInstr.TheVariants as I
-use Rattle.icn_unit.specs.UnitRules.{label_in, place_of, place_list, placed, has_label, all_differ, labels_differ, labels_placed, label_placed}
+use Rattle.icn_unit.specs.UnitRules.{label_in, place_of, place_list, placed_labels, has_label, all_differ, labels_differ, labels_placed, label_placed}
 use Rattle.icn_translate.specs.declared.builder.Ways.{Ways}
 use Rattle.icn_translate.specs.Drafts.{Draft}
-use Rattle.icn_translate.specs.ProcCodes.{begun, drafted, proc_code}
+use Rattle.icn_translate.specs.ProcCodes.{first_draft, draft_of, proc_code}
 use Rattle.icn_units.specs.Written.{name_fits, names_fit, all_locals_fit, initial_fits, trees_fit, procedure_fits}
 use Rattle.icn_units.proofs.Chains.{Told, Keeps, ◌▸◌, on, plainly}
 use Rattle.icn_units.proofs.Forms.{none_before, none_behind, first_told, second_told, from, initially_runs, body_runs}
@@ -24,7 +24,7 @@ use Rattle.icn_units.proofs.Nesting.{nesting, nesting_asks, is_level}
 
 -- The whole draft of a procedure goes on from the one that it begins with.
 pub told_leads : (K : Keeps) (met : NameTest) (procedure : Procedure) → procedure_faults met procedure ≡ []
-    → Told K.asks (procedure_fits K.passes procedure) → K.Leads (begun procedure) (drafted procedure) []
+    → Told K.asks (procedure_fits K.passes procedure) → K.Leads (first_draft procedure) (draft_of procedure) []
 told_leads K met procedure x w =
     let many = too_many (length (declared_names procedure)) procedure.name in
     let owned = fault_if_met C8 met procedure.name in
@@ -42,7 +42,7 @@ told_leads K met procedure x w =
     let written = second_told locals (initial && body)
     (second_told parameters (locals && (initial && body))
     (second_told named (parameters && (locals && (initial && body))) w)) in
-    (from K (begun procedure) (K.inside_none (begun procedure))
+    (from K (first_draft procedure) (K.inside_none (first_draft procedure))
     ▸ on (initially_runs K procedure.initial (none_before first others trees) (first_told initial body written))
     ▸ on (body_runs K procedure.body (none_behind first others trees) (second_told initial body written))
     ▸ plainly I.Pfail refl refl refl (λ h. refl)).leads
@@ -53,7 +53,7 @@ not_told asks t e h = absurd (cc)
 -- where nothing is asked of names and literals
 pub procedure_leads : (K : Keeps) → K.asks ≡ false → (met : NameTest) (procedure : Procedure)
     → procedure_faults met procedure ≡ []
-    → K.Leads (begun procedure) (drafted procedure) []
+    → K.Leads (first_draft procedure) (draft_of procedure) []
 procedure_leads K h met procedure x = told_leads K met procedure x (not_told K.asks (procedure_fits K.passes procedure) h)
 
 -- Numbers
@@ -103,9 +103,9 @@ abbrev amount : ℕ → List ℕ → ℕ
 amount l [] = 0
 amount l (n ∷ ns) = one l n + amount l ns
 
-placed_amount : (l : ℕ) (is : List UnitInstr) → places l is ≡ amount l (placed is)
+placed_amount : (l : ℕ) (is : List UnitInstr) → places l is ≡ amount l (placed_labels is)
 placed_amount l [] = refl
-placed_amount l (i ∷ is) = by (place_of i) (placed is) (placed_amount l is)
+placed_amount l (i ∷ is) = by (place_of i) (placed_labels is) (placed_amount l is)
   where
     by : (k : Option ℕ) (ns : List ℕ) → places l is ≡ amount l ns → held l k + places l is
         ≡ amount l (place_list k ++ ns)
@@ -149,13 +149,13 @@ all_once (n ∷ ns) h = by (list_any (λ y. nat_eq n y) ns) (all_differ nat_eq n
     by true t e f = absurd (cc)
     by false t e f = f
 
-all_placed : (n : ℕ) (all is : List UnitInstr) → ((l : ℕ) → 0 < l → l ≤ n → has_label (placed all) l ≡ true)
+all_placed : (n : ℕ) (all is : List UnitInstr) → ((l : ℕ) → 0 < l → l ≤ n → has_label (placed_labels all) l ≡ true)
     → AllAmong n is → list_all (λ i. label_placed all i) is ≡ true
 all_placed n all [] h a = refl
 all_placed n all (i ∷ is) h a = both (label_placed all i) (list_all (λ i. label_placed all i) is)
     (by (label_in i) a.0) (all_placed n all is h a.1)
   where
-    by : (k : Option ℕ) → Among n k → option_map_or (λ label. has_label (placed all) label) k true ≡ true
+    by : (k : Option ℕ) → Among n k → option_map_or (λ label. has_label (placed_labels all) label) k true ≡ true
     by None b = refl
     by (Some l) b = h l b.0 b.1
 
@@ -173,7 +173,7 @@ no_ends : (l : ℕ) (ends : List (Option ℕ)) → length ends ≡ 0 → ends_he
 no_ends l [] h = refl
 no_ends l (end ∷ ends) h = absurd (omega arith)
 
-begun_times : (l : ℕ) (procedure : Procedure) → times l (begun procedure) ≡ 0
+begun_times : (l : ℕ) (procedure : Procedure) → times l (first_draft procedure) ≡ 0
 unfolding times
 begun_times l procedure = refl
 
@@ -185,15 +185,15 @@ ended_times l d h g = sum (places l d.instrs) (ways_held l d.loops) (ends_held l
     sum : (p w c : ℕ) → w ≡ 0 → c ≡ 0 → p + w + c ≡ p
     sum p w c e f = omega arith
 
-begun_numbered : (procedure : Procedure) → Numbered (begun procedure)
+begun_numbered : (procedure : Procedure) → Numbered (first_draft procedure)
 begun_numbered procedure = record { instrs = tt; loops = tt; cases = tt }
 
 module _ (met : NameTest) (procedure : Procedure) (faultless : procedure_faults met procedure ≡ []) where
   -- each number is placed as often as it is given
-  places_given : (l : ℕ) → places l (drafted procedure).instrs ≡ given l (drafted procedure).labels
+  places_given : (l : ℕ) → places l (draft_of procedure).instrs ≡ given l (draft_of procedure).labels
   places_given l =
-      let d = begun procedure in
-      let e = drafted procedure in
+      let d = first_draft procedure in
+      let e = draft_of procedure in
       let level = is_level d e [] (procedure_leads nesting nesting_asks met procedure faultless) in
       let counted = is_balanced d e [] (procedure_leads balance balance_asks met procedure faultless) in
       sum (times l d) (times l e) (places l e.instrs) (given l e.labels) (counted.counts l)
@@ -202,17 +202,17 @@ module _ (met : NameTest) (procedure : Procedure) (faultless : procedure_faults 
       sum : (Td Te P G : ℕ) → Te + 0 + 0 ≡ Td + G → Td ≡ 0 → Te ≡ P → P ≡ G
       sum Td Te P G a b c = omega arith
 
-  placed_given : (l : ℕ) → amount l (placed (drafted procedure).instrs) ≡ given l (drafted procedure).labels
-  placed_given l = sym (placed_amount l (drafted procedure).instrs) ∙ places_given l
+  placed_given : (l : ℕ) → amount l (placed_labels (draft_of procedure).instrs) ≡ given l (draft_of procedure).labels
+  placed_given l = sym (placed_amount l (draft_of procedure).instrs) ∙ places_given l
 
-  pub differ : labels_differ (placed (proc_code procedure).instrs) ≡ true
-  differ = all_once (placed (drafted procedure).instrs)
-      (λ l. let a = placed_given l in let b = given_most l (drafted procedure).labels in omega arith)
+  pub differ : labels_differ (placed_labels (proc_code procedure).instrs) ≡ true
+  differ = all_once (placed_labels (draft_of procedure).instrs)
+      (λ l. let a = placed_given l in let b = given_most l (draft_of procedure).labels in omega arith)
 
   pub are_placed : labels_placed (proc_code procedure).instrs ≡ true
   are_placed =
-      let e = drafted procedure in
-      let grown = has_grown (begun procedure) e [] (procedure_leads numbers numbers_asks met procedure faultless) in
-      all_placed e.labels e.instrs e.instrs (λ l h g. is_there l (placed e.instrs)
+      let e = draft_of procedure in
+      let grown = has_grown (first_draft procedure) e [] (procedure_leads numbers numbers_asks met procedure faultless) in
+      all_placed e.labels e.instrs e.instrs (λ l h g. is_there l (placed_labels e.instrs)
       (let a = placed_given l in let b = given_once l e.labels h g in omega arith))
       (grown.kept (begun_numbered procedure)).instrs

@@ -9,7 +9,7 @@ ghost use Rattle.icn_translate.specs.FileUnits.{proc_codes, unit_decls};
 ghost use Rattle.icn_translate.specs.ProcCodes.{proc_code};
 ghost use Rattle.icn_unit.specs.PlainUnits.{entry_names, owned_names, proc_names};
 ghost use Rattle.icn_unit.specs.UnitOperands.{is_name};
-ghost use Rattle.icn_unit.specs.UnitRules.{in_order, is_byte_text, labels_differ, labels_placed, keeps_rules, names_differ, placed, same_names};
+ghost use Rattle.icn_unit.specs.UnitRules.{in_order, is_byte_text, labels_differ, labels_placed, keeps_rules, names_differ, placed_labels, same_names};
 ghost use Rattle.icn_units.specs.CodeNames.{fields_differ, variables_are_named};
 ghost use Rattle.icn_units.specs.TypeBounds.{bytes_fit, numbers_fit};
 ghost use Rattle.icn_units.specs.Written.{HasBytes, file_fits, is_short, operand_fits, procedure_fits};
@@ -18,7 +18,7 @@ ghost use Rattle.icn_units.specs.Written.{HasBytes, file_fits, is_short, operand
 /// has one.
 pub fn labels_have_one_place()
     ensures differ { (met : NameTest) (procedure : Procedure) → procedure_faults met procedure ≡ []
-        → labels_differ (placed (proc_code procedure).instrs) ≡ true }
+        → labels_differ (placed_labels (proc_code procedure).instrs) ≡ true }
     ensures placed { (met : NameTest) (procedure : Procedure) → procedure_faults met procedure ≡ []
         → labels_placed (proc_code procedure).instrs ≡ true }
 {}

@@ -10,7 +10,7 @@ use Rattle.icn_code.specs.Codes.{Proc, proc_of, procs_of}
 use Rattle.icn_verify.specs.Reaching.{AreWithin}
 use Rattle.icn_verify.specs.Faults.{Breaks, IsSound, AreSound}
 use Rattle.icn_verify.specs.Passing.{fault_of}
-use Rattle.icn_verify.proofs.Passed.{reaches_within, some_within}
+use Rattle.icn_verify.proofs.FirstFaults.{reaches_within, some_within}
 use Rattle.icn_verify.proofs.Giving.{found_means}
 
 some_same : {A : Type 0} (a b : A) → Some a ≡ Some b → a ≡ b

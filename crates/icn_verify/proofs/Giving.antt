@@ -9,11 +9,11 @@ use Rattle.icn_verify.specs.Rows.{row_of, lacks, meets, fits, after, next, forwa
 use Rattle.icn_verify.specs.Reaching.{Reaches, starts, goes, AreWithin}
 use Rattle.icn_verify.specs.Faults.{Breaks, IsFirstOf, IsSound}
 use Rattle.icn_verify.specs.Given.{IsFine, HasShapes}
-use Rattle.icn_verify.specs.Passing.{Seen, unseen, one, several, seen_at, same_shape, fault_of}
+use Rattle.icn_verify.specs.Passing.{Arrival, unseen, one, several, seen_at, same_shape, fault_of}
 use Rattle.icn_verify.proofs.Same.{is_true_or_false, same_shape_tells, differ_by_test}
 use Rattle.icn_verify.proofs.Seeing.{Sums}
 use Rattle.icn_verify.proofs.Ways.{next_is, forward_past, back_upto}
-use Rattle.icn_verify.proofs.Passed.{IsPassed, IsOutcome, outcome, fit_both, reaches_within}
+use Rattle.icn_verify.proofs.FirstFaults.{IsPassed, IsOutcome, outcome, fit_both, reaches_within}
 
 none_some : {A : Type 0} (a : A) → let none : Option A = None in (none ≡ Some a) → ⊥
 none_some a h = cc
@@ -28,7 +28,7 @@ there (x ∷ xs) zero lt = (x, refl)
 there (x ∷ xs) (suc place) lt = there xs place (omega arith)
 
 -- the shape that was seen alone
-pub shape_seen : Seen → Option PlainShape
+pub shape_seen : Arrival → Option PlainShape
 shape_seen unseen = None
 shape_seen (one only) = Some only
 shape_seen (several n) = None
@@ -46,13 +46,13 @@ module _ (instrs : List Instr) (labels : AreWithin instrs) (passed : IsPassed in
   shapes place = shape_seen (seen_at passed.table place)
 
   -- what is shown of the shapes is what reaches
-  shows : (place : ℕ) (shape : PlainShape) → Reaches instrs place shape → (seen : Seen) → Sums (Reaches instrs place) seen → shape_seen seen ≡ Some shape
+  shows : (place : ℕ) (shape : PlainShape) → Reaches instrs place shape → (seen : Arrival) → Sums (Reaches instrs place) seen → shape_seen seen ≡ Some shape
   unfolding shape_seen
   shows place shape reaches unseen sums = absurd (sums shape reaches)
   shows place shape reaches (one only) sums = λ i. Some (sym (sums.alone shape reaches) i)
   shows place shape reaches (several n) sums = absurd (passed.sound place V2 (inl (record { one = sums.first; other = sums.other; reaches = sums.first_came; reaches_too = sums.other_came; differ = sums.differ })))
 
-  shown : (place : ℕ) (shape : PlainShape) (seen : Seen) → Sums (Reaches instrs place) seen → shape_seen seen ≡ Some shape → Reaches instrs place shape
+  shown : (place : ℕ) (shape : PlainShape) (seen : Arrival) → Sums (Reaches instrs place) seen → shape_seen seen ≡ Some shape → Reaches instrs place shape
   unfolding shape_seen
   shown place shape unseen sums h = absurd (none_some shape h)
   shown place shape (one only) sums h = subst (Reaches instrs place) (some_same only shape h) sums.came
@@ -63,7 +63,7 @@ module _ (instrs : List Instr) (labels : AreWithin instrs) (passed : IsPassed in
   has place shape reaches = shows place shape reaches (seen_at passed.table place) (passed.sums place)
 
   -- whether a shape reaches can be told
-  told : (place : ℕ) (shape : PlainShape) (seen : Seen) → Sums (Reaches instrs place) seen → Reaches instrs place shape ⊎ (Reaches instrs place shape → ⊥)
+  told : (place : ℕ) (shape : PlainShape) (seen : Arrival) → Sums (Reaches instrs place) seen → Reaches instrs place shape ⊎ (Reaches instrs place shape → ⊥)
   told place shape unseen sums = inr (sums shape)
   told place shape (several n) sums = absurd (passed.sound place V2 (inl (record { one = sums.first; other = sums.other; reaches = sums.first_came; reaches_too = sums.other_came; differ = sums.differ })))
   told place shape (one only) sums = by (same_shape only shape) refl

@@ -8,7 +8,7 @@ use Rattle.icn_verify.specs.Shapes.{PlainShape, look_of}
 use Rattle.icn_verify.specs.Rows.{row_of, lacks, meets, back, strays}
 use Rattle.icn_verify.specs.Reaching.{Reaches}
 use Rattle.icn_verify.specs.Faults.{Breaks, LacksOperand, HasTwoShapes, LacksShape, Strays, LacksWhatItAsks, EndIsReached, number_of}
-use Rattle.icn_verify.specs.Passing.{Seen, unseen, one, several, seen_at, is_one, misses, rule_of_one, rule_at_end}
+use Rattle.icn_verify.specs.Passing.{Arrival, unseen, one, several, seen_at, is_one, misses, rule_of_one, rule_at_end}
 use Rattle.icn_verify.proofs.Same.{both}
 use Rattle.icn_verify.proofs.Seeing.{Sums, IsOnly, AreSeveral, holds, is_held}
 
@@ -120,7 +120,7 @@ module _ (instrs : List Instr) (place : ℕ) where
                 let is : b.instr ≡ instr = same_instr b.instr b.met.stands in
                 fewer_lack n b.shape (sums.fewest b.shape b.met.reaches) h (subst (λ i. lacks i b.shape ≡ true) is b.lacking)
 
-    module _ (table : List Seen) (only : PlainShape) (sums : IsOnly (Reaches instrs place) only)
+    module _ (table : List Arrival) (only : PlainShape) (sums : IsOnly (Reaches instrs place) only)
         (known : (label : ℕ) → label ≤ place → Sums (Reaches instrs label) (seen_at table label))
         (single : (label : ℕ) → label ≤ place → (a b : PlainShape) → Reaches instrs label a → Reaches instrs label b → a ≢ b → ⊥) where
       not_lacking : lacks instr only ≡ false → LacksOperand instrs place → ⊥
@@ -214,7 +214,7 @@ module _ (instrs : List Instr) (place : ℕ) where
       least_one = lacks_as (lacks instr only) refl
 
   -- at the end
-  pub least_end : place ≡ length instrs → (seen : Seen) → Sums (Reaches instrs place) seen → IsLeast (rule_at_end seen)
+  pub least_end : place ≡ length instrs → (seen : Arrival) → Sums (Reaches instrs place) seen → IsLeast (rule_at_end seen)
   least_end ends unseen sums = unreached sums
   least_end ends (one only) sums = record {
     breaks = record { shape = only; reaches = sums.came; ends = ends };

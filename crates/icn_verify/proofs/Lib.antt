@@ -3,7 +3,7 @@ mod Seeing
 mod Ways
 mod Arriving
 mod Judging
-mod Passed
+mod FirstFaults
 mod Giving
 mod Stacking
 mod Entering

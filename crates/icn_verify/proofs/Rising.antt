@@ -12,8 +12,8 @@ use Rattle.icn_verify.specs.declared.rows.Row.{Row}
 use Rattle.icn_verify.specs.declared.rows.Way.{Way}
 use Rattle.icn_verify.specs.declared.rows.Way.TheVariants.{On, Ends, Fails, Jumps, Returns, Retries, Skips, Forks}
 use Rattle.icn_verify.specs.Shapes.{PlainShape, start_shape, with_fewer, with_more}
-use Rattle.icn_verify.specs.Rows.{row_of, lacks, changed, after, next_by, forward_by, next, forward}
-use Rattle.icn_verify.specs.Passing.{Seen, unseen, one, several, same_shape, joined, seen_at, arrived, sent, first_table, rule_at}
+use Rattle.icn_verify.specs.Rows.{row_of, lacks, change_levels, after, next_by, forward_by, next, forward}
+use Rattle.icn_verify.specs.Passing.{Arrival, unseen, one, several, same_shape, with_shape, seen_at, with_arrival, pass_on, first_table, rule_at}
 use Rattle.icn_verify.specs.Counting.{IsLow, AreLow, IsLowShape, IsLowSeen, IsLowTable, FindsRoom}
 
 -- What is low stays low under a greater bound
@@ -28,28 +28,28 @@ all_raised m n le (level ∷ levels) low = (raised m n le level low.0, all_raise
 shape_raised : (m n : ℕ) → m ≤ n → (shape : PlainShape) → IsLowShape m shape → IsLowShape n shape
 shape_raised m n le shape low = record { inner = raised m n le shape.inner low.inner; outer = all_raised m n le shape.outer low.outer }
 
-seen_raised : (m n : ℕ) → m ≤ n → (seen : Seen) → IsLowSeen m seen → IsLowSeen n seen
+seen_raised : (m n : ℕ) → m ≤ n → (seen : Arrival) → IsLowSeen m seen → IsLowSeen n seen
 seen_raised m n le unseen low = tt
 seen_raised m n le (one shape) low = shape_raised m n le shape low
 seen_raised m n le (several fewest) low = tt
 
-table_raised : (m n : ℕ) → m ≤ n → (table : List Seen) → IsLowTable m table → IsLowTable n table
+table_raised : (m n : ℕ) → m ≤ n → (table : List Arrival) → IsLowTable m table → IsLowTable n table
 table_raised m n le [] low = tt
 table_raised m n le (seen ∷ table) low = (seen_raised m n le seen low.0, table_raised m n le table low.1)
 
 -- Tables
 
-low_at : (most : ℕ) (table : List Seen) (place : ℕ) → IsLowTable most table → IsLowSeen most (seen_at table place)
+low_at : (most : ℕ) (table : List Arrival) (place : ℕ) → IsLowTable most table → IsLowSeen most (seen_at table place)
 low_at most [] place low = tt
 low_at most (seen ∷ table) zero low = low.0
 low_at most (seen ∷ table) (suc place) low = low_at most table place low.1
 
-low_set : (most : ℕ) (table : List Seen) (place : ℕ) (seen : Seen) → IsLowTable most table → IsLowSeen most seen → IsLowTable most (slice_set table place seen)
+low_set : (most : ℕ) (table : List Arrival) (place : ℕ) (seen : Arrival) → IsLowTable most table → IsLowSeen most seen → IsLowTable most (slice_set table place seen)
 low_set most [] place seen low h = tt
 low_set most (other ∷ table) zero seen low h = (h, low.1)
 low_set most (other ∷ table) (suc place) seen low h = (low.0, low_set most table place seen low.1 h)
 
-low_joined : (most : ℕ) (seen : Seen) (shape : PlainShape) → IsLowSeen most seen → IsLowShape most shape → IsLowSeen most (joined seen shape)
+low_joined : (most : ℕ) (seen : Arrival) (shape : PlainShape) → IsLowSeen most seen → IsLowShape most shape → IsLowSeen most (with_shape seen shape)
 low_joined most unseen shape low h = h
 low_joined most (one before) shape low h = by (same_shape before shape)
   where
@@ -63,9 +63,9 @@ abbrev IsLowSent : ℕ → Option (ℕ × PlainShape) → Type 0
 IsLowSent most None = Unit {0}
 IsLowSent most (Some to) = IsLowShape most to.1
 
-low_arrived : (most : ℕ) (table : List Seen) (to : Option (ℕ × PlainShape)) → IsLowTable most table → IsLowSent most to → IsLowTable most (arrived table to)
+low_arrived : (most : ℕ) (table : List Arrival) (to : Option (ℕ × PlainShape)) → IsLowTable most table → IsLowSent most to → IsLowTable most (with_arrival table to)
 low_arrived most table None low h = low
-low_arrived most table (Some to) low h = low_set most table to.0 (joined (seen_at table to.0) to.1) low (low_joined most (seen_at table to.0) to.1 (low_at most table to.0 low) h)
+low_arrived most table (Some to) low h = low_set most table to.0 (with_shape (seen_at table to.0) to.1) low (low_joined most (seen_at table to.0) to.1 (low_at most table to.0 low) h)
 
 low_start : (most : ℕ) (in_create : Bool) → IsLowShape most (start_shape in_create)
 low_start most in_create = record { inner = record { operands = omega arith; scans = omega arith }; outer = tt }
@@ -162,7 +162,7 @@ module _ (n takes leaves : ℕ) (more : leaves ≤ takes + 1) (in_create : Bool)
   on_outer level held few = record { operands = omega (arith, held.operands, few); scans = omega (arith, held.scans) }
 
   abbrev left_by : Change → List Level → PlainShape
-  left_by change outer = with_more leaves (changed change (with_fewer takes (record { in_create = in_create; inner = inner; outer = outer })))
+  left_by change outer = with_more leaves (change_levels change (with_fewer takes (record { in_create = in_create; inner = inner; outer = outer })))
 
   low_left : (change : Change) → (change ≡ Keeps) ⊎ (leaves ≤ 1) → (outer : List Level) → AreLow n outer → IsLowShape (n + 1) (left_by change outer)
   low_left Keeps few outer held = record { inner = on_inner inner.scans (omega (arith, low.scans)); outer = all_raised n (n + 1) (omega arith) outer held }
@@ -211,21 +211,21 @@ lacks_nothing : (lacking : Bool) (rest : Option Rule) → (if lacking then Some 
 lacks_nothing true rest h = absurd (some_none V1 h)
 lacks_nothing false rest h = refl
 
-module _ (n : ℕ) (table : List Seen) (low : IsLowTable n table) (place : ℕ) (instr : Instr) where
-  sent_low : (seen : Seen) → IsLowSeen n seen → rule_at table place instr seen ≡ None → IsLowTable (n + 1) (sent table place instr seen)
+module _ (n : ℕ) (table : List Arrival) (low : IsLowTable n table) (place : ℕ) (instr : Instr) where
+  sent_low : (seen : Arrival) → IsLowSeen n seen → rule_at table place instr seen ≡ None → IsLowTable (n + 1) (pass_on table place instr seen)
   sent_low unseen held none = table_raised n (n + 1) (omega arith) table low
   sent_low (several fewest) held none = table_raised n (n + 1) (omega arith) table low
   sent_low (one shape) held none =
       let left = low_after n instr shape (lacks_nothing (lacks instr shape) _ none) held in
-      low_arrived (n + 1) (arrived table (next instr place shape)) (forward instr shape)
+      low_arrived (n + 1) (with_arrival table (next instr place shape)) (forward instr shape)
       (low_arrived (n + 1) table (next instr place shape) (table_raised n (n + 1) (omega arith) table low) (low_next (n + 1) place (row_of instr).way _ left))
       (low_forward (n + 1) (row_of instr).way shape _ (shape_raised n (n + 1) (omega arith) shape held) left)
 
   -- the table is as low as the instructions before are many
-  pub low_sent : rule_at table place instr (seen_at table place) ≡ None → IsLowTable (n + 1) (sent table place instr (seen_at table place))
+  pub low_sent : rule_at table place instr (seen_at table place) ≡ None → IsLowTable (n + 1) (pass_on table place instr (seen_at table place))
   low_sent none = sent_low (seen_at table place) (low_at n table place low) none
 
-  room_at : n + 1 < 2 ^ 32 → (seen : Seen) → IsLowSeen n seen → rule_at table place instr seen ≡ None → FindsRoom instr seen
+  room_at : n + 1 < 2 ^ 32 → (seen : Arrival) → IsLowSeen n seen → rule_at table place instr seen ≡ None → FindsRoom instr seen
   room_at few unseen held none = tt
   room_at few (several fewest) held none = tt
   room_at few (one shape) held none = record {

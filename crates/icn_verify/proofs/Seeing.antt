@@ -3,7 +3,7 @@ use Rattle.std.proofs.Common.{◌≡◌, ◌≢◌, ℕ, ◌+◌, ◌<◌, ◌�
 use Rattle.std.proofs.lemmas.Bool.{cases_lt, cases_eq}
 use Rattle.std.proofs.lemmas.List.{get_or-set_same, get_or-set_other, length-set}
 use Rattle.icn_verify.specs.Shapes.{PlainShape}
-use Rattle.icn_verify.specs.Passing.{Seen, unseen, one, several, joined, seen_at, arrived, same_shape, is_one}
+use Rattle.icn_verify.specs.Passing.{Arrival, unseen, one, several, with_shape, seen_at, with_arrival, same_shape, is_one}
 use Rattle.icn_verify.proofs.Same.{same_shape_tells, same_shapes, differ_by_test}
 
 -- shapes that differ, of whose operands the fewest are n
@@ -22,13 +22,13 @@ pub record IsOnly (Came : PlainShape → Type 0) (only : PlainShape) : Type 0 wh
   pub came : Came only
   pub alone : (shape : PlainShape) → Came shape → shape ≡ only
 
-abbrev pub Sums : (PlainShape → Type 0) → Seen → Type 0
+abbrev pub Sums : (PlainShape → Type 0) → Arrival → Type 0
 Sums Came unseen = (shape : PlainShape) → Came shape → ⊥
 Sums Came (one only) = IsOnly Came only
 Sums Came (several n) = AreSeveral Came n
 
 -- the same shapes, said otherwise
-pub sums_as : (Came Came' : PlainShape → Type 0) → ((shape : PlainShape) → Came shape → Came' shape) → ((shape : PlainShape) → Came' shape → Came shape) → (seen : Seen) → Sums Came seen → Sums Came' seen
+pub sums_as : (Came Came' : PlainShape → Type 0) → ((shape : PlainShape) → Came shape → Came' shape) → ((shape : PlainShape) → Came' shape → Came shape) → (seen : Arrival) → Sums Came seen → Sums Came' seen
 sums_as Came Came' on back unseen h = λ shape came. h shape (back shape came)
 sums_as Came Came' on back (one only) h = record { came = on only h.came; alone = λ shape came. h.alone shape (back shape came) }
 sums_as Came Came' on back (several n) h = record {
@@ -52,7 +52,7 @@ module _ (Came Came' : PlainShape → Type 0) (new : PlainShape) (either' : (sha
       by (inl lt) = (lowest, came, omega arith)
       by (inr le) = (new, comes, omega arith)
 
-  sums_joined : (seen : Seen) → Sums Came seen → Sums Came' (joined seen new)
+  sums_joined : (seen : Arrival) → Sums Came seen → Sums Came' (with_shape seen new)
   sums_joined unseen h = record { came = comes; alone = λ shape came. alone shape (either' shape came) }
     where
       alone : (shape : PlainShape) → Came shape ⊎ (shape ≡ new) → shape ≡ new
@@ -108,13 +108,13 @@ abbrev pub Adds : (ℕ → PlainShape → Type 0) → Option (ℕ × PlainShape)
 Adds Came to place shape = Came place shape ⊎ (to ≡ Some (place, shape))
 
 -- a table sums up what came to the places up to n
-abbrev pub SumUp : (ℕ → PlainShape → Type 0) → ℕ → List Seen → Type 0
+abbrev pub SumUp : (ℕ → PlainShape → Type 0) → ℕ → List Arrival → Type 0
 SumUp Came n table = (place : ℕ) → place ≤ n → Sums (Came place) (seen_at table place)
 
 none_some : (to : ℕ × PlainShape) → let none : Option (ℕ × PlainShape) = None in (none ≡ Some to) → ⊥
 none_some to h = cc
 
-pub sums_arrived : (Came : ℕ → PlainShape → Type 0) (n : ℕ) (table : List Seen) (to : Option (ℕ × PlainShape)) → length table ≡ n + 1 → SumUp Came n table → SumUp (Adds Came to) n (arrived table to)
+pub sums_arrived : (Came : ℕ → PlainShape → Type 0) (n : ℕ) (table : List Arrival) (to : Option (ℕ × PlainShape)) → length table ≡ n + 1 → SumUp Came n table → SumUp (Adds Came to) n (with_arrival table to)
 sums_arrived Came n table None long sums place within =
     sums_as (Came place) (Adds Came None place) (λ shape came. inl came) back (seen_at table place) (sums place within)
   where
@@ -139,29 +139,29 @@ sums_arrived Came n table (Some to) long sums place within = by (cases_eq place 
         carried None = shape
         carried (Some p) = p.1
 
-    by : (place ≡ to.0) ⊎ (place ≡ to.0 → ⊥) → Sums (Adds Came (Some to) place) (seen_at (arrived table (Some to)) place)
+    by : (place ≡ to.0) ⊎ (place ≡ to.0 → ⊥) → Sums (Adds Came (Some to) place) (seen_at (with_arrival table (Some to)) place)
     by (inl is) =
-        let at : seen_at (arrived table (Some to)) place ≡ joined (seen_at table place) to.1 =
-        ap (λ p. seen_at (slice_set table to.0 (joined (seen_at table to.0) to.1)) p) is ∙ get_or-set_same table to.0 (joined (seen_at table to.0) to.1) unseen (omega arith) ∙ ap (λ p. joined (seen_at table p) to.1) (sym is) in
+        let at : seen_at (with_arrival table (Some to)) place ≡ with_shape (seen_at table place) to.1 =
+        ap (λ p. seen_at (slice_set table to.0 (with_shape (seen_at table to.0) to.1)) p) is ∙ get_or-set_same table to.0 (with_shape (seen_at table to.0) to.1) unseen (omega arith) ∙ ap (λ p. with_shape (seen_at table p) to.1) (sym is) in
         subst (Sums (Adds Came (Some to) place)) (sym at)
         (sums_joined (Came place) (Adds Came (Some to) place) to.1 (split is) (λ shape came. inl came) (inr (λ i. Some (sym is i, to.1))) (seen_at table place) (sums place within))
     by (inr ne) =
-        let at : seen_at (arrived table (Some to)) place ≡ seen_at table place = get_or-set_other table to.0 place (joined (seen_at table to.0) to.1) unseen ne in
+        let at : seen_at (with_arrival table (Some to)) place ≡ seen_at table place = get_or-set_other table to.0 place (with_shape (seen_at table to.0) to.1) unseen ne in
         subst (Sums (Adds Came (Some to) place)) (sym at)
         (sums_as (Came place) (Adds Came (Some to) place) (λ shape came. inl came) (other ne) (seen_at table place) (sums place within))
 
-pub length_arrived : (table : List Seen) (to : Option (ℕ × PlainShape)) → length (arrived table to) ≡ length table
+pub length_arrived : (table : List Arrival) (to : Option (ℕ × PlainShape)) → length (with_arrival table to) ≡ length table
 length_arrived table None = refl
-length_arrived table (Some to) = length-set table to.0 (joined (seen_at table to.0) to.1)
+length_arrived table (Some to) = length-set table to.0 (with_shape (seen_at table to.0) to.1)
 
 -- whether the one shape that came is this one
-pub holds : (Came : PlainShape → Type 0) (seen : Seen) (shape : PlainShape) → Sums Came seen → is_one seen shape ≡ true → Came shape
+pub holds : (Came : PlainShape → Type 0) (seen : Arrival) (shape : PlainShape) → Sums Came seen → is_one seen shape ≡ true → Came shape
 holds Came unseen shape sums h = absurd (true≢false (sym h))
 holds Came (one only) shape sums h = subst Came (same_shape_tells only shape h) sums.came
 holds Came (several n) shape sums h = absurd (true≢false (sym h))
 
 -- where no two came, the test of the one that came is right
-pub is_held : (Came : PlainShape → Type 0) (seen : Seen) (shape : PlainShape) → Sums Came seen → ((a b : PlainShape) → Came a → Came b → a ≢ b → ⊥) → Came shape → is_one seen shape ≡ true
+pub is_held : (Came : PlainShape → Type 0) (seen : Arrival) (shape : PlainShape) → Sums Came seen → ((a b : PlainShape) → Came a → Came b → a ≢ b → ⊥) → Came shape → is_one seen shape ≡ true
 is_held Came unseen shape sums alone came = absurd (sums shape came)
 is_held Came (one only) shape sums alone came = same_shapes only shape (sym (sums.alone shape came))
 is_held Came (several n) shape sums alone came = absurd (alone sums.first sums.other sums.first_came sums.other_came sums.differ)

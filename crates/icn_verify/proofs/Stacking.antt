@@ -9,7 +9,7 @@ use Rattle.icn_verify.specs.Shapes.{shape_outside}
 use Rattle.icn_verify.specs.Passing.{same_levels}
 use Rattle.icn_verify.specs.Stacks.{stack_at, stacked, stacks_of, IsOnce, Grows}
 use Rattle.icn_verify.proofs.Same.{same_levels_tells, levels_itself}
-use Rattle.icn_verify.proofs.Passed.{some_within}
+use Rattle.icn_verify.proofs.FirstFaults.{some_within}
 
 none_some : {A : Type 0} (a : A) → let none : Option A = None in (none ≡ Some a) → ⊥
 none_some a h = cc

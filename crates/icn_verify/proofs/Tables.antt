@@ -10,7 +10,7 @@ use Rattle.icn_verify.specs.declared.table.Slot.{Slot}
 use Rattle.icn_verify.specs.declared.table.Slot.TheVariants.{Free, One, Several}
 use Rattle.icn_verify.specs.Shapes.{PlainShape, start_shape}
 use Rattle.icn_verify.specs.Rows.{row_of, after, next_by, forward_by, next, forward}
-use Rattle.icn_verify.specs.Passing.{Seen, unseen, one, joined, seen_at, arrived, sent, first_table, rule_at, rule_at_end, placed, first_placed, judged}
+use Rattle.icn_verify.specs.Passing.{Arrival, unseen, one, with_shape, seen_at, with_arrival, pass_on, first_table, rule_at, rule_at_end, at_address, first_placed, first_fault}
 use Rattle.icn_verify.specs.Stacks.{Grows, shape_in, seen_in, IsHeld, IsKept, AreKept, table_in}
 use Rattle.icn_verify.proofs.Stacking.{kept_stack, kept_held}
 
@@ -22,11 +22,11 @@ at_slot stacks (slot ∷ slots) (suc place) = at_slot stacks slots place
 pub at_slot_is : (stacks : List (List Level)) (slots : List Slot) (place : ℕ) (slot : Slot) → slot ≡ slice_index_or slots place Free → seen_at (table_in stacks slots) place ≡ seen_in stacks slot
 at_slot_is stacks slots place slot is = at_slot stacks slots place ∙ ap (seen_in stacks) (sym is)
 
-pub arrived_at : (stacks : List (List Level)) (slots : List Slot) (place : ℕ) (slot before : Slot) (flat : Flat) → before ≡ slice_index_or slots place Free → seen_in stacks slot ≡ joined (seen_in stacks before) (shape_in stacks flat)
-    → table_in stacks (slice_set slots place slot) ≡ slice_set (table_in stacks slots) place (joined (seen_at (table_in stacks slots) place) (shape_in stacks flat))
+pub arrived_at : (stacks : List (List Level)) (slots : List Slot) (place : ℕ) (slot before : Slot) (flat : Flat) → before ≡ slice_index_or slots place Free → seen_in stacks slot ≡ with_shape (seen_in stacks before) (shape_in stacks flat)
+    → table_in stacks (slice_set slots place slot) ≡ slice_set (table_in stacks slots) place (with_shape (seen_at (table_in stacks slots) place) (shape_in stacks flat))
 arrived_at stacks slots place slot before flat is h =
     map-set (seen_in stacks) slots place slot
-    ∙ ap (slice_set (table_in stacks slots) place) (h ∙ ap (λ s. joined s (shape_in stacks flat)) (sym (at_slot_is stacks slots place before is)))
+    ∙ ap (slice_set (table_in stacks slots) place) (h ∙ ap (λ s. with_shape s (shape_in stacks flat)) (sym (at_slot_is stacks slots place before is)))
 
 map_replicate : (stacks : List (List Level)) (count : ℕ) → table_in stacks (replicate count Free) ≡ replicate count unseen
 map_replicate stacks zero = refl
@@ -66,12 +66,12 @@ module _ (old new : List (List Level)) (grows : Grows old new) where
 pub sent_by : (old new : List (List Level)) → Grows old new → (slots next_slots last_slots : List Slot) → AreKept old slots → (flat left : Flat) → IsHeld old flat → (row : Row) (instr : Instr) → row ≡ row_of instr → (place : ℕ)
     → shape_in new left ≡ after row (shape_in old flat)
     → (to on : Option (ℕ × PlainShape)) → to ≡ next_by row.way place (shape_in new left) → on ≡ forward_by row.way (shape_in new flat) (shape_in new left)
-    → table_in new next_slots ≡ arrived (table_in new slots) to
-    → table_in new last_slots ≡ arrived (table_in new next_slots) on
-    → table_in new last_slots ≡ sent (table_in old slots) place instr (one (shape_in old flat))
+    → table_in new next_slots ≡ with_arrival (table_in new slots) to
+    → table_in new last_slots ≡ with_arrival (table_in new next_slots) on
+    → table_in new last_slots ≡ pass_on (table_in old slots) place instr (one (shape_in old flat))
 sent_by old new grows slots next_slots last_slots kept flat left held row instr is place left_is to on to_is on_is first second =
-    second ∙ ap (λ t. arrived t on) first ∙ ap (λ t. arrived (arrived t to) on) (kept_table old new grows slots kept)
-    ∙ (λ i. arrived (arrived (table_in old slots) (next_is i)) (forward_is i))
+    second ∙ ap (λ t. with_arrival t on) first ∙ ap (λ t. with_arrival (with_arrival t to) on) (kept_table old new grows slots kept)
+    ∙ (λ i. with_arrival (with_arrival (table_in old slots) (next_is i)) (forward_is i))
   where
     shape_is : shape_in new left ≡ after (row_of instr) (shape_in old flat)
     shape_is = left_is ∙ ap (λ r. after r (shape_in old flat)) is
@@ -89,28 +89,28 @@ first_none : (place : ℕ) (found : Option Rule) (rest : Option (Rule × ℕ)) �
 first_none place found rest h = ap (λ f. first_placed place f rest) h
 
 -- one instruction on
-pub judged_on : (table table' : List Seen) (place : ℕ) (all : List Instr) (instr : Instr) (rest : List Instr) (fault : Option (Rule × ℕ)) → judged table place all ≡ fault → all ≡ instr ∷ rest
-    → rule_at table place instr (seen_at table place) ≡ None → table' ≡ sent table place instr (seen_at table place) → judged table' (place + 1) rest ≡ fault
+pub judged_on : (table table' : List Arrival) (place : ℕ) (all : List Instr) (instr : Instr) (rest : List Instr) (fault : Option (Rule × ℕ)) → first_fault table place all ≡ fault → all ≡ instr ∷ rest
+    → rule_at table place instr (seen_at table place) ≡ None → table' ≡ pass_on table place instr (seen_at table place) → first_fault table' (place + 1) rest ≡ fault
 judged_on table table' place all instr rest fault h is none sends =
-    ap (λ t. judged t (place + 1) rest) sends
-    ∙ sym (first_none place (rule_at table place instr (seen_at table place)) (judged (sent table place instr (seen_at table place)) (place + 1) rest) none)
-    ∙ sym (ap (judged table place) is) ∙ h
+    ap (λ t. first_fault t (place + 1) rest) sends
+    ∙ sym (first_none place (rule_at table place instr (seen_at table place)) (first_fault (pass_on table place instr (seen_at table place)) (place + 1) rest) none)
+    ∙ sym (ap (first_fault table place) is) ∙ h
 
 -- a rule that is broken at an instruction
-pub judged_here : (table : List Seen) (place : ℕ) (all : List Instr) (instr : Instr) (rest : List Instr) (fault : Option (Rule × ℕ)) (rule : Rule) → judged table place all ≡ fault → all ≡ instr ∷ rest
+pub judged_here : (table : List Arrival) (place : ℕ) (all : List Instr) (instr : Instr) (rest : List Instr) (fault : Option (Rule × ℕ)) (rule : Rule) → first_fault table place all ≡ fault → all ≡ instr ∷ rest
     → rule_at table place instr (seen_at table place) ≡ Some rule → Some (rule, place) ≡ fault
 judged_here table place all instr rest fault rule h is found =
-    sym (ap (λ f. first_placed place f (judged (sent table place instr (seen_at table place)) (place + 1) rest)) found)
-    ∙ sym (ap (judged table place) is) ∙ h
+    sym (ap (λ f. first_placed place f (first_fault (pass_on table place instr (seen_at table place)) (place + 1) rest)) found)
+    ∙ sym (ap (first_fault table place) is) ∙ h
 
 -- at the end
-pub judged_end : (table : List Seen) (place : ℕ) (all : List Instr) (found : Option Rule) (fault : Option (Rule × ℕ)) → judged table place all ≡ fault → all ≡ [] → found ≡ rule_at_end (seen_at table place) → placed place found ≡ fault
+pub judged_end : (table : List Arrival) (place : ℕ) (all : List Instr) (found : Option Rule) (fault : Option (Rule × ℕ)) → first_fault table place all ≡ fault → all ≡ [] → found ≡ rule_at_end (seen_at table place) → at_address place found ≡ fault
 judged_end table place all found fault h is end =
-    ap (placed place) end ∙ sym (ap (judged table place) is) ∙ h
+    ap (at_address place) end ∙ sym (ap (first_fault table place) is) ∙ h
 
-pub judged_all : (stacks : List (List Level)) (slots : List Slot) (instrs : List Instr) (place : ℕ) (slot : Slot) (found : Option Rule) (fault : Option (Rule × ℕ)) → judged (table_in stacks slots) place (drop place instrs) ≡ fault
-    → length instrs ≤ place → place ≤ length instrs → slot ≡ slice_index_or slots (length instrs) Free → found ≡ rule_at_end (seen_in stacks slot) → placed (length instrs) found ≡ fault
+pub judged_all : (stacks : List (List Level)) (slots : List Slot) (instrs : List Instr) (place : ℕ) (slot : Slot) (found : Option Rule) (fault : Option (Rule × ℕ)) → first_fault (table_in stacks slots) place (drop place instrs) ≡ fault
+    → length instrs ≤ place → place ≤ length instrs → slot ≡ slice_index_or slots (length instrs) Free → found ≡ rule_at_end (seen_in stacks slot) → at_address (length instrs) found ≡ fault
 judged_all stacks slots instrs place slot found fault h ge le is end =
     let same : length instrs ≡ place = omega arith in
-    ap (λ n. placed n found) same
+    ap (λ n. at_address n found) same
     ∙ judged_end (table_in stacks slots) place (drop place instrs) found fault h (drop_all place instrs ge) (end ∙ ap rule_at_end (sym (at_slot_is stacks slots (length instrs) slot is) ∙ ap (seen_at (table_in stacks slots)) same))

@@ -4,7 +4,7 @@ use Rattle.std.proofs.lemmas.Bool.Decides.{nat_tests}
 use Rattle.icn_verify.specs.declared.rows.Way.{Way}
 use Rattle.icn_verify.specs.declared.rows.Way.TheVariants.{On, Ends, Fails, Jumps, Returns, Retries, Skips, Forks}
 use Rattle.icn_verify.specs.Shapes.{PlainShape, start_shape, before_mark}
-use Rattle.icn_verify.specs.Rows.{next_by, forward_by, back_by, strays_by, is_within_by, labeled}
+use Rattle.icn_verify.specs.Rows.{next_by, forward_by, back_by, strays_by, is_within_by, with_label}
 
 -- a way goes to this place
 place_of : Option (ℕ × PlainShape) → ℕ
@@ -49,7 +49,7 @@ forward_past (Retries label) place shape left to carried s h = absurd (none_some
 forward_past (Skips label) place shape left to carried s h = past place label to s (label_is label to left carried h)
 forward_past (Forks label) place shape left to carried s h = past place label to s (label_is label to left carried h)
 
-mapped_is : (label to : ℕ) (wanted : Option PlainShape) (carried : PlainShape) → labeled label wanted ≡ Some (to, carried) → label ≡ to
+mapped_is : (label to : ℕ) (wanted : Option PlainShape) (carried : PlainShape) → with_label label wanted ≡ Some (to, carried) → label ≡ to
 mapped_is label to None carried h = absurd (none_some (to, carried) h)
 mapped_is label to (Some wanted) carried h = label_is label to wanted carried h
 

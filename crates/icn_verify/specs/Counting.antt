@@ -5,7 +5,7 @@ use Rattle.icn_verify.specs.declared.shape.Level.{Level}
 use Rattle.icn_verify.specs.declared.rows.Row.{Row}
 use Rattle.icn_verify.specs.Shapes.{PlainShape}
 use Rattle.icn_verify.specs.Rows.{after, row_of}
-use Rattle.icn_verify.specs.Passing.{Seen, unseen, one, several}
+use Rattle.icn_verify.specs.Passing.{Arrival, unseen, one, several}
 
 -- a level has at most so many operands, and at most so many open scans
 pub record IsLow (most : ℕ) (level : Level) : Type 0 where
@@ -21,13 +21,13 @@ pub record IsLowShape (most : ℕ) (shape : PlainShape) : Type 0 where
   pub inner : IsLow most shape.inner
   pub outer : AreLow most shape.outer
 
-abbrev pub IsLowSeen : ℕ → Seen → Type 0
+abbrev pub IsLowSeen : ℕ → Arrival → Type 0
 IsLowSeen most unseen = Unit {0}
 IsLowSeen most (one shape) = IsLowShape most shape
 IsLowSeen most (several fewest) = Unit {0}
 
 -- each level of what came to each place
-abbrev pub IsLowTable : ℕ → List Seen → Type 0
+abbrev pub IsLowTable : ℕ → List Arrival → Type 0
 IsLowTable most [] = Unit {0}
 IsLowTable most (seen ∷ table) = IsLowSeen most seen × IsLowTable most table
 
@@ -37,7 +37,7 @@ pub record HasRoom (row : Row) (shape : PlainShape) : Type 0 where
   pub operands : (after row shape).inner.operands < 2 ^ 32
 
 -- where one shape came, the instruction has room there
-abbrev pub FindsRoom : Instr → Seen → Type 0
+abbrev pub FindsRoom : Instr → Arrival → Type 0
 FindsRoom instr unseen = Unit {0}
 FindsRoom instr (one shape) = HasRoom (row_of instr) shape
 FindsRoom instr (several fewest) = Unit {0}

@@ -20,36 +20,36 @@ abbrev pub same_shape : PlainShape → PlainShape → Bool
 same_shape a b = bool_eq a.in_create b.in_create && same_level a.inner b.inner && same_levels a.outer b.outer
 
 -- what came to a place: nothing, one shape, or several, of which the fewest operands are kept
-pub data Seen : Type 0 where
-  unseen : Seen
-  one : PlainShape → Seen
-  several : ℕ → Seen
+pub data Arrival : Type 0 where
+  unseen : Arrival
+  one : PlainShape → Arrival
+  several : ℕ → Arrival
 
 -- with one more shape
-abbrev pub joined : Seen → PlainShape → Seen
-joined unseen shape = one shape
-joined (one before) shape = if same_shape before shape then one before else several (min before.inner.operands shape.inner.operands)
-joined (several fewest) shape = several (min fewest shape.inner.operands)
+abbrev pub with_shape : Arrival → PlainShape → Arrival
+with_shape unseen shape = one shape
+with_shape (one before) shape = if same_shape before shape then one before else several (min before.inner.operands shape.inner.operands)
+with_shape (several fewest) shape = several (min fewest shape.inner.operands)
 
-abbrev pub seen_at : List Seen → ℕ → Seen
+abbrev pub seen_at : List Arrival → ℕ → Arrival
 seen_at table place = slice_index_or table place unseen
 
-abbrev pub arrived : List Seen → Option (ℕ × PlainShape) → List Seen
-arrived table None = table
-arrived table (Some to) = slice_set table to.0 (joined (seen_at table to.0) to.1)
+abbrev pub with_arrival : List Arrival → Option (ℕ × PlainShape) → List Arrival
+with_arrival table None = table
+with_arrival table (Some to) = slice_set table to.0 (with_shape (seen_at table to.0) to.1)
 
-abbrev pub is_one : Seen → PlainShape → Bool
+abbrev pub is_one : Arrival → PlainShape → Bool
 is_one unseen shape = false
 is_one (one before) shape = same_shape before shape
 is_one (several fewest) shape = false
 
 -- a label leads back to a place to which the wanted shape didn't come
-abbrev pub misses : List Seen → ℕ → Option (ℕ × PlainShape) → Bool
+abbrev pub misses : List Arrival → ℕ → Option (ℕ × PlainShape) → Bool
 misses table place None = false
 misses table place (Some to) = nat_le to.0 place && not (is_one (seen_at table to.0) to.1)
 
 -- the rule that is broken where one shape came, and the least one
-abbrev pub rule_of_one : List Seen → ℕ → Instr → PlainShape → Option Rule
+abbrev pub rule_of_one : List Arrival → ℕ → Instr → PlainShape → Option Rule
 rule_of_one table place instr shape =
     if lacks instr shape then Some V1
     else if misses table place (back instr shape) then Some V2
@@ -57,39 +57,39 @@ rule_of_one table place instr shape =
     else if meets (row_of instr).asks (look_of shape) then None
     else Some V4
 
-abbrev pub rule_at : List Seen → ℕ → Instr → Seen → Option Rule
+abbrev pub rule_at : List Arrival → ℕ → Instr → Arrival → Option Rule
 rule_at table place instr unseen = None
 rule_at table place instr (one shape) = rule_of_one table place instr shape
 rule_at table place instr (several fewest) = Some (if nat_lt fewest (row_of instr).takes then V1 else V2)
 
 -- the table with what goes out of a place
-abbrev pub sent : List Seen → ℕ → Instr → Seen → List Seen
-sent table place instr unseen = table
-sent table place instr (one shape) = arrived (arrived table (next instr place shape)) (forward instr shape)
-sent table place instr (several fewest) = table
+abbrev pub pass_on : List Arrival → ℕ → Instr → Arrival → List Arrival
+pass_on table place instr unseen = table
+pass_on table place instr (one shape) = with_arrival (with_arrival table (next instr place shape)) (forward instr shape)
+pass_on table place instr (several fewest) = table
 
-abbrev pub rule_at_end : Seen → Option Rule
+abbrev pub rule_at_end : Arrival → Option Rule
 rule_at_end unseen = None
 rule_at_end (one shape) = Some V5
 rule_at_end (several fewest) = Some V2
 
-abbrev pub placed : ℕ → Option Rule → Option (Rule × ℕ)
-placed place None = None
-placed place (Some rule) = Some (rule, place)
+abbrev pub at_address : ℕ → Option Rule → Option (Rule × ℕ)
+at_address place None = None
+at_address place (Some rule) = Some (rule, place)
 
 abbrev pub first_placed : ℕ → Option Rule → Option (Rule × ℕ) → Option (Rule × ℕ)
 first_placed place None rest = rest
 first_placed place (Some rule) rest = Some (rule, place)
 
 -- what is found from a place on
-abbrev pub judged : List Seen → ℕ → List Instr → Option (Rule × ℕ)
-judged table place [] = placed place (rule_at_end (seen_at table place))
-judged table place (instr ∷ instrs) =
-    first_placed place (rule_at table place instr (seen_at table place)) (judged (sent table place instr (seen_at table place)) (place + 1) instrs)
+abbrev pub first_fault : List Arrival → ℕ → List Instr → Option (Rule × ℕ)
+first_fault table place [] = at_address place (rule_at_end (seen_at table place))
+first_fault table place (instr ∷ instrs) =
+    first_placed place (rule_at table place instr (seen_at table place)) (first_fault (pass_on table place instr (seen_at table place)) (place + 1) instrs)
 
 -- the table at the start: the base alone came to the first place
-abbrev pub first_table : ℕ → List Seen
+abbrev pub first_table : ℕ → List Arrival
 first_table count = one (start_shape false) ∷ replicate count unseen
 
 abbrev pub fault_of : List Instr → Option (Rule × ℕ)
-fault_of instrs = judged (first_table (length instrs)) 0 instrs
+fault_of instrs = first_fault (first_table (length instrs)) 0 instrs

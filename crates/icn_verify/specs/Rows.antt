@@ -22,16 +22,16 @@ abbrev pub works : ℕ → ℕ → Row
 works takes leaves = record { takes = takes; leaves = leaves; asks = Nothing; change = Keeps; way = On }
 
 -- the same, where something is asked for
-abbrev pub asking : Asks → ℕ → ℕ → Row
-asking asks takes leaves = record { takes = takes; leaves = leaves; asks = asks; change = Keeps; way = On }
+abbrev pub work_where : Asks → ℕ → ℕ → Row
+work_where asks takes leaves = record { takes = takes; leaves = leaves; asks = asks; change = Keeps; way = On }
 
 -- the same, with a change of the levels
-abbrev pub changing : Asks → Change → ℕ → ℕ → Row
-changing asks change takes leaves = record { takes = takes; leaves = leaves; asks = asks; change = change; way = On }
+abbrev pub work_changing : Asks → Change → ℕ → ℕ → Row
+work_changing asks change takes leaves = record { takes = takes; leaves = leaves; asks = asks; change = change; way = On }
 
 -- an instruction that goes on in another way, and takes and leaves no operand
-abbrev pub leading : Asks → Way → Row
-leading asks way = record { takes = 0; leaves = 0; asks = asks; change = Keeps; way = way }
+abbrev pub way_only : Asks → Way → Row
+way_only asks way = record { takes = 0; leaves = 0; asks = asks; change = Keeps; way = way }
 
 abbrev pub row_of : Instr → Row
 row_of Pnull = works 0 1
@@ -50,27 +50,27 @@ row_of (Field place) = works 1 1
 row_of (Invoke count) = works (count + 1) 1
 row_of Appl = works 2 1
 row_of (Mark label) = record { takes = 0; leaves = 0; asks = Nothing; change = OpensPlain; way = Fails label }
-row_of Mark0 = changing Nothing OpensPlain 0 0
-row_of Unmark = changing OpenMark Drops 0 0
-row_of Eret = changing EndedMark Drops 1 1
-row_of Esusp = changing EndedPlain Drops 1 1
-row_of Limit = changing Nothing OpensLimit 1 0
-row_of Lsusp = changing EndedLimit Drops 1 1
-row_of Efail = leading Nothing Ends
-row_of (Chfail label) = leading OpenPlain (Retries label)
-row_of (Goto label) = leading Nothing (Jumps label)
-row_of (Loop label) = leading Nothing (Returns label)
-row_of Bscan = changing Nothing OpensScan 1 0
-row_of Escan = changing OpenScan ClosesScan 1 1
-row_of Ccase = asking OperandOutside 0 1
-row_of (Init label) = leading OutsideCreate (Skips label)
-row_of Psusp = asking OutsideCreate 1 1
+row_of Mark0 = work_changing Nothing OpensPlain 0 0
+row_of Unmark = work_changing OpenMark Drops 0 0
+row_of Eret = work_changing EndedMark Drops 1 1
+row_of Esusp = work_changing EndedPlain Drops 1 1
+row_of Limit = work_changing Nothing OpensLimit 1 0
+row_of Lsusp = work_changing EndedLimit Drops 1 1
+row_of Efail = way_only Nothing Ends
+row_of (Chfail label) = way_only OpenPlain (Retries label)
+row_of (Goto label) = way_only Nothing (Jumps label)
+row_of (Loop label) = way_only Nothing (Returns label)
+row_of Bscan = work_changing Nothing OpensScan 1 0
+row_of Escan = work_changing OpenScan ClosesScan 1 1
+row_of Ccase = work_where OperandOutside 0 1
+row_of (Init label) = way_only OutsideCreate (Skips label)
+row_of Psusp = work_where OutsideCreate 1 1
 row_of Pret = record { takes = 1; leaves = 0; asks = OutsideCreate; change = Keeps; way = Ends }
-row_of Pfail = leading OutsideCreate Ends
+row_of Pfail = way_only OutsideCreate Ends
 row_of (Create label) = record { takes = 0; leaves = 1; asks = Nothing; change = Keeps; way = Forks label }
 row_of Coact = works 2 1
-row_of Coret = asking InsideCreate 1 1
-row_of Cofail = leading InsideCreate Ends
+row_of Coret = work_where InsideCreate 1 1
+row_of Cofail = way_only InsideCreate Ends
 
 -- the innermost level has fewer operands than the instruction takes
 abbrev pub lacks : Instr → PlainShape → Bool
@@ -101,18 +101,18 @@ abbrev pub fits : PlainShape → Instr → Bool
 fits shape instr = not (lacks instr shape) && meets (row_of instr).asks (look_of shape)
 
 -- what the change leaves of the levels
-abbrev pub changed : Change → PlainShape → PlainShape
-changed Keeps shape = shape
-changed OpensPlain shape = with_mark PlainMark shape
-changed OpensLimit shape = with_mark LimitMark shape
-changed Drops shape = unwrap_or (before_mark shape) shape
-changed OpensScan shape = with_scan shape
-changed ClosesScan shape = without_scan shape
+abbrev pub change_levels : Change → PlainShape → PlainShape
+change_levels Keeps shape = shape
+change_levels OpensPlain shape = with_mark PlainMark shape
+change_levels OpensLimit shape = with_mark LimitMark shape
+change_levels Drops shape = unwrap_or (before_mark shape) shape
+change_levels OpensScan shape = with_scan shape
+change_levels ClosesScan shape = without_scan shape
 
 -- the shape that the instruction leaves: operands are taken, the levels change, and operands are left on the level that is
 -- innermost then
 abbrev pub after : Row → PlainShape → PlainShape
-after row shape = with_more row.leaves (changed row.change (with_fewer row.takes shape))
+after row shape = with_more row.leaves (change_levels row.change (with_fewer row.takes shape))
 
 -- the next instruction, if the code goes on there, and the shape there
 abbrev pub next_by : Way → ℕ → PlainShape → Option (ℕ × PlainShape)
@@ -136,9 +136,9 @@ forward_by (Retries label) shape left = None
 forward_by (Skips label) shape left = Some (label, left)
 forward_by (Forks label) shape left = Some (label, left)
 
-abbrev pub labeled : ℕ → Option PlainShape → Option (ℕ × PlainShape)
-labeled label None = None
-labeled label (Some shape) = Some (label, shape)
+abbrev pub with_label : ℕ → Option PlainShape → Option (ℕ × PlainShape)
+with_label label None = None
+with_label label (Some shape) = Some (label, shape)
 
 -- the label to which the code goes back, if there is one, and the shape that is wanted there: where a mark takes a new label,
 -- that before the mark
@@ -148,7 +148,7 @@ back_by Ends shape = None
 back_by (Fails label) shape = None
 back_by (Jumps label) shape = None
 back_by (Returns label) shape = Some (label, shape)
-back_by (Retries label) shape = labeled label (before_mark shape)
+back_by (Retries label) shape = with_label label (before_mark shape)
 back_by (Skips label) shape = None
 back_by (Forks label) shape = None
 

@@ -7,7 +7,7 @@ use Rattle.icn_verify.specs.declared.flat.Flat.{Flat}
 use Rattle.icn_verify.specs.declared.table.Slot.{Slot}
 use Rattle.icn_verify.specs.declared.table.Slot.TheVariants.{Free, One, Several}
 use Rattle.icn_verify.specs.Shapes.{PlainShape}
-use Rattle.icn_verify.specs.Passing.{Seen, unseen, one, several}
+use Rattle.icn_verify.specs.Passing.{Arrival, unseen, one, several}
 
 -- the stack of this number; the first is the empty one
 abbrev pub stack_at : List (List Level) → ℕ → List Level
@@ -39,7 +39,7 @@ module _ (stacks : List (List Level)) where
   abbrev pub IsHeld : Flat → Type 0
   IsHeld flat = flat.outer < length stacks
 
-  abbrev pub seen_in : Slot → Seen
+  abbrev pub seen_in : Slot → Arrival
   seen_in Free = unseen
   seen_in (One flat) = one (shape_in flat)
   seen_in (Several fewest) = several fewest
@@ -53,7 +53,7 @@ module _ (stacks : List (List Level)) where
   pub record AreKept (slots : List Slot) : Type 0 where
     pub each : All IsKept slots
 
-  abbrev pub table_in : List Slot → List Seen
+  abbrev pub table_in : List Slot → List Arrival
   table_in slots = map seen_in slots
 
   -- a place and the shape that goes there

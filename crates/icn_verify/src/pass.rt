@@ -3,9 +3,9 @@ ghost use Rattle.std.specs.Prelude.{◌≡◌, ◌+◌, ◌<◌, ◌≤◌, ◌^
 ghost use Rattle.std.specs.Option.{ForSome};
 ghost use Rattle.icn_verify.specs.declared.shape.Level.{Level as OneLevel};
 ghost use Rattle.icn_verify.specs.Shapes.{with_mark};
-ghost use Rattle.icn_verify.specs.Rows.{changed, after, next_by, forward_by, back_by, row_of, strays_by};
+ghost use Rattle.icn_verify.specs.Rows.{change_levels, after, next_by, forward_by, back_by, row_of, strays_by};
 ghost use Rattle.icn_verify.specs.Counting.{FindsRoom, HasRoom, IsLowTable};
-ghost use Rattle.icn_verify.specs.Passing.{misses, rule_of_one, rule_at, sent, seen_at, rule_at_end, first_table, judged, fault_of, one};
+ghost use Rattle.icn_verify.specs.Passing.{misses, rule_of_one, rule_at, pass_on, seen_at, rule_at_end, first_table, first_fault, fault_of, one};
 ghost use Rattle.icn_verify.specs.Stacks.{shape_in, table_in, sent_in, seen_in, IsHeld, AreKept, Grows};
 
 use crate::arena::Arena;
@@ -66,7 +66,7 @@ fn changed(arena: &mut Arena, change: Change, flat: Flat) -> Result<Flat, AllocE
     ensures grows { OnOk result (Grows arena.old arena.new) }
     ensures more { OnOk result (length arena.new ≤ length arena.old + 1) }
     ensures held { IfOk result (λ left. IsHeld arena.new left) }
-    ensures shape { IfOk result (λ left. shape_in arena.new left ≡ changed change (shape_in arena.old flat)) }
+    ensures shape { IfOk result (λ left. shape_in arena.new left ≡ change_levels change (shape_in arena.old flat)) }
 {
     match change {
         Change::Keeps => Ok(flat),
@@ -222,7 +222,7 @@ fn send_one(
     requires few { length arena.old < 2 ^ 32 }
     requires counts { HasRoom (row_of instr) (shape_in arena.old flat) }
     ensures more { OnOk result (length arena.new ≤ length arena.old + 1) }
-    ensures table { OnOk result (table_in arena.new slots.new ≡ sent (table_in arena.old slots.old) place instr (one (shape_in arena.old flat))) }
+    ensures table { OnOk result (table_in arena.new slots.new ≡ pass_on (table_in arena.old slots.old) place instr (one (shape_in arena.old flat))) }
     ensures kept { OnOk result (AreKept arena.new slots.new) }
 {
     let row = row_of(instr);
@@ -239,7 +239,7 @@ fn send(arena: &mut Arena, slots: &mut [Slot], place: usize, instr: Instr) -> Re
     requires few { length arena.old < 2 ^ 32 }
     requires counts { FindsRoom instr (seen_at (table_in arena.old slots.old) place) }
     ensures more { OnOk result (length arena.new ≤ length arena.old + 1) }
-    ensures table { OnOk result (table_in arena.new slots.new ≡ sent (table_in arena.old slots.old) place instr (seen_at (table_in arena.old slots.old) place)) }
+    ensures table { OnOk result (table_in arena.new slots.new ≡ pass_on (table_in arena.old slots.old) place instr (seen_at (table_in arena.old slots.old) place)) }
     ensures kept { OnOk result (AreKept arena.new slots.new) }
 {
     match slot_at(slots, place) {
@@ -279,7 +279,7 @@ fn judge(
     requires few { length arena.old ≤ 1 }
     requires room { length instrs.now < 2 ^ 32 }
     requires low { IsLowTable 0 (table_in arena.old slots.old) }
-    ensures { IfOk result (λ found. found ≡ judged (table_in arena.old slots.old) 0 instrs.now) }
+    ensures { IfOk result (λ found. found ≡ first_fault (table_in arena.old slots.old) 0 instrs.now) }
 {
     for (place, instr) in instrs.iter().enumerate() {
         match rule_at(arena, slots, place, *instr) {

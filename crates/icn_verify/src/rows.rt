@@ -1,6 +1,6 @@
 // The table of the instructions.
 ghost use Rattle.std.specs.Prelude.{◌≡◌};
-ghost use Rattle.icn_verify.specs.Rows.{works, asking, changing, leading, row_of, meets, is_ended, has_operand};
+ghost use Rattle.icn_verify.specs.Rows.{works, work_where, work_changing, way_only, row_of, meets, is_ended, has_operand};
 
 use crate::shape::{Level, LevelKind, Look};
 use icn_code::Instr;
@@ -83,13 +83,13 @@ impl Row {
     }
 
     fn asking(asks: Asks, takes: u64, leaves: u32) -> Row
-        ensures { result ≡ asking asks takes leaves }
+        ensures { result ≡ work_where asks takes leaves }
     {
         Row::changing(asks, Change::Keeps, takes, leaves)
     }
 
     fn changing(asks: Asks, change: Change, takes: u64, leaves: u32) -> Row
-        ensures { result ≡ changing asks change takes leaves }
+        ensures { result ≡ work_changing asks change takes leaves }
     {
         Row {
             takes,
@@ -102,7 +102,7 @@ impl Row {
 
     // On in another way, without operands.
     fn leading(asks: Asks, way: Way) -> Row
-        ensures { result ≡ leading asks way }
+        ensures { result ≡ way_only asks way }
     {
         Row {
             takes: 0,

@@ -1,7 +1,7 @@
 // What came to the places of a procedure.
 ghost use Rattle.std.specs.Prelude.{◌≡◌, slice_index_or};
 ghost use Rattle.std.specs.Option.{ForSome};
-ghost use Rattle.icn_verify.specs.Passing.{joined, arrived, is_one};
+ghost use Rattle.icn_verify.specs.Passing.{with_shape, with_arrival, is_one};
 ghost use Rattle.icn_verify.specs.Stacks.{shape_in, seen_in, table_in, sent_in, IsHeld, IsKept, AreKept};
 
 use crate::arena::Arena;
@@ -26,7 +26,7 @@ pub fn slot_at(slots: &[Slot], place: usize) -> Slot
 fn joined(arena: &Arena, slot: Slot, flat: Flat) -> Slot
     requires kept { IsKept arena.now slot }
     requires held { IsHeld arena.now flat }
-    ensures seen { seen_in arena.now result ≡ joined (seen_in arena.now slot) (shape_in arena.now flat) }
+    ensures seen { seen_in arena.now result ≡ with_shape (seen_in arena.now slot) (shape_in arena.now flat) }
     ensures kept { IsKept arena.now result }
 {
     match slot {
@@ -46,7 +46,7 @@ fn joined(arena: &Arena, slot: Slot, flat: Flat) -> Slot
 pub fn arrive(arena: &Arena, slots: &mut [Slot], to: Option<(usize, Flat)>)
     requires kept { AreKept arena.now slots.old }
     requires held { ForSome to (λ p. IsHeld arena.now p.1) }
-    ensures table { table_in arena.now slots.new ≡ arrived (table_in arena.now slots.old) (sent_in arena.now to) }
+    ensures table { table_in arena.now slots.new ≡ with_arrival (table_in arena.now slots.old) (sent_in arena.now to) }
     ensures kept { AreKept arena.now slots.new }
 {
     if let Some((place, flat)) = to {

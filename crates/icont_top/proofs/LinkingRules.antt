@@ -10,8 +10,8 @@ use Rattle.icn_image.specs.Spelling.{image_of}
 use Rattle.icn_link.specs.declared.fault.LinkFault.{LinkFault}
 use Rattle.icn_link.specs.declared.fault.LinkFault.TheVariants.{NoMemory}
 use Rattle.icn_link.specs.Joined.{joined, joined_of}
-use Rattle.icn_link.specs.LinkFaults.{Owner, count_fault, first_fault, local_counts, missing, missing_fault, missing_from, missing_in, over, owner_named, owners_from, record_sizes, repeat_of, repeated, repeated_from, size_of, static_counts, table_sizes, too_large_of, unit_names}
-use Rattle.icn_link.specs.Mentions.{globals, mentioned, mentioned_by, operands_in}
+use Rattle.icn_link.specs.LinkFaults.{Owner, count_fault, first_fault, local_counts, missing, missing_fault, missing_from, missing_in, over, owner_named, owners_from, record_sizes, repeat_of, repeated_name, repeated_from, size_of, static_counts, table_sizes, too_large_of, unit_names}
+use Rattle.icn_link.specs.Mentions.{globals, all_mentions, mentioned_by, operands_in}
 use Rattle.icn_link.specs.Units.{all_decls, all_procs}
 
 -- Faults of linking
@@ -45,7 +45,7 @@ abbrev instrs : List Proc → Option LinkFault
 instrs procs = over 16777216 (sum_by size_of procs ∷ [])
 
 abbrev entries : List Decl → List Proc → Option LinkFault
-entries decls procs = over 65535 (table_sizes (mentioned decls procs) decls procs)
+entries decls procs = over 65535 (table_sizes (all_mentions decls procs) decls procs)
 
 abbrev operands : List Proc → Option LinkFault
 operands procs = over 65535 (mentioned_by operands_in procs)
@@ -79,7 +79,7 @@ behind_instrs decls procs = option_or (entries decls procs) (behind_entries decl
 
 large_none : (decls : List Decl) (procs : List Proc) → IsNoWant (too_large_of decls procs)
 large_none D P = or_none (instrs P) (behind_instrs D P) (over_none 16777216 (sum_by size_of P ∷ []))
-    (or_none (entries D P) (behind_entries D P) (over_none 65535 (table_sizes (mentioned D P) D P))
+    (or_none (entries D P) (behind_entries D P) (over_none 65535 (table_sizes (all_mentions D P) D P))
     (or_none (operands P) (behind_operands D P) (over_none 65535 (mentioned_by operands_in P))
     (or_none (fields D) (behind_fields D P) (over_none 65535 (record_sizes D))
     (or_none (locals D P) (behind_locals D P) (over_none 65535 (local_counts (globals D P) P))
@@ -90,8 +90,8 @@ abbrev large : List UnitRead → Option LinkFault
 large units = too_large_of (all_decls units) (all_procs units)
 
 first_none : (units : List UnitRead) → IsNoWant (first_fault units)
-first_none units = or_none (missing units) (option_or (repeated units) (large units)) (missing_none (unit_names units) 0 units)
-    (or_none (repeated units) (large units) (repeated_none [] (owners_from 0 units)) (large_none (all_decls units) (all_procs units)))
+first_none units = or_none (missing units) (option_or (repeated_name units) (large units)) (missing_none (unit_names units) 0 units)
+    (or_none (repeated_name units) (large units) (repeated_none [] (owners_from 0 units)) (large_none (all_decls units) (all_procs units)))
 
 -- no unit has a fault that is want of memory
 pub faults_are_rules : {A : Type 0} (units : List UnitRead) → first_fault units ≡ Some NoMemory → A
@@ -116,4 +116,4 @@ image_counted D P e = right_none (statics D P) (bytes D P) (right_none (locals D
 -- where the linker finds no fault, the image is within the bound
 pub image_within : (units : List UnitRead) → first_fault units ≡ None → length (image_of (joined units)) ≤ 1073741824
 image_within units e = within_count 1073741824 (length (image_of (joined units))) (image_counted (all_decls units) (all_procs units)
-    (right_none (repeated units) (large units) (right_none (missing units) (option_or (repeated units) (large units)) e)))
+    (right_none (repeated_name units) (large units) (right_none (missing units) (option_or (repeated_name units) (large units)) e)))

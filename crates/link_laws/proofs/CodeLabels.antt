@@ -3,7 +3,7 @@ use Rattle.std.proofs.Common.{◌≡◌, ◌≢◌, ◌⊎◌, inl, inr, ℕ, �
 use Rattle.std.proofs.lemmas.Bool.Decides.{eqb_tells}
 use Rattle.icn_unit.specs.declared.unit.UnitInstr.{UnitInstr}
 use Rattle.icn_unit.specs.declared.unit.UnitInstr.TheVariants as U
-use Rattle.icn_unit.specs.UnitRules.{place_of, place_list, placed, has_label, labels_differ}
+use Rattle.icn_unit.specs.UnitRules.{place_of, place_list, placed_labels, has_label, labels_differ}
 use Rattle.icn_link.specs.Resolving.{Scope, resolved_one, label_place, label_place_by}
 use Rattle.link_laws.proofs.CodeSteps.{AtPlace, Placed}
 
@@ -58,29 +58,29 @@ place_later label other behind labels h n = by (nat_eq label other) (eqb_tells l
 Known : Scope → ℕ → List ℕ → (ℕ → ℕ) → Type 0
 Known S p labels address = (label : ℕ) → has_label labels label ≡ true → S.label label ≡ p + address label
 
-placed_from : (S : Scope) (p : ℕ) (is : List UnitInstr) → labels_differ (placed is) ≡ true → Known S p (placed is) (λ label. label_place label is)
+placed_from : (S : Scope) (p : ℕ) (is : List UnitInstr) → labels_differ (placed_labels is) ≡ true → Known S p (placed_labels is) (λ label. label_place label is)
     → Placed S p is
 unfolding Known
 placed_from S p [] d h = tt
 placed_from S p (i ∷ is) d h = by (place_of i) (length (resolved_one S i)) (one_or_none S i) d h (λ q. placed_from S q is)
   where
-    by : (k : Option ℕ) (one : ℕ) → one ≡ counted k → labels_differ (place_list k ++ placed is) ≡ true
-        → ((label : ℕ) → has_label (place_list k ++ placed is) label ≡ true → S.label label ≡ p + label_place_by label k (label_place label is))
-        → ((q : ℕ) → labels_differ (placed is) ≡ true
-        → ((label : ℕ) → has_label (placed is) label ≡ true → S.label label ≡ q + label_place label is) → Placed S q is)
+    by : (k : Option ℕ) (one : ℕ) → one ≡ counted k → labels_differ (place_list k ++ placed_labels is) ≡ true
+        → ((label : ℕ) → has_label (place_list k ++ placed_labels is) label ≡ true → S.label label ≡ p + label_place_by label k (label_place label is))
+        → ((q : ℕ) → labels_differ (placed_labels is) ≡ true
+        → ((label : ℕ) → has_label (placed_labels is) label ≡ true → S.label label ≡ q + label_place label is) → Placed S q is)
         → AtPlace S p k × Placed S (p + one) is
     by None one e d h rest = (tt, rest (p + one) d (λ label k. let at = h label k in omega arith))
     by (Some m) one e d h rest =
-        let parts = both_of (not (has_label (placed is) m)) (labels_differ (placed is)) d in
-        let at = h m (here m (placed is)) in
+        let parts = both_of (not (has_label (placed_labels is) m)) (labels_differ (placed_labels is)) d in
+        let at = h m (here m (placed_labels is)) in
         let zero = place_here m (label_place m is) in (
           omega arith,
           rest (p + one) parts.1 (λ label k.
-              let there = h label (later label m (placed is) k) in
-              let same = place_later label m (label_place label is) (placed is) k parts.0 in
+              let there = h label (later label m (placed_labels is) k) in
+              let same = place_later label m (label_place label is) (placed_labels is) k parts.0 in
               omega arith),
         )
 
-pub all_placed : (S : Scope) (is : List UnitInstr) → labels_differ (placed is) ≡ true → ((label : ℕ) → S.label label ≡ label_place label is) → Placed S 0 is
+pub all_placed : (S : Scope) (is : List UnitInstr) → labels_differ (placed_labels is) ≡ true → ((label : ℕ) → S.label label ≡ label_place label is) → Placed S 0 is
 unfolding Known
 all_placed S is d h = placed_from S 0 is d (λ label k. let at = h label in omega arith)

@@ -11,10 +11,10 @@ use Rattle.icn_unit.specs.declared.unit.UnitInstr.TheVariants as U
 use Rattle.icn_translate.specs.Drafts.{put}
 use Rattle.icn_translate.specs.Open.{Outermost}
 use Rattle.icn_translate.specs.Translation as T
-use Rattle.icn_translate.specs.ProcCodes.{begun, drafted, proc_code}
+use Rattle.icn_translate.specs.ProcCodes.{first_draft, draft_of, proc_code}
 use Rattle.icn_units.proofs.Forms.{none_before, none_behind}
 use Rattle.icn_units.proofs.Procedures.{differ}
-use Rattle.icn_link.specs.Resolving.{Scope, resolved, label_place}
+use Rattle.icn_link.specs.Resolving.{Scope, resolve, label_place}
 use Rattle.icn_simulation.specs.Translation as X
 use Rattle.link_laws.proofs.CodeSteps.{Agrees, Gives, none, nothing, puts, ◌⨾◌}
 use Rattle.link_laws.proofs.CodeNames.{AgreeOn}
@@ -83,16 +83,16 @@ trees_faultless met procedure x =
     (none_before first others trees, none_behind first others trees)
 
 pub code_is : (S : Scope) (N : X.Names) (met : NameTest) (procedure : Procedure) → procedure_faults met procedure ≡ []
-    → AgreeOn S N (drafted procedure).names → ((label : ℕ) → S.label label ≡ label_place label (proc_code procedure).instrs)
-    → resolved S (proc_code procedure).instrs ≡ X.procedure N procedure.initial procedure.body
+    → AgreeOn S N (draft_of procedure).names → ((label : ℕ) → S.label label ≡ label_place label (proc_code procedure).instrs)
+    → resolve S (proc_code procedure).instrs ≡ X.procedure N procedure.initial procedure.body
 code_is S N met procedure x agree labels =
-    let F = (drafted procedure).names in
+    let F = (draft_of procedure).names in
     let trees = trees_faultless met procedure x in
-    let ends : Agrees S F [] [] (drafted procedure) = record {
+    let ends : Agrees S F [] [] (draft_of procedure) = record {
       placed = all_placed S (proc_code procedure).instrs (differ met procedure x) labels;
       names = record { rest = []; is = append-nil F };
       loops = tt;
       ends = tt;
     } in
-    let all = (whole_gives agree procedure.initial procedure.body trees.0 trees.1).at (begun procedure) ends in
+    let all = (whole_gives agree procedure.initial procedure.body trees.0 trees.1).at (first_draft procedure) ends in
     all.is ∙ whole_code N procedure.initial procedure.body

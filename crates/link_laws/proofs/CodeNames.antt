@@ -17,7 +17,7 @@ use Rattle.icn_translate.specs.Instructions.{literal_instr, keyword_by, keyword_
 use Rattle.icn_tree.specs.declared.tree.Literal.{Literal}
 use Rattle.icn_tree.specs.declared.tree.Literal.TheVariants as Literals
 use Rattle.icn_meaning.specs.Evaluate.{keyword_among}
-use Rattle.icn_link.specs.Resolving.{Scope, resolved_one, resolved}
+use Rattle.icn_link.specs.Resolving.{Scope, resolved_one, resolve}
 use Rattle.icn_simulation.specs.Translation as X
 use Rattle.link_laws.proofs.CodeSteps.{Front, Gives, none, resolved-more, placed_split}
 
@@ -146,14 +146,14 @@ unfolding put_variable
 puts_variable {S = S} {N = N} {F = F} agree name = record {
   long = λ d.
       let k = U.Var (name_place d.names name) in
-      ap length (resolved-more S d.instrs k) ∙ long (resolved S d.instrs) (resolved_one S k) refl;
+      ap length (resolved-more S d.instrs k) ∙ long (resolve S d.instrs) (resolved_one S k) refl;
   at = λ d h.
       let k = name_place d.names name in
       let known = name_stands d.names F name (list_any (bytes_eq name) d.names) refl h.names in
       let same : S.variable k ≡ N.variable name = ap S.variable known.0.first ∙ agree.variable name known.0.there in
       record {
         before = record { placed = (placed_split S 0 d.instrs (U.Var k) h.placed).0; names = known.1; loops = h.loops; ends = h.ends };
-        is = resolved-more S d.instrs (U.Var k) ∙ ap (λ i. resolved S d.instrs ++ i ∷ []) same;
+        is = resolved-more S d.instrs (U.Var k) ∙ ap (λ i. resolve S d.instrs ++ i ∷ []) same;
         known = tt;
       };
 }

@@ -4,7 +4,7 @@ use Rattle.icn_code.specs.declared.instr.Instr.{Instr}
 use Rattle.icn_code.specs.declared.instr.Instr.TheVariants as I
 use Rattle.icn_unit.specs.declared.unit.UnitInstr.TheVariants as U
 use Rattle.icn_translate.specs.Drafts.{Draft, ◌▹◌, put, with_label, next_label}
-use Rattle.icn_translate.specs.Translation.{put_mark, bounded, created_behind, created, alternative, prefix_by, plain_form}
+use Rattle.icn_translate.specs.Translation.{put_mark, bounded_code, created_behind, create_code, alternative, prefix_by, plain_form}
 use Rattle.icn_translate.specs.declared.forms.InfixForm.TheVariants.{Either}
 use Rattle.icn_translate.specs.declared.forms.PrefixForm.TheVariants.{Repetition}
 use Rattle.icn_link.specs.Resolving.{Scope}
@@ -13,7 +13,7 @@ use Rattle.link_laws.proofs.CodeSteps.{Gives, none, nothing, puts, ◌⨾◌, nu
 
 module _ {S : Scope} {F : List (List ℕ)} {W : List X.Ways} {E : List ℕ} where
   pub bounded_gives : {s : Draft → Draft} {n : ℕ} {c : ℕ → List Instr} → Gives S F W E s n c none
-      → Gives S F W E (bounded s) (n + 2) (λ p. I.Mark (p + n + 2) ∷ c (p + 1) ++ I.Unmark ∷ []) none
+      → Gives S F W E (bounded_code s) (n + 2) (λ p. I.Mark (p + n + 2) ∷ c (p + 1) ++ I.Unmark ∷ []) none
   bounded_gives {n = n} {c = c} x =
       given_numbered (λ l. numbered_then (puts (U.Mark l) refl ⨾ x ⨾ then_placed l (puts U.Unmark refl))) (omega arith)
       (λ l p f. (let at : S.label l ≡ p + n + 2 = f.1.1.1 ∙ omega arith in ap (λ k. I.Mark k ∷ c (p + 1) ++ I.Unmark ∷ []) at, tt))
@@ -31,7 +31,7 @@ module _ {S : Scope} {F : List (List ℕ)} {W : List X.Ways} {E : List ℕ} wher
       (ap (λ k. I.Mark k ∷ c (p + 1) ++ (I.Coret ∷ I.Efail ∷ I.Cofail ∷ [])) at, end))
 
   pub created_gives : {s : Draft → Draft} {n : ℕ} {c : ℕ → List Instr} → Gives S F W E s n c none
-      → Gives S F W E (created s) (n + 5) (λ p. X.created p n (c (p + 2))) none
+      → Gives S F W E (create_code s) (n + 5) (λ p. X.created p n (c (p + 2))) none
   created_gives {n = n} {c = c} x =
       given_numbered (λ l. numbered_then (puts (U.Create l) refl ⨾ behind_gives l x)) (omega arith)
       (λ l p f.

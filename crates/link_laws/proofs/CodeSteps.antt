@@ -7,7 +7,7 @@ use Rattle.icn_unit.specs.declared.unit.UnitInstr.TheVariants as U
 use Rattle.icn_unit.specs.UnitRules.{place_of}
 use Rattle.icn_translate.specs.declared.builder.Ways.{Ways}
 use Rattle.icn_translate.specs.Drafts.{Draft, put, with_label, next_label}
-use Rattle.icn_link.specs.Resolving.{Scope, resolved_one, resolved}
+use Rattle.icn_link.specs.Resolving.{Scope, resolved_one, resolve}
 use Rattle.icn_simulation.specs.Translation as X
 
 -- Labels
@@ -47,12 +47,12 @@ pub record Agrees (S : Scope) (F : List (List ℕ)) (W : List X.Ways) (E : List 
 
 -- how many instructions a draft has
 abbrev pub len : Scope → Draft → ℕ
-len S d = length (resolved S d.instrs)
+len S d = length (resolve S d.instrs)
 
 -- From one draft to another this code was added, where this holds of its labels.
 pub record Adds (S : Scope) (F : List (List ℕ)) (W : List X.Ways) (E : List ℕ) (d later : Draft) (code : List Instr) (fact : Type 0) : Type 0 where
   pub before : Agrees S F W E d
-  pub is : resolved S later.instrs ≡ resolved S d.instrs ++ code
+  pub is : resolve S later.instrs ≡ resolve S d.instrs ++ code
   pub known : fact
 
 -- A step that adds so many instructions, with this code where it begins at a place.
@@ -67,26 +67,26 @@ none p = Unit {0}
 
 -- Lists
 
-pub resolved-more : (S : Scope) (xs : List UnitInstr) (i : UnitInstr) → resolved S (xs ++ i ∷ []) ≡ resolved S xs ++ resolved_one S i
-resolved-more S xs i = flat_map-append (resolved_one S) xs (i ∷ []) ∙ ap (λ is. resolved S xs ++ is) (append-nil (resolved_one S i))
+pub resolved-more : (S : Scope) (xs : List UnitInstr) (i : UnitInstr) → resolve S (xs ++ i ∷ []) ≡ resolve S xs ++ resolved_one S i
+resolved-more S xs i = flat_map-append (resolved_one S) xs (i ∷ []) ∙ ap (λ is. resolve S xs ++ is) (append-nil (resolved_one S i))
 
 pub placed_split : (S : Scope) (p : ℕ) (xs : List UnitInstr) (i : UnitInstr) → Placed S p (xs ++ i ∷ [])
-    → Placed S p xs × AtPlace S (p + length (resolved S xs)) (place_of i)
+    → Placed S p xs × AtPlace S (p + length (resolve S xs)) (place_of i)
 placed_split S p [] i h = (tt, subst (λ q. AtPlace S q (place_of i)) (sym (add-zero p)) h.0)
 placed_split S p (x ∷ xs) i h =
     let r = placed_split S (p + length (resolved_one S x)) xs i h.1 in
-    let same : (p + length (resolved_one S x)) + length (resolved S xs) ≡ p + length (resolved_one S x ++ resolved S xs) =
-    let long = length-append (resolved_one S x) (resolved S xs) in omega arith in
+    let same : (p + length (resolved_one S x)) + length (resolve S xs) ≡ p + length (resolved_one S x ++ resolve S xs) =
+    let long = length-append (resolved_one S x) (resolve S xs) in omega arith in
     ((h.0, r.0), subst (λ q. AtPlace S q (place_of i)) same r.1)
 
 -- One instruction, and one label
 
-pub put_code : (S : Scope) (i : UnitInstr) (d : Draft) → resolved S (put i d).instrs ≡ resolved S d.instrs ++ resolved_one S i
+pub put_code : (S : Scope) (i : UnitInstr) (d : Draft) → resolve S (put i d).instrs ≡ resolve S d.instrs ++ resolved_one S i
 unfolding put
 put_code S i d = resolved-more S d.instrs i
 
 pub put_len : (S : Scope) (i : UnitInstr) (d : Draft) → len S (put i d) ≡ len S d + length (resolved_one S i)
-put_len S i d = ap length (put_code S i d) ∙ length-append (resolved S d.instrs) (resolved_one S i)
+put_len S i d = ap length (put_code S i d) ∙ length-append (resolve S d.instrs) (resolved_one S i)
 
 pub put_before : {S : Scope} {F : List (List ℕ)} {W : List X.Ways} {E : List ℕ} (i : UnitInstr) (d : Draft) → Agrees S F W E (put i d) → Agrees S F W E d
 unfolding put
@@ -113,7 +113,7 @@ module _ {S : Scope} {F : List (List ℕ)} {W : List X.Ways} {E : List ℕ} wher
   pub nothing : Gives S F W E (λ d. d) 0 (λ p. []) none
   nothing = record {
     long = λ d. sym (add-zero (len S d));
-    at = λ d h. record { before = h; is = sym (append-nil (resolved S d.instrs)); known = tt };
+    at = λ d h. record { before = h; is = sym (append-nil (resolve S d.instrs)); known = tt };
   }
 
   -- an instruction
@@ -133,8 +133,8 @@ module _ {S : Scope} {F : List (List ℕ)} {W : List X.Ways} {E : List ℕ} wher
         let first = x.at d second.before in
         record {
           before = first.before;
-          is = second.is ∙ ap (λ is. is ++ b (len S (s d))) first.is ∙ append_assoc (resolved S d.instrs) (a (len S d)) (b (len S (s d)))
-              ∙ ap (λ p. resolved S d.instrs ++ (a (len S d) ++ b p)) (x.long d);
+          is = second.is ∙ ap (λ is. is ++ b (len S (s d))) first.is ∙ append_assoc (resolve S d.instrs) (a (len S d)) (b (len S (s d)))
+              ∙ ap (λ p. resolve S d.instrs ++ (a (len S d) ++ b p)) (x.long d);
           known = (first.known, subst g (x.long d) second.known);
         };
   }
@@ -143,14 +143,14 @@ module _ {S : Scope} {F : List (List ℕ)} {W : List X.Ways} {E : List ℕ} wher
   pub numbered_then : {t : Draft → Draft} {m : ℕ} {b : ℕ → List Instr} {g : ℕ → Type 0} → Gives S F W E t m b g
       → Gives S F W E (λ d. t (with_label d)) m b g
   numbered_then {t = t} {m = m} {b = b} {g = g} y = record {
-    long = λ d. y.long (with_label d) ∙ ap (λ (is : List UnitInstr). length (resolved S is) + m) (label_instrs d);
+    long = λ d. y.long (with_label d) ∙ ap (λ (is : List UnitInstr). length (resolve S is) + m) (label_instrs d);
     at = λ d h.
         let later = y.at (with_label d) h in
-        let same : len S (with_label d) ≡ len S d = ap (λ (is : List UnitInstr). length (resolved S is)) (label_instrs d) in
+        let same : len S (with_label d) ≡ len S d = ap (λ (is : List UnitInstr). length (resolve S is)) (label_instrs d) in
         record {
           before = label_before d later.before;
-          is = later.is ∙ ap (λ (is : List UnitInstr). resolved S is ++ b (len S (with_label d))) (label_instrs d)
-              ∙ ap (λ p. resolved S d.instrs ++ b p) same;
+          is = later.is ∙ ap (λ (is : List UnitInstr). resolve S is ++ b (len S (with_label d))) (label_instrs d)
+              ∙ ap (λ p. resolve S d.instrs ++ b p) same;
           known = subst g same later.known;
         };
   }
@@ -163,10 +163,10 @@ module _ {S : Scope} {F : List (List ℕ)} {W : List X.Ways} {E : List ℕ} wher
     at = λ d h.
         let later = y.at (put (U.Lab label) d) h in
         let same : len S (put (U.Lab label) d) ≡ len S d = put_len S (U.Lab label) d ∙ add-zero (len S d) in
-        let code : resolved S (put (U.Lab label) d).instrs ≡ resolved S d.instrs = put_code S (U.Lab label) d ∙ append-nil (resolved S d.instrs) in
+        let code : resolve S (put (U.Lab label) d).instrs ≡ resolve S d.instrs = put_code S (U.Lab label) d ∙ append-nil (resolve S d.instrs) in
         record {
           before = put_before (U.Lab label) d later.before;
-          is = later.is ∙ ap (λ is. is ++ b (len S (put (U.Lab label) d))) code ∙ ap (λ p. resolved S d.instrs ++ b p) same;
+          is = later.is ∙ ap (λ is. is ++ b (len S (put (U.Lab label) d))) code ∙ ap (λ p. resolve S d.instrs ++ b p) same;
           known = (put_label label d later.before, subst g same later.known);
         };
   }
@@ -180,7 +180,7 @@ module _ {S : Scope} {F : List (List ℕ)} {W : List X.Ways} {E : List ℕ} wher
         let first = x.at d (put_before (U.Lab label) (s d) h) in
         record {
           before = first.before;
-          is = put_code S (U.Lab label) (s d) ∙ append-nil (resolved S (s d).instrs) ∙ first.is;
+          is = put_code S (U.Lab label) (s d) ∙ append-nil (resolve S (s d).instrs) ∙ first.is;
           known = (first.known, put_label label (s d) h ∙ x.long d);
         };
   }
@@ -193,7 +193,7 @@ module _ {S : Scope} {F : List (List ℕ)} {W : List X.Ways} {E : List ℕ} wher
     at = λ d h.
         let all = x.at d h in
         let known = same (len S d) all.known in
-        record { before = all.before; is = all.is ∙ ap (λ c. resolved S d.instrs ++ c) known.0; known = known.1 };
+        record { before = all.before; is = all.is ∙ ap (λ c. resolve S d.instrs ++ c) known.0; known = known.1 };
   }
 
   -- the same of a step that uses the next number of a label
@@ -205,5 +205,5 @@ module _ {S : Scope} {F : List (List ℕ)} {W : List X.Ways} {E : List ℕ} wher
     at = λ d h.
         let all = (x (next_label d)).at d h in
         let known = same (next_label d) (len S d) all.known in
-        record { before = all.before; is = all.is ∙ ap (λ c. resolved S d.instrs ++ c) known.0; known = known.1 };
+        record { before = all.before; is = all.is ∙ ap (λ c. resolve S d.instrs ++ c) known.0; known = known.1 };
   }

@@ -7,7 +7,7 @@ use Rattle.icn_unit.specs.declared.unit.UnitInstr.TheVariants as U
 use Rattle.icn_translate.specs.declared.builder.Ways.{Ways}
 use Rattle.icn_translate.specs.Drafts.{Draft, put, with_label, number_of, numbered, unmentioned, first_ways, other_ways, in_loop, outside_loop, innermost, aside, next_number, with_next, put_next, last_number, with_last, put_last, first_end, other_ends, case_end, in_case, outside_case, end_number, with_end, put_end}
 use Rattle.icn_translate.specs.Translation.{loop_end}
-use Rattle.icn_link.specs.Resolving.{Scope, resolved_one, resolved}
+use Rattle.icn_link.specs.Resolving.{Scope, resolved_one, resolve}
 use Rattle.icn_simulation.specs.Translation as X
 use Rattle.link_laws.proofs.CodeSteps.{AtPlace, Placed, Loops, Ends, Front, Agrees, Gives, none, len, put_code, put_len, put_before, put_label}
 
@@ -160,10 +160,10 @@ module _ (S : Scope) where
   }
 
   same_len : {d e : Draft} → Same d e → len S e ≡ len S d
-  same_len s = ap (λ (is : List UnitInstr). length (resolved S is)) s.instrs
+  same_len s = ap (λ (is : List UnitInstr). length (resolve S is)) s.instrs
 
-  same_code : {d e : Draft} → Same d e → resolved S e.instrs ≡ resolved S d.instrs
-  same_code s = ap (λ (is : List UnitInstr). resolved S is) s.instrs
+  same_code : {d e : Draft} → Same d e → resolve S e.instrs ≡ resolve S d.instrs
+  same_code s = ap (λ (is : List UnitInstr). resolve S is) s.instrs
 
 -- The label that `next` goes to, and that of `break`
 
@@ -209,7 +209,7 @@ module _ {S : Scope} {F : List (List ℕ)} {w : X.Ways} {W : List X.Ways} {E : L
           before = known.0;
           is = put_code S (word (next_number d)) (with_next d)
               ∙ ap (λ (is : List Instr). is ++ resolved_one S (word (next_number d))) (same_code S (next_same d))
-              ∙ ap (λ (is : List Instr). resolved S d.instrs ++ is) (same (next_number d) ∙ ap (λ p. instr p ∷ []) known.1);
+              ∙ ap (λ (is : List Instr). resolve S d.instrs ++ is) (same (next_number d) ∙ ap (λ p. instr p ∷ []) known.1);
           known = tt;
         };
   }
@@ -228,7 +228,7 @@ module _ {S : Scope} {F : List (List ℕ)} {w : X.Ways} {W : List X.Ways} {E : L
           before = known.0;
           is = put_code S (word (last_number d)) (with_last d)
               ∙ ap (λ (is : List Instr). is ++ resolved_one S (word (last_number d))) (same_code S (last_same d))
-              ∙ ap (λ (is : List Instr). resolved S d.instrs ++ is) (same (last_number d) ∙ ap (λ p. instr p ∷ []) known.1);
+              ∙ ap (λ (is : List Instr). resolve S d.instrs ++ is) (same (last_number d) ∙ ap (λ p. instr p ∷ []) known.1);
           known = tt;
         };
   }
@@ -257,7 +257,7 @@ module _ {S : Scope} {F : List (List ℕ)} {w : X.Ways} {W : List X.Ways} {E : L
           before = other_ways_agree S (out_same d) (loops_of S d.loops w W last next rest)
               (subst (λ (cases : List (Option ℕ)). Ends S cases E) (out_cases d) all.before.ends) all.before;
           is = same_code S (in_same (innermost d) e) ∙ all.is ∙ ap (λ (is : List Instr). is ++ a (len S o)) (same_code S (out_same d))
-              ∙ ap (λ p. resolved S d.instrs ++ a p) same;
+              ∙ ap (λ p. resolve S d.instrs ++ a p) same;
           known = subst f same all.known;
         };
   }
@@ -295,19 +295,19 @@ still_last i d =
 
 -- the end of a loop: both labels have their places there
 module _ (S : Scope) (i : UnitInstr) (one : length (resolved_one S i) ≡ 1) where
-  loop_end_code : (d : Draft) → resolved S (loop_end i d).instrs ≡ resolved S d.instrs ++ resolved_one S i
+  loop_end_code : (d : Draft) → resolve S (loop_end i d).instrs ≡ resolve S d.instrs ++ resolved_one S i
   loop_end_code d =
       let d1 = with_next d in
       let d2 = put_next U.Lab d in
       let d3 = put i d2 in
       let d4 = with_last d3 in
       let d5 = put_last U.Lab d3 in
-      same_code S (out_same d5) ∙ put_code S (U.Lab (last_number d3)) d4 ∙ append-nil (resolved S d4.instrs) ∙ same_code S (last_same d3)
+      same_code S (out_same d5) ∙ put_code S (U.Lab (last_number d3)) d4 ∙ append-nil (resolve S d4.instrs) ∙ same_code S (last_same d3)
       ∙ put_code S i d2 ∙ ap (λ (is : List Instr). is ++ resolved_one S i)
-      (put_code S (U.Lab (next_number d)) d1 ∙ append-nil (resolved S d1.instrs) ∙ same_code S (next_same d))
+      (put_code S (U.Lab (next_number d)) d1 ∙ append-nil (resolve S d1.instrs) ∙ same_code S (next_same d))
 
   loop_end_len : (d : Draft) → len S (loop_end i d) ≡ len S d + 1
-  loop_end_len d = let l = length-append (resolved S d.instrs) (resolved_one S i) in ap length (loop_end_code d) ∙ omega arith
+  loop_end_len d = let l = length-append (resolve S d.instrs) (resolved_one S i) in ap length (loop_end_code d) ∙ omega arith
 
   loop_known : {F : List (List ℕ)} {W : List X.Ways} {E : List ℕ} (w : X.Ways) (d : Draft) → w.next ≡ len S d → w.last ≡ len S d + 1
       → Agrees S F W E (loop_end i d) → Agrees S F (w ∷ W) E d
@@ -357,8 +357,8 @@ loops_give {S = S} {F = F} {W = W} {E = E} {inner = inner} {n = n} {c = c} {f = 
         before = other_ways_agree S (in_same unmentioned d) k.1
             (subst (λ (cases : List (Option ℕ)). Ends S cases E) (in_cases unmentioned d) all.before.ends) all.before;
         is = loop_end_code S i one (inner e) ∙ ap (λ (is : List Instr). is ++ resolved_one S i)
-            (all.is ∙ ap (λ (is : List Instr). is ++ c w (len S e)) (same_code S (in_same unmentioned d)) ∙ ap (λ p. resolved S d.instrs ++ c w p) same)
-            ∙ append_assoc (resolved S d.instrs) (c w (len S d)) (resolved_one S i);
+            (all.is ∙ ap (λ (is : List Instr). is ++ c w (len S e)) (same_code S (in_same unmentioned d)) ∙ ap (λ p. resolve S d.instrs ++ c w p) same)
+            ∙ append_assoc (resolve S d.instrs) (c w (len S d)) (resolved_one S i);
         known = subst (f w) same all.known;
       };
 }
@@ -384,7 +384,7 @@ module _ {S : Scope} {F : List (List ℕ)} {W : List X.Ways} {e : ℕ} {E : List
         record {
           before = known.0;
           is = put_code S (U.Goto (end_number d)) (with_end d) ∙ ap (λ (is : List Instr). is ++ I.Goto (S.label (end_number d)) ∷ []) (same_code S (end_same d))
-              ∙ ap (λ p. resolved S d.instrs ++ I.Goto p ∷ []) known.1;
+              ∙ ap (λ p. resolve S d.instrs ++ I.Goto p ∷ []) known.1;
           known = tt;
         };
   }
@@ -426,8 +426,8 @@ cases_give {S = S} {F = F} {W = W} {E = E} {inner = inner} {n = n} {c = c} {f = 
       record {
         before = other_ways_agree S (in_case_same None d)
             (subst (λ (loops : List Ways). Loops S loops W) (in_case_loops None d) all.before.loops) k.1 all.before;
-        is = same_code S (out_case_same g2) ∙ put_code S (U.Lab (end_number g)) g1 ∙ append-nil (resolved S g1.instrs) ∙ same_code S (end_same g)
-            ∙ all.is ∙ ap (λ (is : List Instr). is ++ c last (len S e)) (same_code S (in_case_same None d)) ∙ ap (λ p. resolved S d.instrs ++ c last p) same;
+        is = same_code S (out_case_same g2) ∙ put_code S (U.Lab (end_number g)) g1 ∙ append-nil (resolve S g1.instrs) ∙ same_code S (end_same g)
+            ∙ all.is ∙ ap (λ (is : List Instr). is ++ c last (len S e)) (same_code S (in_case_same None d)) ∙ ap (λ p. resolve S d.instrs ++ c last p) same;
         known = subst (f last) same all.known;
       };
 }

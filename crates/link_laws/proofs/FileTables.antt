@@ -21,12 +21,12 @@ use Rattle.icn_unit.specs.PlainUnits.{proc_names}
 use Rattle.icn_unit.specs.PlainUnits.{Global as GlobalLine, Link as LinkLine}
 use Rattle.icn_link.specs.Gathering.{with_texts}
 use Rattle.icn_link.specs.Mentions as Unit
-use Rattle.icn_link.specs.Mentions.{mention_of, mentioned_in, mentioned_by, global_in, fields_in, record_name_in, record_names, function_by, function_in, functions_in, declared}
+use Rattle.icn_link.specs.Mentions.{mention_of, mentioned_in, mentioned_by, global_in, fields_in, record_name_in, record_names, function_by, function_in, functions_in, declared_names}
 use Rattle.icn_meaning.specs.Program.{texts, added, without, only, global_names, procedures_of, kinds_of, kind_names, routine_names, routines_of, function_among, function_named, is_there, names_function, used_names, undeclared_names, globals_of, statics_among}
 use Rattle.icn_simulation.specs.Mentions.{Mention, AnInteger, AText, ASet, AField, integers_among, texts_among, sets_among, fields_among, firsts, initial_mentions, all_mentions}
 use Rattle.icn_simulation.specs.Joined.{routines, routine_mentions, code_mentions, record_fields, fields_of, strings_of, integers_of, sets_of}
 use Rattle.icn_translate.specs.FileUnits.{proc_codes, item_text, lines_in, unit_decls}
-use Rattle.icn_translate.specs.ProcCodes.{entry_of, kind_of, local_entries, begun, drafted, undeclared, proc_code}
+use Rattle.icn_translate.specs.ProcCodes.{entry_of, kind_of, local_entries, first_draft, draft_of, undeclared, proc_code}
 use Rattle.link_laws.proofs.FirstsOnce.{texts_firsts, integers_firsts, texts_all, added_firsts, without_kept, only_kept}
 use Rattle.link_laws.proofs.Mentioning.{taken, taken_in, code_adds}
 use Rattle.link_laws.proofs.NameEntries.{IsFit, texts_same, undeclared_same}
@@ -62,8 +62,8 @@ module _ {A : Type 0} (S : Sort A) where
 
   code_told : (procedure : Procedure) → IsFit procedure
       → mentioned_in S.told (proc_code procedure) ≡ S.among (initial_mentions procedure.initial ++ all_mentions procedure.body)
-  code_told procedure h = taken_told (drafted procedure).instrs
-      ∙ ap S.among (code_adds procedure.initial procedure.body h.initial h.body (begun procedure)).mentions
+  code_told procedure h = taken_told (draft_of procedure).instrs
+      ∙ ap S.among (code_adds procedure.initial procedure.body h.initial h.body (first_draft procedure)).mentions
 
   codes_told : (globals : List (List ℕ)) (first : ℕ) (procedures : List Procedure) → Fit procedures
       → mentioned_by S.told (map proc_code procedures) ≡ S.among (flat_map routine_mentions (routines_of globals first procedures))
@@ -299,7 +299,7 @@ functions_used (procedure ∷ others) h =
 -- The tables of a file
 
 module _ (file : List Declaration) (fit : Fit (procedures_of file)) where
-  declared_same : declared (unit_decls file) ≡ firsts bytes_eq (global_names file)
+  declared_same : declared_names (unit_decls file) ≡ firsts bytes_eq (global_names file)
   declared_same = texts_firsts (flat_map global_in (unit_decls file)) ∙ ap (firsts bytes_eq) (globals_same file)
 
   pub table_globals : Unit.globals (unit_decls file) (proc_codes file) ≡ globals_of file

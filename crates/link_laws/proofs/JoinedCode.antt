@@ -24,7 +24,7 @@ use Rattle.icn_tree.specs.NameSets.{NameTest, none_met}
 use Rattle.icn_link.specs.Gathering.{text_place, integer_place, with_texts}
 use Rattle.icn_link.specs.Joined as Linked
 use Rattle.icn_link.specs.Joined.{records_in, proc_entry, cset_of, joined_of, scope_of}
-use Rattle.icn_link.specs.Mentions.{Mentioned, mentioned, mention_of, mentioned_in, mentioned_by, set_in, global_in, record_names, declared}
+use Rattle.icn_link.specs.Mentions.{AllMentions, all_mentions, mention_of, mentioned_in, mentioned_by, set_in, global_in, record_names, declared_names}
 use Rattle.icn_link.specs.Mentions as Mentions
 use Rattle.icn_link.specs.Units.{all_decls, all_procs}
 use Rattle.icn_meaning.specs.Program.{joined, texts, has_name, global_names, procedures_of, kinds_of, kind_names, routine_names, routine_of, routines_of, function_named, globals_of, statics_among, place_of, later}
@@ -36,7 +36,7 @@ use Rattle.icn_simulation.specs.Mentions.{firsts}
 use Rattle.icn_simulation.proofs.Checked.{Each, IsSoundProcedure, sound_files}
 use Rattle.icn_translate.specs.Drafts.{name_place}
 use Rattle.icn_translate.specs.FileUnits.{codes_in, proc_codes, item_text, lines_in, unit_decls, translated_unit}
-use Rattle.icn_translate.specs.ProcCodes.{texts_of, drafted, proc_code}
+use Rattle.icn_translate.specs.ProcCodes.{texts_of, draft_of, proc_code}
 use Rattle.icn_units.specs.Written.{is_short, file_fits, declaration_fits, procedure_fits, collects_fits, operand_fits}
 use Rattle.icn_units.proofs.CodeTexts.{code_operands_fit}
 use Rattle.icn_units.proofs.FileNames.{first_faultless, others_faultless}
@@ -74,20 +74,20 @@ map_same f g h [] = refl
 map_same f g h (x ∷ xs) = ap (λ y. y ∷ map f xs) (h x) ∙ ap (λ ys. g x ∷ ys) (map_same f g h xs)
 
 module _ (file : List Declaration) (fit : Fit (procedures_of file)) where
-  abbrev M : Mentioned
-  M = mentioned (unit_decls file) (proc_codes file)
+  abbrev M : AllMentions
+  M = all_mentions (unit_decls file) (proc_codes file)
 
   -- Procedures
 
   agrees : (procedure : Procedure) → IsFit procedure → (first : ℕ)
-      → AgreeOn (scope_of M (proc_code procedure)) (names_in file (routine_of (globals_of file) first procedure)) (drafted procedure).names
+      → AgreeOn (scope_of M (proc_code procedure)) (names_in file (routine_of (globals_of file) first procedure)) (draft_of procedure).names
   agrees procedure h first = record {
     integer = λ n. ap (λ t. integer_place t n) (table_integers file fit);
     string = λ bytes. ap (λ t. text_place t bytes) (table_strings file fit);
     set = λ members. ap (λ t. text_place t members) (table_sets file fit);
     field = λ name. ap (λ t. text_place t name) (table_fields file fit);
     variable = λ name among.
-        let place = name_place (drafted procedure).names name in
+        let place = name_place (draft_of procedure).names name in
         ap (λ g. Linked.variable_at (Linked.variables g 0 0 (proc_code procedure).names) place) (table_globals file fit)
         ∙ variable_same (globals_of file) procedure h name among;
     keyword = λ name. refl;
@@ -166,11 +166,11 @@ module _ (file : List Declaration) (fit : Fit (procedures_of file)) where
       place_same name (proc_names (proc_codes file)) ∙ ap (place_of name) (procedures_same file) in
       let records : Linked.place_of (record_names (unit_decls file)) name ≡ place_of name (kind_names (kinds_of file)) =
       place_same name (record_names (unit_decls file)) ∙ ap (place_of name) (records_same file) in
-      let known : list_any (bytes_eq name) (declared (unit_decls file)) ≡ has_name name (global_names file) =
+      let known : list_any (bytes_eq name) (declared_names (unit_decls file)) ≡ has_name name (global_names file) =
       texts_any (flat_map global_in (unit_decls file)) name ∙ ap (list_any (bytes_eq name)) (globals_same file)
       ∙ sym (has_any name (global_names file)) in
       let start : Linked.start_by (Linked.place_of (proc_names (proc_codes file)) name) (Linked.place_of (record_names (unit_decls file)) name)
-      (list_any (bytes_eq name) (declared (unit_decls file))) (Mentions.function_named name) ≡ Law.start file name =
+      (list_any (bytes_eq name) (declared_names (unit_decls file))) (Mentions.function_named name) ≡ Law.start file name =
       (λ i. Linked.start_by (procs i) (records i) (known i) (function_same name i))
       ∙ start_same (place_of name (routine_names (routines file))) (place_of name (kind_names (kinds_of file))) (has_name name (global_names file))
       (function_named name) in

@@ -31,7 +31,7 @@ use Rattle.icn_translate.specs.declared.forms.PrefixForm.TheVariants.{Activation
 use Rattle.icn_translate.specs.Drafts.{Draft, ◌▹◌, put, next_label, with_label, numbered, with_name, with_names, put_variable, unmentioned, in_loop, outside_loop, innermost, aside, put_next, put_last, case_end, in_case, outside_case, put_end}
 use Rattle.icn_translate.specs.Instructions.{literal_instr, known_keyword, keyword_by, keyword_instr, section_op, infix_form, prefix_form}
 use Rattle.icn_translate.specs.Open.{Open, Outermost, Marked, Looped, Each, unmarks_for_break, unmarks_for_next, around}
-use Rattle.icn_translate.specs.Translation.{is_empty, is_nothing, is_no_element, elements, bounded, created, if_mark, unless_empty, either_step, control_part, in_control, in_body, back, loop_end, prefix_by, plain_form, update, augmented_form, case_of, looped_body, translate, operands, arguments, conjunction, conjuncts, compound, creations, other_creations, subscripts, to_step, otherwise, looped_part, suspended_part, guarded, default_part, initially, body}
+use Rattle.icn_translate.specs.Translation.{is_empty, is_nothing, is_no_element, elements, bounded_code, create_code, if_mark, unless_empty, either_step, control_part, in_control, in_body, back, loop_end, prefix_by, plain_form, update, augmented_form, case_of, looped_body, translate, operands, arguments, conjunction, conjuncts, compound, creations, other_creations, subscripts, to_step, otherwise, looped_part, suspended_part, guarded, default_part, initially, body}
 use Rattle.link_laws.proofs.FirstsOnce.{names_more}
 
 -- what an instruction of a unit takes from a table, as the first law has it
@@ -232,10 +232,10 @@ variable_names name d = refl
 variable_adds : (name : List ℕ) → AddsAlways [] (name ∷ []) (put_variable name)
 variable_adds name = record { adds = λ d. record { mentions = variable_taken name d; names = variable_names name d } }
 
-bounded_adds : {ks : List Mention} {ms : List (List ℕ)} {s : Draft → Draft} → AddsAlways ks ms s → AddsAlways ks ms (bounded s)
+bounded_adds : {ks : List Mention} {ms : List (List ℕ)} {s : Draft → Draft} → AddsAlways ks ms s → AddsAlways ks ms (bounded_code s)
 bounded_adds r = record { adds = λ d. from d ▸ labelled I.Mark (λ l. refl) ▸ on r ▸ plainly I.Unmark refl ▸ plainly (I.Lab _) refl }
 
-created_adds : {ks : List Mention} {ms : List (List ℕ)} {s : Draft → Draft} → AddsAlways ks ms s → AddsAlways ks ms (created s)
+created_adds : {ks : List Mention} {ms : List (List ℕ)} {s : Draft → Draft} → AddsAlways ks ms s → AddsAlways ks ms (create_code s)
 created_adds r = record {
   adds = λ d. from d ▸ labelled I.Create (λ l. refl) ▸ labelled I.Mark (λ l. refl) ▸ on r
       ▸ plainly I.Coret refl ▸ plainly I.Efail refl ▸ plainly (I.Lab _) refl ▸ plainly I.Cofail refl

@@ -30,7 +30,7 @@ use Rattle.icn_meaning.specs.Program.{place_of, later, texts, locals_among, stat
 use Rattle.icn_simulation.specs.Joined.{variable_by}
 use Rattle.icn_simulation.specs.Mentions.{firsts}
 use Rattle.icn_simulation.proofs.Formed.{FormedInitial, FormedAll}
-use Rattle.icn_translate.specs.ProcCodes.{entry_of, texts_of, kind_of, local_entries, local_texts, declared_texts, begun, drafted, undeclared, proc_code}
+use Rattle.icn_translate.specs.ProcCodes.{entry_of, texts_of, kind_of, local_entries, local_texts, declared_texts, first_draft, draft_of, undeclared, proc_code}
 use Rattle.icn_units.proofs.EntryNames.{begun_names, code_names, code_names_differ, names_length}
 use Rattle.icn_units.proofs.Naming.{both_of, neither_of, was_not}
 use Rattle.link_laws.proofs.FirstsOnce.{filter_by, firsts_kept, names_all, added_firsts, without_kept}
@@ -430,11 +430,11 @@ uses procedure = names_in_initial procedure.initial ++ names_in_all procedure.bo
 -- the undeclared names are those that are used and not declared, each once
 pub undeclared_same : (procedure : Procedure) → IsFit procedure → undeclared procedure ≡ undeclared_names procedure
 undeclared_same procedure h =
-    let B = (begun procedure).names in
+    let B = (first_draft procedure).names in
     let K = own_names procedure ++ statics_among procedure.locals in
     let new : List (List ℕ) = filter (λ y. not (list_any (bytes_eq y) B)) (firsts bytes_eq (uses procedure)) in
-    let all : (drafted procedure).names ≡ B ++ new =
-    (code_adds procedure.initial procedure.body h.initial h.body (begun procedure)).names ∙ names_all B (uses procedure) in
+    let all : (draft_of procedure).names ≡ B ++ new =
+    (code_adds procedure.initial procedure.body h.initial h.body (first_draft procedure)).names ∙ names_all B (uses procedure) in
     let same : (y : List ℕ) → list_any (bytes_eq y) B ≡ list_any (bytes_eq y) K =
     λ y. ap (list_any (bytes_eq y)) (begun_names h.met procedure h.faultless) ∙ declared_any procedure (bytes_eq y) in
     ap (drop (length B)) all ∙ drop-append_seam B new
@@ -473,13 +473,13 @@ statics_same globals procedure =
 
 -- the instruction of a name of the code is that of the name's place among locals, statics and globals
 pub variable_same : (globals : List (List ℕ)) (procedure : Procedure) (h : IsFit procedure) (name : List ℕ)
-    → list_any (bytes_eq name) (drafted procedure).names ≡ true
-    → variable_at (variables globals 0 0 (proc_code procedure).names) (position_or_len (bytes_eq name) (drafted procedure).names)
+    → list_any (bytes_eq name) (draft_of procedure).names ≡ true
+    → variable_at (variables globals 0 0 (proc_code procedure).names) (position_or_len (bytes_eq name) (draft_of procedure).names)
     ≡ variable_by (place_of name (own_names procedure ++ without globals (undeclared_names procedure)))
     (place_of name (statics_among procedure.locals)) (place_of name globals)
 variable_same globals procedure h name among =
     let entries = (proc_code procedure).names in
-    let same : entry_names entries ≡ (drafted procedure).names = code_names h.met procedure h.faultless in
+    let same : entry_names entries ≡ (draft_of procedure).names = code_names h.met procedure h.faultless in
     let there : list_any (bytes_eq name) (entry_names entries) ≡ true = ap (list_any (bytes_eq name)) same ∙ among in
     ap (λ l. variable_at (variables globals 0 0 entries) (position_or_len (bytes_eq name) l)) (sym same)
     ∙ stands globals name entries 0 0 (there, code_names_differ h.met procedure h.faultless)

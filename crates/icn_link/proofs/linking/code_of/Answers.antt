@@ -3,9 +3,9 @@ use Rattle.icn_code.specs.Codes.{Tables, procs_of, records_of}
 use Rattle.icn_unit.specs.PlainUnits.{Decl, Proc}
 use Rattle.icn_link.specs.Gathering.{text_place}
 use Rattle.icn_link.specs.Joined.{cset_of}
-use Rattle.icn_link.specs.Mentions.{Mentioned}
+use Rattle.icn_link.specs.Mentions.{AllMentions}
 use Rattle.icn_link.specs.Views.{AreFew, decls_seen, gathered_seen, procs_seen, texts_seen}
-use Rattle.icn_link.proofs.Made.{Parts, are_few, few_locals, few_statics, tables_kept, tables_made}
+use Rattle.icn_link.proofs.JoinedTables.{Parts, are_few, few_locals, few_statics, tables_kept, tables_made}
 use Rattle.icn_link.proofs.linking.code_of.Goals as goal
 
 pub places-requires : goal.places-requires
@@ -32,7 +32,7 @@ entries-requires-clause-statics c =
 
 pub invariant_of-result : goal.invariant_of-result
 invariant_of-result c =
-    let M : Mentioned = gathered_seen c.args.tables.now in
+    let M : AllMentions = gathered_seen c.args.tables.now in
     let D : List Decl = decls_seen c.args.decls.now in
     let P : List Proc = procs_seen c.args.procs.now in
     let T : Tables = record {
@@ -57,7 +57,7 @@ invariant_of-result c =
 
 pub returns-clause-joined : goal.returns-clause-joined
 returns-clause-joined c =
-    let M : Mentioned = gathered_seen c.args.tables.now in
+    let M : AllMentions = gathered_seen c.args.tables.now in
     let D : List Decl = decls_seen c.args.decls.now in
     let P : List Proc = procs_seen c.args.procs.now in
     let T : Tables = record {

@@ -1,7 +1,7 @@
 use Rattle.std.proofs.Common.{ap, arith, ◌∙◌}
 use Rattle.icn_unit.specs.UnitViews.{proc_seen}
 use Rattle.icn_link.specs.Joined.{locals_in, scope_with, statics_in, variables}
-use Rattle.icn_link.specs.Resolving.{label_place, resolved}
+use Rattle.icn_link.specs.Resolving.{label_place, resolve}
 use Rattle.icn_link.specs.Views.{gathered_seen, place_in}
 use Rattle.icn_link.proofs.KeptProcs.{entry_made, params_local}
 use Rattle.icn_link.proofs.linking.entry.Goals as goal
@@ -24,4 +24,4 @@ returns-clause-entry c =
     (λ label. c.in_ok-labels.ensures label ∙ ap (label_place label) c.deref-2.ensures.value)
     (c.in_ok-locals.ensures.locals ∙ ap (locals_in (gathered_seen c.args.tables.now).globals) c.deref-5.ensures.value)
     (c.in_ok-statics.ensures.statics ∙ ap (statics_in (gathered_seen c.args.tables.now).globals) c.deref-6.ensures.value)
-    (c.in_ok-instrs.ensures ∙ ap (resolved (scope_with (gathered_seen c.args.tables.now) c.deref-3.result.now (place_in c.in_ok-labels.labels))) c.deref-4.ensures.value)
+    (c.in_ok-instrs.ensures ∙ ap (resolve (scope_with (gathered_seen c.args.tables.now) c.deref-3.result.now (place_in c.in_ok-labels.labels))) c.deref-4.ensures.value)

@@ -1,8 +1,8 @@
 use Rattle.std.proofs.Common.{◌≡◌, ◌≤◌, ◌+◌, length, drop}
-use Rattle.icn_verify.specs.Passing.{judged}
+use Rattle.icn_verify.specs.Passing.{first_fault}
 use Rattle.icn_verify.specs.Stacks.{AreKept, table_in}
 use Rattle.icn_verify.specs.Counting.{IsLowTable}
 use Rattle.icn_verify.proofs.pass.judge.Given as goal
 
 abbrev pub invariant-loop-place : goal.invariant-loop-place
-invariant-loop-place l = record { kept : AreKept l.arena l.slots; few : length l.arena ≤ l.place + 1; low : IsLowTable l.place (table_in l.arena l.slots); is : judged (table_in l.arena l.slots) l.place (drop l.place l.instrs) ≡ judged (table_in l.fn.arena l.fn.slots) 0 l.instrs }
+invariant-loop-place l = record { kept : AreKept l.arena l.slots; few : length l.arena ≤ l.place + 1; low : IsLowTable l.place (table_in l.arena l.slots); is : first_fault (table_in l.arena l.slots) l.place (drop l.place l.instrs) ≡ first_fault (table_in l.fn.arena l.fn.slots) 0 l.instrs }

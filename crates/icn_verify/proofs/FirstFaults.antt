@@ -9,7 +9,7 @@ use Rattle.icn_verify.specs.Shapes.{PlainShape, start_shape, look_of}
 use Rattle.icn_verify.specs.Rows.{row_of, lacks, meets, fits, after, next, forward, strays}
 use Rattle.icn_verify.specs.Reaching.{Reaches, starts, goes, Carries, AreWithin}
 use Rattle.icn_verify.specs.Faults.{Breaks, IsFirstOf, IsSound, number_of}
-use Rattle.icn_verify.specs.Passing.{Seen, unseen, one, several, seen_at, arrived, rule_at, rule_at_end, sent, placed, first_placed, judged, first_table, fault_of}
+use Rattle.icn_verify.specs.Passing.{Arrival, unseen, one, several, seen_at, with_arrival, rule_at, rule_at_end, pass_on, at_address, first_placed, first_fault, first_table, fault_of}
 use Rattle.icn_verify.proofs.Same.{is_true_or_false}
 use Rattle.icn_verify.proofs.Seeing.{Sums, IsOnly, SumUp, Adds, sums_as, sums_arrived, length_arrived}
 use Rattle.icn_verify.proofs.Ways.{next_is, forward_past, forward_within}
@@ -41,7 +41,7 @@ fit_both false b h k = k
 module _ (instrs : List Instr) where
   -- each place was summed up, and none breaks a rule
   pub record IsPassed : Type 0 where
-    pub table : List Seen
+    pub table : List Arrival
     pub sums : (place : ℕ) → Sums (Reaches instrs place) (seen_at table place)
     pub sound : IsSound instrs
 
@@ -50,17 +50,17 @@ module _ (instrs : List Instr) where
   IsOutcome (Some found) = IsFirstOf instrs found.0 found.1
 
   -- so far the table sums up what comes from the earlier places, which break no rule
-  pub record IsSoFar (table : List Seen) (place : ℕ) : Type 0 where
+  pub record IsSoFar (table : List Arrival) (place : ℕ) : Type 0 where
     pub long : length table ≡ length instrs + 1
     pub sums : SumUp (Arrives instrs place) (length instrs) table
     pub sound : (earlier : ℕ) → earlier < place → (rule : Rule) → Breaks instrs earlier rule → ⊥
 
-  known : (table : List Seen) (place : ℕ) → IsSoFar table place → place ≤ length instrs → (label : ℕ) → label ≤ place → Sums (Reaches instrs label) (seen_at table label)
+  known : (table : List Arrival) (place : ℕ) → IsSoFar table place → place ≤ length instrs → (label : ℕ) → label ≤ place → Sums (Reaches instrs label) (seen_at table label)
   known table place so within label le =
       sums_as (Arrives instrs place label) (Reaches instrs label) (arrives_reaches instrs place label) (λ shape reaches. reaches_arrives instrs label shape reaches place le) (seen_at table label) (so.sums label (omega arith))
 
   -- the least rule here is the first
-  first_here : (table : List Seen) (place : ℕ) → IsSoFar table place → (rule : Rule) → IsLeastRule instrs place rule → IsFirstOf instrs rule place
+  first_here : (table : List Arrival) (place : ℕ) → IsSoFar table place → (rule : Rule) → IsLeastRule instrs place rule → IsFirstOf instrs rule place
   first_here table place so rule least = record { breaks = least.breaks; first = first }
     where
       first : (place' : ℕ) (rule' : Rule) → Breaks instrs place' rule' → (place' < place) ⊎ ((place' ≡ place) × (number_of rule' < number_of rule)) → ⊥
@@ -74,7 +74,7 @@ module _ (instrs : List Instr) where
       by (inl before) = sound earlier before rule broken
       by (inr ge) = let is : earlier ≡ place = omega arith in here rule (subst (λ p. Breaks instrs p rule) is broken)
 
-  module _ (table : List Seen) (place : ℕ) (instr : Instr) (stands : slice_get instrs place ≡ Some instr) (so : IsSoFar table place) where
+  module _ (table : List Arrival) (place : ℕ) (instr : Instr) (stands : slice_get instrs place ≡ Some instr) (so : IsSoFar table place) where
     within : place ≤ length instrs
     within = let lt = some_within instrs place instr stands in omega arith
 
@@ -87,7 +87,7 @@ module _ (instrs : List Instr) where
             let is : label ≡ place = omega arith in
             differ (sums.alone a (subst (λ p. Reaches instrs p a) is reaches_a) ∙ sym (sums.alone b (subst (λ p. Reaches instrs p b) is reaches_b)))
 
-    least_at : (seen : Seen) → Sums (Reaches instrs place) seen → IsLeast instrs place (rule_at table place instr seen)
+    least_at : (seen : Arrival) → Sums (Reaches instrs place) seen → IsLeast instrs place (rule_at table place instr seen)
     least_at unseen sums = unreached instrs place sums
     least_at (one only) sums = least_one instrs place instr stands table only sums (known table place so within) (single only sums)
     least_at (several n) sums = least_several instrs place instr stands n sums
@@ -150,18 +150,18 @@ module _ (instrs : List Instr) where
             leads (inl h) = inl (inr (sym (λ i. next (is i) place (same i)) ∙ h))
             leads (inr h) = inr (sym (λ i. forward (is i) (same i)) ∙ h)
 
-        so_one : IsSoFar (sent table place instr (one only)) (place + 1)
+        so_one : IsSoFar (pass_on table place instr (one only)) (place + 1)
         so_one = record {
-          long = length_arrived (arrived table (next instr place only)) (forward instr only) ∙ length_arrived table (next instr place only) ∙ so.long;
+          long = length_arrived (with_arrival table (next instr place only)) (forward instr only) ∙ length_arrived table (next instr place only) ∙ so.long;
           sums = λ q le. sums_as (Adds (Adds (Arrives instrs place) (next instr place only)) (forward instr only) q) (Arrives instrs (place + 1) q) (went_arrives q) (λ shape arrives. arrives_went q shape (arrives_split instrs place q shape arrives))
-              (seen_at (sent table place instr (one only)) q)
-              (sums_arrived (Adds (Arrives instrs place) (next instr place only)) (length instrs) (arrived table (next instr place only)) (forward instr only)
+              (seen_at (pass_on table place instr (one only)) q)
+              (sums_arrived (Adds (Arrives instrs place) (next instr place only)) (length instrs) (with_arrival table (next instr place only)) (forward instr only)
               (length_arrived table (next instr place only) ∙ so.long)
               (sums_arrived (Arrives instrs place) (length instrs) table (next instr place only) so.long so.sums) q le);
           sound = sound_more place so.sound none;
         }
 
-      so_sent : (seen : Seen) → Sums (Reaches instrs place) seen → IsSoFar (sent table place instr seen) (place + 1)
+      so_sent : (seen : Arrival) → Sums (Reaches instrs place) seen → IsSoFar (pass_on table place instr seen) (place + 1)
       so_sent unseen sums = so_unseen sums
       so_sent (one only) sums = so_one only sums
       so_sent (several n) sums = absurd (none V2 (inl (record { one = sums.first; other = sums.other; reaches = sums.first_came; reaches_too = sums.other_came; differ = sums.differ })))
@@ -179,20 +179,20 @@ module _ (instrs : List Instr) where
             omega arith
         by (inr h) = forward_within (row_of carries.instr).way (length instrs) shape (after (row_of carries.instr) shape) to carried (labels.each place carries.instr carries.stands) h
 
-    sums_all : (table : List Seen) → IsSoFar table (length instrs) → (place : ℕ) → (place ≤ length instrs) ⊎ (length instrs < place) → Sums (Reaches instrs place) (seen_at table place)
+    sums_all : (table : List Arrival) → IsSoFar table (length instrs) → (place : ℕ) → (place ≤ length instrs) ⊎ (length instrs < place) → Sums (Reaches instrs place) (seen_at table place)
     sums_all table so place (inl le) = known table (length instrs) so (omega arith) place le
     sums_all table so place (inr gt) = subst (Sums (Reaches instrs place)) (sym (past table place (omega (arith, so.long)))) (λ shape reaches. let le = reaches_within place shape reaches in omega arith)
       where
-        past : (table : List Seen) (place : ℕ) → length table ≤ place → seen_at table place ≡ unseen
+        past : (table : List Arrival) (place : ℕ) → length table ≤ place → seen_at table place ≡ unseen
         past [] place h = refl
         past (x ∷ xs) zero h = absurd (omega arith)
         past (x ∷ xs) (suc n) h = past xs n (omega arith)
 
-    at_end : (table : List Seen) (place : ℕ) → place ≡ length instrs → IsSoFar table place → IsOutcome (placed place (rule_at_end (seen_at table place)))
+    at_end : (table : List Arrival) (place : ℕ) → place ≡ length instrs → IsSoFar table place → IsOutcome (at_address place (rule_at_end (seen_at table place)))
     at_end table place ends so =
         by (rule_at_end (seen_at table place)) (least_end instrs place ends (seen_at table place) (known table place so (omega arith) place (omega arith)))
       where
-        by : (found : Option Rule) → IsLeast instrs place found → IsOutcome (placed place found)
+        by : (found : Option Rule) → IsLeast instrs place found → IsOutcome (at_address place found)
         by (Some rule) least = first_here table place so rule least
         by None least = record {
           table = table;
@@ -208,10 +208,10 @@ module _ (instrs : List Instr) where
             sound q rule broken (inl le) = sound_more place so.sound least q (omega arith) rule broken
             sound q rule broken (inr gt) = unreached instrs q (λ shape reaches. let le = reaches_within q shape reaches in absurd (omega arith)) rule broken
 
-    outcome_from : (rest done : List Instr) (table : List Seen) → done ++ rest ≡ instrs → IsSoFar table (length done) → IsOutcome (judged table (length done) rest)
+    outcome_from : (rest done : List Instr) (table : List Arrival) → done ++ rest ≡ instrs → IsSoFar table (length done) → IsOutcome (first_fault table (length done) rest)
     outcome_from [] done table all so = at_end table (length done) (ap length (sym (append-nil done) ∙ all)) so
     outcome_from (instr ∷ rest) done table all so =
-        by (outcome_from rest (done ++ instr ∷ []) (sent table (length done) instr (seen_at table (length done))) (append_assoc done (instr ∷ []) rest ∙ all))
+        by (outcome_from rest (done ++ instr ∷ []) (pass_on table (length done) instr (seen_at table (length done))) (append_assoc done (instr ∷ []) rest ∙ all))
         (rule_at table (length done) instr (seen_at table (length done))) (least_at table (length done) instr stands so (seen_at table (length done)) sums)
       where
         stands : slice_get instrs (length done) ≡ Some instr
@@ -223,12 +223,12 @@ module _ (instrs : List Instr) where
         long : length (done ++ instr ∷ []) ≡ length done + 1
         long = length-append done (instr ∷ [])
 
-        by : (IsSoFar (sent table (length done) instr (seen_at table (length done))) (length (done ++ instr ∷ [])) → IsOutcome (judged (sent table (length done) instr (seen_at table (length done))) (length (done ++ instr ∷ [])) rest))
-            → (found : Option Rule) → IsLeast instrs (length done) found → IsOutcome (first_placed (length done) found (judged (sent table (length done) instr (seen_at table (length done))) (length done + 1) rest))
+        by : (IsSoFar (pass_on table (length done) instr (seen_at table (length done))) (length (done ++ instr ∷ [])) → IsOutcome (first_fault (pass_on table (length done) instr (seen_at table (length done))) (length (done ++ instr ∷ [])) rest))
+            → (found : Option Rule) → IsLeast instrs (length done) found → IsOutcome (first_placed (length done) found (first_fault (pass_on table (length done) instr (seen_at table (length done))) (length done + 1) rest))
         by goes_on (Some rule) least = first_here table (length done) so rule least
         by goes_on None least =
-            subst (λ n. IsOutcome (judged (sent table (length done) instr (seen_at table (length done))) n rest)) long
-            (goes_on (subst (IsSoFar (sent table (length done) instr (seen_at table (length done)))) (sym long) (so_sent table (length done) instr stands so least (seen_at table (length done)) sums)))
+            subst (λ n. IsOutcome (first_fault (pass_on table (length done) instr (seen_at table (length done))) n rest)) long
+            (goes_on (subst (IsSoFar (pass_on table (length done) instr (seen_at table (length done)))) (sym long) (so_sent table (length done) instr stands so least (seen_at table (length done)) sums)))
 
     start_sums : SumUp (Arrives instrs 0) (length instrs) (first_table (length instrs))
     start_sums zero le = record { came = inl (refl, refl); alone = alone }

@@ -8,13 +8,13 @@ use Rattle.icn_unit.specs.PlainUnits.{Proc, Decl, proc_names}
 use Rattle.icn_link.specs.Gathering.{text_place}
 use Rattle.icn_link.specs.Joined.{cset_of, global_entry, joined_of, locals_in, proc_entry, records_in, statics_in, tables_with}
 use Rattle.icn_link.specs.LinkFaults.{local_counts, record_sizes, static_counts}
-use Rattle.icn_link.specs.Mentions.{Mentioned, globals, mentioned, record_names}
+use Rattle.icn_link.specs.Mentions.{AllMentions, globals, all_mentions, record_names}
 use Rattle.icn_link.specs.Views.{AreFew, Joinable}
 use Rattle.icn_link.proofs.Each.{all_unmapped}
-use Rattle.icn_link.proofs.Kept.{all_within, joined_kept, within}
+use Rattle.icn_link.proofs.JoinedRules.{all_within, joined_kept, within}
 
 -- what is found of each part
-pub record Parts (M : Mentioned) (decls : List Decl) (procs : List Proc) (T : Tables) : Type 0 where
+pub record Parts (M : AllMentions) (decls : List Decl) (procs : List Proc) (T : Tables) : Type 0 where
   pub strings : T.strings ≡ M.strings
   pub csets : T.csets ≡ map cset_of M.sets
   pub integers : T.integers ≡ M.integers
@@ -23,7 +23,7 @@ pub record Parts (M : Mentioned) (decls : List Decl) (procs : List Proc) (T : Ta
   pub globals : T.globals ≡ map (global_entry M (proc_names procs) (record_names decls)) M.globals
   pub entries : T.procs ≡ map (proc_entry M) procs
 
-pub tables_made : (M : Mentioned) (decls : List Decl) (procs : List Proc) (T : Tables) → M ≡ mentioned decls procs
+pub tables_made : (M : AllMentions) (decls : List Decl) (procs : List Proc) (T : Tables) → M ≡ all_mentions decls procs
     → Parts M decls procs T → T ≡ joined_of decls procs
 tables_made M decls procs T is p =
     (λ i. record {
@@ -36,13 +36,13 @@ tables_made M decls procs T is p =
       procs = p.entries i;
     }) ∙ ap (λ N. tables_with N decls procs) is
 
-pub tables_kept : (M : Mentioned) (decls : List Decl) (procs : List Proc) (T : Tables) → M ≡ mentioned decls procs
+pub tables_kept : (M : AllMentions) (decls : List Decl) (procs : List Proc) (T : Tables) → M ≡ all_mentions decls procs
     → Joinable decls procs → Parts M decls procs T → keeps_rules T ≡ true
 tables_kept M decls procs T is J p = ap keeps_rules (tables_made M decls procs T is p) ∙ joined_kept decls procs J
 
-few : (decls : List Decl) (procs : List Proc) → Joinable decls procs → AreFew (mentioned decls procs)
+few : (decls : List Decl) (procs : List Proc) → Joinable decls procs → AreFew (all_mentions decls procs)
 few decls procs J =
-    let M : Mentioned = mentioned decls procs in
+    let M : AllMentions = all_mentions decls procs in
     let k7 : List ℕ = length procs ∷ [] in
     let k6 : List ℕ = length M.globals ∷ k7 in
     let k5 : List ℕ = length (record_sizes decls) ∷ k6 in
@@ -57,17 +57,17 @@ few decls procs J =
     let s6 = within 65535 (length M.globals) k7 s5.1 in
     record { strings = s1.0; sets = s2.0; integers = s3.0; fields = s4.0; globals = s6.0 }
 
-pub are_few : (M : Mentioned) (decls : List Decl) (procs : List Proc) → M ≡ mentioned decls procs → Joinable decls procs → AreFew M
+pub are_few : (M : AllMentions) (decls : List Decl) (procs : List Proc) → M ≡ all_mentions decls procs → Joinable decls procs → AreFew M
 are_few M decls procs is J = subst AreFew (sym is) (few decls procs J)
 
-pub few_locals : (M : Mentioned) (decls : List Decl) (procs : List Proc) → M ≡ mentioned decls procs → Joinable decls procs
+pub few_locals : (M : AllMentions) (decls : List Decl) (procs : List Proc) → M ≡ all_mentions decls procs → Joinable decls procs
     → list_all (λ (proc : Proc). nat_le (locals_in M.globals proc.names) 65535) procs ≡ true
 few_locals M decls procs is J =
-    ap (λ (N : Mentioned). list_all (λ (proc : Proc). nat_le (locals_in N.globals proc.names) 65535) procs) is
+    ap (λ (N : AllMentions). list_all (λ (proc : Proc). nat_le (locals_in N.globals proc.names) 65535) procs) is
     ∙ all_unmapped (λ n. nat_le n 65535) (λ (proc : Proc). locals_in (globals decls procs) proc.names) procs (all_within 65535 (local_counts (globals decls procs) procs) J.locals)
 
-pub few_statics : (M : Mentioned) (decls : List Decl) (procs : List Proc) → M ≡ mentioned decls procs → Joinable decls procs
+pub few_statics : (M : AllMentions) (decls : List Decl) (procs : List Proc) → M ≡ all_mentions decls procs → Joinable decls procs
     → list_all (λ (proc : Proc). nat_le (statics_in M.globals proc.names) 65535) procs ≡ true
 few_statics M decls procs is J =
-    ap (λ (N : Mentioned). list_all (λ (proc : Proc). nat_le (statics_in N.globals proc.names) 65535) procs) is
+    ap (λ (N : AllMentions). list_all (λ (proc : Proc). nat_le (statics_in N.globals proc.names) 65535) procs) is
     ∙ all_unmapped (λ n. nat_le n 65535) (λ (proc : Proc). statics_in (globals decls procs) proc.names) procs (all_within 65535 (static_counts (globals decls procs) procs) J.statics)

@@ -20,7 +20,7 @@ use Rattle.icn_link.specs.Gathering.{with_text, with_texts, text_place}
 use Rattle.icn_link.specs.Joined.{cset_of, global_entry, is_among, joined_of, place_of, proc_entry, records_in, start_by}
 use Rattle.icn_link.specs.JoinableUnits.{is_joinable_proc}
 use Rattle.icn_link.specs.LinkFaults.{over, count_fault, field_counts, record_sizes, size_of, local_counts, static_counts}
-use Rattle.icn_link.specs.Mentions.{Mention, NoMention, AnInteger, AText, ASet, AField, Operands, Mentioned, declared, field_in, fields, fields_in, function_named, functions_in, global_in, globals, integer_in, mention_of, mentioned, mentioned_by, mentioned_in, operands_in, record_name_in, record_names, set_in, string_mentions, strings, text_in}
+use Rattle.icn_link.specs.Mentions.{Mention, NoMention, AnInteger, AText, ASet, AField, Operands, AllMentions, declared_names, field_in, fields, fields_in, function_named, functions_in, global_in, globals, integer_in, mention_of, all_mentions, mentioned_by, mentioned_in, operands_in, record_name_in, record_names, set_in, string_mentions, strings, text_in}
 use Rattle.icn_link.specs.Views.{Joinable}
 use Rattle.icn_link.proofs.Each.{all_in_flat, all_mapped, all_then, both, has_integer, has_integer_place, has_place, has_text, integer_placed, integers_there, text_at, text_placed, texts_there}
 use Rattle.icn_link.proofs.KeptCsets.{cset_kept}
@@ -120,27 +120,27 @@ place_within (other ∷ names) name n e = place_by name other names (bytes_eq na
 
 -- Records, by the declarations
 
-records_long : (M : Mentioned) (decls : List Decl) → length (flat_map (records_in M) decls) ≡ length (record_sizes decls)
+records_long : (M : AllMentions) (decls : List Decl) → length (flat_map (records_in M) decls) ≡ length (record_sizes decls)
 records_long M [] = refl
 records_long M (GlobalDecl name ∷ decls) = records_long M decls
 records_long M (Procedure name ∷ decls) = records_long M decls
 records_long M (Link text ∷ decls) = records_long M decls
 records_long M (Record name fields ∷ decls) = ap suc (records_long M decls)
 
-names_long : (M : Mentioned) (decls : List Decl) → length (flat_map (records_in M) decls) ≡ length (record_names decls)
+names_long : (M : AllMentions) (decls : List Decl) → length (flat_map (records_in M) decls) ≡ length (record_names decls)
 names_long M [] = refl
 names_long M (GlobalDecl name ∷ decls) = names_long M decls
 names_long M (Procedure name ∷ decls) = names_long M decls
 names_long M (Link text ∷ decls) = names_long M decls
 names_long M (Record name fields ∷ decls) = ap suc (names_long M decls)
 
-field_fits : (M : Mentioned) (strings : ℕ) (fields : ℕ) → fields ≡ length M.fields → (names : List (List ℕ))
+field_fits : (M : AllMentions) (strings : ℕ) (fields : ℕ) → fields ≡ length M.fields → (names : List (List ℕ))
     → list_all (has_place M.fields) names ≡ true → list_all (λ field. nat_lt field fields) (map (text_place M.fields) names) ≡ true
 field_fits M strings fields e [] h = refl
 field_fits M strings fields e (name ∷ names) h =
     let t = and_parts _ _ h in both (ap (nat_lt (text_place M.fields name)) e ∙ t.0) (field_fits M strings fields e names t.1)
 
-record_fits : (M : Mentioned) (fields : ℕ) → fields ≡ length M.fields → (decl : Decl)
+record_fits : (M : AllMentions) (fields : ℕ) → fields ≡ length M.fields → (decl : Decl)
     → list_all (has_place M.strings) (record_name_in decl) ≡ true → list_all (has_place M.fields) (fields_in decl) ≡ true
     → list_all (λ n. nat_le n 65535) (field_counts decl) ≡ true
     → list_all (Rules.is_record (length M.strings) fields) (records_in M decl) ≡ true
@@ -153,7 +153,7 @@ record_fits M fields e (Record name names) a b c =
 
 -- What instructions mention is in the tables
 
-one_mention : (M : Mentioned) (m : Mention) → list_all (has_integer_place M.integers) (integer_in m) ≡ true
+one_mention : (M : AllMentions) (m : Mention) → list_all (has_integer_place M.integers) (integer_in m) ≡ true
     → list_all (has_place M.strings) (text_in m) ≡ true → list_all (has_place M.sets) (set_in m) ≡ true
     → list_all (has_place M.fields) (field_in m) ≡ true → list_all (λ n. nat_le n 65535) (operands_in m) ≡ true
     → has_mention M m ≡ true
@@ -165,7 +165,7 @@ one_mention M (ASet members) a b c d e = (and_parts _ _ c).0
 one_mention M (AField name) a b c d e = (and_parts _ _ d).0
 one_mention M (Operands count) a b c d e = (and_parts _ _ e).0
 
-instrs_mention : (M : Mentioned) (instrs : List UnitInstr)
+instrs_mention : (M : AllMentions) (instrs : List UnitInstr)
     → list_all (λ i. list_all (has_integer_place M.integers) (integer_in (mention_of i))) instrs ≡ true
     → list_all (λ i. list_all (has_place M.strings) (text_in (mention_of i))) instrs ≡ true
     → list_all (λ i. list_all (has_place M.sets) (set_in (mention_of i))) instrs ≡ true
@@ -177,7 +177,7 @@ instrs_mention M (i ∷ instrs) a b c d e =
     let p = and_parts _ _ a in let q = and_parts _ _ b in let r = and_parts _ _ c in let s = and_parts _ _ d in let t = and_parts _ _ e in
     both (one_mention M (mention_of i) p.0 q.0 r.0 s.0 t.0) (instrs_mention M instrs p.1 q.1 r.1 s.1 t.1)
 
-procs_mention : (M : Mentioned) (procs : List Proc)
+procs_mention : (M : AllMentions) (procs : List Proc)
     → list_all (λ proc. list_all (has_integer_place M.integers) (mentioned_in integer_in proc)) procs ≡ true
     → list_all (λ proc. list_all (has_place M.strings) (mentioned_in text_in proc)) procs ≡ true
     → list_all (λ proc. list_all (has_place M.sets) (mentioned_in set_in proc)) procs ≡ true
@@ -193,7 +193,7 @@ procs_mention M (proc ∷ procs) a b c d e =
     (all_in_flat _ (λ i. operands_in (mention_of i)) proc.instrs t.0))
     (procs_mention M procs p.1 q.1 r.1 s.1 t.1)
 
-procs_fit : (M : Mentioned) (T : Tables) → Long M T → (procs : List Proc) → list_all is_joinable_proc procs ≡ true
+procs_fit : (M : AllMentions) (T : Tables) → Long M T → (procs : List Proc) → list_all is_joinable_proc procs ≡ true
     → list_all (λ (proc : Proc). list_all (λ i. has_mention M (mention_of i)) proc.instrs) procs ≡ true
     → list_all (has_place M.strings) (proc_names procs) ≡ true
     → list_all (λ n. nat_le n 65535) (local_counts M.globals procs) ≡ true
@@ -207,7 +207,7 @@ procs_fit M T F (proc ∷ procs) a b c d e f =
     both (proc_fits M T F proc p.0 q.0 r.0 (leb-true _ _ s.0) (leb-true _ _ t.0) (leb-true _ _ u.0))
     (procs_fit M T F procs p.1 q.1 r.1 s.1 t.1 u.1)
 
-records_fit : (M : Mentioned) (fields : ℕ) → fields ≡ length M.fields → (decls : List Decl)
+records_fit : (M : AllMentions) (fields : ℕ) → fields ≡ length M.fields → (decls : List Decl)
     → list_all (λ decl. list_all (has_place M.strings) (record_name_in decl)) decls ≡ true
     → list_all (λ decl. list_all (has_place M.fields) (fields_in decl)) decls ≡ true
     → list_all (λ decl. list_all (λ n. nat_le n 65535) (field_counts decl)) decls ≡ true
@@ -220,14 +220,14 @@ records_fit M fields e (decl ∷ decls) a b c =
 
 -- Globals
 
-global_fits : (M : Mentioned) (ps rs : List (List ℕ)) (procs records : ℕ) → procs ≡ length ps → records ≡ length rs
+global_fits : (M : AllMentions) (ps rs : List (List ℕ)) (procs records : ℕ) → procs ≡ length ps → records ≡ length rs
     → (name : List ℕ) → has_place M.strings name ≡ true
     → Rules.is_global (length M.strings) records procs (global_entry M ps rs name) ≡ true
 global_fits M ps rs procs records a b name h =
     both h (started procs records (place_of ps name) (place_of rs name) (is_among M.declared name) (function_named name)
     (λ n e. ap (λ k. nat_lt n k) a ∙ place_within ps name n e) (λ n e. ap (λ k. nat_lt n k) b ∙ place_within rs name n e))
 
-names_back : (M : Mentioned) (ps rs : List (List ℕ)) (names : List (List ℕ)) → list_all (has_text M.strings) names ≡ true
+names_back : (M : AllMentions) (ps rs : List (List ℕ)) (names : List (List ℕ)) → list_all (has_text M.strings) names ≡ true
     → map (Rules.name_of M.strings) (map (global_entry M ps rs) names) ≡ names
 names_back M ps rs [] h = refl
 names_back M ps rs (name ∷ names) h =
@@ -240,7 +240,7 @@ names_back M ps rs (name ∷ names) h =
 pub joined_kept : (decls : List Decl) (procs : List Proc) → Joinable decls procs → keeps_rules (joined_of decls procs) ≡ true
 unfolding keeps_rules
 joined_kept decls procs J =
-    let M : Mentioned = mentioned decls procs in
+    let M : AllMentions = all_mentions decls procs in
     let T : Tables = joined_of decls procs in
     let k7 : List ℕ = length procs ∷ [] in
     let k6 : List ℕ = length M.globals ∷ k7 in
@@ -310,7 +310,7 @@ joined_kept decls procs J =
     (n7 ∙ sym (length-map procs (λ (proc : Proc). proc.name))) (names_long M decls)) M.globals (placed M.globals t3.0)) in
     let differ : Rules.names_differ (map (Rules.name_of T.strings) T.globals) ≡ true =
     ap Rules.names_differ (names_back M (proc_names procs) (record_names decls) M.globals t3.0)
-    ∙ texts_differ (declared decls) (flat_map functions_in procs) (texts_differ [] (flat_map global_in decls) refl) in
+    ∙ texts_differ (declared_names decls) (flat_map functions_in procs) (texts_differ [] (flat_map global_in decls) refl) in
     let fit : list_all (Rules.is_proc T) T.procs ≡ true =
     procs_fit M T long procs J.joinable_procs mention (placed (proc_names procs) t4.0)
     (all_within 65535 (local_counts (globals decls procs) procs) J.locals) (all_within 65535 (static_counts (globals decls procs) procs) J.statics)
