@@ -12,7 +12,7 @@ use Rattle.icn_value.specs.declared.full.Full.TheVariants.{Cells}
 use Rattle.icn_value.specs.Values.{Value}
 use Rattle.icn_value.specs.Limited.{Bounds}
 use Rattle.icn_value.specs.Store.{Heap, Record}
-use Rattle.icn_value.specs.Changes.{Changed, and_then, charged_cells, having_list, having_record, having_set, having_table, made_list, made_record, made_set, made_table}
+use Rattle.icn_value.specs.Changes.{ChangedHeap, and_then, charged_cells, having_list, having_record, having_set, having_table, made_list, made_record, made_set, made_table}
 use Rattle.icn_defs.specs.Images.{functions, procedure_name}
 use Rattle.icn_convert.specs.Naming.{AreRecordsNamed}
 use Rattle.icn_heap.specs.Heaps.{empty_heap}
@@ -26,7 +26,7 @@ function_by number place other name is low named =
 -- the records of a heap once a structure is made
 records_by : (change : Heap → Heap) (more : List Record → List Record) → ((heap : Heap) → (change heap).records ≡ more heap.records)
     → (t : Bool) (paid made : Heap) (why : Full)
-    → and_then (let r : Changed = if t then Ok paid else Err why in r) (λ heap. let r : Changed = Ok (change heap) in r) ≡ Ok made → made.records ≡ more paid.records
+    → and_then (let r : ChangedHeap = if t then Ok paid else Err why in r) (λ heap. let r : ChangedHeap = Ok (change heap) in r) ≡ Ok made → made.records ≡ more paid.records
 records_by change more keeps true paid made why is =
     let same : change paid ≡ made = cc in
     sym (ap (λ (heap : Heap). heap.records) same) ∙ keeps paid

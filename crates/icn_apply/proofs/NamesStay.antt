@@ -33,7 +33,7 @@ use Rattle.icn_vars.specs.declared.outcome.Halt.TheVariants.{Error as ErrorHalt,
 use Rattle.icn_vars.specs.declared.stop.Stop.{Stop}
 use Rattle.icn_vars.specs.declared.stop.Stop.TheVariants.{Error as ErrorStop, NoMemory as NoMemoryStop}
 use Rattle.icn_vars.specs.declared.world.World.{World}
-use Rattle.icn_streams.specs.Answers.{Given, setting_with}
+use Rattle.icn_streams.specs.Answers.{CallState, setting_with}
 use Rattle.icn_streams.specs.Applies.{Applies}
 use Rattle.icn_iofn.specs.OfFiles.{is_of_files}
 use Rattle.icn_apply.specs.NamesAfter.{AnswerNamed}
@@ -65,7 +65,7 @@ module _ (names : Names) (row : Row) (at : Setting) (named : OutcomeNamed names 
   comes_named (Err NoMemory) is = tt
 
 -- whatever the input tells
-pub applies_named : (names : Names) (row : Row) (before after : Given) (result : Result HeldOutcome Halt) → ((was : Outside) → OutcomeNamed names (row (setting_with was before)))
+pub applies_named : (names : Names) (row : Row) (before after : CallState) (result : Result HeldOutcome Halt) → ((was : Outside) → OutcomeNamed names (row (setting_with was before)))
     → Applies row before after result → AnswerNamed names after.world after.locals result
 applies_named names row before after (Ok outcome) named is =
     let comes = is.meant.answers (outside_of is.meant.had) refl in

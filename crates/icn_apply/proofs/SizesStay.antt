@@ -18,7 +18,7 @@ use Rattle.icn_vars.specs.declared.outcome.Outcome.TheVariants.{Fails as HeldFai
 use Rattle.icn_vars.specs.declared.outcome.Halt.{Halt}
 use Rattle.icn_vars.specs.declared.outcome.Halt.TheVariants.{Error as ErrorHalt, Ends as EndsHalt, ReadFault, WriteFault, NoMemory}
 use Rattle.icn_vars.specs.declared.world.World.{World}
-use Rattle.icn_streams.specs.Answers.{Given, setting_with}
+use Rattle.icn_streams.specs.Answers.{CallState, setting_with}
 use Rattle.icn_streams.specs.Applies.{Applies}
 use Rattle.icn_iofn.specs.OfFiles.{is_of_files}
 use Rattle.icn_apply.specs.SizesAfter.{AnswerKeepsSizes}
@@ -55,7 +55,7 @@ module _ (row : Row) (at : Setting) (before : World) (sized : Sized before (row 
   comes_sized (Err NoMemory) is = tt
 
 -- whatever the input tells
-pub applies_sized : (row : Row) (before after : Given) (result : Result HeldOutcome Halt) → ((was : Outside) → Sized before.world (row (setting_with was before)))
+pub applies_sized : (row : Row) (before after : CallState) (result : Result HeldOutcome Halt) → ((was : Outside) → Sized before.world (row (setting_with was before)))
     → Applies row before after result → AnswerKeepsSizes before.world after.world result
 applies_sized row before after (Ok outcome) sized is =
     let comes = is.meant.answers (outside_of is.meant.had) refl in

@@ -10,9 +10,9 @@ ghost use Rattle.icn_named.specs.Named.{ItemNamed, ResidualNamed, SettingNamed};
 ghost use Rattle.icn_vars.specs.Outcomes.{IsLiveResidual, residual_in};
 ghost use Rattle.icn_vars.specs.Worlds.{IsLiveItem, item_in, reach_of, setting_of};
 ghost use Rattle.icn_vars.specs.declared.outcome.Halt.TheVariants.{NoMemory};
-ghost use Rattle.icn_streams.specs.Answers.{given};
+ghost use Rattle.icn_streams.specs.Answers.{call_state};
 ghost use Rattle.icn_streams.specs.Applies.{Applies};
-ghost use Rattle.icn_streams.specs.Handed.{handed};
+ghost use Rattle.icn_streams.specs.Handed.{call_streams};
 ghost use Rattle.icn_apply.specs.Applicable.{IsApplicable, applied_of};
 ghost use Rattle.icn_apply.specs.NamesAfter.{AnswerNamed};
 ghost use Rattle.icn_apply.specs.SizesAfter.{AnswerKeepsSizes};
@@ -51,8 +51,8 @@ pub fn apply<L: Locals, N: Names, I: Source, O: Sink, E: Sink>(
     requires named { SettingNamed (N.known names.now) (setting_of (outside_of []) w.old (L.items l.old)) }
     requires args_named { All (ItemNamed (N.known names.now)) (map (item_in (extent_of w.old.heap)) args.now) }
     ensures applies { Applies (step_rows.apply (N.known names.now) (applied_of what) (map (item_in (extent_of w.old.heap)) args.now))
-        (given w.old (L.items l.old) (handed (I.left input.old) (I.faults input.old) (O.state out.old) (E.state err.old)))
-        (given w.new (L.items l.new) (handed (I.left input.new) (I.faults input.new) (O.state out.new) (E.state err.new))) result }
+        (call_state w.old (L.items l.old) (call_streams (I.left input.old) (I.faults input.old) (O.state out.old) (E.state err.old)))
+        (call_state w.new (L.items l.new) (call_streams (I.left input.new) (I.faults input.new) (O.state out.new) (E.state err.new))) result }
     ensures named { AnswerNamed (N.known names.now) w.new (L.items l.new) result }
     ensures sized { AnswerKeepsSizes w.old w.new result }
 {
@@ -79,8 +79,8 @@ pub fn again<L: Locals, N: Names, I: Source, O: Sink, E: Sink>(
     requires named { SettingNamed (N.known names.now) (setting_of (outside_of []) w.old (L.items l.old)) }
     requires rest_named { ResidualNamed (N.known names.now) (residual_in (extent_of w.old.heap) rest) }
     ensures applies { Applies (rows.again (residual_in (extent_of w.old.heap) rest))
-        (given w.old (L.items l.old) (handed (I.left input.old) (I.faults input.old) (O.state out.old) (E.state err.old)))
-        (given w.new (L.items l.new) (handed (I.left input.new) (I.faults input.new) (O.state out.new) (E.state err.new))) result }
+        (call_state w.old (L.items l.old) (call_streams (I.left input.old) (I.faults input.old) (O.state out.old) (E.state err.old)))
+        (call_state w.new (L.items l.new) (call_streams (I.left input.new) (I.faults input.new) (O.state out.new) (E.state err.new))) result }
     ensures named { AnswerNamed (N.known names.now) w.new (L.items l.new) result }
     ensures sized { AnswerKeepsSizes w.old w.new result }
     ensures memory { undoes_in_place (residual_in (extent_of w.old.heap) rest) ≡ true → IfErr result (λ halt. halt ≢ NoMemory) }
@@ -101,8 +101,8 @@ fn resume<L: Locals, I: Source, O: Sink, E: Sink>(
     requires locals { All (IsLive (extent_of w.old.heap)) (L.items l.old) }
     requires rest { IsLiveResidual (reach_of w.old (L.items l.old)) rest }
     ensures applies { Applies (rows.again (residual_in (extent_of w.old.heap) rest))
-        (given w.old (L.items l.old) (handed (I.left input.old) (I.faults input.old) (O.state out.old) (E.state err.old)))
-        (given w.new (L.items l.new) (handed (I.left input.new) (I.faults input.new) (O.state out.new) (E.state err.new))) result }
+        (call_state w.old (L.items l.old) (call_streams (I.left input.old) (I.faults input.old) (O.state out.old) (E.state err.old)))
+        (call_state w.new (L.items l.new) (call_streams (I.left input.new) (I.faults input.new) (O.state out.new) (E.state err.new))) result }
     ensures memory { undoes_in_place (residual_in (extent_of w.old.heap) rest) ≡ true → IfErr result (λ halt. halt ≢ NoMemory) }
 {
     match rest {

@@ -7,9 +7,9 @@ ghost use Rattle.icn_heap.specs.Extents.{IsLive};
 ghost use Rattle.icn_heap.specs.Heaps.{extent_of};
 ghost use Rattle.icn_named.specs.Named.{ItemNamed, SettingNamed};
 ghost use Rattle.icn_vars.specs.Worlds.{IsLiveItem, item_in, reach_of, setting_of};
-ghost use Rattle.icn_streams.specs.Answers.{given};
+ghost use Rattle.icn_streams.specs.Answers.{call_state};
 ghost use Rattle.icn_streams.specs.Applies.{Applies};
-ghost use Rattle.icn_streams.specs.Handed.{Handed, handed};
+ghost use Rattle.icn_streams.specs.Handed.{CallStreams, call_streams};
 ghost use Rattle.icn_strfn.specs.Functions.{is_string_function};
 ghost use Rattle.icn_scanfn.specs.Functions.{is_scanning_function};
 ghost use Rattle.icn_structfn.specs.Functions.{is_of_structures};
@@ -41,8 +41,8 @@ pub fn apply_function<L: Locals, N: Names, I: Source, O: Sink, E: Sink>(
     requires named { SettingNamed (N.known names.now) (setting_of (outside_of []) w.old (L.items l.now)) }
     requires args_named { All (ItemNamed (N.known names.now)) (map (item_in (extent_of w.old.heap)) args.now) }
     ensures applies { Applies (function_row (N.known names.now) func (map (item_in (extent_of w.old.heap)) args.now))
-        (given w.old (L.items l.now) (handed (I.left input.old) (I.faults input.old) (O.state out.old) (E.state err.old)))
-        (given w.new (L.items l.now) (handed (I.left input.new) (I.faults input.new) (O.state out.new) (E.state err.new))) result }
+        (call_state w.old (L.items l.now) (call_streams (I.left input.old) (I.faults input.old) (O.state out.old) (E.state err.old)))
+        (call_state w.new (L.items l.now) (call_streams (I.left input.new) (I.faults input.new) (O.state out.new) (E.state err.new))) result }
     ensures named { AnswerNamed (N.known names.now) w.new (L.items l.now) result }
     ensures sized { AnswerKeepsSizes w.old w.new result }
 {
@@ -67,8 +67,8 @@ fn apply_scanning<L: Locals, N: Names>(
     requires args { All (IsLiveItem (reach_of w.old (L.items l.now))) args.now }
     requires named { SettingNamed (N.known _names.now) (setting_of (outside_of []) w.old (L.items l.now)) }
     requires args_named { All (ItemNamed (N.known _names.now)) (map (item_in (extent_of w.old.heap)) args.now) }
-    ensures applies { (handed : Handed) → Applies (function_row (N.known _names.now) func (map (item_in (extent_of w.old.heap)) args.now))
-        (given w.old (L.items l.now) handed) (given w.new (L.items l.now) handed) result }
+    ensures applies { (handed : CallStreams) → Applies (function_row (N.known _names.now) func (map (item_in (extent_of w.old.heap)) args.now))
+        (call_state w.old (L.items l.now) handed) (call_state w.new (L.items l.now) handed) result }
     ensures named { AnswerNamed (N.known _names.now) w.new (L.items l.now) result }
     ensures sized { AnswerKeepsSizes w.old w.new result }
 {
@@ -89,8 +89,8 @@ fn apply_to_strings<L: Locals, N: Names>(
     requires args { All (IsLiveItem (reach_of w.old (L.items l.now))) args.now }
     requires named { SettingNamed (N.known names.now) (setting_of (outside_of []) w.old (L.items l.now)) }
     requires args_named { All (ItemNamed (N.known names.now)) (map (item_in (extent_of w.old.heap)) args.now) }
-    ensures applies { (handed : Handed) → Applies (function_row (N.known names.now) func (map (item_in (extent_of w.old.heap)) args.now))
-        (given w.old (L.items l.now) handed) (given w.new (L.items l.now) handed) result }
+    ensures applies { (handed : CallStreams) → Applies (function_row (N.known names.now) func (map (item_in (extent_of w.old.heap)) args.now))
+        (call_state w.old (L.items l.now) handed) (call_state w.new (L.items l.now) handed) result }
     ensures named { AnswerNamed (N.known names.now) w.new (L.items l.now) result }
     ensures sized { AnswerKeepsSizes w.old w.new result }
 {
@@ -111,8 +111,8 @@ fn apply_to_structures<L: Locals, N: Names>(
     requires args { All (IsLiveItem (reach_of w.old (L.items l.now))) args.now }
     requires named { SettingNamed (N.known names.now) (setting_of (outside_of []) w.old (L.items l.now)) }
     requires args_named { All (ItemNamed (N.known names.now)) (map (item_in (extent_of w.old.heap)) args.now) }
-    ensures applies { (handed : Handed) → Applies (function_row (N.known names.now) func (map (item_in (extent_of w.old.heap)) args.now))
-        (given w.old (L.items l.now) handed) (given w.new (L.items l.now) handed) result }
+    ensures applies { (handed : CallStreams) → Applies (function_row (N.known names.now) func (map (item_in (extent_of w.old.heap)) args.now))
+        (call_state w.old (L.items l.now) handed) (call_state w.new (L.items l.now) handed) result }
     ensures named { AnswerNamed (N.known names.now) w.new (L.items l.now) result }
     ensures sized { AnswerKeepsSizes w.old w.new result }
 {

@@ -6,7 +6,7 @@ use Rattle.icn_value.specs.declared.full.Full.{Full}
 use Rattle.icn_value.specs.declared.item.Pair.{Pair}
 use Rattle.icn_value.specs.declared.val.Val.{Val}
 use Rattle.icn_value.specs.Store.{Heap, Outside}
-use Rattle.icn_value.specs.Changes.{Changed, Refuses}
+use Rattle.icn_value.specs.Changes.{ChangedHeap, Refuses}
 use Rattle.icn_defs.specs.Rows.{Row}
 use Rattle.icn_heap.specs.declared.heap.Heap.{Heap as HeldHeap}
 use Rattle.icn_heap.specs.Extents.{IsLive, Keeps}
@@ -20,7 +20,7 @@ use Rattle.icn_args.specs.Words.{Passed}
 use Rattle.icn_args.proofs.Answering.{passed_err}
 
 -- a change that is refused
-pub charge_stops : {B : Type 0} (old new : HeldHeap) (pair : Pair) (random : ℕ) (globals statics locals : List Val) {part : Row → Row} {change : Heap → Changed} (full : Full) (result : Result B Stop)
+pub charge_stops : {B : Type 0} (old new : HeldHeap) (pair : Pair) (random : ℕ) (globals statics locals : List Val) {part : Row → Row} {change : Heap → ChangedHeap} (full : Full) (result : Result B Stop)
     → Keeps (extent_of old) (extent_of new) → IsSoundWorld (extent_of old) pair random globals statics → All (IsLive (extent_of old)) locals → IsChange part change → heap_of new ≡ heap_of old
     → Refuses (change (heap_of old)) full → IsErrAnd result (λ stop. stop ≡ stop_of full) → (outside : Outside)
     → Passed (extent_of new) part (setting_over outside old pair random globals statics locals) (setting_over outside new pair random globals statics locals) result

@@ -5,7 +5,7 @@ use Rattle.icn_value.specs.declared.full.Full.TheVariants.{Strings, Cells, NoMem
 use Rattle.icn_structs.specs.Numbered.{Numbered}
 use Rattle.icn_value.specs.Values.{Value, AList}
 use Rattle.icn_value.specs.Store.{Heap, Setting, having_heap}
-use Rattle.icn_value.specs.Changes.{Changed, Refuses, and_then, charged_cells, having_list, made_list, next_list}
+use Rattle.icn_value.specs.Changes.{ChangedHeap, Refuses, and_then, charged_cells, having_list, made_list, next_list}
 use Rattle.icn_defs.specs.Calls.{GoesOn}
 use Rattle.icn_defs.specs.Rows.{Row, changes_heap, costs_cells, new_list_of}
 use Rattle.icn_heap.specs.Extents.{Extent}
@@ -25,7 +25,7 @@ list_made setting items made is next =
     ∙ ap (λ (lists : List (Numbered Value)). next (AList (length lists)) (having_heap (λ other. made) setting)) ((cells_change (1 + length items)).charged setting.world.heap paid.0 paid.1).lists)
 
 -- the charge of the list is refused
-refused : (items : List Value) (charge : Changed) (full : Full) → and_then charge (λ paid. let r : Changed = Ok (having_list items paid) in r) ≡ Err full → charge ≡ Err full
+refused : (items : List Value) (charge : ChangedHeap) (full : Full) → and_then charge (λ paid. let r : ChangedHeap = Ok (having_list items paid) in r) ≡ Err full → charge ≡ Err full
 refused items (Ok paid) full is = cc
 refused items (Err why) full is = cc
 

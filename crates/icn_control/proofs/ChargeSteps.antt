@@ -8,7 +8,7 @@ use Rattle.icn_value.specs.declared.full.Full.TheVariants.{Cells, NoMemory, Stri
 use Rattle.icn_value.specs.declared.item.Pair.{Pair}
 use Rattle.icn_value.specs.declared.val.Val.{Val}
 use Rattle.icn_value.specs.Store.{Heap, Outside, Setting, having_heap}
-use Rattle.icn_value.specs.Changes.{Changed, Refuses, and_then, charged_cells, having_coexp, made_coexp}
+use Rattle.icn_value.specs.Changes.{ChangedHeap, Refuses, and_then, charged_cells, having_coexp, made_coexp}
 use Rattle.icn_defs.specs.Rows.{Row, Outcome, Gives, costs_cells}
 use Rattle.icn_heap.specs.declared.heap.Heap.{Heap as HeldHeap}
 use Rattle.icn_heap.specs.Extents.{Extent, IsLive, Keeps}
@@ -24,7 +24,7 @@ use Rattle.icn_run.specs.Rows.{Val as ItemVal, ACoexp, coexpression_row}
 
 -- what is paid leaves the co-expressions and the limits
 
-paid_is : (t : Bool) (paid made : Heap) (why : Full) → (let r : Changed = if t then Ok paid else Err why in r) ≡ Ok made → paid ≡ made
+paid_is : (t : Bool) (paid made : Heap) (why : Full) → (let r : ChangedHeap = if t then Ok paid else Err why in r) ≡ Ok made → paid ≡ made
 paid_is true paid made why is = cc
 paid_is false paid made why is = cc
 
@@ -63,7 +63,7 @@ fields_stay heap made count is = fields_behind (cells_change (1 + count)) having
 
 -- where the whole is refused, its charge is
 
-refused_first : (charged : Changed) (full : Full) → and_then charged (λ paid. let r : Changed = Ok (having_coexp paid) in r) ≡ Err full → charged ≡ Err full
+refused_first : (charged : ChangedHeap) (full : Full) → and_then charged (λ paid. let r : ChangedHeap = Ok (having_coexp paid) in r) ≡ Err full → charged ≡ Err full
 refused_first (Ok paid) full is = cc
 refused_first (Err why) full is = is
 

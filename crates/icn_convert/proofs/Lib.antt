@@ -5,4 +5,4 @@ mod NamedRecords
 mod Ranges
 mod NamedProcedures
 mod RecordNumbers
-mod Compared
+mod Comparison

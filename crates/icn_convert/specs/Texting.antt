@@ -2,14 +2,14 @@
 use Rattle.std.specs.Prelude.{ℕ, List, length, Option, None, Some, Ok}
 use Rattle.icn_value.specs.Values.{Value}
 use Rattle.icn_value.specs.Store.{Heap}
-use Rattle.icn_value.specs.Changes.{Changed, charged_strings}
+use Rattle.icn_value.specs.Changes.{ChangedHeap, charged_strings}
 use Rattle.icn_defs.specs.Conversions.{form_of, text_made}
 
 -- a text that is made costs its length
-abbrev pub charged_made : Heap → Option (List ℕ) → Changed
+abbrev pub charged_made : Heap → Option (List ℕ) → ChangedHeap
 charged_made heap None = Ok heap
 charged_made heap (Some text) = charged_strings heap (length text)
 
 -- the heap once a value is a text: one that was none is made, and charged
-abbrev pub texted : Heap → Value → Changed
-texted heap value = charged_made heap (text_made (form_of value))
+abbrev pub heap_with_text : Heap → Value → ChangedHeap
+heap_with_text heap value = charged_made heap (text_made (form_of value))

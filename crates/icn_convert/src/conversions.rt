@@ -6,7 +6,7 @@ ghost use Rattle.icn_value.specs.Members.{members_of};
 ghost use Rattle.icn_defs.specs.Conversions.{integer_of, cset_of, text_of};
 ghost use Rattle.icn_heap.specs.Extents.{IsLive, IsText, Keeps, text_in, value_in};
 ghost use Rattle.icn_heap.specs.Heaps.{extent_of, heap_of};
-ghost use Rattle.icn_convert.specs.Texting.{texted};
+ghost use Rattle.icn_convert.specs.Texting.{heap_with_text};
 
 use crate::csets::{cset_of_text, text_of_cset};
 use icn_heap::Heap;
@@ -45,8 +45,8 @@ pub fn to_text(heap: &mut Heap, val: Val) -> Result<Option<Span>, Full>
     requires { IsLive (extent_of heap.old) val }
     ensures live { IfOk result (λ found. IfSome found (IsText (extent_of heap.new))) }
     ensures text { IfOk result (λ found. option_map (text_in (extent_of heap.new)) found ≡ text_of (value_in (extent_of heap.old) val)) }
-    ensures step { MatchResult result (λ _. texted (heap_of heap.old) (value_in (extent_of heap.old) val) ≡ Ok (heap_of heap.new)) (Refuses (texted (heap_of heap.old) (value_in (extent_of heap.old) val))) }
-    ensures limits { LimitsFirst (texted (heap_of heap.old) (value_in (extent_of heap.old) val)) result }
+    ensures step { MatchResult result (λ _. heap_with_text (heap_of heap.old) (value_in (extent_of heap.old) val) ≡ Ok (heap_of heap.new)) (Refuses (heap_with_text (heap_of heap.old) (value_in (extent_of heap.old) val))) }
+    ensures limits { LimitsFirst (heap_with_text (heap_of heap.old) (value_in (extent_of heap.old) val)) result }
     ensures kept { Keeps (extent_of heap.old) (extent_of heap.new) }
     ensures unchanged { OnErr result (heap_of heap.new ≡ heap_of heap.old) }
 {

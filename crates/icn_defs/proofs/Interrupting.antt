@@ -6,7 +6,7 @@ use Rattle.std.proofs.Math.Seq.{take-length}
 use Rattle.std.proofs.lemmas.List.{length-drop, drop_min, drop-drop, length-append}
 use Rattle.icn_host.specs.Sinks.{Gains, GainsPart}
 use Rattle.icn_value.specs.Values.{File, Input, Output, Errout}
-use Rattle.icn_value.specs.Store.{Asked, Reading, Outside, outside_of}
+use Rattle.icn_value.specs.Store.{Request, Reading, Outside, outside_of}
 use Rattle.icn_defs.specs.Running.{Observed}
 use Rattle.icn_defs.specs.InputOutput.{put_on}
 use Rattle.icn_defs.specs.Interruptions.{Streams, LosesPart, Ends, taken_of, Breaks, asked_of, BreaksReading, after_reading, IsReadingOf, IsOutsideOf}
@@ -70,7 +70,7 @@ put_keeps input outside Input text h = h
 put_keeps input outside Output text h = longer outside (put_on Output text outside) refl refl (longer_by outside.output text) (omega arith) h
 put_keeps input outside Errout text h = longer outside (put_on Errout text outside) refl refl (omega arith) (longer_by outside.errors text) h
 
-pub read_keeps : (input : List ℕ) (outside : Outside) (asked : Asked) → IsOutsideOf input outside → IsOutsideOf input (after_reading asked outside)
+pub read_keeps : (input : List ℕ) (outside : Outside) (asked : Request) → IsOutsideOf input outside → IsOutsideOf input (after_reading asked outside)
 read_keeps input outside asked h = record {
   taken = h.taken + asked_of asked outside.left;
   left = now;

@@ -1,7 +1,7 @@
 pub mod OpNumbers
 pub mod FuncNumbers
 pub mod KeywordNumbers
-pub mod Found
-pub mod Kept
+pub mod FoundFacts
+pub mod KeptSizes
 pub mod Observing
 pub mod Interrupting

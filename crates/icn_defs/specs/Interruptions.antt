@@ -2,7 +2,7 @@
 -- broke it off. All is said of what is observed of the run, since every run ends.
 use Rattle.std.specs.Prelude.{◌≡◌, ◌==◌, ◌+◌, ◌-◌, ◌≤◌, ℕ, not, List, drop, length, slice_get, take, take_while, Option, Some}
 use Rattle.icn_host.specs.Sinks.{Gains, GainsPart}
-use Rattle.icn_value.specs.Store.{Asked, ALine, SomeBytes, Reading, Outside, with_reading}
+use Rattle.icn_value.specs.Store.{Request, ALine, SomeBytes, Reading, Outside, with_reading}
 use Rattle.icn_defs.specs.Running.{Observed}
 
 -- what the input, the output and the error output tell of what they hold
@@ -36,7 +36,7 @@ pub record Breaks (input : List ℕ) (seen : Observed) (before after : Streams) 
 
 -- How many of the bytes that are left a reading takes: a line with its newline, or so many bytes. Where fewer
 -- are left, it takes those.
-abbrev pub asked_of : Asked → List ℕ → ℕ
+abbrev pub asked_of : Request → List ℕ → ℕ
 asked_of ALine left = length (take_while (λ byte. not (byte == 10)) left) + 1
 asked_of (SomeBytes count) left = count
 
@@ -52,7 +52,7 @@ pub record BreaksReading (seen : Observed) (before after : Streams) : Type 0 whe
   pub errors : Gains before.errors after.errors (take reading.errors seen.outside.errors)
 
 -- the outside once a reading is made and has taken what it asks for
-abbrev pub after_reading : Asked → Outside → Outside
+abbrev pub after_reading : Request → Outside → Outside
 after_reading asked outside =
     record (with_reading asked outside) { left = drop (asked_of asked outside.left) outside.left }
 

@@ -13,29 +13,29 @@ pub record Standing : Type 0 where
   pub current : ℕ
   pub source : ℕ
 
-abbrev pub given : Value → Option Item
-given value = Some (Val value)
+abbrev pub value_item : Value → Option Item
+value_item value = Some (Val value)
 
 abbrev pub word : KeywordVariable → Option Item
 word variable = Some (Var (Whole (Keyword variable)))
 
 -- `&fail` gives nothing: it fails
 abbrev pub keyword_item : Standing → AnyKeyword → Option Item
-keyword_item standing Keywords.Ascii = given (Chars (range_with_len 0 128))
-keyword_item standing Keywords.Cset = given (Chars (range_with_len 0 256))
-keyword_item standing Keywords.Current = given (ACoexp standing.current)
-keyword_item standing Keywords.Digits = given (Chars digit_bytes)
-keyword_item standing Keywords.Errout = given (Std Errout)
+keyword_item standing Keywords.Ascii = value_item (Chars (range_with_len 0 128))
+keyword_item standing Keywords.Cset = value_item (Chars (range_with_len 0 256))
+keyword_item standing Keywords.Current = value_item (ACoexp standing.current)
+keyword_item standing Keywords.Digits = value_item (Chars digit_bytes)
+keyword_item standing Keywords.Errout = value_item (Std Errout)
 keyword_item standing Keywords.Fail = None
-keyword_item standing Keywords.Input = given (Std Input)
-keyword_item standing Keywords.Lcase = given (Chars lcase)
-keyword_item standing Keywords.Letters = given (Chars letters)
-keyword_item standing Keywords.Level = given (Integer (pos standing.level))
-keyword_item standing Keywords.Main = given (ACoexp 0)
-keyword_item standing Keywords.Null = given Null
-keyword_item standing Keywords.Output = given (Std Output)
+keyword_item standing Keywords.Input = value_item (Std Input)
+keyword_item standing Keywords.Lcase = value_item (Chars lcase)
+keyword_item standing Keywords.Letters = value_item (Chars letters)
+keyword_item standing Keywords.Level = value_item (Integer (pos standing.level))
+keyword_item standing Keywords.Main = value_item (ACoexp 0)
+keyword_item standing Keywords.Null = value_item Null
+keyword_item standing Keywords.Output = value_item (Std Output)
 keyword_item standing Keywords.Pos = word Position
 keyword_item standing Keywords.Random = word Random
-keyword_item standing Keywords.Source = given (ACoexp standing.source)
+keyword_item standing Keywords.Source = value_item (ACoexp standing.source)
 keyword_item standing Keywords.Subject = word Subject
-keyword_item standing Keywords.Ucase = given (Chars ucase)
+keyword_item standing Keywords.Ucase = value_item (Chars ucase)

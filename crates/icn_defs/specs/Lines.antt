@@ -1,7 +1,7 @@
 -- The lines of the input.
 use Rattle.std.specs.Prelude.{◌==◌, ◌+◌, ℕ, Bool, true, false, not, List, length, drop, take, take_while, nat_lt, Some}
 use Rattle.icn_value.specs.Values.{Text, Std, File, Input, Output, Errout, Val}
-use Rattle.icn_value.specs.Store.{Asked, ALine, SomeBytes, with_reading, having_left}
+use Rattle.icn_value.specs.Store.{Request, ALine, SomeBytes, with_reading, having_left}
 use Rattle.icn_defs.specs.Rows.{Row, Finds, ◌>>=◌, ◌>>◌, InputLines, suspends, check, passing, here, changes, costs_bytes}
 
 -- whether a file is `&input`
@@ -16,7 +16,7 @@ takes_input count next =
     changes (λ setting. having_left (drop count setting.outside.left) setting) next
 
 -- the input is read: the history of readings keeps what is asked
-abbrev pub reads_input : Asked → Row → Row
+abbrev pub reads_input : Request → Row → Row
 reads_input asked next =
     changes (λ setting. record setting { outside = with_reading asked setting.outside }) next
 

@@ -156,21 +156,21 @@ set_row on_sets on_bytes x y = do
   sets_or_csets on_sets on_bytes v w (two_sets (set_of v) (set_of w))
 
 -- the members that are, and those that are not, in another set
-abbrev pub shared : List Value → List Value → List Value
-shared first second = filter (has_value second) first
+abbrev pub intersection : List Value → List Value → List Value
+intersection first second = filter (has_value second) first
 
 -- those that are not in another set
-abbrev pub unshared : List Value → List Value → List Value
-unshared first second = filter (λ value. not (has_value second value)) first
+abbrev pub difference : List Value → List Value → List Value
+difference first second = filter (λ value. not (has_value second value)) first
 
 -- `x ++ y`
 abbrev pub union_row : Item → Item → Row
-union_row x y = set_row (λ first second. first ++ unshared second first) ◌||◌ x y
+union_row x y = set_row (λ first second. first ++ difference second first) ◌||◌ x y
 
 -- `x -- y`
 abbrev pub difference_row : Item → Item → Row
-difference_row x y = set_row unshared (λ a b. a && not b) x y
+difference_row x y = set_row difference (λ a b. a && not b) x y
 
 -- `x ** y`
 abbrev pub intersection_row : Item → Item → Row
-intersection_row x y = set_row shared ◌&&◌ x y
+intersection_row x y = set_row intersection ◌&&◌ x y

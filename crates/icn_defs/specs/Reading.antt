@@ -212,23 +212,23 @@ part_length (Whole root) = 0
 part_length (Part root place size) = size
 
 -- a part moves by the change of length of another one: 205 where its place would be below 1
-abbrev pub moved : ℕ → ℕ → Variable → Finds Variable
-moved old new (Whole root) next = next (Whole root)
-moved old new (Part root place size) next = do
+abbrev pub move_part : ℕ → ℕ → Variable → Finds Variable
+move_part old new (Whole root) next = next (Whole root)
+move_part old new (Part root place size) next = do
   check (nat_lt old (place + new)) 205 None
   next (Part root (place + new - old) size)
 
 -- the right side, moved by what the left side became
 abbrev pub moved_by_left : Mover → ℕ → ℕ → Variable → Finds Variable
 moved_by_left Neither old new y next = next y
-moved_by_left Left old new y next = moved old new y next
+moved_by_left Left old new y next = move_part old new y next
 moved_by_left Right old new y next = next y
 
 -- the left side, moved by what the right side became
 abbrev pub moved_by_right : Mover → ℕ → ℕ → Variable → Finds Variable
 moved_by_right Neither old new x next = next x
 moved_by_right Left old new x next = next x
-moved_by_right Right old new x next = moved old new x next
+moved_by_right Right old new x next = move_part old new x next
 
 -- The left side is assigned its new value, then the right side. The assignment of the mover moves the other
 -- side.

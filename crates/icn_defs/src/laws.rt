@@ -13,7 +13,7 @@ ghost use Rattle.icn_text.specs.Ops.{op_number};
 ghost use Rattle.icn_text.specs.declared.func.Func.{Func};
 ghost use Rattle.icn_text.specs.declared.keyword.Keyword.{Keyword};
 ghost use Rattle.icn_text.specs.declared.op.Op.{Op};
-ghost use Rattle.icn_value.specs.Store.{Asked, Names, Outside, Setting, outside_of};
+ghost use Rattle.icn_value.specs.Store.{Request, Names, Outside, Setting, outside_of};
 ghost use Rattle.icn_value.specs.Values.{File, Item};
 
 /// The number of an operation, a function or a keyword leads back to it, and what a number leads to has that number.
@@ -41,5 +41,5 @@ pub fn broken_off()
     ensures reading { (input : List ℕ) (seen : Observed) (before after : Streams) → IsOutsideOf input seen.outside → BreaksReading seen before after → Breaks input seen before after }
     ensures begun { (input : List ℕ) → IsOutsideOf input (outside_of input) }
     ensures put { (input : List ℕ) (outside : Outside) (file : File) (text : List ℕ) → IsOutsideOf input outside → IsOutsideOf input (put_on file text outside) }
-    ensures read { (input : List ℕ) (outside : Outside) (asked : Asked) → IsOutsideOf input outside → IsOutsideOf input (after_reading asked outside) }
+    ensures read { (input : List ℕ) (outside : Outside) (asked : Request) → IsOutsideOf input outside → IsOutsideOf input (after_reading asked outside) }
 {}

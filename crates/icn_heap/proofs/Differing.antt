@@ -3,7 +3,7 @@ use Rattle.std.proofs.Common.{◌≡◌, ◌≢◌, ◌∙◌, ap, ℕ, ◌+◌,
 use Rattle.icn_value.specs.declared.full.Full.TheVariants.{Cells}
 use Rattle.icn_value.specs.Values.{Value, ARecord, AList, ASet, ATable}
 use Rattle.icn_value.specs.Store.{Heap, new_list}
-use Rattle.icn_value.specs.Changes.{Changed, and_then, charged_cells, having_list, having_set, having_table, having_record, made_list, made_set, made_table, made_record, next_list, next_set, next_table, next_record}
+use Rattle.icn_value.specs.Changes.{ChangedHeap, and_then, charged_cells, having_list, having_set, having_table, having_record, made_list, made_set, made_table, made_record, next_list, next_set, next_table, next_record}
 use Rattle.icn_heap.specs.Heaps.{with_cells}
 
 number_in : Value → ℕ
@@ -14,13 +14,13 @@ number_in (ATable n) = n
 number_in value = 0
 
 -- what is made is the change of the heap that paid for it
-paid_for : (heap : Heap) (count : ℕ) (change : Heap → Heap) {made : Heap} → and_then (charged_cells heap count) (λ paid. let r : Changed = Ok (change paid) in r) ≡ Ok made
+paid_for : (heap : Heap) (count : ℕ) (change : Heap → Heap) {made : Heap} → and_then (charged_cells heap count) (λ paid. let r : ChangedHeap = Ok (change paid) in r) ≡ Ok made
     → made ≡ change (with_cells (heap.cells + count) heap)
 unfolding charged_cells
 paid_for heap count change {made} done = by_test (nat_le (heap.cells + count) heap.bounds.cells) done
   where
     by_test : (b : Bool)
-        → and_then (if b then (let r : Changed = Ok (with_cells (heap.cells + count) heap) in r) else Err (Cells heap.cells heap.bounds.cells)) (λ paid. let r : Changed = Ok (change paid) in r) ≡ Ok made
+        → and_then (if b then (let r : ChangedHeap = Ok (with_cells (heap.cells + count) heap) in r) else Err (Cells heap.cells heap.bounds.cells)) (λ paid. let r : ChangedHeap = Ok (change paid) in r) ≡ Ok made
         → made ≡ change (with_cells (heap.cells + count) heap)
     by_test true done = cc
     by_test false done = cc

@@ -10,7 +10,7 @@ use Rattle.icn_structs.specs.PairLists.{value_of, KeysDiffer}
 use Rattle.icn_value.specs.Values.{Value}
 use Rattle.icn_value.specs.Sameness.{same, has_value, with_member}
 use Rattle.icn_value.proofs.SameValues.{same_is, same_self}
-use Rattle.icn_heap.specs.Making.{unshared, with_stored}
+use Rattle.icn_heap.specs.Making.{difference, with_stored}
 use Rattle.icn_heap.proofs.PairViews.{stored_new}
 
 or_false : (b : Bool) → (b || false) ≡ b
@@ -32,7 +32,7 @@ filter_step : (p q : Value → Bool) (y : Value) (ys : List Value) → p y ≡ q
 filter_step p q y ys first rest = ap (λ b. cond b (y ∷ filter p ys) (filter p ys)) first ∙ ap (λ zs. cond (q y) (y ∷ zs) zs) rest
 
 -- those that were new still are once another joins
-still_new : (xs : List Value) (x : Value) (ys : List Value) → AllByRecursion (λ y. same x y ≡ false) ys → unshared ys (xs ++ x ∷ []) ≡ unshared ys xs
+still_new : (xs : List Value) (x : Value) (ys : List Value) → AllByRecursion (λ y. same x y ≡ false) ys → difference ys (xs ++ x ∷ []) ≡ difference ys xs
 still_new xs x [] apart = refl
 still_new xs x (y ∷ ys) apart =
     filter_step (λ v. not (has_value (xs ++ x ∷ []) v)) (λ v. not (has_value xs v)) y ys
@@ -40,18 +40,18 @@ still_new xs x (y ∷ ys) apart =
     (still_new xs x ys apart.1)
 
 -- values that differ join where they are new
-pub fold_new : (xs ys : List Value) → IsDistinct same ys → fold with_member xs ys ≡ xs ++ unshared ys xs
+pub fold_new : (xs ys : List Value) → IsDistinct same ys → fold with_member xs ys ≡ xs ++ difference ys xs
 fold_new xs [] differ = sym (append-nil xs)
 fold_new xs (y ∷ ys) differ =
     by_test (has_value xs y) (fold_new xs ys (IsDistinct-tail same y ys differ)) (fold_new (xs ++ y ∷ []) ys (IsDistinct-tail same y ys differ))
   where
-    by_test : (b : Bool) → fold with_member xs ys ≡ xs ++ unshared ys xs → fold with_member (xs ++ y ∷ []) ys ≡ (xs ++ y ∷ []) ++ unshared ys (xs ++ y ∷ [])
-        → fold with_member (if b then xs else xs ++ y ∷ []) ys ≡ xs ++ cond (not b) (y ∷ unshared ys xs) (unshared ys xs)
+    by_test : (b : Bool) → fold with_member xs ys ≡ xs ++ difference ys xs → fold with_member (xs ++ y ∷ []) ys ≡ (xs ++ y ∷ []) ++ difference ys (xs ++ y ∷ [])
+        → fold with_member (if b then xs else xs ++ y ∷ []) ys ≡ xs ++ cond (not b) (y ∷ difference ys xs) (difference ys xs)
     by_test true there new = there
     by_test false there new =
-        new ∙ (ap (λ rest. (xs ++ y ∷ []) ++ rest) (still_new xs y ys (IsDistinct-head same y ys differ)) ∙ append_assoc xs (y ∷ []) (unshared ys xs))
+        new ∙ (ap (λ rest. (xs ++ y ∷ []) ++ rest) (still_new xs y ys (IsDistinct-head same y ys differ)) ∙ append_assoc xs (y ∷ []) (difference ys xs))
 
-all_new : (ys : List Value) → unshared ys [] ≡ ys
+all_new : (ys : List Value) → difference ys [] ≡ ys
 all_new [] = refl
 all_new (y ∷ ys) = ap (λ rest. y ∷ rest) (all_new ys)
 
@@ -60,7 +60,7 @@ pub fold_all : (ys : List Value) → IsDistinct same ys → fold with_member [] 
 fold_all ys differ = fold_new [] ys differ ∙ all_new ys
 
 -- those of one list, and then those of another that are new
-pub fold_both : (xs ys : List Value) → IsDistinct same xs → IsDistinct same ys → fold with_member [] (xs ++ ys) ≡ xs ++ unshared ys xs
+pub fold_both : (xs ys : List Value) → IsDistinct same xs → IsDistinct same ys → fold with_member [] (xs ++ ys) ≡ xs ++ difference ys xs
 fold_both xs ys differ differ' = fold-append with_member [] xs ys ∙ (ap (λ zs. fold with_member zs ys) (fold_all xs differ) ∙ fold_new xs ys differ')
 
 filter_apart : (p : Value → Bool) (x : Value) (ys : List Value) → AllByRecursion (λ y. same x y ≡ false) ys → AllByRecursion (λ y. same x y ≡ false) (filter p ys)

@@ -16,11 +16,11 @@ use Rattle.icn_heap.specs.Extents.{Extent, IsLive, AreLive, value_in, values_in}
 use Rattle.icn_heap.specs.Keys.{key_value, IsKey}
 use Rattle.icn_heap.specs.KeyTests.{key_eq}
 use Rattle.icn_heap.specs.Making.{stands, with_stored}
-use Rattle.icn_heap.specs.Parts.{member_in, set_in, pair_in, joined, IsSoundMember, IsSoundPair}
+use Rattle.icn_heap.specs.Parts.{member_in, set_in, pair_in, with_entry, IsSoundMember, IsSoundPair}
 use Rattle.icn_heap.proofs.PairViews.{stored_new, member_found, pair_stored, stored_sound}
 
 module _ (all : Extent) (key : Key) (formed : IsKey key) (val : Val) (live : IsLive all val) (alike : key_value key ≡ value_in all val) (members : List (Key × Val)) (are : All (IsSoundMember all) members) where
-  pub joins : set_in (joined members key val) ≡ with_member (set_in members) (value_in all val)
+  pub joins : set_in (with_entry members key val) ≡ with_member (set_in members) (value_in all val)
   joins =
       by_test (is_some (value_of key_eq members key)) (has_value (set_in members) (value_in all val))
       (member_found all key formed members are ∙ ap (λ v. has_value (set_in members) v) alike) (stored_new key_eq members key val)
@@ -32,7 +32,7 @@ module _ (all : Extent) (key : Key) (formed : IsKey key) (val : Val) (live : IsL
       by_test true false same new = absurd (true≢false same)
       by_test false true same new = absurd (true≢false (sym same))
 
-  pub joins_soundly : All (IsSoundMember all) (joined members key val)
+  pub joins_soundly : All (IsSoundMember all) (with_entry members key val)
   joins_soundly = by_test (is_some (value_of key_eq members key)) (stored_new key_eq members key val)
     where
       by_test : (b : Bool) → (b ≡ false → stored key_eq members key val ≡ members ++ (key, val) ∷ []) → All (IsSoundMember all) (if b then members else stored key_eq members key val)

@@ -17,7 +17,7 @@ use Rattle.icn_value.specs.Values.{Value}
 use Rattle.icn_value.specs.Sameness.{same, has_value, with_member}
 use Rattle.icn_value.proofs.SameValues.{same_is, same_self}
 use Rattle.icn_value.specs.Store.{Heap, Table, Record, set_at, table_at, record_at, value_at, with_set, with_table, with_record}
-use Rattle.icn_value.specs.Changes.{having_coexp, having_member, added_in, and_then, charged_unless, with_pair, looked, with_field, with_result}
+use Rattle.icn_value.specs.Changes.{having_coexp, having_member, added_in, and_then, charged_unless, with_pair, value_at_key, with_field, with_result}
 use Rattle.icn_heap.specs.declared.key.Key.{Key}
 use Rattle.icn_heap.specs.declared.entries.Entry.{Entry}
 use Rattle.icn_heap.specs.declared.entries.Entries.{Entries}
@@ -205,7 +205,7 @@ module _ (parts : Parts) (is : IsSound parts) (id : ℕ) (there : id < length pa
   table_sound = is.structures.tables id no_entries there
 
   pub looked_is : (key : Key) → IsKey key
-      → option_map (value_in (extent_in parts)) (option_map entry_value (value_of key_eq (slice_index_or parts.tables id no_entries).pairs key)) ≡ looked (heap_over (extent_in parts) parts) id (key_value key)
+      → option_map (value_in (extent_in parts)) (option_map entry_value (value_of key_eq (slice_index_or parts.tables id no_entries).pairs key)) ≡ value_at_key (heap_over (extent_in parts) parts) id (key_value key)
   looked_is key formed =
       value_found (extent_in parts) key formed (slice_index_or parts.tables id no_entries).pairs table_sound.pairs
       ∙ ap (λ (table : Table). value_of same table.pairs (key_value key)) (sym (table_view (extent_in parts) parts id))
@@ -213,7 +213,7 @@ module _ (parts : Parts) (is : IsSound parts) (id : ℕ) (there : id < length pa
   pub looked_live : (key : Key) → IsKey key → IfSome (option_map entry_value (value_of key_eq (slice_index_or parts.tables id no_entries).pairs key)) (IsLive (extent_in parts))
   looked_live key formed = found_live (extent_in parts) key formed (slice_index_or parts.tables id no_entries).pairs table_sound.pairs
 
-  pub looked_found : (key : Key) → IsKey key → is_some (value_of key_eq (slice_index_or parts.tables id no_entries).pairs key) ≡ is_some (looked (heap_over (extent_in parts) parts) id (key_value key))
+  pub looked_found : (key : Key) → IsKey key → is_some (value_of key_eq (slice_index_or parts.tables id no_entries).pairs key) ≡ is_some (value_at_key (heap_over (extent_in parts) parts) id (key_value key))
   looked_found key formed =
       sym (is_some_map entry_value (value_of key_eq (slice_index_or parts.tables id no_entries).pairs key)) ∙ (sym (is_some_map (value_in (extent_in parts)) _) ∙ ap is_some (looked_is key formed))
 

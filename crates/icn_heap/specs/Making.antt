@@ -4,13 +4,13 @@ use Rattle.icn_structs.specs.PairLists.{stored}
 use Rattle.icn_value.specs.Values.{Value}
 use Rattle.icn_value.specs.Sameness.{same, has_value}
 use Rattle.icn_value.specs.Store.{Heap, Table}
-use Rattle.icn_value.specs.Changes.{Changed, and_then, charged_cells}
+use Rattle.icn_value.specs.Changes.{ChangedHeap, and_then, charged_cells}
 
 abbrev pub having_members : List Value → Heap → Heap
 having_members members heap = record heap { sets = heap.sets ++ members ∷ [] }
 
 -- a set of these members, which are all different: it costs a cell, and one more for each
-abbrev pub made_set_of : Heap → List Value → Changed
+abbrev pub made_set_of : Heap → List Value → ChangedHeap
 made_set_of heap members =
     and_then (charged_cells heap (1 + length members)) (λ paid. Ok (having_members members paid))
 
@@ -18,7 +18,7 @@ abbrev pub having_table_of : Table → Heap → Heap
 having_table_of table heap = record heap { tables = heap.tables ++ table ∷ [] }
 
 -- a table like this one, whose keys are all different: it costs a cell, and one more for each pair
-abbrev pub made_table_of : Heap → Table → Changed
+abbrev pub made_table_of : Heap → Table → ChangedHeap
 made_table_of heap table =
     and_then (charged_cells heap (1 + length table.pairs)) (λ paid. Ok (having_table_of table paid))
 
@@ -28,12 +28,12 @@ stands true members value = has_value members value
 stands false members value = not (has_value members value)
 
 -- the members of a set that are in another
-abbrev pub shared : List Value → List Value → List Value
-shared members others = filter (stands true others) members
+abbrev pub intersection : List Value → List Value → List Value
+intersection members others = filter (stands true others) members
 
 -- the members of a set that are not in another
-abbrev pub unshared : List Value → List Value → List Value
-unshared members others = filter (stands false others) members
+abbrev pub difference : List Value → List Value → List Value
+difference members others = filter (stands false others) members
 
 -- the pairs with one more, or with another value at a key that is there
 abbrev pub with_stored : List (Value × Value) → Value × Value → List (Value × Value)

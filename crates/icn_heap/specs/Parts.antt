@@ -110,8 +110,8 @@ abbrev pub entry_vals : Entry → Val × Val
 entry_vals entry = (entry.key, entry.value)
 
 -- members with one more under its key, unless that key is there
-abbrev pub joined : List (Key × Val) → Key → Val → List (Key × Val)
-joined members key val = if is_some (value_of key_eq members key) then members else stored key_eq members key val
+abbrev pub with_entry : List (Key × Val) → Key → Val → List (Key × Val)
+with_entry members key val = if is_some (value_of key_eq members key) then members else stored key_eq members key val
 
 -- a table with a pair under a key, and without the pair of a key
 

@@ -16,7 +16,7 @@ impl Heap {
     ghost use Rattle.icn_value.specs.Store.{set_at, table_at};
     ghost use Rattle.icn_value.specs.Changes.{next_set, next_table, Refuses, LimitsFirst};
     ghost use Rattle.icn_heap.specs.Extents.{IsLive, AreLive, value_in, values_in, Keeps};
-    ghost use Rattle.icn_heap.specs.Making.{made_set_of, made_table_of, stands, shared, unshared, with_stored};
+    ghost use Rattle.icn_heap.specs.Making.{made_set_of, made_table_of, stands, intersection, difference, with_stored};
     ghost use Rattle.icn_heap.specs.Parts.{set_in, table_in, pair_in, IsSoundMember, IsSoundPair, IsSoundTable};
     ghost use Rattle.icn_heap.specs.Heaps.{extent_of, heap_of};
 
@@ -65,7 +65,7 @@ impl Heap {
         requires second { IsLive (extent_of self.old) (Set second) }
         ensures live { IfOk result (IsLive (extent_of self.new)) }
         ensures value { IfOk result (λ val. value_in (extent_of self.new) val ≡ next_set (heap_of self.old)) }
-        ensures step { MatchResult result (λ _. made_set_of (heap_of self.old) (set_at (heap_of self.old) first ++ unshared (set_at (heap_of self.old) second) (set_at (heap_of self.old) first)) ≡ Ok (heap_of self.new)) (Refuses (made_set_of (heap_of self.old) (set_at (heap_of self.old) first ++ unshared (set_at (heap_of self.old) second) (set_at (heap_of self.old) first)))) }
+        ensures step { MatchResult result (λ _. made_set_of (heap_of self.old) (set_at (heap_of self.old) first ++ difference (set_at (heap_of self.old) second) (set_at (heap_of self.old) first)) ≡ Ok (heap_of self.new)) (Refuses (made_set_of (heap_of self.old) (set_at (heap_of self.old) first ++ difference (set_at (heap_of self.old) second) (set_at (heap_of self.old) first)))) }
         ensures kept { Keeps (extent_of self.old) (extent_of self.new) }
         ensures unchanged { OnErr result (heap_of self.new ≡ heap_of self.old) }
     {
@@ -84,7 +84,7 @@ impl Heap {
         requires second { IsLive (extent_of self.old) (Set second) }
         ensures live { IfOk result (IsLive (extent_of self.new)) }
         ensures value { IfOk result (λ val. value_in (extent_of self.new) val ≡ next_set (heap_of self.old)) }
-        ensures step { MatchResult result (λ _. made_set_of (heap_of self.old) (unshared (set_at (heap_of self.old) first) (set_at (heap_of self.old) second)) ≡ Ok (heap_of self.new)) (Refuses (made_set_of (heap_of self.old) (unshared (set_at (heap_of self.old) first) (set_at (heap_of self.old) second)))) }
+        ensures step { MatchResult result (λ _. made_set_of (heap_of self.old) (difference (set_at (heap_of self.old) first) (set_at (heap_of self.old) second)) ≡ Ok (heap_of self.new)) (Refuses (made_set_of (heap_of self.old) (difference (set_at (heap_of self.old) first) (set_at (heap_of self.old) second)))) }
         ensures kept { Keeps (extent_of self.old) (extent_of self.new) }
         ensures unchanged { OnErr result (heap_of self.new ≡ heap_of self.old) }
     {
@@ -100,7 +100,7 @@ impl Heap {
         requires second { IsLive (extent_of self.old) (Set second) }
         ensures live { IfOk result (IsLive (extent_of self.new)) }
         ensures value { IfOk result (λ val. value_in (extent_of self.new) val ≡ next_set (heap_of self.old)) }
-        ensures step { MatchResult result (λ _. made_set_of (heap_of self.old) (shared (set_at (heap_of self.old) first) (set_at (heap_of self.old) second)) ≡ Ok (heap_of self.new)) (Refuses (made_set_of (heap_of self.old) (shared (set_at (heap_of self.old) first) (set_at (heap_of self.old) second)))) }
+        ensures step { MatchResult result (λ _. made_set_of (heap_of self.old) (intersection (set_at (heap_of self.old) first) (set_at (heap_of self.old) second)) ≡ Ok (heap_of self.new)) (Refuses (made_set_of (heap_of self.old) (intersection (set_at (heap_of self.old) first) (set_at (heap_of self.old) second)))) }
         ensures kept { Keeps (extent_of self.old) (extent_of self.new) }
         ensures unchanged { OnErr result (heap_of self.new ≡ heap_of self.old) }
     {

@@ -4,7 +4,7 @@ ghost use Rattle.std.specs.Option.{option_map};
 ghost use Rattle.std.specs.Vec.{vec_len};
 ghost use Rattle.icn_structs.specs.PairLists.{value_of, stored, without, KeysDiffer};
 ghost use Rattle.icn_heap.specs.KeyTests.{key_eq};
-ghost use Rattle.icn_heap.specs.Parts.{member_val, joined};
+ghost use Rattle.icn_heap.specs.Parts.{member_val, with_entry};
 
 use crate::key::Key;
 use icn_structs::Pairs;
@@ -35,7 +35,7 @@ pub fn add_members(sets: &mut Vec<Members>, members: Members) -> Result<(), Allo
 // Joins a member under its key to the others, unless that key is there.
 #[tactic(auto, using(crate::proofs::KeyTests::same_tests))]
 pub fn join_member(members: &mut Members, key: Key, val: Val) -> Result<(), AllocError>
-    ensures { OnOk result (members.new ≡ joined members.old key val) }
+    ensures { OnOk result (members.new ≡ with_entry members.old key val) }
 {
     if members.look(&key).is_none() {
         members.store(key, val)?;

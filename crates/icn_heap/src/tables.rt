@@ -15,7 +15,7 @@ impl Heap {
     ghost use Rattle.icn_value.specs.declared.val.Val.TheVariants.{Table};
     ghost use Rattle.icn_value.specs.Sameness.{same};
     ghost use Rattle.icn_value.specs.Store.{table_at, with_table};
-    ghost use Rattle.icn_value.specs.Changes.{made_table, next_table, looked, stored_in, has_key, without_key, Refuses, LimitsFirst};
+    ghost use Rattle.icn_value.specs.Changes.{made_table, next_table, value_at_key, stored_in, has_key, without_key, Refuses, LimitsFirst};
     ghost use Rattle.icn_heap.specs.Extents.{IsLive, value_in, values_in, Keeps};
     ghost use Rattle.icn_heap.specs.Keys.{key_value, IsKey};
     ghost use Rattle.icn_heap.specs.Texts.{is_text};
@@ -45,7 +45,7 @@ impl Heap {
         requires table { IsLive (extent_of self.now) (Table table) }
         requires key { IsLive (extent_of self.now) key }
         ensures live { IfOk result (λ found. IfSome found (IsLive (extent_of self.now))) }
-        ensures value { IfOk result (λ found. option_map (value_in (extent_of self.now)) found ≡ looked (heap_of self.now) table (value_in (extent_of self.now) key)) }
+        ensures value { IfOk result (λ found. option_map (value_in (extent_of self.now)) found ≡ value_at_key (heap_of self.now) table (value_in (extent_of self.now) key)) }
         ensures succeeds { is_text key ≡ false → IsOk result }
     {
         let held = self.key_of(key)?;
@@ -118,7 +118,7 @@ impl Heap {
         requires table { IsLive (extent_of self.now) (Table table) }
         requires formed { IsKey key.now }
         ensures live { IfSome result (IsLive (extent_of self.now)) }
-        ensures value { option_map (value_in (extent_of self.now)) result ≡ looked (heap_of self.now) table (key_value key.now) }
+        ensures value { option_map (value_in (extent_of self.now)) result ≡ value_at_key (heap_of self.now) table (key_value key.now) }
     {
         value_found(entry_at(&self.tables, table, key))
     }
@@ -128,7 +128,7 @@ impl Heap {
     fn has_key(&self, table: u32, key: &Key) -> bool
         requires table { IsLive (extent_of self.now) (Table table) }
         requires formed { IsKey key.now }
-        ensures { result ≡ is_some (looked (heap_of self.now) table (key_value key.now)) }
+        ensures { result ≡ is_some (value_at_key (heap_of self.now) table (key_value key.now)) }
     {
         self.value_at(table, key).is_some()
     }
@@ -138,7 +138,7 @@ impl Heap {
     fn remove_pair(&mut self, table: u32, key: &Key) -> bool
         requires table { IsLive (extent_of self.old) (Table table) }
         requires formed { IsKey key.now }
-        ensures found { result ≡ is_some (looked (heap_of self.old) table (key_value key.now)) }
+        ensures found { result ≡ is_some (value_at_key (heap_of self.old) table (key_value key.now)) }
         ensures step { heap_of self.new ≡ with_table table (record (table_at (heap_of self.old) table) { pairs = without same (table_at (heap_of self.old) table).pairs (key_value key.now) }) (heap_of self.old) }
         ensures kept { Keeps (extent_of self.old) (extent_of self.new) }
     {

@@ -12,7 +12,7 @@ use Rattle.icn_text.specs.declared.op.Op.{Op as Operation}
 use Rattle.icn_text.specs.declared.op.TheConstants.Op.{ALL as ops}
 use Rattle.icn_text.specs.Ops.{op_number}
 use Rattle.icn_defs.specs.Numbers.{op_of, keyword_of}
-use Rattle.icn_defs.proofs.Found.{numbered}
+use Rattle.icn_defs.proofs.FoundFacts.{numbered}
 use Rattle.icn_defs.proofs.KeywordNumbers.{keyword_back}
 use Rattle.icn_defs.proofs.OpNumbers.{op_back}
 use Rattle.icn_code.specs.declared.instr.Instr.{Instr}

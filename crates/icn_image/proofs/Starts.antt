@@ -9,7 +9,7 @@ use Rattle.icn_text.specs.declared.func.Func.{Func}
 use Rattle.icn_text.specs.declared.func.TheConstants.Func.{ALL as funcs}
 use Rattle.icn_text.specs.Funcs.{func_number}
 use Rattle.icn_defs.specs.Numbers.{func_of}
-use Rattle.icn_defs.proofs.Found.{numbered}
+use Rattle.icn_defs.proofs.FoundFacts.{numbered}
 use Rattle.icn_defs.proofs.FuncNumbers.{func_back}
 use Rattle.icn_code.specs.declared.code.Global.{Global}
 use Rattle.icn_code.specs.declared.code.Start.{Start}

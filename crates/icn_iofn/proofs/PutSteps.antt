@@ -19,7 +19,7 @@ use Rattle.icn_args.specs.Words.{the_text}
 use Rattle.icn_streams.specs.Handed.{KeepsCounts, FailsOnce, WantsOnce}
 use Rattle.icn_streams.proofs.Following.{puts_nothing, puts_then, then_puts_part}
 use Rattle.icn_streams.proofs.Idle.{counts_all}
-use Rattle.icn_iofn.specs.Putting.{Advances, BrokenBy, Gained, GainedPart, KeepsBoth, Outputs, PutsOn, PutsPartOn, Stops, errors_failed, errors_part, errors_wanted, file_after, line_put, output_failed, output_part, output_wanted, outputs, piece_in, pieces_in, text_of_piece, uncounted, waiting}
+use Rattle.icn_iofn.specs.Putting.{Advances, BrokenBy, GainsOutputs, GainedPart, KeepsBoth, Outputs, PutsOn, PutsPartOn, Stops, errors_failed, errors_part, errors_wanted, file_after, line_put, output_failed, output_part, output_wanted, outputs, piece_in, pieces_in, text_of_piece, uncounted, waiting_text}
 
 -- Puts on a file
 
@@ -98,13 +98,13 @@ broken_then _ kept (output_wanted x y) = output_wanted (wants_then kept.output x
 broken_then _ kept (errors_wanted x y) = errors_wanted (counts_then kept.output x) (wants_then kept.errors y)
 broken_then _ kept (uncounted x) = uncounted (both_then kept x)
 
-pub gained_all : (a : Outputs) (o : Outside) → Gained a a o o
+pub gained_all : (a : Outputs) (o : Outside) → GainsOutputs a a o o
 gained_all a o = record { output = puts_nothing a.output o.output; errors = puts_nothing a.errors o.errors }
 
-pub gained_then : {a b c : Outputs} {o p q : Outside} → Gained a b o p → Gained b c p q → Gained a c o q
+pub gained_then : {a b c : Outputs} {o p q : Outside} → GainsOutputs a b o p → GainsOutputs b c p q → GainsOutputs a c o q
 gained_then first second = record { output = puts_then first.output second.output; errors = puts_then first.errors second.errors }
 
-pub then_gained_part : {a b c : Outputs} {o p q : Outside} → Gained a b o p → GainedPart b c p q → GainedPart a c o q
+pub then_gained_part : {a b c : Outputs} {o p q : Outside} → GainsOutputs a b o p → GainedPart b c p q → GainedPart a c o q
 then_gained_part first second = record { output = then_puts_part first.output second.output; errors = then_puts_part first.errors second.errors }
 
 pub part_grows : {a b : Outputs} {o p q : Outside} → GainedPart a b o p → Grows p q → GainedPart a b o q
@@ -130,7 +130,7 @@ errors_is Input text o = sym (append-nil o.errors)
 errors_is Output text o = sym (append-nil o.errors)
 errors_is Errout text o = refl
 
-pub gained_on : {file : File} {text : List ℕ} {a b : Outputs} → PutsOn file text a b → (o : Outside) → Gained a b o (put_on file text o)
+pub gained_on : {file : File} {text : List ℕ} {a b : Outputs} → PutsOn file text a b → (o : Outside) → GainsOutputs a b o (put_on file text o)
 gained_on {file} {text} puts o = record {
   output = record { text = output_part file text; is = output_is file text o; gains = puts.output };
   errors = record { text = errors_part file text; is = errors_is file text o; gains = puts.errors };
@@ -175,7 +175,7 @@ errors_broken (Err NoMemory) a b o file text is gains faults wants = rw is (reco
 -- One piece
 
 -- a text waits with what waits on the file
-pub waits_more : (file now : File) (text more later : List ℕ) (a : Outputs) → now ≡ file → later ≡ text ++ more → Advances (waiting file text a) (waiting now later a) (put_on file more)
+pub waits_more : (file now : File) (text more later : List ℕ) (a : Outputs) → now ≡ file → later ≡ text ++ more → Advances (waiting_text file text a) (waiting_text now later a) (put_on file more)
 waits_more file now text more later a same is = record {
   reached = λ was. was;
   gained = λ was. gained_all a was;
@@ -185,7 +185,7 @@ waits_more file now text more later a same is = record {
 
 -- what waits was put, and another file is selected
 pub puts_waiting : (file other : File) (text more whole rest : List ℕ) (a b : Outputs) → PutsOn file whole a b → whole ≡ text ++ more → rest ≡ []
-    → Advances (waiting file text a) (waiting other rest b) (put_on file more)
+    → Advances (waiting_text file text a) (waiting_text other rest b) (put_on file more)
 puts_waiting file other text more whole rest a b puts is empty = record {
   reached = λ was. put_on file whole was;
   gained = λ was. gained_on puts was;
@@ -194,14 +194,14 @@ puts_waiting file other text more whole rest a b puts is empty = record {
 }
 
 -- memory was wanting before anything was put
-pub stops_idle : (file : File) (text more : List ℕ) (a : Outputs) (fault : Fault) → fault ≡ NoMemory → Stops (waiting file text a) a (put_on file more) fault
+pub stops_idle : (file : File) (text more : List ℕ) (a : Outputs) (fault : Fault) → fault ≡ NoMemory → Stops (waiting_text file text a) a (put_on file more) fault
 stops_idle file text more a fault is = record {
   gained = λ was. part_idle a (grows_then (grows_on file text was) (grows_on file more (put_on file text was)));
   cause = subst (BrokenBy a a) (sym is) (uncounted (both_all a));
 }
 
 -- the put of what waits was broken off
-pub stops_putting : (file : File) (text more whole : List ℕ) (a b : Outputs) (fault : Fault) → PutsPartOn file whole a b fault → whole ≡ text ++ more → Stops (waiting file text a) b (put_on file more) fault
+pub stops_putting : (file : File) (text more whole : List ℕ) (a b : Outputs) (fault : Fault) → PutsPartOn file whole a b fault → whole ≡ text ++ more → Stops (waiting_text file text a) b (put_on file more) fault
 stops_putting file text more whole a b fault puts is = record {
   gained = λ was. subst (GainedPart a b was) (ap (λ t. put_on file t was) is ∙ sym (put_more file text more was)) (gained_part_on puts was);
   cause = puts.cause;
@@ -252,7 +252,7 @@ end_of ends = if ends then newline else []
 -- the line as far as its pieces have come: what is still to be put, from here on, gives the whole line
 pub record LineSo (all : Extent) (vals rest : List Val) (ends is_first : Bool) (start now : File) (text : List ℕ) (before after : Outputs) : Type 0 where
   pub reached : Outside → Outside
-  pub gained : (was : Outside) → Gained before after was (reached was)
+  pub gained : (was : Outside) → GainsOutputs before after was (reached was)
   pub same : (was : Outside) → line_put (end_of ends) is_first (pieces_in (map (value_in all) rest)) now (put_on now text (reached was)) ≡ line_put (end_of ends) true (pieces_in (map (value_in all) vals)) start was
   pub counts : KeepsBoth before after
   pub live : All (IsLive all) rest
@@ -296,7 +296,7 @@ module _ (all : Extent) (vals : List Val) (first : Val) (others : List Val) (end
       ∙ (sym (line_step (end_of ends) is_first (piece_in (value_in all first)) (pieces_in (map (value_in all) others)) now (put_on now text (so.reached was))) ∙ so.same was)
 
   pub line_goes_on : (later : File) (waits : List ℕ) (after : Outputs)
-      → Advances (waiting now text between) (waiting later waits after) (put_on now (text_of_piece newline (not b) (piece_in (value_in all first))))
+      → Advances (waiting_text now text between) (waiting_text later waits after) (put_on now (text_of_piece newline (not b) (piece_in (value_in all first))))
       → later ≡ file_after now (piece_in (value_in all first)) → LineSo all vals others ends false start later waits before after
   line_goes_on later waits after adv is = record {
     reached = λ was. adv.reached (so.reached was);
@@ -309,7 +309,7 @@ module _ (all : Extent) (vals : List Val) (first : Val) (others : List Val) (end
     live = All-tail (IsLive all) first others so.live;
   }
 
-  pub line_stops : (after : Outputs) (fault : Fault) → Stops (waiting now text between) after (put_on now (text_of_piece newline (not b) (piece_in (value_in all first)))) fault
+  pub line_stops : (after : Outputs) (fault : Fault) → Stops (waiting_text now text between) after (put_on now (text_of_piece newline (not b) (piece_in (value_in all first)))) fault
       → (was : Outside) → GainedPart before after was (line_put (end_of ends) true (pieces_in (map (value_in all) vals)) start was)
   line_stops after fault stops was =
       subst (GainedPart before after was) (behind was)
@@ -317,7 +317,7 @@ module _ (all : Extent) (vals : List Val) (first : Val) (others : List Val) (end
       (grows_line (end_of ends) false (pieces_in (map (value_in all) others)) (file_after now (piece_in (value_in all first)))
       (put_on now (text_of_piece newline (not b) (piece_in (value_in all first))) (put_on now text (so.reached was)))))
 
-  pub line_stopped_by : (after : Outputs) (fault : Fault) → Stops (waiting now text between) after (put_on now (text_of_piece newline (not b) (piece_in (value_in all first)))) fault
+  pub line_stopped_by : (after : Outputs) (fault : Fault) → Stops (waiting_text now text between) after (put_on now (text_of_piece newline (not b) (piece_in (value_in all first)))) fault
       → BrokenBy before after fault
   line_stopped_by after fault stops = broken_then fault so.counts stops.cause
 
@@ -332,8 +332,8 @@ module _ (all : Extent) (vals : List Val) (ends is_first : Bool) (start now : Fi
       then_gained_part (so.gained was) (part_idle between (subst (Grows (so.reached was)) (last was (text ++ end_of ends) refl) (grows_on now (text ++ end_of ends) (so.reached was))))
 
   pub line_ends : (whole : List ℕ) (after : Outputs) → whole ≡ text ++ end_of ends → PutsOn now whole between after
-      → (was : Outside) → Gained before after was (line_put (end_of ends) true (pieces_in (map (value_in all) vals)) start was)
-  line_ends whole after is puts was = subst (Gained before after was) (last was whole is) (gained_then (so.gained was) (gained_on puts (so.reached was)))
+      → (was : Outside) → GainsOutputs before after was (line_put (end_of ends) true (pieces_in (map (value_in all) vals)) start was)
+  line_ends whole after is puts was = subst (GainsOutputs before after was) (last was whole is) (gained_then (so.gained was) (gained_on puts (so.reached was)))
 
   pub line_breaks : (whole : List ℕ) (after : Outputs) (fault : Fault) → whole ≡ text ++ end_of ends → PutsPartOn now whole between after fault
       → (was : Outside) → GainedPart before after was (line_put (end_of ends) true (pieces_in (map (value_in all) vals)) start was)

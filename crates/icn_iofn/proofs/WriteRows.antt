@@ -17,22 +17,22 @@ use Rattle.icn_vars.specs.Worlds.{reach_of, setting_of}
 use Rattle.icn_vars.specs.declared.outcome.Outcome.{Outcome}
 use Rattle.icn_vars.specs.declared.outcome.Halt.TheVariants.{Ends as EndsHalt, WriteFault, NoMemory}
 use Rattle.icn_vars.specs.declared.world.World.{World}
-use Rattle.icn_streams.specs.Handed.{Follows, PutsPart, WantsMemory, WritingFails, errors_fail, errors_want, handed, output_fails, output_wants, uncounted as nothing_counted}
-use Rattle.icn_streams.specs.Answers.{StopsPutting, given, outside_after, putting}
+use Rattle.icn_streams.specs.Handed.{Follows, PutsPart, WantsMemory, WritingFails, errors_fail, errors_want, call_streams, output_fails, output_wants, uncounted as nothing_counted}
+use Rattle.icn_streams.specs.Answers.{StopsPutting, call_state, outside_after, putting}
 use Rattle.icn_streams.specs.Applies.{Applies}
 use Rattle.icn_streams.proofs.Idle.{items_all}
-use Rattle.icn_iofn.specs.Putting.{BrokenBy, Gained, GainedPart, KeepsBoth, errors_failed, errors_wanted, line_put, output_failed, output_wanted, outputs, pieces_in, uncounted}
+use Rattle.icn_iofn.specs.Putting.{BrokenBy, GainsOutputs, GainedPart, KeepsBoth, errors_failed, errors_wanted, line_put, output_failed, output_wanted, outputs, pieces_in, uncounted}
 use Rattle.icn_iofn.specs.Writing.{lines_then}
 use Rattle.icn_iofn.proofs.PutSteps.{grows_line}
 
-failing_by : (o o' e e' : SinkState) (left : Option (List ℕ)) (faults : ℕ) (fault : Fault) → fault ≡ Failed → BrokenBy (outputs o e) (outputs o' e') fault → WritingFails (handed left faults o e) (handed left faults o' e')
+failing_by : (o o' e e' : SinkState) (left : Option (List ℕ)) (faults : ℕ) (fault : Fault) → fault ≡ Failed → BrokenBy (outputs o e) (outputs o' e') fault → WritingFails (call_streams left faults o e) (call_streams left faults o' e')
 failing_by o o' e e' left faults _ same (output_failed x y) = output_fails refl refl x y
 failing_by o o' e e' left faults _ same (errors_failed x y) = errors_fail refl refl x y
 failing_by o o' e e' left faults _ same (output_wanted x y) = absurd (cc)
 failing_by o o' e e' left faults _ same (errors_wanted x y) = absurd (cc)
 failing_by o o' e e' left faults _ same (uncounted x) = absurd (cc)
 
-wanting_by : (o o' e e' : SinkState) (left : Option (List ℕ)) (faults : ℕ) (fault : Fault) → fault ≡ NoMemoryFault → BrokenBy (outputs o e) (outputs o' e') fault → WantsMemory (handed left faults o e) (handed left faults o' e')
+wanting_by : (o o' e e' : SinkState) (left : Option (List ℕ)) (faults : ℕ) (fault : Fault) → fault ≡ NoMemoryFault → BrokenBy (outputs o e) (outputs o' e') fault → WantsMemory (call_streams left faults o e) (call_streams left faults o' e')
 wanting_by o o' e e' left faults _ same (output_failed x y) = absurd (cc)
 wanting_by o o' e e' left faults _ same (errors_failed x y) = absurd (cc)
 wanting_by o o' e e' left faults _ same (output_wanted x y) = output_wants refl x y
@@ -47,8 +47,8 @@ module _ (end : List ℕ) (file : File) (args : List Value) (next : Row) (quiet 
   goes s = found s (λ parts. puts_line end file parts next)
 
   -- it follows the outside, whatever the input tells
-  followed : (tells : Option (List ℕ)) (was : Outside) → tells ≡ Some was.left → Gained (outputs o e) (outputs o' e') was (line_put end true (pieces_in args) file was)
-      → Follows (handed tells faults o e) (handed tells faults o' e') was (line_put end true (pieces_in args) file was)
+  followed : (tells : Option (List ℕ)) (was : Outside) → tells ≡ Some was.left → GainsOutputs (outputs o e) (outputs o' e') was (line_put end true (pieces_in args) file was)
+      → Follows (call_streams tells faults o e) (call_streams tells faults o' e') was (line_put end true (pieces_in args) file was)
   followed tells was told gained = record {
     left = told ∙ ap Some (sym (grows_line end true (pieces_in args) file was).left);
     output = gained.output;
@@ -59,7 +59,7 @@ module _ (end : List ℕ) (file : File) (args : List Value) (next : Row) (quiet 
   left_by s = ap outside_after (goes s) ∙ quiet (record s { outside = line_put end true (pieces_in args) file s.outside })
 
   broken : (tells : Option (List ℕ)) (was : Outside) → GainedPart (outputs o e) (outputs o' e') was (line_put end true (pieces_in args) file was)
-      → StopsPutting (lines_then end file args next) (setting_of was w locals) (handed tells faults o e) (handed tells faults o' e')
+      → StopsPutting (lines_then end file args next) (setting_of was w locals) (call_streams tells faults o e) (call_streams tells faults o' e')
   broken tells was part = record {
     left = refl;
     output = subst (λ (now : Outside). PutsPart o o' was.output now.output) (sym (left_by (setting_of was w locals))) part.output;
@@ -68,8 +68,8 @@ module _ (end : List ℕ) (file : File) (args : List Value) (next : Row) (quiet 
 
   -- the line was put, and the row gives an item
   pub wrote_gives : (outcome : Outcome) → ((s : Setting) → next s ≡ outcome_in (extent_of w.heap) outcome s)
-      → ((was : Outside) → Gained (outputs o e) (outputs o' e') was (line_put end true (pieces_in args) file was)) → KeepsBoth (outputs o e) (outputs o' e')
-      → IsLiveOutcome (reach_of w locals) outcome → Applies (lines_then end file args next) (given w locals (handed left faults o e)) (given w locals (handed left faults o' e')) (Ok outcome)
+      → ((was : Outside) → GainsOutputs (outputs o e) (outputs o' e') was (line_put end true (pieces_in args) file was)) → KeepsBoth (outputs o e) (outputs o' e')
+      → IsLiveOutcome (reach_of w locals) outcome → Applies (lines_then end file args next) (call_state w locals (call_streams left faults o e)) (call_state w locals (call_streams left faults o' e')) (Ok outcome)
   wrote_gives outcome is gained counts live = record {
     answers = λ was told. record {
       now = line_put end true (pieces_in args) file was;
@@ -93,8 +93,8 @@ module _ (end : List ℕ) (file : File) (args : List Value) (next : Row) (quiet 
 
   -- the line was put, and the program ends
   pub wrote_ends : (status : ℕ) → ((s : Setting) → next s ≡ Ends status s)
-      → ((was : Outside) → Gained (outputs o e) (outputs o' e') was (line_put end true (pieces_in args) file was)) → KeepsBoth (outputs o e) (outputs o' e')
-      → Applies (lines_then end file args next) (given w locals (handed left faults o e)) (given w locals (handed left faults o' e')) (Err (EndsHalt status))
+      → ((was : Outside) → GainsOutputs (outputs o e) (outputs o' e') was (line_put end true (pieces_in args) file was)) → KeepsBoth (outputs o e) (outputs o' e')
+      → Applies (lines_then end file args next) (call_state w locals (call_streams left faults o e)) (call_state w locals (call_streams left faults o' e')) (Err (EndsHalt status))
   wrote_ends status is gained counts = record {
     answers = λ was told. record {
       now = line_put end true (pieces_in args) file was;
@@ -118,7 +118,7 @@ module _ (end : List ℕ) (file : File) (args : List Value) (next : Row) (quiet 
 
   -- an output failed
   pub write_fails : ((was : Outside) → GainedPart (outputs o e) (outputs o' e') was (line_put end true (pieces_in args) file was)) → BrokenBy (outputs o e) (outputs o' e') Failed
-      → Applies (lines_then end file args next) (given w locals (handed left faults o e)) (given w locals (handed left faults o' e')) (Err WriteFault)
+      → Applies (lines_then end file args next) (call_state w locals (call_streams left faults o e)) (call_state w locals (call_streams left faults o' e')) (Err WriteFault)
   write_fails part cause = record {
     answers = λ was told. broken left was (part was);
     meant = record { had = []; has = []; answers = λ was first. broken (Some []) was (part was) };
@@ -130,7 +130,7 @@ module _ (end : List ℕ) (file : File) (args : List Value) (next : Row) (quiet 
 
   -- memory was wanting
   pub write_wants : ((was : Outside) → GainedPart (outputs o e) (outputs o' e') was (line_put end true (pieces_in args) file was)) → BrokenBy (outputs o e) (outputs o' e') NoMemoryFault
-      → Applies (lines_then end file args next) (given w locals (handed left faults o e)) (given w locals (handed left faults o' e')) (Err NoMemory)
+      → Applies (lines_then end file args next) (call_state w locals (call_streams left faults o e)) (call_state w locals (call_streams left faults o' e')) (Err NoMemory)
   write_wants part cause = record {
     answers = λ was told. putting (broken left was (part was));
     meant = record { had = []; has = []; answers = λ was first. putting (broken (Some []) was (part was)) };

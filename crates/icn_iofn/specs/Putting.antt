@@ -61,16 +61,16 @@ pub record PutsPartOn (file : File) (text : List ℕ) (before after : Outputs) (
   pub cause : BrokenBy before after fault
 
 -- where the next text goes, what waits to be put there, and the outputs so far
-pub record Waiting : Type 0 where
+pub record WaitingText : Type 0 where
   pub file : File
   pub text : List ℕ
   pub outputs : Outputs
 
-abbrev pub waiting : File → List ℕ → Outputs → Waiting
-waiting file text outputs = record { file = file; text = text; outputs = outputs }
+abbrev pub waiting_text : File → List ℕ → Outputs → WaitingText
+waiting_text file text outputs = record { file = file; text = text; outputs = outputs }
 
 -- The outputs have gained what leads from one outside to another.
-pub record Gained (before after : Outputs) (was now : Outside) : Type 0 where
+pub record GainsOutputs (before after : Outputs) (was now : Outside) : Type 0 where
   pub output : PutsText before.output after.output was.output now.output
   pub errors : PutsText before.errors after.errors was.errors now.errors
 
@@ -81,14 +81,14 @@ pub record GainedPart (before after : Outputs) (was now : Outside) : Type 0 wher
 
 -- From an outside on, with what waits at the file put on it, something was done to the outside: it is as if what waits
 -- now were put on what the outputs have gained.
-pub record Advances (before after : Waiting) (done : Outside → Outside) : Type 0 where
+pub record Advances (before after : WaitingText) (done : Outside → Outside) : Type 0 where
   pub reached : Outside → Outside
-  pub gained : (was : Outside) → Gained before.outputs after.outputs was (reached was)
+  pub gained : (was : Outside) → GainsOutputs before.outputs after.outputs was (reached was)
   pub same : (was : Outside) → put_on after.file after.text (reached was) ≡ done (put_on before.file before.text was)
   pub counts : KeepsBoth before.outputs after.outputs
 
 -- As this was to be done it was broken off.
-pub record Stops (before : Waiting) (after : Outputs) (done : Outside → Outside) (fault : Fault) : Type 0 where
+pub record Stops (before : WaitingText) (after : Outputs) (done : Outside → Outside) (fault : Fault) : Type 0 where
   pub gained : (was : Outside) → GainedPart before.outputs after was (done (put_on before.file before.text was))
   pub cause : BrokenBy before.outputs after fault
 

@@ -7,7 +7,7 @@ ghost use Rattle.icn_heap.specs.Extents.{IsLive, value_in};
 ghost use Rattle.icn_heap.specs.Heaps.{extent_of};
 ghost use Rattle.icn_heap.specs.Keys as keys;
 ghost use Rattle.icn_args.specs.Words.{the_text};
-ghost use Rattle.icn_iofn.specs.Putting.{Advances, BrokenBy, Gained, GainedPart, KeepsBoth, PutsOn, PutsPartOn, Stops, file_after, line_put, outputs, piece_in, pieces_in, text_of_piece, waiting};
+ghost use Rattle.icn_iofn.specs.Putting.{Advances, BrokenBy, GainsOutputs, GainedPart, KeepsBoth, PutsOn, PutsPartOn, Stops, file_after, line_put, outputs, piece_in, pieces_in, text_of_piece, waiting_text};
 
 use crate::members::push_members;
 use icn_heap::Heap;
@@ -33,7 +33,7 @@ pub fn put_line<O: Sink, E: Sink>(
     err: &mut E,
 ) -> Result<(), Fault>
     requires { All (IsLive (extent_of heap.now)) vals.now }
-    ensures ok { OnOk result ((was : Outside) → Gained (outputs (O.state out.old) (E.state err.old)) (outputs (O.state out.new) (E.state err.new)) was
+    ensures ok { OnOk result ((was : Outside) → GainsOutputs (outputs (O.state out.old) (E.state err.old)) (outputs (O.state out.new) (E.state err.new)) was
         (line_put (if ends then newline else []) true (pieces_in (map (value_in (extent_of heap.now)) vals.now)) (keys.file_of file) was)) }
     ensures counts { OnOk result (KeepsBoth (outputs (O.state out.old) (E.state err.old)) (outputs (O.state out.new) (E.state err.new))) }
     ensures err { OnErr result ((was : Outside) → GainedPart (outputs (O.state out.old) (E.state err.old)) (outputs (O.state out.new) (E.state err.new)) was
@@ -72,10 +72,10 @@ fn put_piece<O: Sink, E: Sink>(
     err: &mut E,
 ) -> Result<File, Fault>
     requires { IsLive (extent_of heap.now) val }
-    ensures ok { IfOk result (λ now. Advances (waiting (keys.file_of file) buffer.old.items (outputs (O.state out.old) (E.state err.old))) (waiting (keys.file_of now) buffer.new.items (outputs (O.state out.new) (E.state err.new)))
+    ensures ok { IfOk result (λ now. Advances (waiting_text (keys.file_of file) buffer.old.items (outputs (O.state out.old) (E.state err.old))) (waiting_text (keys.file_of now) buffer.new.items (outputs (O.state out.new) (E.state err.new)))
         (put_on (keys.file_of file) (text_of_piece newline (not ends) (piece_in (value_in (extent_of heap.now) val))))) }
     ensures file { IfOk result (λ now. keys.file_of now ≡ file_after (keys.file_of file) (piece_in (value_in (extent_of heap.now) val))) }
-    ensures err { IfErr result (Stops (waiting (keys.file_of file) buffer.old.items (outputs (O.state out.old) (E.state err.old))) (outputs (O.state out.new) (E.state err.new))
+    ensures err { IfErr result (Stops (waiting_text (keys.file_of file) buffer.old.items (outputs (O.state out.old) (E.state err.old))) (outputs (O.state out.new) (E.state err.new))
         (put_on (keys.file_of file) (text_of_piece newline (not ends) (piece_in (value_in (extent_of heap.now) val))))) }
 {
     match val {
@@ -96,10 +96,10 @@ fn select<O: Sink, E: Sink>(
     out: &mut O,
     err: &mut E,
 ) -> Result<File, Fault>
-    ensures ok { IfOk result (λ now. Advances (waiting (keys.file_of file) buffer.old.items (outputs (O.state out.old) (E.state err.old))) (waiting (keys.file_of now) buffer.new.items (outputs (O.state out.new) (E.state err.new)))
+    ensures ok { IfOk result (λ now. Advances (waiting_text (keys.file_of file) buffer.old.items (outputs (O.state out.old) (E.state err.old))) (waiting_text (keys.file_of now) buffer.new.items (outputs (O.state out.new) (E.state err.new)))
         (put_on (keys.file_of file) (if ends then newline else []))) }
     ensures file { IfOk result (λ now. now ≡ other) }
-    ensures err { IfErr result (Stops (waiting (keys.file_of file) buffer.old.items (outputs (O.state out.old) (E.state err.old))) (outputs (O.state out.new) (E.state err.new))
+    ensures err { IfErr result (Stops (waiting_text (keys.file_of file) buffer.old.items (outputs (O.state out.old) (E.state err.old))) (outputs (O.state out.new) (E.state err.new))
         (put_on (keys.file_of file) (if ends then newline else []))) }
 {
     end_line(ends, buffer)?;

@@ -6,9 +6,9 @@ ghost use Rattle.icn_defs.specs.InputOutput as rows;
 ghost use Rattle.icn_heap.specs.Extents.{IsLive, value_in};
 ghost use Rattle.icn_heap.specs.Heaps.{extent_of};
 ghost use Rattle.icn_heap.specs.Keys as keys;
-ghost use Rattle.icn_streams.specs.Answers.{given};
+ghost use Rattle.icn_streams.specs.Answers.{call_state};
 ghost use Rattle.icn_streams.specs.Applies.{Applies};
-ghost use Rattle.icn_streams.specs.Handed.{handed};
+ghost use Rattle.icn_streams.specs.Handed.{call_streams};
 ghost use Rattle.icn_streams.specs.Readings.{asked_in};
 ghost use Rattle.icn_iofn.specs.Reading.{read_from, reads_from};
 
@@ -30,7 +30,7 @@ pub fn read<L: Locals, I: Source>(
 ) -> Result<Outcome, Halt>
     requires locals { All (IsLive (extent_of w.old.heap)) (L.items l.now) }
     requires live { All (IsLive (extent_of w.old.heap)) vals.now }
-    ensures { (output errors : SinkState) → Applies (rows.read_row (map (value_in (extent_of w.old.heap)) vals.now)) (given w.old (L.items l.now) (handed (I.left input.old) (I.faults input.old) output errors)) (given w.new (L.items l.now) (handed (I.left input.new) (I.faults input.new) output errors)) result }
+    ensures { (output errors : SinkState) → Applies (rows.read_row (map (value_in (extent_of w.old.heap)) vals.now)) (call_state w.old (L.items l.now) (call_streams (I.left input.old) (I.faults input.old) output errors)) (call_state w.new (L.items l.now) (call_streams (I.left input.new) (I.faults input.new) output errors)) result }
 {
     let file = file_arg(vals)?;
     read_from(Ask::Line, file, arg(vals, 0), w, l, buffer, input)
@@ -47,7 +47,7 @@ pub fn reads<L: Locals, I: Source>(
 ) -> Result<Outcome, Halt>
     requires locals { All (IsLive (extent_of w.old.heap)) (L.items l.now) }
     requires live { All (IsLive (extent_of w.old.heap)) vals.now }
-    ensures { (output errors : SinkState) → Applies (rows.reads_row (map (value_in (extent_of w.old.heap)) vals.now)) (given w.old (L.items l.now) (handed (I.left input.old) (I.faults input.old) output errors)) (given w.new (L.items l.now) (handed (I.left input.new) (I.faults input.new) output errors)) result }
+    ensures { (output errors : SinkState) → Applies (rows.reads_row (map (value_in (extent_of w.old.heap)) vals.now)) (call_state w.old (L.items l.now) (call_streams (I.left input.old) (I.faults input.old) output errors)) (call_state w.new (L.items l.now) (call_streams (I.left input.new) (I.faults input.new) output errors)) result }
 {
     let file = file_arg(vals)?;
     let count = count_arg(&w.heap, vals)?;
@@ -66,7 +66,7 @@ fn read_from<L: Locals, I: Source>(
 ) -> Result<Outcome, Halt>
     requires locals { All (IsLive (extent_of w.old.heap)) (L.items l.now) }
     requires live { IsLive (extent_of w.old.heap) named }
-    ensures { (output errors : SinkState) → Applies (read_from (asked_in ask) (keys.file_of file) (value_in (extent_of w.old.heap) named)) (given w.old (L.items l.now) (handed (I.left input.old) (I.faults input.old) output errors)) (given w.new (L.items l.now) (handed (I.left input.new) (I.faults input.new) output errors)) result }
+    ensures { (output errors : SinkState) → Applies (read_from (asked_in ask) (keys.file_of file) (value_in (extent_of w.old.heap) named)) (call_state w.old (L.items l.now) (call_streams (I.left input.old) (I.faults input.old) output errors)) (call_state w.new (L.items l.now) (call_streams (I.left input.new) (I.faults input.new) output errors)) result }
 {
     if file != File::Input {
         return Err(Halt::Error(212, Some(named)));
@@ -83,7 +83,7 @@ fn read_input<L: Locals, I: Source>(
     input: &mut I,
 ) -> Result<Outcome, Halt>
     requires { All (IsLive (extent_of w.old.heap)) (L.items l.now) }
-    ensures { (output errors : SinkState) → Applies (reads_from (asked_in ask)) (given w.old (L.items l.now) (handed (I.left input.old) (I.faults input.old) output errors)) (given w.new (L.items l.now) (handed (I.left input.new) (I.faults input.new) output errors)) result }
+    ensures { (output errors : SinkState) → Applies (reads_from (asked_in ask)) (call_state w.old (L.items l.now) (call_streams (I.left input.old) (I.faults input.old) output errors)) (call_state w.new (L.items l.now) (call_streams (I.left input.new) (I.faults input.new) output errors)) result }
 {
     match read_text(ask, w, l, buffer, input)? {
         Some(text) => Ok(Outcome::Gives(Item::Val(Val::Text(text)))),

@@ -4,9 +4,9 @@ ghost use Rattle.std.specs.List.{All};
 ghost use Rattle.icn_defs.specs.InputOutput as rows;
 ghost use Rattle.icn_heap.specs.Extents.{Extent, IsLive, value_in};
 ghost use Rattle.icn_heap.specs.Heaps.{extent_of};
-ghost use Rattle.icn_streams.specs.Answers.{given};
+ghost use Rattle.icn_streams.specs.Answers.{call_state};
 ghost use Rattle.icn_streams.specs.Applies.{Applies};
-ghost use Rattle.icn_streams.specs.Handed.{handed};
+ghost use Rattle.icn_streams.specs.Handed.{call_streams};
 ghost use Rattle.icn_iofn.specs.Writing.{write_by};
 
 use crate::pieces::check_pieces;
@@ -29,7 +29,7 @@ pub fn write<L: Locals, O: Sink, E: Sink>(
 ) -> Result<Outcome, Halt>
     requires locals { All (IsLive (extent_of w.now.heap)) (L.items l.now) }
     requires live { All (IsLive (extent_of w.now.heap)) vals.now }
-    ensures { (left : Option (List ℕ)) (faults : ℕ) → Applies (write_by ends (map (value_in (extent_of w.now.heap)) vals.now)) (given w.now (L.items l.now) (handed left faults (O.state out.old) (E.state err.old))) (given w.now (L.items l.now) (handed left faults (O.state out.new) (E.state err.new))) result }
+    ensures { (left : Option (List ℕ)) (faults : ℕ) → Applies (write_by ends (map (value_in (extent_of w.now.heap)) vals.now)) (call_state w.now (L.items l.now) (call_streams left faults (O.state out.old) (E.state err.old))) (call_state w.now (L.items l.now) (call_streams left faults (O.state out.new) (E.state err.new))) result }
 {
     check_pieces(vals)?;
     match put_line(&w.heap, vals, ends, File::Output, buffer, out, err) {
@@ -51,7 +51,7 @@ pub fn stop<L: Locals, O: Sink, E: Sink>(
 ) -> Result<Outcome, Halt>
     requires locals { All (IsLive (extent_of w.now.heap)) (L.items l.now) }
     requires live { All (IsLive (extent_of w.now.heap)) vals.now }
-    ensures { (left : Option (List ℕ)) (faults : ℕ) → Applies (rows.stop_row (map (value_in (extent_of w.now.heap)) vals.now)) (given w.now (L.items l.now) (handed left faults (O.state out.old) (E.state err.old))) (given w.now (L.items l.now) (handed left faults (O.state out.new) (E.state err.new))) result }
+    ensures { (left : Option (List ℕ)) (faults : ℕ) → Applies (rows.stop_row (map (value_in (extent_of w.now.heap)) vals.now)) (call_state w.now (L.items l.now) (call_streams left faults (O.state out.old) (E.state err.old))) (call_state w.now (L.items l.now) (call_streams left faults (O.state out.new) (E.state err.new))) result }
 {
     check_pieces(vals)?;
     match put_line(&w.heap, vals, true, File::Errout, buffer, out, err) {

@@ -3,7 +3,7 @@ use Rattle.std.proofs.Common.{◌≡◌, ◌⊎◌, inl, inr, ℕ, ◌≤◌, Li
 use Rattle.icn_host.specs.Counts.{CountsOnce, HasCause, Rose, one_more}
 use Rattle.icn_host.specs.Sinks.{SinkState}
 use Rattle.icn_host.specs.Puts.{RunsShort}
-use Rattle.icn_streams.specs.Handed.{Handed, handed, KeepsAllCounts, KeepsCounts, WantsMemory, uncounted, errors_want}
+use Rattle.icn_streams.specs.Handed.{CallStreams, call_streams, KeepsAllCounts, KeepsCounts, WantsMemory, uncounted, errors_want}
 use Rattle.icn_machine.specs.Stepping.{OutputFails, output_fails, errors_fail}
 use Rattle.icn_run.specs.declared.ending.Ending.{Ending}
 use Rattle.icn_running.specs.declared.fault.RunFault.{RunFault}
@@ -38,11 +38,11 @@ same_counts sink = record { faults = refl; wants = refl }
 
 -- the error output alone was put on, and its counts stayed
 errors_kept : (left left' : Option (List ℕ)) (input : ℕ) (out before after : SinkState) → KeepsCounts before after
-    → KeepsAllCounts (handed left input out before) (handed left' input out after)
+    → KeepsAllCounts (call_streams left input out before) (call_streams left' input out after)
 errors_kept left left' input out before after kept = record { faults = refl; output = same_counts out; errors = kept }
 
 -- an answer that is no fault, with all counts as they were
-none_first : (before after : Handed) (answer : Answer) → (IsFault answer → ⊥) → KeepsAllCounts before after → IsFirstFaultOf answer before after
+none_first : (before after : CallStreams) (answer : Answer) → (IsFault answer → ⊥) → KeepsAllCounts before after → IsFirstFaultOf answer before after
 none_first before after Wrote n kept = kept
 none_first before after (Ran ending) n kept = kept
 none_first before after (Refused file line rule) n kept = kept
@@ -56,7 +56,7 @@ none_first before after WriteFault n kept = absurd (n refl)
 none_first before after NoMemory n kept = absurd (n refl)
 
 -- the same of an answer that is no failure of the input and of no output
-still_first : (before after : Handed) (answer : Answer) → (answer ≡ WriteFault → ⊥) → (answer ≡ ReadFault → ⊥) → KeepsAllCounts before after
+still_first : (before after : CallStreams) (answer : Answer) → (answer ≡ WriteFault → ⊥) → (answer ≡ ReadFault → ⊥) → KeepsAllCounts before after
     → IsFirstFaultOf answer before after
 still_first before after Wrote w r kept = kept
 still_first before after (Ran ending) w r kept = kept
@@ -75,7 +75,7 @@ still_first before after NoMemory w r kept = uncounted kept
 -- want of memory in the put of a line
 want_first : {before between : SinkState} {line : List ℕ} (left left' : Option (List ℕ)) (input : ℕ) (out : SinkState)
     → (between ≡ before) ⊎ RunsShort before between line
-    → WantsMemory (handed left input out before) (handed left' input out between)
+    → WantsMemory (call_streams left input out before) (call_streams left' input out between)
 want_first {before} left left' input out (inl same) =
     uncounted (errors_kept left left' input out before _
     (record { faults = ap (λ (sink : SinkState). sink.faults) same; wants = ap (λ (sink : SinkState). sink.wants) same }))
@@ -100,7 +100,7 @@ kept_file answer _ (want n between leads puts) e = absurd (n (rw e refl))
 refused_counts : {usage name : List ℕ} {before after : SinkState} (left left' : Option (List ℕ)) (input : ℕ) (out : SinkState) (answer given : Answer)
     → (answer ≡ WriteFault → ⊥)
     → (answer ≡ ReadFault → ⊥) → Refuses usage name answer before after given
-    → RunEndsAtFirst given (handed left input out before) (handed left' input out after)
+    → RunEndsAtFirst given (call_streams left input out before) (call_streams left' input out after)
 refused_counts {before = before} {after} left left' input out answer _ w r (put n whole) = record {
   between = after;
   first = none_first _ _ answer n (errors_kept left left' input out before after (record { faults = whole.faults; wants = whole.wants }));
@@ -117,7 +117,7 @@ pub refused_ends : {usage name : List ℕ} {absent given_absent : Type 0} {files
     {out before after : SinkState} (answer given : Answer)
     → (answer ≡ WriteFault → ⊥) → (answer ≡ ReadFault → ⊥) → CountsOnce files files' (answer ≡ FileFault) → HasCause absences absences' absent
     → (given_absent → absent) → Refuses usage name answer before after given
-    → EndsAtFirst given given_absent (outside files absences (handed left input out before)) (outside files' absences' (handed left' input out after))
+    → EndsAtFirst given given_absent (outside files absences (call_streams left input out before)) (outside files' absences' (call_streams left' input out after))
 refused_ends {input = input} {left} {left'} {out} answer given w r file cause absences refuses = record {
   file_fault = record {
     later = file.later;
@@ -145,7 +145,7 @@ err_counts answer fault cause =
       same_answer e = cc
 
 -- files that were read before
-pub after_read : {absent : Type 0} {faults faults' absences absences' : ℕ} {streams : Handed} {after : OutsideState} (answer : Answer) → faults' ≡ faults
+pub after_read : {absent : Type 0} {faults faults' absences absences' : ℕ} {streams : CallStreams} {after : OutsideState} (answer : Answer) → faults' ≡ faults
     → absences ≤ absences'
     → EndsAtFirst answer absent (outside faults' absences' streams) after → EndsAtFirst answer absent (outside faults absences streams) after
 after_read {after = after} answer f a ends = record {
@@ -155,7 +155,7 @@ after_read {after = after} answer f a ends = record {
 }
 
 -- no fault is answered, and nothing was put
-pub none_counts : {streams : Handed} (answer : Answer) → (IsFault answer → ⊥) → RunEndsAtFirst answer streams streams
+pub none_counts : {streams : CallStreams} (answer : Answer) → (IsFault answer → ⊥) → RunEndsAtFirst answer streams streams
 none_counts {streams = streams} answer n = record {
   between = streams.errors;
   first = none_first streams streams answer n (record { faults = refl; output = same_counts streams.output; errors = same_counts streams.errors });
@@ -165,24 +165,24 @@ none_counts {streams = streams} answer n = record {
 -- an own line alone
 pub own_counts : {left left' : Option (List ℕ)} {input : ℕ} {out before after : SinkState} (answer : Answer) → (answer ≡ WriteFault → ⊥)
     → (answer ≡ ReadFault → ⊥) → PutsOwn answer before after
-    → RunEndsAtFirst answer (handed left input out before) (handed left' input out after)
+    → RunEndsAtFirst answer (call_streams left input out before) (call_streams left' input out after)
 own_counts {left = left} {left'} {input} {out} {before} answer w r puts =
     record { between = before; first = still_first _ _ answer w r (errors_kept left left' input out before before (same_counts before)); own_line = puts }
 
 -- a run that ended
-pub ran_counts : {before after : Handed} (ending : Ending) → RunEnds {A = Ending} (Ok ending) before after → RunEndsAtFirst (Ran ending) before after
+pub ran_counts : {before after : CallStreams} (ending : Ending) → RunEnds {A = Ending} (Ok ending) before after → RunEndsAtFirst (Ran ending) before after
 ran_counts {after = after} ending kept = record { between = after.errors; first = kept; own_line = refl }
 
 -- which counts rose where a run was broken off
-pub broken_first : (before after : Handed) (fault : RunFault) → RunEnds {A = Ending} (Err fault) before after → IsFirstFaultOf (of_run fault) before after
+pub broken_first : (before after : CallStreams) (fault : RunFault) → RunEnds {A = Ending} (Err fault) before after → IsFirstFaultOf (of_run fault) before after
 broken_first before after Runs.ReadFault fails = fails
 broken_first before after Runs.WriteFault fails = fails
 broken_first before after Runs.NoMemory wants = wants
 
 -- a run that was broken off, with the fault's own line behind
-pub broken_counts : {before : Handed} {left : Option (List ℕ)} {input : ℕ} {out : SinkState} (between after : SinkState) (fault : RunFault) → RunEnds {A =
-    Ending} (Err fault) before (handed left input out between)
-    → PutsOwn (of_run fault) between after → RunEndsAtFirst (of_run fault) before (handed left input out after)
+pub broken_counts : {before : CallStreams} {left : Option (List ℕ)} {input : ℕ} {out : SinkState} (between after : SinkState) (fault : RunFault) → RunEnds {A =
+    Ending} (Err fault) before (call_streams left input out between)
+    → PutsOwn (of_run fault) between after → RunEndsAtFirst (of_run fault) before (call_streams left input out after)
 broken_counts {before = before} between after fault ends puts = record { between = between; first = broken_first before _ fault ends; own_line = puts }
 
 -- Where no count of faults rose
@@ -190,12 +190,12 @@ broken_counts {before = before} between after fault ends puts = record { between
 rose_of : (before now : ℕ) → now ≡ one_more before → Rose before now
 rose_of before now e = omega arith
 
-none_wrote : {before after : Handed} → OutputFails before after → (Rose before.output.faults after.output.faults → ⊥)
+none_wrote : {before after : CallStreams} → OutputFails before after → (Rose before.output.faults after.output.faults → ⊥)
     → (Rose before.errors.faults after.errors.faults → ⊥) → ⊥
 none_wrote (output_fails input out err) o e = o (rose_of _ _ out.faults)
 none_wrote (errors_fail input out err) o e = e (rose_of _ _ err.faults)
 
-none_wrote_behind : {before after : Handed} → RunEndsAtFirst WriteFault before after → (Rose before.output.faults after.output.faults → ⊥)
+none_wrote_behind : {before after : CallStreams} → RunEndsAtFirst WriteFault before after → (Rose before.output.faults after.output.faults → ⊥)
     → (Rose before.errors.faults after.errors.faults → ⊥) → ⊥
 none_wrote_behind {before = before} ends o e = none_wrote ends.first o (subst (λ (sink : SinkState). Rose before.errors.faults sink.faults → ⊥) ends.own_line e)
 

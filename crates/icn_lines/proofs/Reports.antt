@@ -6,7 +6,7 @@ use Rattle.icn_host.specs.declared.fault.Fault.TheVariants.{Failed, NoMemory as 
 use Rattle.icn_host.proofs.Putting.{leads_of, puts_nothing}
 use Rattle.icn_host.specs.Puts.{Puts, all}
 use Rattle.icn_defs.specs.Running.{Observed}
-use Rattle.icn_streams.specs.Handed.{Handed, WantsMemory, uncounted, output_wants, errors_want}
+use Rattle.icn_streams.specs.Handed.{CallStreams, WantsMemory, uncounted, output_wants, errors_want}
 use Rattle.icn_machine.specs.Stepping.{OutputFails, output_fails, errors_fail}
 use Rattle.icn_run.specs.declared.ending.Ending.{Ending}
 use Rattle.icn_running.specs.declared.fault.RunFault.{RunFault}
@@ -90,7 +90,7 @@ pub own_reports : {usage name : List ℕ} {left : Option (List ℕ)} {before aft
 own_reports {before = before} fault is puts = put_own is Wrote wrote_no_fault before (inl refl) (puts_own _ _ fault puts)
 
 -- what a run put that was broken off
-pub broken_puts : (fault : RunFault) (input : List ℕ) (seen : Observed) (before after : Handed) → LeavesBy fault input seen before after
+pub broken_puts : (fault : RunFault) (input : List ℕ) (seen : Observed) (before after : CallStreams) → LeavesBy fault input seen before after
     → PutsSome before.errors after.errors
 broken_puts Runs.ReadFault input seen before after leaves = record { own = take leaves.reading.errors seen.outside.errors; gains = leaves.errors }
 broken_puts Runs.WriteFault input seen before after leaves =
@@ -99,22 +99,22 @@ broken_puts Runs.NoMemory input seen before after leaves =
     record { own = take leaves.errors.count seen.outside.errors; gains = record { appends = leaves.errors.appends } }
 
 -- the counts of the error output, where a run ended at its first fault
-output_counts : (before after : Handed) → OutputFails before after → CountsFault Runs.WriteFault before.errors after.errors
+output_counts : (before after : CallStreams) → OutputFails before after → CountsFault Runs.WriteFault before.errors after.errors
 output_counts before after (output_fails input out err) = inl err
 output_counts before after (errors_fail input out err) = inr err
 
-memory_counts : (before after : Handed) → WantsMemory before after → CountsFault Runs.NoMemory before.errors after.errors
+memory_counts : (before after : CallStreams) → WantsMemory before after → CountsFault Runs.NoMemory before.errors after.errors
 memory_counts before after (uncounted same) = inl same.errors
 memory_counts before after (output_wants input out err) = inl err
 memory_counts before after (errors_want input out err) = inr err
 
-fault_counts : (before after : Handed) (fault : RunFault) → RunEnds {A = Ending} (Err fault) before after → CountsFault fault before.errors after.errors
+fault_counts : (before after : CallStreams) (fault : RunFault) → RunEnds {A = Ending} (Err fault) before after → CountsFault fault before.errors after.errors
 fault_counts before after Runs.ReadFault fails = fails.errors
 fault_counts before after Runs.WriteFault fails = output_counts before after fails
 fault_counts before after Runs.NoMemory wants = memory_counts before after wants
 
 -- a run that was broken off, with the fault's own line behind
-pub fault_reports : {usage name : List ℕ} {left : Option (List ℕ)} (before between : Handed) (after : SinkState) (fault : RunFault) → RunEnds {A =
+pub fault_reports : {usage name : List ℕ} {left : Option (List ℕ)} (before between : CallStreams) (after : SinkState) (fault : RunFault) → RunEnds {A =
     Ending} (Err fault) before between
     → IfSome left (λ _. PutsSome before.errors between.errors) → PutsOwn (of_run fault) between.errors after
     → Reports usage name left before.errors after (of_run fault)

@@ -3,7 +3,7 @@ use Rattle.std.proofs.Common.{◌≡◌, ◌≤◌, ◌<◌, ◌^◌, ℕ, List,
 use Rattle.icn_host.specs.Counts.{one_more}
 use Rattle.icn_host.specs.Sinks.{SinkState}
 use Rattle.icn_host.specs.Puts.{Puts, all, part, broken, wanted}
-use Rattle.icn_streams.specs.Handed.{Handed, KeepsAllCounts, KeepsCounts, FailsOnce, WantsOnce, WantsMemory, uncounted, output_wants, errors_want}
+use Rattle.icn_streams.specs.Handed.{CallStreams, KeepsAllCounts, KeepsCounts, FailsOnce, WantsOnce, WantsMemory, uncounted, output_wants, errors_want}
 use Rattle.icn_machine.specs.Stepping.{InputFails, OutputFails, output_fails, errors_fail}
 use Rattle.icn_lines.specs.declared.answer.Answer.{Answer}
 use Rattle.icn_lines.specs.declared.answer.Answer.TheVariants.{Wrote, Ran, Refused, Command, Missing, BadUcode, BadImage, FileFault, ReadFault, WriteFault, NoMemory}
@@ -56,33 +56,33 @@ put_rises before after line few (part (broken off)) = (fails before after few (r
 put_rises before after line few (part (wanted short)) = (wants before after few (record { faults = short.faults; wants = short.wants })).rise
 
 -- all that a call was handed, up to the fault's own line
-record AllGo (before after : Handed) : Type 0 where
+record AllGo (before after : CallStreams) : Type 0 where
   faults : before.faults ≤ after.faults
   output : Goes before.output after.output
   errors : Goes before.errors after.errors
 
-all_keep : (before after : Handed) → HaveBits before → KeepsAllCounts before after → AllGo before after
+all_keep : (before after : CallStreams) → HaveBits before → KeepsAllCounts before after → AllGo before after
 all_keep before after few same =
     record { faults = stays _ _ same.faults; output = keeps _ _ few.output same.output; errors = keeps _ _ few.errors same.errors }
 
-input_goes : (before after : Handed) → HaveBits before → InputFails before after → AllGo before after
+input_goes : (before after : CallStreams) → HaveBits before → InputFails before after → AllGo before after
 input_goes before after few once =
     record { faults = rises _ _ few.faults once.faults; output = keeps _ _ few.output once.output; errors = keeps _ _ few.errors once.errors }
 
-output_goes : (before after : Handed) → HaveBits before → OutputFails before after → AllGo before after
+output_goes : (before after : CallStreams) → HaveBits before → OutputFails before after → AllGo before after
 output_goes before after few (output_fails input out err) =
     record { faults = stays _ _ input; output = fails _ _ few.output out; errors = keeps _ _ few.errors err }
 output_goes before after few (errors_fail input out err) =
     record { faults = stays _ _ input; output = keeps _ _ few.output out; errors = fails _ _ few.errors err }
 
-memory_goes : (before after : Handed) → HaveBits before → WantsMemory before after → AllGo before after
+memory_goes : (before after : CallStreams) → HaveBits before → WantsMemory before after → AllGo before after
 memory_goes before after few (uncounted same) = all_keep before after few same
 memory_goes before after few (output_wants input out err) =
     record { faults = stays _ _ input; output = wants _ _ few.output out; errors = keeps _ _ few.errors err }
 memory_goes before after few (errors_want input out err) =
     record { faults = stays _ _ input; output = keeps _ _ few.output out; errors = wants _ _ few.errors err }
 
-first_goes : (before after : Handed) (answer : Answer) → HaveBits before → IsFirstFaultOf answer before after → AllGo before after
+first_goes : (before after : CallStreams) (answer : Answer) → HaveBits before → IsFirstFaultOf answer before after → AllGo before after
 first_goes before after Wrote few first = all_keep before after few first
 first_goes before after (Ran ending) few first = all_keep before after few first
 first_goes before after (Refused file line rule) few first = all_keep before after few first
@@ -101,7 +101,7 @@ both_rise before between after one two = record { faults = omega (arith, one.fau
 own_rises : (before after : SinkState) (answer : Answer) → HasBits before → PutsOwn answer before after → SinkRises before after
 own_rises before after answer few puts = put_rises before after (fault_line answer) few (puts_own before after answer puts)
 
-pub none_falls : (answer : Answer) (before after : Handed) → HaveBits before → RunEndsAtFirst answer before after → NoneFalls before after
+pub none_falls : (answer : Answer) (before after : CallStreams) → HaveBits before → RunEndsAtFirst answer before after → NoneFalls before after
 none_falls answer before after few ends =
     let goes = first_goes before (with_errors ends.between after) answer few ends.first in
     record {

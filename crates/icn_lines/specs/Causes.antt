@@ -2,7 +2,7 @@
 use Rattle.std.specs.Prelude.{◌≡◌, ℕ}
 use Rattle.icn_host.specs.Counts.{CountsOnce, HasCause}
 use Rattle.icn_host.specs.Sinks.{SinkState}
-use Rattle.icn_streams.specs.Handed.{Handed, KeepsAllCounts, WantsMemory}
+use Rattle.icn_streams.specs.Handed.{CallStreams, KeepsAllCounts, WantsMemory}
 use Rattle.icn_machine.specs.Stepping.{InputFails, OutputFails}
 use Rattle.icn_lines.specs.declared.answer.Answer.{Answer}
 use Rattle.icn_lines.specs.declared.answer.Answer.TheVariants.{Wrote, Ran, Refused, Command, Missing, BadUcode, BadImage, FileFault, ReadFault, WriteFault, NoMemory}
@@ -11,7 +11,7 @@ use Rattle.icn_lines.specs.Telling.{with_errors}
 
 -- Where it is answered that the input or an output failed, or that memory was wanting, that count rose once, and no other; where it is not, none
 -- rose. Want of memory may have no count.
-abbrev pub IsFirstFaultOf : Answer → Handed → Handed → Type 0
+abbrev pub IsFirstFaultOf : Answer → CallStreams → CallStreams → Type 0
 IsFirstFaultOf Wrote before after = KeepsAllCounts before after
 IsFirstFaultOf (Ran ending) before after = KeepsAllCounts before after
 IsFirstFaultOf (Refused file line rule) before after = KeepsAllCounts before after
@@ -25,7 +25,7 @@ IsFirstFaultOf WriteFault before after = OutputFails before after
 IsFirstFaultOf NoMemory before after = WantsMemory before after
 
 -- The first fault ends a call that reads the input and puts on the outputs. Only the put of the fault's own line comes behind.
-pub record RunEndsAtFirst (answer : Answer) (before after : Handed) : Type 0 where
+pub record RunEndsAtFirst (answer : Answer) (before after : CallStreams) : Type 0 where
   pub between : SinkState
   pub first : IsFirstFaultOf answer before (with_errors between after)
   pub own_line : PutsOwn answer between after.errors
@@ -34,9 +34,9 @@ pub record RunEndsAtFirst (answer : Answer) (before after : Handed) : Type 0 whe
 pub record OutsideState : Type 0 where
   pub faults : ℕ
   pub absences : ℕ
-  pub streams : Handed
+  pub streams : CallStreams
 
-abbrev pub outside : ℕ → ℕ → Handed → OutsideState
+abbrev pub outside : ℕ → ℕ → CallStreams → OutsideState
 outside faults absences streams = record { faults = faults; absences = absences; streams = streams }
 
 -- the first fault ends a call that is handed files too; where a file was not there is answered, the count of absences rose

@@ -1,7 +1,7 @@
 -- That no count falls in a call that reads the input and puts on the outputs.
 use Rattle.std.specs.Prelude.{◌<◌, ◌≤◌, ◌^◌}
 use Rattle.icn_host.specs.Sinks.{SinkState}
-use Rattle.icn_streams.specs.Handed.{Handed}
+use Rattle.icn_streams.specs.Handed.{CallStreams}
 
 -- the counts of a sink have 64 bits
 pub record HasBits (sink : SinkState) : Type 0 where
@@ -9,7 +9,7 @@ pub record HasBits (sink : SinkState) : Type 0 where
   pub wants : sink.wants < 2 ^ 64
 
 -- so have those of all that a call is handed
-pub record HaveBits (streams : Handed) : Type 0 where
+pub record HaveBits (streams : CallStreams) : Type 0 where
   pub faults : streams.faults < 2 ^ 64
   pub output : HasBits streams.output
   pub errors : HasBits streams.errors
@@ -20,7 +20,7 @@ pub record SinkRises (before after : SinkState) : Type 0 where
   pub wants : before.wants ≤ after.wants
 
 -- no count is less than before
-pub record NoneFalls (before after : Handed) : Type 0 where
+pub record NoneFalls (before after : CallStreams) : Type 0 where
   pub faults : before.faults ≤ after.faults
   pub output : SinkRises before.output after.output
   pub errors : SinkRises before.errors after.errors

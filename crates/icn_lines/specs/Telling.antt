@@ -2,16 +2,16 @@
 use Rattle.std.specs.Prelude.{Option}
 use Rattle.icn_host.specs.FileMaps.{FileMap}
 use Rattle.icn_host.specs.Sinks.{SinkState}
-use Rattle.icn_streams.specs.Handed.{Handed}
+use Rattle.icn_streams.specs.Handed.{CallStreams}
 
 -- the files; and the input and both outputs, with their counts
 pub record Told : Type 0 where
   pub files : Option FileMap
-  pub streams : Handed
+  pub streams : CallStreams
 
-abbrev pub told : Option FileMap → Handed → Told
+abbrev pub told : Option FileMap → CallStreams → Told
 told files streams = record { files = files; streams = streams }
 
 -- the same where less stands on the error output
-abbrev pub with_errors : SinkState → Handed → Handed
+abbrev pub with_errors : SinkState → CallStreams → CallStreams
 with_errors errors streams = record streams { errors = errors }

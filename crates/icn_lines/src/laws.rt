@@ -1,10 +1,10 @@
 // Laws of counts.
-ghost use Rattle.icn_streams.specs.Handed.{Handed};
+ghost use Rattle.icn_streams.specs.Handed.{CallStreams};
 ghost use Rattle.icn_lines.specs.declared.answer.Answer.{Answer};
 ghost use Rattle.icn_lines.specs.Causes.{RunEndsAtFirst};
 ghost use Rattle.icn_lines.specs.Falling.{HaveBits, NoneFalls};
 
 /// Where the counts have 64 bits, none falls in a call that ends at its first fault.
 pub fn counts_stay()
-    ensures { (answer : Answer) (before after : Handed) → HaveBits before → RunEndsAtFirst answer before after → NoneFalls before after }
+    ensures { (answer : Answer) (before after : CallStreams) → HaveBits before → RunEndsAtFirst answer before after → NoneFalls before after }
 {}

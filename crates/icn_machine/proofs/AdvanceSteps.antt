@@ -8,7 +8,7 @@ use Rattle.icn_code.specs.Codes.{Tables}
 use Rattle.icn_run.specs.Stacks.{Frames, flat}
 use Rattle.icn_run.specs.Step.{State, running, failing, hopping, step, steps}
 use Rattle.icn_run_safe.specs.AnyOutside.{over_outside, run_over}
-use Rattle.icn_streams.specs.Handed.{Handed, Follows, KeepsAllCounts, WantsMemory, WritingFails, uncounted, output_wants, errors_want, output_fails as writing_output, errors_fail as writing_errors}
+use Rattle.icn_streams.specs.Handed.{CallStreams, Follows, KeepsAllCounts, WantsMemory, WritingFails, uncounted, output_wants, errors_want, output_fails as writing_output, errors_fail as writing_errors}
 use Rattle.icn_streams.proofs.Idle.{all_counts}
 use Rattle.icn_streams.proofs.Following.{follows_all, follows_then}
 use Rattle.icn_control.specs.Machines.{ComesTo, StandsAt, stack_seen, store_seen}
@@ -78,14 +78,14 @@ over_then tables (o ∷ os) ps a = over_then tables os ps (step flat tables (ove
 
 -- Causes
 
-counts_then : (a b c : Handed) → KeepsAllCounts a b → KeepsAllCounts b c → KeepsAllCounts a c
+counts_then : (a b c : CallStreams) → KeepsAllCounts a b → KeepsAllCounts b c → KeepsAllCounts a c
 counts_then a b c h k = record {
   faults = k.faults ∙ h.faults;
   output = record { faults = k.output.faults ∙ h.output.faults; wants = k.output.wants ∙ h.output.wants };
   errors = record { faults = k.errors.faults ∙ h.errors.faults; wants = k.errors.wants ∙ h.errors.wants };
 }
 
-output_then : (a b c : Handed) → KeepsAllCounts a b → OutputFails b c → OutputFails a c
+output_then : (a b c : CallStreams) → KeepsAllCounts a b → OutputFails b c → OutputFails a c
 output_then a b c h (output_fails f o e) = output_fails (f ∙ h.faults)
     (record { faults = o.faults ∙ ap one_more h.output.faults; wants = o.wants ∙ h.output.wants })
     (record { faults = e.faults ∙ h.errors.faults; wants = e.wants ∙ h.errors.wants })
@@ -93,7 +93,7 @@ output_then a b c h (errors_fail f o e) = errors_fail (f ∙ h.faults)
     (record { faults = o.faults ∙ h.output.faults; wants = o.wants ∙ h.output.wants })
     (record { faults = e.faults ∙ ap one_more h.errors.faults; wants = e.wants ∙ h.errors.wants })
 
-memory_then : (a b c : Handed) → KeepsAllCounts a b → WantsMemory b c → WantsMemory a c
+memory_then : (a b c : CallStreams) → KeepsAllCounts a b → WantsMemory b c → WantsMemory a c
 memory_then a b c h (uncounted k) = uncounted (counts_then a b c h k)
 memory_then a b c h (output_wants f o e) = output_wants (f ∙ h.faults)
     (record { faults = o.faults ∙ h.output.faults; wants = o.wants ∙ ap one_more h.output.wants })
@@ -103,7 +103,7 @@ memory_then a b c h (errors_want f o e) = errors_want (f ∙ h.faults)
     (record { faults = e.faults ∙ h.errors.faults; wants = e.wants ∙ ap one_more h.errors.wants })
 
 -- what is answered first has failed nothing
-fault_then : {A : Type 0} (a b c : Handed) (result : Result A Halt) → KeepsAllCounts a b → IsFirstFault result b c → IsFirstFault result a c
+fault_then : {A : Type 0} (a b c : CallStreams) (result : Result A Halt) → KeepsAllCounts a b → IsFirstFault result b c → IsFirstFault result a c
 fault_then a b c (Ok x) h k = counts_then a b c h k
 fault_then a b c (Err (Halts.Error number offending)) h k = counts_then a b c h k
 fault_then a b c (Err (Halts.Ends status)) h k = counts_then a b c h k
@@ -115,12 +115,12 @@ fault_then a b c (Err Halts.ReadFault) h k = record {
 fault_then a b c (Err Halts.WriteFault) h k = output_then a b c h k
 fault_then a b c (Err Halts.NoMemory) h k = memory_then a b c h k
 
-output_failed : (a b : Handed) → WritingFails a b → OutputFails a b
+output_failed : (a b : CallStreams) → WritingFails a b → OutputFails a b
 output_failed a b (writing_output left f o e) = output_fails f o e
 output_failed a b (writing_errors left f o e) = errors_fail f o e
 
 -- the cause of a call is that of the first step
-first_fault : {A : Type 0} (a b : Handed) (result : Result A Halt) → IsCause result a b → IsFirstFault result a b
+first_fault : {A : Type 0} (a b : CallStreams) (result : Result A Halt) → IsCause result a b → IsFirstFault result a b
 first_fault a b (Ok x) k = k
 first_fault a b (Err (Halts.Error number offending)) k = k
 first_fault a b (Err (Halts.Ends status)) k = k
@@ -144,7 +144,7 @@ stands_by tables now state n (Err Halts.WriteFault) h = tt
 stands_by tables now state n (Err Halts.NoMemory) h = tt
 
 -- what neither reads nor puts answers no fault
-quiet_answer : {K : Type 0} (tables : Tables) (state : State Frames Frames) (n : Machine K) (h : Handed) (was : Outside) (result : Result Stage Halt)
+quiet_answer : {K : Type 0} (tables : Tables) (state : State Frames Frames) (n : Machine K) (h : CallStreams) (was : Outside) (result : Result Stage Halt)
     → h.left ≡ Some was.left
     → ComesTo tables was state n result → AnswersStep (λ now answer. ComesTo tables now state n answer) state was h h result
 quiet_answer tables state n h was (Ok stage) told k = record { now = was; follows = follows_all h was told; is = k }
@@ -154,7 +154,7 @@ quiet_answer tables state n h was (Err Halts.ReadFault) told k = absurd k
 quiet_answer tables state n h was (Err Halts.WriteFault) told k = absurd k
 quiet_answer tables state n h was (Err Halts.NoMemory) told k = idle refl
 
-quiet_cause : {K : Type 0} (tables : Tables) (state : State Frames Frames) (n : Machine K) (h : Handed) (was : Outside) (result : Result Stage Halt)
+quiet_cause : {K : Type 0} (tables : Tables) (state : State Frames Frames) (n : Machine K) (h : CallStreams) (was : Outside) (result : Result Stage Halt)
     → ComesTo tables was state n result → IsFirstFault result h h
 quiet_cause tables state n h was (Ok stage) k = all_counts h
 quiet_cause tables state n h was (Err (Halts.Error number offending)) k = all_counts h
@@ -165,7 +165,7 @@ quiet_cause tables state n h was (Err Halts.NoMemory) k = uncounted (all_counts 
 
 -- a step is answered from the state's own outside on
 own_step : {K : Type 0} (tables : Tables) (m : Machine K) (stage : Stage) (n : Machine K) (was : Outside) (state : State Frames Frames)
-    (before after : Handed) (result : Result Stage Halt)
+    (before after : CallStreams) (result : Result Stage Halt)
     → IsAt tables was state m stage → before.left ≡ Some was.left
     → AnswersStep (λ now answer. ComesTo tables now (step flat tables state) n answer) (step flat tables state) was before after result
     → Leads tables state was before n after result
@@ -181,7 +181,7 @@ own_step tables m stage n was state before after result at told last =
     }
 
 -- a step that neither reads nor puts
-pub quiet_step : {K : Type 0} (tables : Tables) (m : Machine K) (stage : Stage) (h : Handed) (n : Machine K) (result : Result Stage Halt) → goes_on stage ≡ true
+pub quiet_step : {K : Type 0} (tables : Tables) (m : Machine K) (stage : Stage) (h : CallStreams) (n : Machine K) (result : Result Stage Halt) → goes_on stage ≡ true
     → ((was : Outside) (state : State Frames Frames) → IsAt tables was state m stage → ComesTo tables was (step flat tables state) n result)
     → Advances tables m stage h n h result
 quiet_step tables m stage h n result goes comes = record {
@@ -201,7 +201,7 @@ quiet_step tables m stage h n result goes comes = record {
 }
 
 -- where the machine stands over the input that the answer is meant for
-meant_at : {K : Type 0} (tables : Tables) (state : State Frames Frames) (n : Machine K) (was : Outside) (before after : Handed) (result : Result Stage Halt)
+meant_at : {K : Type 0} (tables : Tables) (state : State Frames Frames) (n : Machine K) (was : Outside) (before after : CallStreams) (result : Result Stage Halt)
     → AnswersStep (λ now answer. ComesTo tables now state n answer) state was before after result → (now : Outside) × StandsBy tables now state n result
 meant_at tables state n was before after (Ok stage) h = (h.now, h.is)
 meant_at tables state n was before after (Err (Halts.Error number offending)) h = (h.now, h.is)
@@ -211,8 +211,8 @@ meant_at tables state n was before after (Err Halts.WriteFault) h = (was, tt)
 meant_at tables state n was before after (Err Halts.NoMemory) h = (was, tt)
 
 -- a step that performs a row
-pub performed_step : {K : Type 0} (tables : Tables) (leads : Outside → State Frames Frames) (m : Machine K) (stage : Stage) (before : Handed)
-    (n : Machine K) (after : Handed) (result : Result Stage Halt)
+pub performed_step : {K : Type 0} (tables : Tables) (leads : Outside → State Frames Frames) (m : Machine K) (stage : Stage) (before : CallStreams)
+    (n : Machine K) (after : CallStreams) (result : Result Stage Halt)
     → ((was : Outside) (state : State Frames Frames) → IsAt tables was state m stage → step flat tables state ≡ leads was)
     → PerformsOn tables leads n before after result → Advances tables m stage before n after result
 performed_step tables leads m stage before n after result is p = record {
@@ -234,8 +234,8 @@ performed_step tables leads m stage before n after result is p = record {
 }
 
 -- Some steps after others
-pub advances_then : {K : Type 0} (tables : Tables) (m : Machine K) (stage : Stage) (a : Handed) (n : Machine K) (next : Stage) (b : Handed)
-    (k : Machine K) (c : Handed) (result : Result Stage Halt)
+pub advances_then : {K : Type 0} (tables : Tables) (m : Machine K) (stage : Stage) (a : CallStreams) (n : Machine K) (next : Stage) (b : CallStreams)
+    (k : Machine K) (c : CallStreams) (result : Result Stage Halt)
     → goes_on next ≡ true
     → Advances tables m stage a n b (Ok next) → Advances tables n next b k c result → Advances tables m stage a k c result
 advances_then tables m stage a n next b k c result goes first second = record {
@@ -279,7 +279,7 @@ advances_then tables m stage a n next b k c result goes first second = record {
   caused = fault_then a b c result first.caused second.caused;
 }
 
-quiet_so : {K : Type 0} (tables : Tables) (state : State Frames Frames) (n : Machine K) (h : Handed) (was : Outside) (result : Result Stage Halt)
+quiet_so : {K : Type 0} (tables : Tables) (state : State Frames Frames) (n : Machine K) (h : CallStreams) (was : Outside) (result : Result Stage Halt)
     → ComesTo tables was state n result → IsCause result h h
 quiet_so tables state n h was (Ok stage) k = all_counts h
 quiet_so tables state n h was (Err (Halts.Error number offending)) k = all_counts h
@@ -289,7 +289,7 @@ quiet_so tables state n h was (Err Halts.WriteFault) k = absurd k
 quiet_so tables state n h was (Err Halts.NoMemory) k = uncounted (all_counts h)
 
 -- an instruction that neither reads nor puts, as one that may
-pub quietly_performs : {K : Type 0} (tables : Tables) (leads : Outside → State Frames Frames) (n : Machine K) (h : Handed) (result : Result Stage Halt)
+pub quietly_performs : {K : Type 0} (tables : Tables) (leads : Outside → State Frames Frames) (n : Machine K) (h : CallStreams) (result : Result Stage Halt)
     → ((outside : Outside) → ComesTo tables outside (leads outside) n result) → PerformsOn tables leads n h h result
 quietly_performs tables leads n h result comes = record {
   answers = λ was told. quiet_answer tables (leads was) n h was result told (comes was);

@@ -20,7 +20,7 @@ use Rattle.icn_run.specs.Step.{State, Store, running, failing, hopping, over, st
 use Rattle.icn_run_named.specs.StateNames.{StackNamed, StoreNamed}
 use Rattle.icn_run_named.specs.KeepingNames.{MayCall}
 use Rattle.icn_run_named.specs.KeepingSizes.{StoreFits}
-use Rattle.icn_streams.specs.Handed.{Handed}
+use Rattle.icn_streams.specs.Handed.{CallStreams}
 use Rattle.icn_control.specs.Counting.{EnterOthers, FitTurns}
 use Rattle.icn_control.specs.Machines.{AreLiveStacks, ComesTo, IsSound, StandsAt, does, running_of, stack_of, stack_seen, store_in, store_seen}
 use Rattle.icn_control.specs.Standing.{stack_in}
@@ -183,21 +183,21 @@ whole_done tables m n instr (Err Halts.NoMemory) w comes memory = absurd (memory
 
 -- Answers
 
-pub applied_performs : {K : Type 0} (tables : Tables) (m n : Machine K) (instr j : Instr) (before after : Handed) (result : Result Stage Halt) → instr ≡ j
+pub applied_performs : {K : Type 0} (tables : Tables) (m n : Machine K) (instr j : Instr) (before after : CallStreams) (result : Result Stage Halt) → instr ≡ j
     → PerformsOn tables (λ o. does tables o j m) n before after result → PerformsOn tables (λ o. does tables o instr m) n before after result
 applied_performs tables m n instr j before after result e p = subst (λ (x : Instr). PerformsOn tables (λ o. does tables o x m) n before after result) (sym e) p
 
 pub calls_as : (instr j : Instr) → instr ≡ j → (MayCall j → ⊥) → MayCall instr → ⊥
 calls_as instr j e h k = h (subst MayCall e k)
 
-pub staged_err : {K : Type 0} (tables : Tables) (m : Machine K) (stage : Stage) (a : Handed) (n : Machine K) (b : Handed) (halt : Halt)
+pub staged_err : {K : Type 0} (tables : Tables) (m : Machine K) (stage : Stage) (a : CallStreams) (n : Machine K) (b : CallStreams) (halt : Halt)
     (result : Result Stepped Halt)
     → IsErrAnd result (λ h. h ≡ halt) → GoesOn tables m stage a n b (Err halt)
     → GoesOn tables m stage a n b (staged result)
 staged_err tables m stage a n b halt (Err h) e p = subst (λ (x : Halt). GoesOn tables m stage a n b (Err x)) (sym e) p
 staged_err tables m stage a n b halt (Ok s) e p = absurd e
 
-pub advanced_err : {K : Type 0} (tables : Tables) (m : Machine K) (stage : Stage) (a : Handed) (n : Machine K) (b : Handed) (halt : Halt)
+pub advanced_err : {K : Type 0} (tables : Tables) (m : Machine K) (stage : Stage) (a : CallStreams) (n : Machine K) (b : CallStreams) (halt : Halt)
     (result : Result Stepped Halt)
     → IsErrAnd result (λ h. h ≡ halt) → Advances tables m stage a n b (Err halt)
     → Advances tables m stage a n b (staged result)
@@ -216,12 +216,12 @@ err_memory halt (Err h) e w = by h (subst (λ (x : Halt). EndsWhole (Err x)) (sy
     by Halts.NoMemory q = absurd q
 
 -- failing behind an instruction
-pub then_fails : {K : Type 0} (tables : Tables) (m : Machine K) (stage : Stage) (a : Handed) (n : Machine K) (next : Stage) (b : Handed)
-    (k : Machine K) (c : Handed) (result : Result Stage Halt)
+pub then_fails : {K : Type 0} (tables : Tables) (m : Machine K) (stage : Stage) (a : CallStreams) (n : Machine K) (next : Stage) (b : CallStreams)
+    (k : Machine K) (c : CallStreams) (result : Result Stage Halt)
     → goes_on next ≡ true
     → Advances tables m stage a n b (Ok next) → GoesOn tables n next b k c result → Advances tables m stage a k c result
 then_fails tables m stage a n next b k c result goes p (advances q) = advances_then tables m stage a n next b k c result goes p q
 then_fails {K} tables m stage a n next b k c result goes p (stays e h f) =
     subst (λ (x : Machine K). Advances tables m stage a x c result) (sym e)
-    (subst (λ (x : Handed). Advances tables m stage a n x result) (sym h)
+    (subst (λ (x : CallStreams). Advances tables m stage a n x result) (sym h)
     (subst (λ (x : Result Stage Halt). Advances tables m stage a n b x) (sym f) p))

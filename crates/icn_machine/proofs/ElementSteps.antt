@@ -29,7 +29,7 @@ use Rattle.icn_run.specs.Rows as rows
 use Rattle.icn_run.specs.Stacks.{Frames, flat}
 use Rattle.icn_run.specs.Step.{State, Store, applied_to_elements, elements_called, errs, invoked, plain, with_value}
 use Rattle.icn_run_named.proofs.CallsNamed.{Maybe, each_get, each_of}
-use Rattle.icn_streams.specs.Handed.{Handed}
+use Rattle.icn_streams.specs.Handed.{CallStreams}
 use Rattle.icn_control.specs.Parts.{HaltsWith, StandsWith}
 use Rattle.icn_control.specs.Standing.{stack_in}
 use Rattle.icn_control.specs.Taking.{taken, taken_onto}
@@ -172,7 +172,7 @@ both_go tables w m callee from value other st same f k =
     ∙ value_goes all (item_in all from) M st other (λ x. elements_called flat tables (value_in all value) x M st) (k st same)
 
 pub elements_event : (tables : Tables) (names : Names) (w v : World) (m k n : FlatStack) (callee from : Item) (value other : Val)
-    (items xs : List Item) (before after : Handed) (result : Result Stage Halt)
+    (items xs : List Item) (before after : CallStreams) (result : Result Stage Halt)
     → FindsItem w m callee (Ok value) → FindsItem w m from (Ok other) → FindsElements {A = Unit} w other items (Ok tt) → k ≡ m → xs ≡ items
     → PerformsEvent names (λ st. invoked flat tables (value_in (extent_of w.heap) value) (map (item_in (extent_of w.heap)) xs)
     (stack_in (extent_of w.heap) k) st) w before v n after result
@@ -187,7 +187,7 @@ elements_event tables names w v m k n callee from value other items xs before af
     ∙ ap (λ (ys : List Item). invoked flat tables (value_in all value) (map (item_in all) ys) (stack_in all k) st) (sym d))
     p
 
-stops_event : (tables : Tables) (names : Names) (w : World) (m n : FlatStack) (callee from : Item) (halt : Halt) (before : Handed) (result : Result Stage Halt)
+stops_event : (tables : Tables) (names : Names) (w : World) (m n : FlatStack) (callee from : Item) (halt : Halt) (before : CallStreams) (result : Result Stage Halt)
     → IsErrAnd result (λ h. h ≡ halt)
     → ((st : Store Frames) → st.world ≡ world_of w → HaltsWith (applied_on tables w m callee from st) st w halt)
     → PerformsEvent names (applied_on tables w m callee from) w before w n before result
@@ -196,7 +196,7 @@ stops_event tables names w m n callee from halt before result err h =
     (λ st same. at_halt result halt (StandsWith (applied_on tables w m callee from st) st w n) (HaltsWith (applied_on tables w m callee from st) st w)
     err (h st same))
 
-pub callee_stops : (tables : Tables) (names : Names) (w : World) (m n : FlatStack) (callee from : Item) (stop : Stop) (before : Handed)
+pub callee_stops : (tables : Tables) (names : Names) (w : World) (m n : FlatStack) (callee from : Item) (stop : Stop) (before : CallStreams)
     (result : Result Stage Halt)
     → IsErrAnd result (λ h. h ≡ halt_of stop)
     → FindsItem w m callee (Err stop) → PerformsEvent names (applied_on tables w m callee from) w before w n before result
@@ -207,7 +207,7 @@ callee_stops tables names w m n callee from stop before result err f =
     (λ st same. value_halts w (item_in all callee) M st stop
     (λ called. with_value flat (item_in all from) M st (λ x. elements_called flat tables called x M st)) same (f st same))
 
-pub from_stops : (tables : Tables) (names : Names) (w : World) (m n : FlatStack) (callee from : Item) (value : Val) (stop : Stop) (before : Handed)
+pub from_stops : (tables : Tables) (names : Names) (w : World) (m n : FlatStack) (callee from : Item) (value : Val) (stop : Stop) (before : CallStreams)
     (result : Result Stage Halt)
     → IsErrAnd result (λ h. h ≡ halt_of stop)
     → FindsItem w m callee (Ok value) → FindsItem w m from (Err stop) → PerformsEvent names (applied_on tables w m callee from) w before w n before result
@@ -219,7 +219,7 @@ from_stops tables names w m n callee from value stop before result err f g =
     (value_halts w (item_in all from) M st stop (λ x. elements_called flat tables (value_in all value) x M st) same (g st same)))
 
 pub elements_stop : (tables : Tables) (names : Names) (w : World) (m n : FlatStack) (callee from : Item) (value other : Val) (items : List Item)
-    (halt : Halt) (before : Handed) (result : Result Stage Halt)
+    (halt : Halt) (before : CallStreams) (result : Result Stage Halt)
     → IsErrAnd result (λ h. h ≡ halt)
     → FindsItem w m callee (Ok value) → FindsItem w m from (Ok other) → FindsElements {A = Unit} w other items (Err halt)
     → PerformsEvent names (applied_on tables w m callee from) w before w n before result

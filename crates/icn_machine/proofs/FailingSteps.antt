@@ -10,7 +10,7 @@ use Rattle.icn_run.specs.Stacks.{Frames, flat}
 use Rattle.icn_run.specs.Step.{State, failing, hopping, stuck, step, fails, hop}
 use Rattle.icn_run_named.specs.KeepingNames.{StepsKeepNames}
 use Rattle.icn_run_named.specs.KeepingSizes.{StepsKeepSizes}
-use Rattle.icn_streams.specs.Handed.{Handed}
+use Rattle.icn_streams.specs.Handed.{CallStreams}
 use Rattle.icn_control.specs.Failing.{DueAt}
 use Rattle.icn_control.specs.Falls.{DueNamed}
 use Rattle.icn_control.specs.Machines.{StandsAt, extent, stack_seen, store_seen}
@@ -85,7 +85,7 @@ failed_further tables m n Stages.Fails b l =
     by (inr x) = inr x
 
 -- where it neither reads nor puts
-pub failed_quietly : {K : Type 0} (tables : Tables) (m n : Machine K) (h : Handed) (stage : Stage)
+pub failed_quietly : {K : Type 0} (tables : Tables) (m n : Machine K) (h : CallStreams) (stage : Stage)
     → ((outside : Outside) → StandsAt tables outside (failed tables m outside) n stage) → Advances tables m Stages.Fails h n h (Ok stage)
 failed_quietly tables m n h stage f =
     quiet_step tables m Stages.Fails h n (Ok stage) refl
@@ -101,14 +101,14 @@ pub by_due : {K : Type 0} (tables : Tables) (outside : Outside) (state due : Sta
 by_due tables outside state due n stage e h = subst (λ (s : State Frames Frames). StandsAt tables outside s n stage) (sym e) h
 
 -- where a row is resumed
-pub failed_performing : {K : Type 0} (tables : Tables) (leads : Outside → State Frames Frames) (m : Machine K) (before : Handed) (n : Machine K)
-    (after : Handed) (result : Result Stage Halt)
+pub failed_performing : {K : Type 0} (tables : Tables) (leads : Outside → State Frames Frames) (m : Machine K) (before : CallStreams) (n : Machine K)
+    (after : CallStreams) (result : Result Stage Halt)
     → ((was : Outside) → failed tables m was ≡ leads was) → PerformsOn tables leads n before after result → Advances tables m Stages.Fails before n after result
 failed_performing tables leads m before n after result e p =
     performed_step tables leads m Stages.Fails before n after result (λ was state at. ap (step flat tables) at ∙ e was) p
 
-pub lands_performing : {K : Type 0} (tables : Tables) (leads : Outside → State Frames Frames) (m : Machine K) (before : Handed) (n : Machine K)
-    (after : Handed) (result : Result Stage Halt)
+pub lands_performing : {K : Type 0} (tables : Tables) (leads : Outside → State Frames Frames) (m : Machine K) (before : CallStreams) (n : Machine K)
+    (after : CallStreams) (result : Result Stage Halt)
     → ((was : Outside) → failed tables m was ≡ leads was) → PerformsOn tables leads n before after result → IfOk result (Lands tables m n)
 lands_performing tables leads m before n after (Ok stage) e p =
     let first : Outside = outside_of p.had in let told = p.meant first refl in
@@ -134,7 +134,7 @@ if_so (Err e) Q R f q = tt
 abbrev pub hopped : {K : Type 0} → Tables → Machine K → Outside → Frames → State Frames Frames
 hopped tables m outside old = hop flat tables old (store_seen tables outside m)
 
-pub hopped_quietly : {K : Type 0} (tables : Tables) (m n : Machine K) (h : Handed) (stage : Stage)
+pub hopped_quietly : {K : Type 0} (tables : Tables) (m n : Machine K) (h : CallStreams) (stage : Stage)
     → ((outside : Outside) (old : Frames) → StandsAt tables outside (hopped tables m outside old) n stage)
     → Advances tables m Stages.HopDue h n h (Ok stage)
 hopped_quietly tables m n h stage f =

@@ -5,7 +5,7 @@ use Rattle.std.proofs.lemmas.Bool.{eqb-true, eqb-false}
 use Rattle.icn_vars.specs.declared.outcome.Halt.{Halt}
 use Rattle.icn_value.specs.declared.limits.Limits.{Limits}
 use Rattle.icn_code.specs.Codes.{Tables}
-use Rattle.icn_streams.specs.Handed.{Handed}
+use Rattle.icn_streams.specs.Handed.{CallStreams}
 use Rattle.icn_control.specs.Machines.{stack_seen}
 use Rattle.icn_control.specs.declared.machine.Machine.{Machine}
 use Rattle.icn_control.specs.declared.machine.Stage.{Stage}
@@ -15,27 +15,27 @@ use Rattle.icn_machine.proofs.AdvanceSteps.{advances_then}
 
 -- Some steps after none or some
 
-pub goes_then : {K : Type 0} (tables : Tables) (m : Machine K) (stage : Stage) (a : Handed) (n : Machine K) (next : Stage) (b : Handed) (k : Machine K)
-    (c : Handed) (result : Result Stage Halt)
+pub goes_then : {K : Type 0} (tables : Tables) (m : Machine K) (stage : Stage) (a : CallStreams) (n : Machine K) (next : Stage) (b : CallStreams) (k : Machine K)
+    (c : CallStreams) (result : Result Stage Halt)
     → goes_on next ≡ true
     → GoesOn tables m stage a n b (Ok next) → Advances tables n next b k c result → Advances tables m stage a k c result
 goes_then tables m stage a n next b k c result goes (advances p) q = advances_then tables m stage a n next b k c result goes p q
 goes_then {K} tables m stage a n next b k c result goes (stays e h r) q =
     subst (λ (x : Machine K). Advances tables x stage a k c result) e
-    (subst (λ (x : Handed). Advances tables n stage x k c result) h
+    (subst (λ (x : CallStreams). Advances tables n stage x k c result) h
     (subst (λ (x : Stage). Advances tables n x b k c result) (stage_same next stage r) q))
   where
     stage_same : (s t : Stage) → ◌≡◌ {A = Result Stage Halt} (Ok s) (Ok t) → s ≡ t
     stage_same s t e = cc
 
-pub goes_goes : {K : Type 0} (tables : Tables) (m : Machine K) (stage : Stage) (a : Handed) (n : Machine K) (next : Stage) (b : Handed) (k : Machine K)
-    (c : Handed) (result : Result Stage Halt)
+pub goes_goes : {K : Type 0} (tables : Tables) (m : Machine K) (stage : Stage) (a : CallStreams) (n : Machine K) (next : Stage) (b : CallStreams) (k : Machine K)
+    (c : CallStreams) (result : Result Stage Halt)
     → goes_on next ≡ true
     → GoesOn tables m stage a n b (Ok next) → GoesOn tables n next b k c result → GoesOn tables m stage a k c result
 goes_goes tables m stage a n next b k c result goes p (advances q) = advances (goes_then tables m stage a n next b k c result goes p q)
 goes_goes {K} tables m stage a n next b k c result goes p (stays e h r) =
     subst (λ (x : Machine K). GoesOn tables m stage a x c result) (sym e)
-    (subst (λ (x : Handed). GoesOn tables m stage a n x result) (sym h)
+    (subst (λ (x : CallStreams). GoesOn tables m stage a n x result) (sym h)
     (subst (λ (x : Result Stage Halt). GoesOn tables m stage a n b x) (sym r) p))
 
 -- In one turn
@@ -119,15 +119,15 @@ failing_goes Stages.AtBound e = cc
 
 -- One turn of a loop, where it goes on and where an error leaves it
 
-pub loop_ok : {K : Type 0} (tables : Tables) (m : Machine K) (stage : Stage) (a : Handed) (n : Machine K) (next due : Stage) (b : Handed)
-    (k : Machine K) (c : Handed) (result : Result Stage Halt)
+pub loop_ok : {K : Type 0} (tables : Tables) (m : Machine K) (stage : Stage) (a : CallStreams) (n : Machine K) (next due : Stage) (b : CallStreams)
+    (k : Machine K) (c : CallStreams) (result : Result Stage Halt)
     → next ≡ due → goes_on due ≡ true
     → GoesOn tables m stage a n b (Ok next) → GoesOn tables n due b k c result → GoesOn tables m stage a k c result
 loop_ok tables m stage a n next due b k c result e goes p q =
     goes_goes tables m stage a n due b k c result goes (subst (λ (s : Stage). GoesOn tables m stage a n b (Ok s)) e p) q
 
-pub loop_err : {K : Type 0} (tables : Tables) (m : Machine K) (stage : Stage) (a : Handed) (n : Machine K) (next due : Stage) (b : Handed)
-    (k : Machine K) (c : Handed) (halt : Halt) (result : Result Stage Halt)
+pub loop_err : {K : Type 0} (tables : Tables) (m : Machine K) (stage : Stage) (a : CallStreams) (n : Machine K) (next due : Stage) (b : CallStreams)
+    (k : Machine K) (c : CallStreams) (halt : Halt) (result : Result Stage Halt)
     → next ≡ due → goes_on due ≡ true
     → GoesOn tables m stage a n b (Ok next) → GoesOn tables n due b k c (Err halt) → IsErrAnd result (λ h. h ≡ halt) → GoesOn tables m stage a k c result
 loop_err tables m stage a n next due b k c halt (Err h) e goes p q r =

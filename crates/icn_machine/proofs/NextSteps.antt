@@ -24,7 +24,7 @@ use Rattle.icn_run.specs.Step.{State, Store, running, stuck, step, all_names, in
 use Rattle.icn_run_named.specs.StateNames.{StackNamed, StateNamed, StoreNamed}
 use Rattle.icn_run_named.specs.KeepingNames.{MayCall, StepsKeepNames}
 use Rattle.icn_run_named.specs.KeepingSizes.{StateFits, StepsKeepSizes, StoreFits, field_count}
-use Rattle.icn_streams.specs.Handed.{Handed}
+use Rattle.icn_streams.specs.Handed.{CallStreams}
 use Rattle.icn_control.specs.Machines.{ComesTo, HasStack, IsSound, StandsAt, does, extent, stack_of, stack_seen, store_seen}
 use Rattle.icn_control.specs.Standing.{reading_of, stack_in}
 use Rattle.icn_control.specs.Taking.{taken}
@@ -148,7 +148,7 @@ world_names_as names tables m instr e d = subst (λ (n : Names). WorldNamed n (w
 abbrev pub LandsBy : {K : Type 0} → Tables → (Outside → State Frames Frames) → Machine K → Stage → Type 0
 LandsBy tables leads n stage = (was : Outside) × ((now : Outside) × StandsAt tables now (leads was) n stage)
 
-pub lands_by : {K : Type 0} (tables : Tables) (leads : Outside → State Frames Frames) (before : Handed) (n : Machine K) (after : Handed)
+pub lands_by : {K : Type 0} (tables : Tables) (leads : Outside → State Frames Frames) (before : CallStreams) (n : Machine K) (after : CallStreams)
     (result : Result Stage Halt)
     → PerformsOn tables leads n before after result → IfOk result (LandsBy tables leads n)
 lands_by tables leads before n after (Ok stage) p = let first : Outside = outside_of p.had in let told = p.meant first refl in (first, (told.now, told.is))
@@ -213,7 +213,7 @@ called_ready names tables m n instr j (Ok stage) e i d l sound stack named store
 }
 
 -- the step of the run
-pub next_step : {K : Type 0} (tables : Tables) (m k : Machine K) (instr : Instr) (before : Handed) (n : Machine K) (after : Handed) (result : Result Stage Halt)
+pub next_step : {K : Type 0} (tables : Tables) (m k : Machine K) (instr : Instr) (before : CallStreams) (n : Machine K) (after : CallStreams) (result : Result Stage Halt)
     → ((outside : Outside) → step flat tables (running (stack_seen m) (store_seen tables outside m)) ≡ does tables outside instr k)
     → PerformsOn tables (λ o. does tables o instr k) n before after result → Advances tables m Stages.Runs before n after result
 next_step tables m k instr before n after result e p =

@@ -28,7 +28,7 @@ use Rattle.icn_run.specs.Step.{State, Store, all_names, at_bound, instruction, p
 use Rattle.icn_run_named.specs.StateNames.{StackNamed, StoreNamed}
 use Rattle.icn_run_named.proofs.CallsNamed as C
 use Rattle.icn_run_named.proofs.CallsNamed.{Maybe}
-use Rattle.icn_streams.specs.Handed.{Handed}
+use Rattle.icn_streams.specs.Handed.{CallStreams}
 use Rattle.icn_control.specs.Counting.{EnterOthers, FitTurns}
 use Rattle.icn_control.specs.Living.{IsLiveStack}
 use Rattle.icn_control.specs.Machines.{AreLiveStacks, ComesTo, HasStack, IsSound, does, running_of, store_in, store_seen}
@@ -115,7 +115,7 @@ takes_turn all tables instr n next running m k items st is e p =
 
 pub operands_perform : {K : Type 0} (m after : Machine K) (t tables : Tables) (instr : Instr) (n : ℕ)
     (next : List rows.Item → Frames → Store Frames → State Frames Frames) (f k g l : FlatStack) (items xs : List Item)
-    (before now : Handed) (result : Result Stage Halt) → TakesTurn tables instr n next → m.stacks.table.running ≡ Some f → taken n f ≡ Some (items, k) → k ≡
+    (before now : CallStreams) (result : Result Stage Halt) → TakesTurn tables instr n next → m.stacks.table.running ≡ Some f → taken n f ≡ Some (items, k) → k ≡
     g → xs ≡ items
     → nat_lt m.turns (heap_of m.world.heap).bounds.turns ≡ true → KeepsItems (reach_of m.world []) (reach_of after.world [])
     → AreLiveStacks t (reach_of m.world []) m.stacks.table
@@ -174,7 +174,7 @@ bound_comes m after tables instr n next f k items is e p b same outside =
     ∙ same outside
 
 pub bound_performs : {K : Type 0} (m after : Machine K) (tables : Tables) (instr : Instr) (n : ℕ)
-    (next : List rows.Item → Frames → Store Frames → State Frames Frames) (f k : FlatStack) (items : List Item) (before : Handed)
+    (next : List rows.Item → Frames → Store Frames → State Frames Frames) (f k : FlatStack) (items : List Item) (before : CallStreams)
     → TakesTurn tables instr n next → m.stacks.table.running ≡ Some f → taken n f ≡ Some (items, k) → nat_lt m.turns (heap_of m.world.heap).bounds.turns ≡ false
     → ((outside : Outside) → at_bound {K = Frames} {M = Frames} (store_seen tables outside m) ≡ at_bound (store_seen tables outside after))
     → PerformsOn tables (λ outside. does tables outside instr m) after before before (Ok Stages.AtBound)
@@ -182,7 +182,7 @@ bound_performs m after tables instr n next f k items before is e p b same =
     comes_performs tables (λ outside. does tables outside instr m) after before (Ok Stages.AtBound)
     (bound_comes m after tables instr n next f k items is e p b same)
 
-pub lacks_memory : {K : Type 0} (tables : Tables) (leads : Outside → State Frames Frames) (m : Machine K) (before : Handed)
+pub lacks_memory : {K : Type 0} (tables : Tables) (leads : Outside → State Frames Frames) (m : Machine K) (before : CallStreams)
     → PerformsOn tables leads m before before (Err Halts.NoMemory)
 lacks_memory tables leads m before = still_performs leads (λ was now answer. ComesTo tables now (leads was) m answer) before (Err Halts.NoMemory) tt (λ was. tt)
 

@@ -30,7 +30,7 @@ use Rattle.icn_coexp.specs.Transfers.{Table}
 use Rattle.icn_frames_laws.proofs.CallsRead.{pop_read}
 use Rattle.icn_code.specs.declared.instr.Instr.TheVariants as Instrs
 use Rattle.icn_code.specs.Codes.{Tables}
-use Rattle.icn_streams.specs.Handed.{Handed, Follows, KeepsAllCounts, Puts, uncounted}
+use Rattle.icn_streams.specs.Handed.{CallStreams, Follows, KeepsAllCounts, Puts, uncounted}
 use Rattle.icn_run.specs.Calls as calls
 use Rattle.icn_run.specs.Rows as run_rows
 use Rattle.icn_run.specs.Stacks.{Frames, flat}
@@ -64,14 +64,14 @@ nothing_more (x ∷ xs) = ap (λ (s : List ℕ). x ∷ s) (nothing_more xs)
 puts_nothing : (sink : SinkState) (was : List ℕ) → Puts sink sink was was
 puts_nothing sink was = record { text = []; is = nothing_more was; gains = gains_nothing sink.held }
 
-follows_same : (b : Handed) (was : Outside) → b.left ≡ Some was.left → Follows b b was was
+follows_same : (b : CallStreams) (was : Outside) → b.left ≡ Some was.left → Follows b b was was
 follows_same b was told = record { left = told; output = puts_nothing b.output was.output; errors = puts_nothing b.errors was.errors }
 
-counts_same : (b : Handed) → KeepsAllCounts b b
+counts_same : (b : CallStreams) → KeepsAllCounts b b
 counts_same b = record { faults = refl; output = record { faults = refl; wants = refl }; errors = record { faults = refl; wants = refl } }
 
 -- the step itself neither reads nor puts
-pub performs_still : {A : Type 0} (leads : Outside → State Frames Frames) (C : Outside → Outside → Result A Halt → Type 0) (b : Handed) (x : A)
+pub performs_still : {A : Type 0} (leads : Outside → State Frames Frames) (C : Outside → Outside → Result A Halt → Type 0) (b : CallStreams) (x : A)
     → ((was : Outside) → C was was (Ok x)) → Performs leads C b b (Ok x)
 performs_still leads C b x h = record {
   answers = λ was told. record { now = was; follows = follows_same b was told; is = h was };
@@ -82,7 +82,7 @@ performs_still leads C b x h = record {
 }
 
 -- memory ran out before anything was read or put
-pub performs_idle : {A : Type 0} (leads : Outside → State Frames Frames) (C : Outside → Outside → Result A Halt → Type 0) (b : Handed)
+pub performs_idle : {A : Type 0} (leads : Outside → State Frames Frames) (C : Outside → Outside → Result A Halt → Type 0) (b : CallStreams)
     → Performs leads C b b (Err Halts.NoMemory)
 performs_idle leads C b = record {
   answers = λ was told. answering.idle refl;
@@ -157,7 +157,7 @@ store_in_turn tables w turns table m was = store_in (all_names tables) was (worl
 
 -- what a call said of a row on the stack that runs, said of the machine for any states that are the row's
 pub performs_on : {K : Type 0} (m : Machine K) (t tables : Tables) (w : World) (turns : ℕ) (table : Table) (k n : FlatStack) (row : Row)
-    (leads : Outside → State Frames Frames) (b a : Handed) (result : Result Stage Halt)
+    (leads : Outside → State Frames Frames) (b a : CallStreams) (result : Result Stage Halt)
     → KeepsItems (reach_of w []) (reach_of m.world []) → AreLiveStacks t (reach_of w []) table → m.stacks.table ≡ record table { running = Some n }
     → m.turns ≡ suc turns
     → ((was : Outside) → leads was ≡ row_on row w k (store_in_turn tables w turns table m was) was) → PerformsRow row w k b m.world n a result
@@ -178,7 +178,7 @@ store_of w =
     record { world = world_of w; outside = outside_of []; turns = 0; begun = []; coexps = []; active = 0; names = record { procedures = []; records = [] } }
 
 -- a stack runs where a row was answered, which never comes to a hop
-pub has_stack : {K : Type 0} (m : Machine K) (w : World) (k n : FlatStack) (row : Row) (b a : Handed) (result : Result Stage Halt)
+pub has_stack : {K : Type 0} (m : Machine K) (w : World) (k n : FlatStack) (row : Row) (b a : CallStreams) (result : Result Stage Halt)
     → m.stacks.table.running ≡ Some n → PerformsRow row w k b m.world n a result → IfOk result (HasStack m)
 has_stack m w k n row b a (Ok Stages.Runs) e p = subst (λ (o : Option FlatStack). IsSome o) (sym e) refl
 has_stack m w k n row b a (Ok Stages.Fails) e p = subst (λ (o : Option FlatStack). IsSome o) (sym e) refl

@@ -14,7 +14,7 @@ use Rattle.icn_code.specs.Codes.{Tables}
 use Rattle.icn_run.specs.Rows.{Done}
 use Rattle.icn_run.specs.Stacks.{Frames, flat}
 use Rattle.icn_run.specs.Step.{State, Store, running, failing, over, all_names, finished, is_main, outcome, stuck, with_world, turn, turn_if}
-use Rattle.icn_streams.specs.Handed.{Handed, uncounted}
+use Rattle.icn_streams.specs.Handed.{CallStreams, uncounted}
 use Rattle.icn_streams.proofs.Following.{follows_all}
 use Rattle.icn_control.specs.Machines.{AreLiveStacks, ComesTo, running_of, stack_seen, store_in, store_seen}
 use Rattle.icn_control.specs.Parts.{HaltsWith, StandsWith}
@@ -30,7 +30,7 @@ use Rattle.icn_machine.specs.Performing.{PerformsOn, PerformsRow, StandsOver, ov
 
 -- The same step, said otherwise
 
-answers_as : {A : Type 0} (Comes Same : Outside → Result A Halt → Type 0) (a b : State Frames Frames) (was : Outside) (before after : Handed)
+answers_as : {A : Type 0} (Comes Same : Outside → Result A Halt → Type 0) (a b : State Frames Frames) (was : Outside) (before after : CallStreams)
     (result : Result A Halt)
     → a ≡ b → ((now : Outside) → Comes now result → Same now result)
     → AnswersStep Comes b was before after result → AnswersStep Same a was before after result
@@ -42,7 +42,7 @@ answers_as Comes Same a b was before after (Err Halts.WriteFault) e h t = subst 
 answers_as Comes Same a b was before after (Err Halts.NoMemory) e h t = subst (λ (s : State Frames Frames). BreaksOff s was before after) (sym e) t
 
 -- where the states to which a step leads are the same, and what is said of each answer follows
-pub performs_as : {A : Type 0} (leads others : Outside → State Frames Frames) (Comes Same : Outside → Outside → Result A Halt → Type 0) (before after : Handed)
+pub performs_as : {A : Type 0} (leads others : Outside → State Frames Frames) (Comes Same : Outside → Outside → Result A Halt → Type 0) (before after : CallStreams)
     (result : Result A Halt) → ((was : Outside) → leads was ≡ others was) → ((was now : Outside) → Comes was now result → Same was now result)
     → Performs others Comes before after result → Performs leads Same before after result
 performs_as leads others Comes Same before after result e h p = record {
@@ -66,7 +66,7 @@ IsFaultless (Err Halts.ReadFault) = ⊥
 IsFaultless (Err Halts.WriteFault) = ⊥
 IsFaultless (Err Halts.NoMemory) = ⊤
 
-still_answers : {A : Type 0} (Comes : Outside → Result A Halt → Type 0) (state : State Frames Frames) (was : Outside) (before : Handed) (result : Result A Halt)
+still_answers : {A : Type 0} (Comes : Outside → Result A Halt → Type 0) (state : State Frames Frames) (was : Outside) (before : CallStreams) (result : Result A Halt)
     → before.left ≡ Some was.left → IsFaultless result → Comes was result → AnswersStep Comes state was before before result
 still_answers Comes state was before (Ok a) told f h = record { now = was; follows = follows_all before was told; is = h }
 still_answers Comes state was before (Err (Halts.Error number offending)) told f h = record { now = was; follows = follows_all before was told; is = h }
@@ -75,7 +75,7 @@ still_answers Comes state was before (Err Halts.ReadFault) told f h = absurd f
 still_answers Comes state was before (Err Halts.WriteFault) told f h = absurd f
 still_answers Comes state was before (Err Halts.NoMemory) told f h = idle refl
 
-still_caused : {A : Type 0} (before : Handed) (result : Result A Halt) → IsFaultless result → IsCause result before before
+still_caused : {A : Type 0} (before : CallStreams) (result : Result A Halt) → IsFaultless result → IsCause result before before
 still_caused before (Ok a) f = record { faults = refl; output = record { faults = refl; wants = refl }; errors = record { faults = refl; wants = refl } }
 still_caused before (Err (Halts.Error number offending)) f =
     record { faults = refl; output = record { faults = refl; wants = refl }; errors = record { faults = refl; wants = refl } }
@@ -87,7 +87,7 @@ still_caused before (Err Halts.NoMemory) f =
     uncounted (record { faults = refl; output = record { faults = refl; wants = refl }; errors = record { faults = refl; wants = refl } })
 
 -- what is so over each outside is performed, where nothing is read or put
-pub still_performs : {A : Type 0} (leads : Outside → State Frames Frames) (Comes : Outside → Outside → Result A Halt → Type 0) (before : Handed)
+pub still_performs : {A : Type 0} (leads : Outside → State Frames Frames) (Comes : Outside → Outside → Result A Halt → Type 0) (before : CallStreams)
     (result : Result A Halt)
     → IsFaultless result → ((was : Outside) → Comes was was result) → Performs leads Comes before before result
 still_performs leads Comes before result f h = record {
@@ -108,7 +108,7 @@ comes_faultless tables outside state m (Err Halts.WriteFault) h = absurd h
 comes_faultless tables outside state m (Err Halts.NoMemory) h = tt
 
 -- an instruction over a machine that neither reads nor puts anything
-pub comes_performs : {K : Type 0} (tables : Tables) (leads : Outside → State Frames Frames) (m : Machine K) (before : Handed) (result : Result Stage Halt)
+pub comes_performs : {K : Type 0} (tables : Tables) (leads : Outside → State Frames Frames) (m : Machine K) (before : CallStreams) (result : Result Stage Halt)
     → ((outside : Outside) → ComesTo tables outside (leads outside) m result) → PerformsOn tables leads m before before result
 comes_performs tables leads m before result h =
     still_performs leads (λ was now answer. ComesTo tables now (leads was) m answer) before result
@@ -138,7 +138,7 @@ with_faultless state st w m (Err Halts.ReadFault) h = absurd h
 with_faultless state st w m (Err Halts.WriteFault) h = absurd h
 with_faultless state st w m (Err Halts.NoMemory) h = tt
 
-pub still_event : (names : Names) (event : Store Frames → State Frames Frames) (w v : World) (n : FlatStack) (before : Handed) (result : Result Stage Halt)
+pub still_event : (names : Names) (event : Store Frames → State Frames Frames) (w v : World) (n : FlatStack) (before : CallStreams) (result : Result Stage Halt)
     → ((st : Store Frames) → st.world ≡ world_of w → MatchResult result (StandsWith (event st) st v n) (HaltsWith (event st) st v))
     → PerformsEvent names event w before v n before result
 still_event names event w v n before result h st same names_same =
@@ -146,7 +146,7 @@ still_event names event w v n before result h st same names_same =
     (with_faultless (event st) st v n result (h st same)) (λ was. stands_over (event (over_outside was st)) st v n was result (h (over_outside was st) same))
 
 -- an event that is another one, over whatever outside
-pub event_as : (names : Names) (event other : Store Frames → State Frames Frames) (w v : World) (n : FlatStack) (before after : Handed)
+pub event_as : (names : Names) (event other : Store Frames → State Frames Frames) (w v : World) (n : FlatStack) (before after : CallStreams)
     (result : Result Stage Halt)
     → ((st : Store Frames) → st.world ≡ world_of w → st.names ≡ names → event st ≡ other st)
     → PerformsEvent names other w before v n after result → PerformsEvent names event w before v n after result
@@ -157,7 +157,7 @@ event_as names event other w v n before after result e p st same names_same =
     (λ was now h. subst (λ (s : State Frames Frames). StandsOver s st v n now result) (sym (e (over_outside was st) same names_same)) h) (p st same names_same)
 
 -- a row is performed as an event
-pub row_event : (names : Names) (row : Row) (w v : World) (m n : FlatStack) (before after : Handed) (result : Result Stage Halt)
+pub row_event : (names : Names) (row : Row) (w v : World) (m n : FlatStack) (before after : CallStreams) (result : Result Stage Halt)
     → PerformsRow row w m before v n after result
     → PerformsEvent names (λ st. row_on row w m st st.outside) w before v n after result
 row_event names row w v m n before after result p st same names_same = p st same
@@ -179,7 +179,7 @@ never_finished o m st other e = by_main (is_main other.active) o e
     by_main false (Error number value seen) e = cc
     by_main false (Ends status seen) e = cc
 
-pub row_going : (row : Row) (w v : World) (m n : FlatStack) (before after : Handed) (result : Result Stage Halt) (st : Store Frames) → st.world ≡ world_of w
+pub row_going : (row : Row) (w v : World) (m n : FlatStack) (before after : CallStreams) (result : Result Stage Halt) (st : Store Frames) → st.world ≡ world_of w
     → PerformsRow row w m before v n after result → IfOk result IsGoing
 row_going row w v m n before after (Ok Stages.Runs) st same p = tt
 row_going row w v m n before after (Ok Stages.Fails) st same p = tt
@@ -232,7 +232,7 @@ stands_on {K} m t tables was now w turns table n state result k l e f g h = by_r
 -- an event behind a turn, on the machine that is left
 pub turn_performs : {K : Type 0} (m : Machine K) (t tables : Tables) (leads : Outside → State Frames Frames) (w : World) (turns : ℕ) (table : Table)
     (n : FlatStack)
-    (event : Store Frames → State Frames Frames) (before after : Handed) (result : Result Stage Halt) → nat_lt turns (heap_of w.heap).bounds.turns ≡ true
+    (event : Store Frames → State Frames Frames) (before after : CallStreams) (result : Result Stage Halt) → nat_lt turns (heap_of w.heap).bounds.turns ≡ true
     → KeepsItems (reach_of w []) (reach_of m.world []) → AreLiveStacks t (reach_of w []) table → m.turns ≡ suc turns
     → m.stacks.table ≡ record table { running = Some n } → IfOk result IsGoing
     → ((was : Outside) → leads was ≡ turn tables (store_in (all_names tables) was (world_of w) turns m.begun.items (extent_of w.heap) table) event)

@@ -30,9 +30,9 @@ use Rattle.icn_frames.specs.Stacks.{FlatStack, set_from, set_local}
 use Rattle.icn_cells.specs.Heights.{cell_at}
 use Rattle.icn_frames_laws.proofs.CallsRead.{locals_read, set_locals_read}
 use Rattle.icn_code.specs.Codes.{Tables}
-use Rattle.icn_streams.specs.Answers.{Answers, CausedBy, Comes, Stops, StopsReading, StopsPutting, given, outside_after, idle, reading, putting}
+use Rattle.icn_streams.specs.Answers.{Answers, CausedBy, Comes, Stops, StopsReading, StopsPutting, call_state, outside_after, idle, reading, putting}
 use Rattle.icn_streams.specs.Applies.{Applies}
-use Rattle.icn_streams.specs.Handed.{Handed, Follows, PutsPart, uncounted}
+use Rattle.icn_streams.specs.Handed.{CallStreams, Follows, PutsPart, uncounted}
 use Rattle.icn_apply.specs.Applicable.{applied_of}
 use Rattle.icn_apply.specs.NamesAfter.{AnswerNamed}
 use Rattle.icn_apply.specs.declared.applied.Applied.{Applied as HeldApplied}
@@ -188,9 +188,9 @@ stands w v m n row st was now Stages.HopDue x e g = absurd g
 stands w v m n row st was now Stages.Over x e g = absurd g
 stands w v m n row st was now Stages.AtBound x e g = absurd g
 
-tells_ok : (w v : World) (m k n : FlatStack) (row : Row) (st : Store Frames) (was : Outside) (b a : Handed) (oc : HeldOutcome) (stage : Stage)
+tells_ok : (w v : World) (m k n : FlatStack) (row : Row) (st : Store Frames) (was : Outside) (b a : CallStreams) (oc : HeldOutcome) (stage : Stage)
     → st.world ≡ world_of w → Sets w v m k → GivesOutcome oc k n stage
-    → Comes row was (given w (held.locals m) b) (given v (held.locals k) a) (Ok oc)
+    → Comes row was (call_state w (held.locals m) b) (call_state v (held.locals k) a) (Ok oc)
     → Tells (λ now answer. StandsOver (row_on row w m st was) st v n now answer) was b a (Ok stage)
 tells_ok w v m k n row st was b a oc stage same s g c =
     let all : Extent = extent_of v.heap in
@@ -204,7 +204,7 @@ tells_ok w v m k n row st was b a oc stage same s g c =
           (g all (stack_in (extent_of w.heap) m) seen (over_outside was st) s.same);
     }
 
-reads_part : (w v : World) (m : FlatStack) (row : Row) (st : Store Frames) (was : Outside) (b a : Handed) → st.world ≡ world_of w
+reads_part : (w v : World) (m : FlatStack) (row : Row) (st : Store Frames) (was : Outside) (b a : CallStreams) → st.world ≡ world_of w
     → StopsReading row (setting_of was w (held.locals m)) b a → BreaksReading (row_on row w m st was) was b a
 reads_part w v m row st was b a same r = record {
   asked = r.asked;
@@ -215,7 +215,7 @@ reads_part w v m row st was b a same r = record {
   errors = r.errors;
 }
 
-puts_part : (w v : World) (m : FlatStack) (row : Row) (st : Store Frames) (was : Outside) (b a : Handed) → st.world ≡ world_of w
+puts_part : (w v : World) (m : FlatStack) (row : Row) (st : Store Frames) (was : Outside) (b a : CallStreams) → st.world ≡ world_of w
     → StopsPutting row (setting_of was w (held.locals m)) b a → BreaksPutting (row_on row w m st was) was b a
 puts_part w v m row st was b a same p =
     let oc : Outcome = row (setting_of was w (held.locals m)) in
@@ -231,7 +231,7 @@ puts_part w v m row st was b a same p =
       errors = puts_longer b.errors a.errors was.errors (outside_after oc).errors (outside_in was (row_on row w m st was)).errors more.0 errs p.errors;
     }
 
-breaks : (w v : World) (m : FlatStack) (row : Row) (st : Store Frames) (was : Outside) (b a : Handed) → st.world ≡ world_of w
+breaks : (w v : World) (m : FlatStack) (row : Row) (st : Store Frames) (was : Outside) (b a : CallStreams) → st.world ≡ world_of w
     → Stops row (setting_of was w (held.locals m)) b a → BreaksOff (row_on row w m st was) was b a
 breaks w v m row st was b a same (idle e) = answering.idle e
 breaks w v m row st was b a same (reading r) = answering.reading (reads_part w v m row st was b a same r)
@@ -244,8 +244,8 @@ outside_given all (HeldGives item) seen M st was = refl
 outside_given all (HeldSuspends item rest) seen M st was = refl
 
 -- what is given finds no room
-breaks_behind : (w v : World) (m k : FlatStack) (row : Row) (st : Store Frames) (was : Outside) (b a : Handed) (oc : HeldOutcome) → st.world ≡ world_of w
-    → Comes row was (given w (held.locals m) b) (given v (held.locals k) a) (Ok oc) → BreaksOff (row_on row w m st was) was b a
+breaks_behind : (w v : World) (m k : FlatStack) (row : Row) (st : Store Frames) (was : Outside) (b a : CallStreams) (oc : HeldOutcome) → st.world ≡ world_of w
+    → Comes row was (call_state w (held.locals m) b) (call_state v (held.locals k) a) (Ok oc) → BreaksOff (row_on row w m st was) was b a
 breaks_behind w v m k row st was b a oc same c =
     let seen : Setting = setting_of c.now v (held.locals k) in
     let is : row_on row w m st was ≡ outcome_on w m st was (outcome_in (extent_of v.heap) oc seen)
@@ -254,8 +254,8 @@ breaks_behind w v m k row st was b a oc same c =
     = ap (outside_in was) is ∙ outside_given (extent_of v.heap) oc seen (stack_in (extent_of w.heap) m) (over_outside was st) was in
     behind (subst (λ (x : Outside). Follows b a was x) (sym out) c.follows)
 
-halts : (w v : World) (m k n : FlatStack) (row : Row) (st : Store Frames) (was : Outside) (b a : Handed) (halt : Halt) → st.world ≡ world_of w
-    → Answers row was (given w (held.locals m) b) (given v (held.locals k) a) (Err halt)
+halts : (w v : World) (m k n : FlatStack) (row : Row) (st : Store Frames) (was : Outside) (b a : CallStreams) (halt : Halt) → st.world ≡ world_of w
+    → Answers row was (call_state w (held.locals m) b) (call_state v (held.locals k) a) (Err halt)
     → AnswersStep (λ now answer. StandsOver (row_on row w m st was) st v n now answer) (row_on row w m st was) was b a (Err halt)
 halts w v m k n row st was b a (Halts.Error number offending) same c =
     record { now = c.now; follows = c.follows; is = state_is row w m st was same ∙ ap (outcome_on w m st was) c.comes }
@@ -265,7 +265,7 @@ halts w v m k n row st was b a Halts.ReadFault same c = reads_part w v m row st 
 halts w v m k n row st was b a Halts.WriteFault same c = puts_part w v m row st was b a same c
 halts w v m k n row st was b a Halts.NoMemory same c = breaks w v m row st was b a same c
 
-cause : (b a : Handed) (halt : Halt) → CausedBy (Err halt) b a → IsCause {A = Stage} (Err halt) b a
+cause : (b a : CallStreams) (halt : Halt) → CausedBy (Err halt) b a → IsCause {A = Stage} (Err halt) b a
 cause b a (Halts.Error number offending) c = c
 cause b a (Halts.Ends status) c = c
 cause b a Halts.ReadFault c = c
@@ -274,8 +274,8 @@ cause b a Halts.NoMemory c = c
 
 -- What is performed
 
-pub performs_ok : (w v : World) (m k n : FlatStack) (row : Row) (b a : Handed) (oc : HeldOutcome) (stage : Stage) → Sets w v m k → GivesOutcome oc k n stage
-    → Applies row (given w (held.locals m) b) (given v (held.locals k) a) (Ok oc) → PerformsRow row w m b v n a (Ok stage)
+pub performs_ok : (w v : World) (m k n : FlatStack) (row : Row) (b a : CallStreams) (oc : HeldOutcome) (stage : Stage) → Sets w v m k → GivesOutcome oc k n stage
+    → Applies row (call_state w (held.locals m) b) (call_state v (held.locals k) a) (Ok oc) → PerformsRow row w m b v n a (Ok stage)
 performs_ok w v m k n row b a oc stage s g r st same = record {
   answers = λ was told. tells_ok w v m k n row st was b a oc stage same s g (r.answers was told);
   had = r.meant.had;
@@ -284,8 +284,8 @@ performs_ok w v m k n row b a oc stage s g r st same = record {
   caused = r.caused;
 }
 
-pub performs_lack : (w v : World) (m k n : FlatStack) (row : Row) (b a : Handed) (oc : HeldOutcome)
-    → Applies row (given w (held.locals m) b) (given v (held.locals k) a) (Ok oc) → PerformsRow row w m b v n a (Err Halts.NoMemory)
+pub performs_lack : (w v : World) (m k n : FlatStack) (row : Row) (b a : CallStreams) (oc : HeldOutcome)
+    → Applies row (call_state w (held.locals m) b) (call_state v (held.locals k) a) (Ok oc) → PerformsRow row w m b v n a (Err Halts.NoMemory)
 performs_lack w v m k n row b a oc r st same = record {
   answers = λ was told. breaks_behind w v m k row st was b a oc same (r.answers was told);
   had = r.meant.had;
@@ -294,8 +294,8 @@ performs_lack w v m k n row b a oc r st same = record {
   caused = uncounted r.caused;
 }
 
-performs_halt : (w v : World) (m k n : FlatStack) (row : Row) (b a : Handed) (halt : Halt)
-    → Applies row (given w (held.locals m) b) (given v (held.locals k) a) (Err halt) → PerformsRow row w m b v n a (Err halt)
+performs_halt : (w v : World) (m k n : FlatStack) (row : Row) (b a : CallStreams) (halt : Halt)
+    → Applies row (call_state w (held.locals m) b) (call_state v (held.locals k) a) (Err halt) → PerformsRow row w m b v n a (Err halt)
 performs_halt w v m k n row b a halt r st same = record {
   answers = λ was told. halts w v m k n row st was b a halt same (r.answers was told);
   had = r.meant.had;
@@ -304,8 +304,8 @@ performs_halt w v m k n row b a halt r st same = record {
   caused = cause b a halt r.caused;
 }
 
-pub performs_err : (result : Result Stage Halt) (w v : World) (m k n : FlatStack) (row : Row) (b a : Handed) (halt : Halt) → IsErrAnd result (λ h. h ≡ halt)
-    → Applies row (given w (held.locals m) b) (given v (held.locals k) a) (Err halt) → PerformsRow row w m b v n a result
+pub performs_err : (result : Result Stage Halt) (w v : World) (m k n : FlatStack) (row : Row) (b a : CallStreams) (halt : Halt) → IsErrAnd result (λ h. h ≡ halt)
+    → Applies row (call_state w (held.locals m) b) (call_state v (held.locals k) a) (Err halt) → PerformsRow row w m b v n a result
 performs_err (Ok stage) w v m k n row b a halt e r = absurd e
 performs_err (Err other) w v m k n row b a halt e r = subst (λ (h : Halt). PerformsRow row w m b v n a (Err h)) (sym e) (performs_halt w v m k n row b a halt r)
 
@@ -321,9 +321,9 @@ pub apply_counts : (names : Names) (what : HeldApplied) (items : List Item) (at 
 apply_counts names (Op op) items at = rows_keep_counts.operations op items at
 apply_counts names (Func func) items at = rows_keep_counts.values items (function_of names func) at (λ values. rows_keep_counts.functions names func values at)
 
-pub counts_after : (w v : World) (m k : FlatStack) (row : Row) (b a : Handed) (oc : HeldOutcome)
+pub counts_after : (w v : World) (m k : FlatStack) (row : Row) (b a : CallStreams) (oc : HeldOutcome)
     → ((at : Setting) → KeepCounts at.world.heap (heap_after (row at)))
-    → Applies row (given w (held.locals m) b) (given v (held.locals k) a) (Ok oc) → KeepsCounts w v
+    → Applies row (call_state w (held.locals m) b) (call_state v (held.locals k) a) (Ok oc) → KeepsCounts w v
 counts_after w v m k row b a oc h r =
     let was : Outside = outside_of r.meant.had in
     let c = r.meant.answers was refl in
@@ -359,20 +359,20 @@ names_left (Err other) names v n halt e = tt
 
 -- What follows of what a call said of a row, on a stack of which it has set the locals
 
-abbrev AppliesOn : Row → World → FlatStack → Handed → World → FlatStack → Handed → Result HeldOutcome Halt → Type 0
-AppliesOn row w m b v k a answer = Applies row (given w (held.locals m) b) (given v (held.locals k) a) answer
+abbrev AppliesOn : Row → World → FlatStack → CallStreams → World → FlatStack → CallStreams → Result HeldOutcome Halt → Type 0
+AppliesOn row w m b v k a answer = Applies row (call_state w (held.locals m) b) (call_state v (held.locals k) a) answer
 
-pub kept_after : (w v : World) (m k : FlatStack) (row : Row) (b a : Handed) (answer : Result HeldOutcome Halt) → AppliesOn row w m b v k a answer
+pub kept_after : (w v : World) (m k : FlatStack) (row : Row) (b a : CallStreams) (answer : Result HeldOutcome Halt) → AppliesOn row w m b v k a answer
     → KeepsItems (reach_of w []) (reach_of v [])
 kept_after w v m k row b a answer r =
     record { extent = r.kept.extent; fields = r.kept.fields; globals = r.kept.globals; statics = r.kept.statics; locals = refl }
 
-sets_in : (t : Tables) (w v : World) (m k : FlatStack) (row : Row) (b a : Handed) (answer : Result HeldOutcome Halt) → AppliesOn row w m b v k a answer
+sets_in : (t : Tables) (w v : World) (m k : FlatStack) (row : Row) (b a : CallStreams) (answer : Result HeldOutcome Halt) → AppliesOn row w m b v k a answer
     → held.set_locals (held.locals k) m ≡ k
     → IsLiveStack t (reach_of w []) m → Sets w v m k
 sets_in t w v m k row b a answer r s l = record { same = set_is t w v m k (kept_after w v m k row b a answer r) l s }
 
-pub given_row : (t : Tables) (w v : World) (m k n : FlatStack) (row : Row) (b a : Handed) (oc : HeldOutcome) (stage : Stage)
+pub given_row : (t : Tables) (w v : World) (m k n : FlatStack) (row : Row) (b a : CallStreams) (oc : HeldOutcome) (stage : Stage)
     → AppliesOn row w m b v k a (Ok oc) → held.set_locals (held.locals k) m ≡ k
     → IsLiveStack t (reach_of w []) m → GivesOutcome oc k n stage → PerformsRow row w m b v n a (Ok stage)
 given_row t w v m k n row b a oc stage r s l g = performs_ok w v m k n row b a oc stage (sets_in t w v m k row b a (Ok oc) r s l) g r
@@ -384,18 +384,18 @@ without_locals v locals Halts.ReadFault l = l
 without_locals v locals Halts.WriteFault l = l
 without_locals v locals Halts.NoMemory l = l
 
-pub halt_live : (result : Result Stage Halt) (w v : World) (m k : FlatStack) (row : Row) (b a : Handed) (halt : Halt) → IsErrAnd result (λ h. h ≡ halt)
+pub halt_live : (result : Result Stage Halt) (w v : World) (m k : FlatStack) (row : Row) (b a : CallStreams) (halt : Halt) → IsErrAnd result (λ h. h ≡ halt)
     → AppliesOn row w m b v k a (Err halt)
     → IfErr result (IsLiveHalt (reach_of v []))
 halt_live (Ok stage) w v m k row b a halt e r = absurd e
 halt_live (Err other) w v m k row b a halt e r = subst (λ (h : Halt). IsLiveHalt (reach_of v []) h) (sym e) (without_locals v (held.locals k) halt r.live)
 
-pub stack_live : (t : Tables) (w v : World) (m k : FlatStack) (row : Row) (b a : Handed) (answer : Result HeldOutcome Halt)
+pub stack_live : (t : Tables) (w v : World) (m k : FlatStack) (row : Row) (b a : CallStreams) (answer : Result HeldOutcome Halt)
     → AppliesOn row w m b v k a answer → held.set_locals (held.locals k) m ≡ k
     → IsLiveStack t (reach_of w []) m → IsLiveStack t (reach_of v []) k
 stack_live t w v m k row b a answer r s l = live_after t w v m k (kept_after w v m k row b a answer r) l r.locals s
 
-pub outcome_live : (w v : World) (m k : FlatStack) (row : Row) (b a : Handed) (oc : HeldOutcome) (count : ℕ) → AppliesOn row w m b v k a (Ok oc)
+pub outcome_live : (w v : World) (m k : FlatStack) (row : Row) (b a : CallStreams) (oc : HeldOutcome) (count : ℕ) → AppliesOn row w m b v k a (Ok oc)
     → count ≡ held.local_count k → count ≡ length (held.locals k)
     → IsLiveOutcome (with_locals (held.local_count k) (reach_of v [])) oc
 outcome_live w v m k row b a oc count r f g = subst (λ (x : Reach). IsLiveOutcome x oc) (sym (reach_is v k count f g)) r.live
@@ -406,7 +406,7 @@ pub record NamedWith (names : Names) (v : World) (k : FlatStack) (oc : HeldOutco
   pub world : WorldNamed names (world_of v)
   pub outcome : OutcomeNamed names (outcome_in (extent_of v.heap) oc (setting_of (outside_of []) v (held.locals k)))
 
-pub named_with : (t : Tables) (names : Names) (w v : World) (m k : FlatStack) (row : Row) (b a : Handed) (oc : HeldOutcome)
+pub named_with : (t : Tables) (names : Names) (w v : World) (m k : FlatStack) (row : Row) (b a : CallStreams) (oc : HeldOutcome)
     → AppliesOn row w m b v k a (Ok oc) → held.set_locals (held.locals k) m ≡ k
     → IsLiveStack t (reach_of w []) m → StackNamed names (stack_in (extent_of w.heap) m) → AnswerNamed names v (held.locals k) (Ok oc) → NamedWith names v k oc
 named_with t names w v m k row b a oc r s l h n =

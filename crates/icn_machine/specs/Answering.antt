@@ -1,10 +1,10 @@
 -- What an instruction that may read or put comes to, and what it leaves where a fault or want of memory breaks it off.
 use Rattle.std.specs.Prelude.{◌≡◌, ℕ, List, Some, Result, Ok, Err}
-use Rattle.icn_value.specs.Store.{Asked, Outside, with_reading}
+use Rattle.icn_value.specs.Store.{Request, Outside, with_reading}
 use Rattle.icn_defs.specs.Interruptions.{LosesPart, asked_of}
 use Rattle.icn_vars.specs.declared.outcome.Halt.{Halt}
 use Rattle.icn_vars.specs.declared.outcome.Halt.TheVariants as Halts
-use Rattle.icn_streams.specs.Handed.{Handed, Follows, PutsPart, KeepsAllCounts, ReadingFails, WritingFails, WantsMemory}
+use Rattle.icn_streams.specs.Handed.{CallStreams, Follows, PutsPart, KeepsAllCounts, ReadingFails, WritingFails, WantsMemory}
 use Rattle.icn_run.specs.Stacks.{Frames}
 use Rattle.icn_run.specs.Step.{State, running, failing, hopping, over, stuck}
 
@@ -17,35 +17,35 @@ outside_in was (over ending outside) = outside
 outside_in was stuck = was
 
 -- What was answered is so with an outside that the input and the outputs tell.
-pub record Tells {A : Type 0} (Comes : Outside → Result A Halt → Type 0) (was : Outside) (before after : Handed) (result : Result A Halt) : Type 0 where
+pub record Tells {A : Type 0} (Comes : Outside → Result A Halt → Type 0) (was : Outside) (before after : CallStreams) (result : Result A Halt) : Type 0 where
   pub now : Outside
   pub follows : Follows before after was now
   pub is : Comes now result
 
 -- A step that leads to this state reads once, and was broken off in that reading or behind it: some first part of what it reads was taken, and nothing
 -- was put.
-pub record BreaksReading (state : State Frames Frames) (was : Outside) (before after : Handed) : Type 0 where
-  pub asked : Asked
+pub record BreaksReading (state : State Frames Frames) (was : Outside) (before after : CallStreams) : Type 0 where
+  pub asked : Request
   pub made : (outside_in was state).readings ≡ (with_reading asked was).readings
   pub left : LosesPart was.left (asked_of asked was.left) after.left
   pub output : after.output ≡ before.output
   pub errors : after.errors ≡ before.errors
 
 -- It was broken off as it put: each output has gained some first part of what the step puts there, and the input is as it was.
-pub record BreaksPutting (state : State Frames Frames) (was : Outside) (before after : Handed) : Type 0 where
+pub record BreaksPutting (state : State Frames Frames) (was : Outside) (before after : CallStreams) : Type 0 where
   pub left : after.left ≡ before.left
   pub output : PutsPart before.output after.output was.output (outside_in was state).output
   pub errors : PutsPart before.errors after.errors was.errors (outside_in was state).errors
 
 -- It was broken off before it read or put anything, or as it read, or as it put, or behind all that it reads and puts.
-pub data BreaksOff (state : State Frames Frames) (was : Outside) (before after : Handed) : Type 0 where
+pub data BreaksOff (state : State Frames Frames) (was : Outside) (before after : CallStreams) : Type 0 where
   idle : after ≡ before → BreaksOff state was before after
   reading : BreaksReading state was before after → BreaksOff state was before after
   putting : BreaksPutting state was before after → BreaksOff state was before after
   behind : Follows before after was (outside_in was state) → BreaksOff state was before after
 
 -- What was answered of a step that leads to this state, where the outside before it is one that the input tells.
-abbrev pub AnswersStep : {A : Type 0} → (Outside → Result A Halt → Type 0) → State Frames Frames → Outside → Handed → Handed → Result A Halt → Type 0
+abbrev pub AnswersStep : {A : Type 0} → (Outside → Result A Halt → Type 0) → State Frames Frames → Outside → CallStreams → CallStreams → Result A Halt → Type 0
 AnswersStep Comes state was before after (Ok a) = Tells Comes was before after (Ok a)
 AnswersStep Comes state was before after (Err (Halts.Error number offending)) = Tells Comes was before after (Err (Halts.Error number offending))
 AnswersStep Comes state was before after (Err (Halts.Ends status)) = Tells Comes was before after (Err (Halts.Ends status))
@@ -54,7 +54,7 @@ AnswersStep Comes state was before after (Err Halts.WriteFault) = BreaksPutting 
 AnswersStep Comes state was before after (Err Halts.NoMemory) = BreaksOff state was before after
 
 -- Why it was answered: a fault comes where that object has failed in this call, and no object fails in a call that is answered otherwise.
-abbrev pub IsCause : {A : Type 0} → Result A Halt → Handed → Handed → Type 0
+abbrev pub IsCause : {A : Type 0} → Result A Halt → CallStreams → CallStreams → Type 0
 IsCause (Ok a) before after = KeepsAllCounts before after
 IsCause (Err (Halts.Error number offending)) before after = KeepsAllCounts before after
 IsCause (Err (Halts.Ends status)) before after = KeepsAllCounts before after
@@ -63,12 +63,12 @@ IsCause (Err Halts.WriteFault) before after = WritingFails before after
 IsCause (Err Halts.NoMemory) before after = WantsMemory before after
 
 -- the same, had the input told that it has these bytes left
-abbrev pub having : List ℕ → Handed → Handed
+abbrev pub having : List ℕ → CallStreams → CallStreams
 having left handed = record handed { left = Some left }
 
 -- What a call says of a step, by the state to which the step leads from each outside: over the outside that the input tells, if it does; and in any case
 -- over some input, that has these bytes and leaves those.
-pub record Performs {A : Type 0} (leads : Outside → State Frames Frames) (Comes : Outside → Outside → Result A Halt → Type 0) (before after : Handed) (result : Result A Halt) : Type 0 where
+pub record Performs {A : Type 0} (leads : Outside → State Frames Frames) (Comes : Outside → Outside → Result A Halt → Type 0) (before after : CallStreams) (result : Result A Halt) : Type 0 where
   pub answers : (was : Outside) → before.left ≡ Some was.left → AnswersStep (Comes was) (leads was) was before after result
   pub had : List ℕ
   pub has : List ℕ

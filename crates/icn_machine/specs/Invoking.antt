@@ -13,14 +13,14 @@ use Rattle.icn_frames.specs.Stacks.{FlatStack}
 use Rattle.icn_code.specs.Codes.{Tables}
 use Rattle.icn_run.specs.Stacks.{Frames, flat}
 use Rattle.icn_run.specs.Step.{State, Store, elements_called, invoked}
-use Rattle.icn_streams.specs.Handed.{Handed}
+use Rattle.icn_streams.specs.Handed.{CallStreams}
 use Rattle.icn_control.specs.Parts.{HaltsWith}
 use Rattle.icn_control.specs.declared.machine.Stage.{Stage}
 use Rattle.icn_machine.specs.Answering.{Performs}
 use Rattle.icn_machine.specs.Performing.{StandsOver, over_outside}
 
 -- What comes of a store with these names is performed on a stack in a world.
-abbrev pub PerformsEvent : Names → (Store Frames → State Frames Frames) → World → Handed → World → FlatStack → Handed → Result Stage Halt → Type 0
+abbrev pub PerformsEvent : Names → (Store Frames → State Frames Frames) → World → CallStreams → World → FlatStack → CallStreams → Result Stage Halt → Type 0
 PerformsEvent names event w before v n after result = (st : Store Frames) → st.world ≡ world_of w → st.names ≡ names
     → Performs (λ was. event (over_outside was st)) (λ was now answer. StandsOver (event (over_outside was st)) st v n now answer) before after result
 

@@ -14,7 +14,7 @@ use Rattle.icn_code.specs.Codes.{Tables}
 use Rattle.icn_run.specs.Rows.{Exit}
 use Rattle.icn_run.specs.Stacks.{Frames, flat}
 use Rattle.icn_run.specs.Step.{State, Store, errs, here, outcome, over, with_world}
-use Rattle.icn_streams.specs.Handed.{Handed}
+use Rattle.icn_streams.specs.Handed.{CallStreams}
 use Rattle.icn_control.specs.Machines.{ComesTo}
 use Rattle.icn_control.specs.Parts.{StandsWith}
 use Rattle.icn_control.specs.Standing.{stack_in}
@@ -43,12 +43,12 @@ StandsOver state st w m now (Err Halts.WriteFault) = ⊥
 StandsOver state st w m now (Err Halts.NoMemory) = ⊤
 
 -- A row is performed on a stack in a world: what it gives is pushed, and what it keeps is suspended.
-abbrev pub PerformsRow : Row → World → FlatStack → Handed → World → FlatStack → Handed → Result Stage Halt → Type 0
+abbrev pub PerformsRow : Row → World → FlatStack → CallStreams → World → FlatStack → CallStreams → Result Stage Halt → Type 0
 PerformsRow row w m before v n after result = (st : Store Frames) → st.world ≡ world_of w
     → Performs (row_on row w m st) (λ was now answer. StandsOver (row_on row w m st was) st v n now answer) before after result
 
 -- A machine performs an instruction, or what is due on it.
-abbrev pub PerformsOn : {K : Type 0} → Tables → (Outside → State Frames Frames) → Machine K → Handed → Handed → Result Stage Halt → Type 0
+abbrev pub PerformsOn : {K : Type 0} → Tables → (Outside → State Frames Frames) → Machine K → CallStreams → CallStreams → Result Stage Halt → Type 0
 PerformsOn tables leads m before after result = Performs leads (λ was now answer. ComesTo tables now (leads was) m answer) before after result
 
 -- what stands on a stack and in a world names only what has a name, where something is answered but a fault or want of memory

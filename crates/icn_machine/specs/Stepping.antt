@@ -15,7 +15,7 @@ use Rattle.icn_run.specs.Step.{State, running, failing, hopping, over, stuck, st
 use Rattle.icn_run_named.specs.StateNames.{StackNamed, StateNamed, StoreNamed}
 use Rattle.icn_run_named.specs.KeepingSizes.{StateFits, StoreFits}
 use Rattle.icn_run_safe.specs.AnyOutside.{run_over}
-use Rattle.icn_streams.specs.Handed.{Handed, Follows, FailsOnce, KeepsAllCounts, KeepsCounts, WantsMemory}
+use Rattle.icn_streams.specs.Handed.{CallStreams, Follows, FailsOnce, KeepsAllCounts, KeepsCounts, WantsMemory}
 use Rattle.icn_instructions.specs.Ranges.{HasCaseMark, HasVariables, IsInRange}
 use Rattle.icn_control.specs.Machines.{ComesTo, HaltsAt, HasStack, IsSound, StandsAt, does, stack_of, stack_seen, store_seen}
 use Rattle.icn_control.specs.declared.machine.Machine.{Machine}
@@ -110,9 +110,9 @@ pub record IsReady {K : Type 0} (tables : Tables) (m : Machine K) (stage : Stage
 -- What some steps come to
 
 -- So many steps are done whole, and what was handed follows them; then what was answered is so of one step more.
-pub record Leads {K : Type 0} (tables : Tables) (state : State Frames Frames) (was : Outside) (before : Handed) (n : Machine K) (after : Handed) (result : Result Stage Halt) : Type 0 where
+pub record Leads {K : Type 0} (tables : Tables) (state : State Frames Frames) (was : Outside) (before : CallStreams) (n : Machine K) (after : CallStreams) (result : Result Stage Halt) : Type 0 where
   pub count : ℕ
-  pub between : Handed
+  pub between : CallStreams
   pub follows : Follows before between was (outside_at (steps flat tables count state))
   pub last : AnswersStep (λ now answer. ComesTo tables now (steps flat tables (suc count) state) n answer) (steps flat tables (suc count) state) (outside_at (steps flat tables count state)) between after result
 
@@ -133,18 +133,18 @@ pub record LeadsOver {K : Type 0} (tables : Tables) (state : State Frames Frames
   pub is : StandsBy tables now (run_over tables (first ∷ later) state) n result
 
 -- the input has failed, once, and nothing else
-pub record InputFails (before after : Handed) : Type 0 where
+pub record InputFails (before after : CallStreams) : Type 0 where
   pub faults : after.faults ≡ one_more before.faults
   pub output : KeepsCounts before.output after.output
   pub errors : KeepsCounts before.errors after.errors
 
 -- one of the outputs has failed, once, and nothing else
-pub data OutputFails (before after : Handed) : Type 0 where
+pub data OutputFails (before after : CallStreams) : Type 0 where
   output_fails : after.faults ≡ before.faults → FailsOnce before.output after.output → KeepsCounts before.errors after.errors → OutputFails before after
   errors_fail : after.faults ≡ before.faults → KeepsCounts before.output after.output → FailsOnce before.errors after.errors → OutputFails before after
 
 -- A fault is answered where that object has failed for the first time; where it is not, nothing has failed.
-abbrev pub IsFirstFault : {A : Type 0} → Result A Halt → Handed → Handed → Type 0
+abbrev pub IsFirstFault : {A : Type 0} → Result A Halt → CallStreams → CallStreams → Type 0
 IsFirstFault (Ok a) before after = KeepsAllCounts before after
 IsFirstFault (Err (Halts.Error number offending)) before after = KeepsAllCounts before after
 IsFirstFault (Err (Halts.Ends status)) before after = KeepsAllCounts before after
@@ -153,7 +153,7 @@ IsFirstFault (Err Halts.WriteFault) before after = OutputFails before after
 IsFirstFault (Err Halts.NoMemory) before after = WantsMemory before after
 
 -- From where a machine stands, steps lead to what was answered: over the outside that the input tells, if it does, and over some input in any case.
-pub record Advances {K : Type 0} (tables : Tables) (m : Machine K) (stage : Stage) (before : Handed) (n : Machine K) (after : Handed) (result : Result Stage Halt) : Type 0 where
+pub record Advances {K : Type 0} (tables : Tables) (m : Machine K) (stage : Stage) (before : CallStreams) (n : Machine K) (after : CallStreams) (result : Result Stage Halt) : Type 0 where
   pub answers : (was : Outside) (state : State Frames Frames) → IsAt tables was state m stage → before.left ≡ Some was.left
       → Leads tables state was before n after result
   pub meant : (was : Outside) (state : State Frames Frames) → IsAt tables was state m stage → LeadsOver tables state n result
@@ -203,7 +203,7 @@ EndsWhole (Err Halts.WriteFault) = ⊤
 EndsWhole (Err Halts.NoMemory) = ⊥
 
 -- No step was done, or some steps lead to what was answered.
-pub data GoesOn {K : Type 0} (tables : Tables) (m : Machine K) (stage : Stage) (before : Handed) (n : Machine K) (after : Handed) (result : Result Stage Halt) : Type 0 where
+pub data GoesOn {K : Type 0} (tables : Tables) (m : Machine K) (stage : Stage) (before : CallStreams) (n : Machine K) (after : CallStreams) (result : Result Stage Halt) : Type 0 where
   stays : n ≡ m → after ≡ before → result ≡ Ok stage → GoesOn tables m stage before n after result
   advances : Advances tables m stage before n after result → GoesOn tables m stage before n after result
 

@@ -3,7 +3,7 @@ ghost use Rattle.std.specs.Prelude.{◌≡◌, false, Ok, IfErr, IfOk};
 ghost use Rattle.icn_code.specs.Codes.{Tables};
 ghost use Rattle.icn_vars.specs.Outcomes.{IsLiveHalt};
 ghost use Rattle.icn_run.specs.Step.{all_names};
-ghost use Rattle.icn_streams.specs.Handed.{Handed, handed};
+ghost use Rattle.icn_streams.specs.Handed.{CallStreams, call_streams};
 ghost use Rattle.icn_control.specs.Machines.{world_reach};
 ghost use Rattle.icn_control.specs.declared.machine.Stage.TheVariants as Stages;
 ghost use Rattle.icn_machine.specs.Stepping.{Advances, FailsFurther, GoesOn, IsReady, MakesTurn, fails_within, is_failing};
@@ -27,7 +27,7 @@ fn fail_next<K: Stack<Cell> + Drop, N: Names, I: Source, O: Sink, E: Sink>(
     err: &mut E,
 ) -> Result<Stage, Halt>
     requires ready { (tables : Tables) × ((all_names tables ≡ N.known names.now) × IsReady tables m.old Stages.Fails) }
-    ensures steps { (tables : Tables) → all_names tables ≡ N.known names.now → IsReady tables m.old Stages.Fails → Advances tables m.old Stages.Fails (handed (I.left input.old) (I.faults input.old) (O.state out.old) (E.state err.old)) m.new (handed (I.left input.new) (I.faults input.new) (O.state out.new) (E.state err.new)) result }
+    ensures steps { (tables : Tables) → all_names tables ≡ N.known names.now → IsReady tables m.old Stages.Fails → Advances tables m.old Stages.Fails (call_streams (I.left input.old) (I.faults input.old) (O.state out.old) (E.state err.old)) m.new (call_streams (I.left input.new) (I.faults input.new) (O.state out.new) (E.state err.new)) result }
     ensures ready { (tables : Tables) → all_names tables ≡ N.known names.now → IsReady tables m.old Stages.Fails → IfOk result (IsReady tables m.new) }
     ensures further { IfOk result (FailsFurther m.old m.new) }
     ensures halt { IfErr result (IsLiveHalt (world_reach m.new)) }
@@ -81,7 +81,7 @@ fn fail_to_turn<K: Stack<Cell> + Drop, N: Names, I: Source, O: Sink, E: Sink>(
     err: &mut E,
 ) -> Result<Stage, Halt>
     requires ready { (tables : Tables) × ((all_names tables ≡ N.known names.now) × IsReady tables m.old Stages.Fails) }
-    ensures steps { (tables : Tables) → all_names tables ≡ N.known names.now → IsReady tables m.old Stages.Fails → GoesOn tables m.old Stages.Fails (handed (I.left input.old) (I.faults input.old) (O.state out.old) (E.state err.old)) m.new (handed (I.left input.new) (I.faults input.new) (O.state out.new) (E.state err.new)) result }
+    ensures steps { (tables : Tables) → all_names tables ≡ N.known names.now → IsReady tables m.old Stages.Fails → GoesOn tables m.old Stages.Fails (call_streams (I.left input.old) (I.faults input.old) (O.state out.old) (E.state err.old)) m.new (call_streams (I.left input.new) (I.faults input.new) (O.state out.new) (E.state err.new)) result }
     ensures ready { (tables : Tables) → all_names tables ≡ N.known names.now → IsReady tables m.old Stages.Fails → IfOk result (IsReady tables m.new) }
     ensures turn { IfOk result (MakesTurn m.old m.new) }
     ensures halt { IfErr result (IsLiveHalt (world_reach m.new)) }
@@ -98,7 +98,7 @@ fn fail_to_turn<K: Stack<Cell> + Drop, N: Names, I: Source, O: Sink, E: Sink>(
 // A hop that is due, as a turn.
 fn hop_next<K: Stack<Cell> + Drop>(m: &mut Machine<K>) -> Stage
     requires ready { (tables : Tables) × IsReady tables m.old Stages.HopDue }
-    ensures steps { (tables : Tables) (h : Handed) → IsReady tables m.old Stages.HopDue → Advances tables m.old Stages.HopDue h m.new h (Ok result) }
+    ensures steps { (tables : Tables) (h : CallStreams) → IsReady tables m.old Stages.HopDue → Advances tables m.old Stages.HopDue h m.new h (Ok result) }
     ensures ready { (tables : Tables) → IsReady tables m.old Stages.HopDue → IsReady tables m.new result }
     ensures turn { MakesTurn m.old m.new result }
     ensures limits { m.new.limits ≡ m.old.limits }
@@ -119,7 +119,7 @@ fn fail_turn<K: Stack<Cell> + Drop, N: Names, I: Source, O: Sink, E: Sink>(
     err: &mut E,
 ) -> Result<Stage, Halt>
     requires ready { (tables : Tables) × ((all_names tables ≡ N.known names.now) × IsReady tables m.old stage) }
-    ensures steps { (tables : Tables) → all_names tables ≡ N.known names.now → IsReady tables m.old stage → GoesOn tables m.old stage (handed (I.left input.old) (I.faults input.old) (O.state out.old) (E.state err.old)) m.new (handed (I.left input.new) (I.faults input.new) (O.state out.new) (E.state err.new)) result }
+    ensures steps { (tables : Tables) → all_names tables ≡ N.known names.now → IsReady tables m.old stage → GoesOn tables m.old stage (call_streams (I.left input.old) (I.faults input.old) (O.state out.old) (E.state err.old)) m.new (call_streams (I.left input.new) (I.faults input.new) (O.state out.new) (E.state err.new)) result }
     ensures ready { (tables : Tables) → all_names tables ≡ N.known names.now → IsReady tables m.old stage → IfOk result (IsReady tables m.new) }
     ensures turn { IfOk result (MakesTurn m.old m.new) }
     ensures halt { IfErr result (IsLiveHalt (world_reach m.new)) }
@@ -150,7 +150,7 @@ pub fn fail_through<K: Stack<Cell> + Drop, N: Names, I: Source, O: Sink, E: Sink
     err: &mut E,
 ) -> Result<Stage, Halt>
     requires ready { (tables : Tables) × ((all_names tables ≡ N.known names.now) × IsReady tables m.old from) }
-    ensures steps { (tables : Tables) → all_names tables ≡ N.known names.now → IsReady tables m.old from → GoesOn tables m.old from (handed (I.left input.old) (I.faults input.old) (O.state out.old) (E.state err.old)) m.new (handed (I.left input.new) (I.faults input.new) (O.state out.new) (E.state err.new)) result }
+    ensures steps { (tables : Tables) → all_names tables ≡ N.known names.now → IsReady tables m.old from → GoesOn tables m.old from (call_streams (I.left input.old) (I.faults input.old) (O.state out.old) (E.state err.old)) m.new (call_streams (I.left input.new) (I.faults input.new) (O.state out.new) (E.state err.new)) result }
     ensures ready { (tables : Tables) → all_names tables ≡ N.known names.now → IsReady tables m.old from → IfOk result (IsReady tables m.new) }
     ensures fails_no_more { IfOk result (λ stage. is_failing stage ≡ false) }
     ensures halt { IfErr result (IsLiveHalt (world_reach m.new)) }

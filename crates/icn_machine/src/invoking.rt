@@ -17,7 +17,7 @@ ghost use Rattle.icn_run.specs.Stacks.{flat as calls};
 ghost use Rattle.icn_run.specs.Step.{all_names, applied_to_elements, invoked, invoked_with};
 ghost use Rattle.icn_run_named.specs.KeepingSizes.{field_count};
 ghost use Rattle.icn_run_named.specs.StateNames.{StackNamed, StoreNamed};
-ghost use Rattle.icn_streams.specs.Handed.{handed};
+ghost use Rattle.icn_streams.specs.Handed.{call_streams};
 ghost use Rattle.icn_control.specs.Living.{IsLiveStack, with_locals};
 ghost use Rattle.icn_control.specs.Machines.{HasStack, IsSound, does, stack_of, stack_seen, store_seen, world_reach};
 ghost use Rattle.icn_control.specs.Standing.{stack_in};
@@ -69,7 +69,7 @@ pub fn call_value<K: Stack<Cell> + Drop, N: Names, I: Source, O: Sink, E: Sink>(
     requires stack_named { StackNamed (N.known names.now) (stack_in (extent_of world.old.heap) frames.old.flat) }
     requires world_named { WorldNamed (N.known names.now) (world_of world.old) }
     requires items_named { All (ItemNamed (N.known names.now)) (map (item_in (extent_of world.old.heap)) items.now) }
-    ensures step { PerformsEvent (all_names (tables_of code.now)) (λ st. invoked calls (tables_of code.now) (value_in (extent_of world.old.heap) callee) (map (item_in (extent_of world.old.heap)) items.now) (stack_in (extent_of world.old.heap) frames.old.flat) st) world.old (handed (I.left input.old) (I.faults input.old) (O.state out.old) (E.state err.old)) world.new frames.new.flat (handed (I.left input.new) (I.faults input.new) (O.state out.new) (E.state err.new)) result }
+    ensures step { PerformsEvent (all_names (tables_of code.now)) (λ st. invoked calls (tables_of code.now) (value_in (extent_of world.old.heap) callee) (map (item_in (extent_of world.old.heap)) items.now) (stack_in (extent_of world.old.heap) frames.old.flat) st) world.old (call_streams (I.left input.old) (I.faults input.old) (O.state out.old) (E.state err.old)) world.new frames.new.flat (call_streams (I.left input.new) (I.faults input.new) (O.state out.new) (E.state err.new)) result }
     ensures live { IsLiveStack (tables_of code.now) (reach_of world.old []) frames.old.flat → OnOk result (IsLiveStack (tables_of code.now) (reach_of world.new []) frames.new.flat) }
     ensures halt { IfErr result (IsLiveHalt (reach_of world.new [])) }
     ensures kept { KeepsItems (reach_of world.old []) (reach_of world.new []) }
@@ -119,7 +119,7 @@ fn call_first<K: Stack<Cell> + Drop, N: Names, I: Source, O: Sink, E: Sink>(
     requires stack_named { StackNamed (N.known names.now) (stack_in (extent_of world.old.heap) frames.old.flat) }
     requires world_named { WorldNamed (N.known names.now) (world_of world.old) }
     requires items_named { All (ItemNamed (N.known names.now)) (map (item_in (extent_of world.old.heap)) items.now) }
-    ensures step { PerformsEvent (all_names (tables_of code.now)) (λ st. invoked_with calls (tables_of code.now) (map (item_in (extent_of world.old.heap)) items.now) (stack_in (extent_of world.old.heap) frames.old.flat) st) world.old (handed (I.left input.old) (I.faults input.old) (O.state out.old) (E.state err.old)) world.new frames.new.flat (handed (I.left input.new) (I.faults input.new) (O.state out.new) (E.state err.new)) result }
+    ensures step { PerformsEvent (all_names (tables_of code.now)) (λ st. invoked_with calls (tables_of code.now) (map (item_in (extent_of world.old.heap)) items.now) (stack_in (extent_of world.old.heap) frames.old.flat) st) world.old (call_streams (I.left input.old) (I.faults input.old) (O.state out.old) (E.state err.old)) world.new frames.new.flat (call_streams (I.left input.new) (I.faults input.new) (O.state out.new) (E.state err.new)) result }
     ensures live { IsLiveStack (tables_of code.now) (reach_of world.old []) frames.old.flat → OnOk result (IsLiveStack (tables_of code.now) (reach_of world.new []) frames.new.flat) }
     ensures halt { IfErr result (IsLiveHalt (reach_of world.new [])) }
     ensures kept { KeepsItems (reach_of world.old []) (reach_of world.new []) }
@@ -161,7 +161,7 @@ pub fn invoke<K: Stack<Cell> + Drop, N: Names, I: Source, O: Sink, E: Sink>(
     requires sound { (tables : Tables) × IsSound tables m.old }
     requires stack_named { StackNamed (N.known names.now) (stack_seen m.old) }
     requires world_named { WorldNamed (N.known names.now) (world_of m.old.world) }
-    ensures step { PerformsOn (tables_of code.now) (λ outside. does (tables_of code.now) outside (Instrs.Invoke count) m.old) m.new (handed (I.left input.old) (I.faults input.old) (O.state out.old) (E.state err.old)) (handed (I.left input.new) (I.faults input.new) (O.state out.new) (E.state err.new)) result }
+    ensures step { PerformsOn (tables_of code.now) (λ outside. does (tables_of code.now) outside (Instrs.Invoke count) m.old) m.new (call_streams (I.left input.old) (I.faults input.old) (O.state out.old) (E.state err.old)) (call_streams (I.left input.new) (I.faults input.new) (O.state out.new) (E.state err.new)) result }
     ensures sound { IsSound (tables_of code.now) m.old → OnOk result (IsSound (tables_of code.now) m.new) }
     ensures halt { IfErr result (IsLiveHalt (world_reach m.new)) }
     ensures limits { m.new.limits ≡ m.old.limits }
@@ -216,7 +216,7 @@ fn call_with_elements<K: Stack<Cell> + Drop, N: Names, I: Source, O: Sink, E: Si
     requires from { IsLiveItem (with_locals (flat.local_count frames.old.flat) (reach_of world.old [])) from }
     requires stack_named { StackNamed (N.known names.now) (stack_in (extent_of world.old.heap) frames.old.flat) }
     requires world_named { WorldNamed (N.known names.now) (world_of world.old) }
-    ensures step { PerformsEvent (all_names (tables_of code.now)) (λ st. applied_to_elements calls (tables_of code.now) (item_in (extent_of world.old.heap) callee ∷ item_in (extent_of world.old.heap) from ∷ []) (stack_in (extent_of world.old.heap) frames.old.flat) st) world.old (handed (I.left input.old) (I.faults input.old) (O.state out.old) (E.state err.old)) world.new frames.new.flat (handed (I.left input.new) (I.faults input.new) (O.state out.new) (E.state err.new)) result }
+    ensures step { PerformsEvent (all_names (tables_of code.now)) (λ st. applied_to_elements calls (tables_of code.now) (item_in (extent_of world.old.heap) callee ∷ item_in (extent_of world.old.heap) from ∷ []) (stack_in (extent_of world.old.heap) frames.old.flat) st) world.old (call_streams (I.left input.old) (I.faults input.old) (O.state out.old) (E.state err.old)) world.new frames.new.flat (call_streams (I.left input.new) (I.faults input.new) (O.state out.new) (E.state err.new)) result }
     ensures live { IsLiveStack (tables_of code.now) (reach_of world.old []) frames.old.flat → OnOk result (IsLiveStack (tables_of code.now) (reach_of world.new []) frames.new.flat) }
     ensures halt { IfErr result (IsLiveHalt (reach_of world.new [])) }
     ensures kept { KeepsItems (reach_of world.old []) (reach_of world.new []) }
@@ -257,7 +257,7 @@ pub fn appl<K: Stack<Cell> + Drop, N: Names, I: Source, O: Sink, E: Sink>(
     requires sound { (tables : Tables) × IsSound tables m.old }
     requires stack_named { StackNamed (N.known names.now) (stack_seen m.old) }
     requires world_named { WorldNamed (N.known names.now) (world_of m.old.world) }
-    ensures step { PerformsOn (tables_of code.now) (λ outside. does (tables_of code.now) outside Instrs.Appl m.old) m.new (handed (I.left input.old) (I.faults input.old) (O.state out.old) (E.state err.old)) (handed (I.left input.new) (I.faults input.new) (O.state out.new) (E.state err.new)) result }
+    ensures step { PerformsOn (tables_of code.now) (λ outside. does (tables_of code.now) outside Instrs.Appl m.old) m.new (call_streams (I.left input.old) (I.faults input.old) (O.state out.old) (E.state err.old)) (call_streams (I.left input.new) (I.faults input.new) (O.state out.new) (E.state err.new)) result }
     ensures sound { IsSound (tables_of code.now) m.old → OnOk result (IsSound (tables_of code.now) m.new) }
     ensures halt { IfErr result (IsLiveHalt (world_reach m.new)) }
     ensures limits { m.new.limits ≡ m.old.limits }

@@ -9,9 +9,9 @@ ghost use Rattle.icn_vars.specs.Outcomes.{IsLiveHalt, IsLiveResidual, residual_i
 ghost use Rattle.icn_vars.specs.Worlds.{IsLiveItem, KeepsItems, item_in, reach_of, world_of};
 ghost use Rattle.icn_frames.specs.Stacks as flat;
 ghost use Rattle.icn_code.specs.Codes.{Tables};
-ghost use Rattle.icn_streams.specs.Answers.{given};
+ghost use Rattle.icn_streams.specs.Answers.{call_state};
 ghost use Rattle.icn_streams.specs.Applies.{Applies};
-ghost use Rattle.icn_streams.specs.Handed.{handed};
+ghost use Rattle.icn_streams.specs.Handed.{call_streams};
 ghost use Rattle.icn_apply.specs.Applicable.{IsApplicable, applied_of};
 ghost use Rattle.icn_apply.specs.NamesAfter.{AnswerNamed};
 ghost use Rattle.icn_apply.specs.SizesAfter.{AnswerKeepsSizes, WorldsKeepSizes};
@@ -57,7 +57,7 @@ pub fn perform<K: Stack<Cell> + Drop, N: Names, I: Source, O: Sink, E: Sink>(
     requires stack_named { StackNamed (N.known names.now) (stack_in (extent_of world.old.heap) frames.old.flat) }
     requires world_named { WorldNamed (N.known names.now) (world_of world.old) }
     requires items_named { All (ItemNamed (N.known names.now)) (map (item_in (extent_of world.old.heap)) items.now) }
-    ensures row { PerformsRow (step_rows.apply (N.known names.now) (applied_of what) (map (item_in (extent_of world.old.heap)) items.now)) world.old frames.old.flat (handed (I.left input.old) (I.faults input.old) (O.state out.old) (E.state err.old)) world.new frames.new.flat (handed (I.left input.new) (I.faults input.new) (O.state out.new) (E.state err.new)) result }
+    ensures row { PerformsRow (step_rows.apply (N.known names.now) (applied_of what) (map (item_in (extent_of world.old.heap)) items.now)) world.old frames.old.flat (call_streams (I.left input.old) (I.faults input.old) (O.state out.old) (E.state err.old)) world.new frames.new.flat (call_streams (I.left input.new) (I.faults input.new) (O.state out.new) (E.state err.new)) result }
     ensures live { (tables : Tables) → IsLiveStack tables (reach_of world.old []) frames.old.flat → OnOk result (IsLiveStack tables (reach_of world.new []) frames.new.flat) }
     ensures halt { IfErr result (IsLiveHalt (reach_of world.new [])) }
     ensures kept { KeepsItems (reach_of world.old []) (reach_of world.new []) }
@@ -91,7 +91,7 @@ fn perform_in<K: Stack<Cell> + Drop, N: Names, I: Source, O: Sink, E: Sink>(
     requires stack_named { StackNamed (N.known names.now) (stack_in (extent_of world.old.heap) frames.old.flat) }
     requires world_named { WorldNamed (N.known names.now) (world_of world.old) }
     requires items_named { All (ItemNamed (N.known names.now)) (map (item_in (extent_of world.old.heap)) items.now) }
-    ensures applies { Applies (step_rows.apply (N.known names.now) (applied_of what) (map (item_in (extent_of world.old.heap)) items.now)) (given world.old (flat.locals frames.old.flat) (handed (I.left input.old) (I.faults input.old) (O.state out.old) (E.state err.old))) (given world.new (flat.locals frames.new.flat) (handed (I.left input.new) (I.faults input.new) (O.state out.new) (E.state err.new))) result }
+    ensures applies { Applies (step_rows.apply (N.known names.now) (applied_of what) (map (item_in (extent_of world.old.heap)) items.now)) (call_state world.old (flat.locals frames.old.flat) (call_streams (I.left input.old) (I.faults input.old) (O.state out.old) (E.state err.old))) (call_state world.new (flat.locals frames.new.flat) (call_streams (I.left input.new) (I.faults input.new) (O.state out.new) (E.state err.new))) result }
     ensures named { AnswerNamed (N.known names.now) world.new (flat.locals frames.new.flat) result }
     ensures sized { AnswerKeepsSizes world.old world.new result }
     ensures stack { flat.set_locals (flat.locals frames.new.flat) frames.old.flat ≡ frames.new.flat }
@@ -123,7 +123,7 @@ fn perform_lent<'a, K: Stack<Cell> + Drop, B: Earlier, N: Names, I: Source, O: S
     requires world_named { WorldNamed (N.known names.now) (world_of world.old) }
     requires items_named { All (ItemNamed (N.known names.now)) (map (item_in (extent_of world.old.heap)) items.now) }
     ensures same_reference { result.1.ghost_name ≡ frames.entry.ghost_name }
-    ensures applies { Applies (step_rows.apply (N.known names.now) (applied_of what) (map (item_in (extent_of world.old.heap)) items.now)) (given world.old (flat.locals frames.old.flat) (handed (I.left input.old) (I.faults input.old) (O.state out.old) (E.state err.old))) (given world.new (flat.locals result.1.now.flat) (handed (I.left input.new) (I.faults input.new) (O.state out.new) (E.state err.new))) result.0 }
+    ensures applies { Applies (step_rows.apply (N.known names.now) (applied_of what) (map (item_in (extent_of world.old.heap)) items.now)) (call_state world.old (flat.locals frames.old.flat) (call_streams (I.left input.old) (I.faults input.old) (O.state out.old) (E.state err.old))) (call_state world.new (flat.locals result.1.now.flat) (call_streams (I.left input.new) (I.faults input.new) (O.state out.new) (E.state err.new))) result.0 }
     ensures named { AnswerNamed (N.known names.now) world.new (flat.locals result.1.now.flat) result.0 }
     ensures sized { AnswerKeepsSizes world.old world.new result.0 }
     ensures stack { flat.set_locals (flat.locals result.1.now.flat) frames.old.flat ≡ result.1.now.flat }
@@ -153,7 +153,7 @@ pub fn perform_again<K: Stack<Cell> + Drop, N: Names, I: Source, O: Sink, E: Sin
     requires stack_named { StackNamed (N.known names.now) (stack_in (extent_of world.old.heap) frames.old.flat) }
     requires world_named { WorldNamed (N.known names.now) (world_of world.old) }
     requires rest_named { ResidualNamed (N.known names.now) (residual_in (extent_of world.old.heap) rest) }
-    ensures row { PerformsRow (rows.again (residual_in (extent_of world.old.heap) rest)) world.old frames.old.flat (handed (I.left input.old) (I.faults input.old) (O.state out.old) (E.state err.old)) world.new frames.new.flat (handed (I.left input.new) (I.faults input.new) (O.state out.new) (E.state err.new)) result }
+    ensures row { PerformsRow (rows.again (residual_in (extent_of world.old.heap) rest)) world.old frames.old.flat (call_streams (I.left input.old) (I.faults input.old) (O.state out.old) (E.state err.old)) world.new frames.new.flat (call_streams (I.left input.new) (I.faults input.new) (O.state out.new) (E.state err.new)) result }
     ensures live { (tables : Tables) → IsLiveStack tables (reach_of world.old []) frames.old.flat → OnOk result (IsLiveStack tables (reach_of world.new []) frames.new.flat) }
     ensures halt { IfErr result (IsLiveHalt (reach_of world.new [])) }
     ensures kept { KeepsItems (reach_of world.old []) (reach_of world.new []) }
@@ -185,7 +185,7 @@ fn again_in<K: Stack<Cell> + Drop, N: Names, I: Source, O: Sink, E: Sink>(
     requires stack_named { StackNamed (N.known names.now) (stack_in (extent_of world.old.heap) frames.old.flat) }
     requires world_named { WorldNamed (N.known names.now) (world_of world.old) }
     requires rest_named { ResidualNamed (N.known names.now) (residual_in (extent_of world.old.heap) rest) }
-    ensures applies { Applies (rows.again (residual_in (extent_of world.old.heap) rest)) (given world.old (flat.locals frames.old.flat) (handed (I.left input.old) (I.faults input.old) (O.state out.old) (E.state err.old))) (given world.new (flat.locals frames.new.flat) (handed (I.left input.new) (I.faults input.new) (O.state out.new) (E.state err.new))) result }
+    ensures applies { Applies (rows.again (residual_in (extent_of world.old.heap) rest)) (call_state world.old (flat.locals frames.old.flat) (call_streams (I.left input.old) (I.faults input.old) (O.state out.old) (E.state err.old))) (call_state world.new (flat.locals frames.new.flat) (call_streams (I.left input.new) (I.faults input.new) (O.state out.new) (E.state err.new))) result }
     ensures named { AnswerNamed (N.known names.now) world.new (flat.locals frames.new.flat) result }
     ensures sized { AnswerKeepsSizes world.old world.new result }
     ensures stack { flat.set_locals (flat.locals frames.new.flat) frames.old.flat ≡ frames.new.flat }
@@ -215,7 +215,7 @@ fn again_lent<'a, K: Stack<Cell> + Drop, B: Earlier, N: Names, I: Source, O: Sin
     requires world_named { WorldNamed (N.known names.now) (world_of world.old) }
     requires rest_named { ResidualNamed (N.known names.now) (residual_in (extent_of world.old.heap) rest) }
     ensures same_reference { result.1.ghost_name ≡ frames.entry.ghost_name }
-    ensures applies { Applies (rows.again (residual_in (extent_of world.old.heap) rest)) (given world.old (flat.locals frames.old.flat) (handed (I.left input.old) (I.faults input.old) (O.state out.old) (E.state err.old))) (given world.new (flat.locals result.1.now.flat) (handed (I.left input.new) (I.faults input.new) (O.state out.new) (E.state err.new))) result.0 }
+    ensures applies { Applies (rows.again (residual_in (extent_of world.old.heap) rest)) (call_state world.old (flat.locals frames.old.flat) (call_streams (I.left input.old) (I.faults input.old) (O.state out.old) (E.state err.old))) (call_state world.new (flat.locals result.1.now.flat) (call_streams (I.left input.new) (I.faults input.new) (O.state out.new) (E.state err.new))) result.0 }
     ensures named { AnswerNamed (N.known names.now) world.new (flat.locals result.1.now.flat) result.0 }
     ensures sized { AnswerKeepsSizes world.old world.new result.0 }
     ensures stack { flat.set_locals (flat.locals result.1.now.flat) frames.old.flat ≡ result.1.now.flat }

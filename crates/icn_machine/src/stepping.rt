@@ -8,7 +8,7 @@ ghost use Rattle.icn_frames.specs.Stacks as flat;
 ghost use Rattle.icn_code.specs.Seen.{tables_of};
 ghost use Rattle.icn_run.specs.Stacks.{flat as calls};
 ghost use Rattle.icn_run.specs.Step.{all_names, instruction_at, instrs_of, running, step};
-ghost use Rattle.icn_streams.specs.Handed.{handed};
+ghost use Rattle.icn_streams.specs.Handed.{call_streams};
 ghost use Rattle.icn_control.specs.Machines.{ComesTo, does, stack_seen, store_seen, world_reach};
 ghost use Rattle.icn_control.specs.declared.machine.Stage.TheVariants as Stages;
 ghost use Rattle.icn_machine.specs.Performing.{PerformsOn};
@@ -114,7 +114,7 @@ fn do_applied<K: Stack<Cell> + Drop, N: Names, I: Source, O: Sink, E: Sink>(
     requires applied { is_applied instr ≡ true }
     requires known { N.known names.now ≡ all_names (tables_of code.now) }
     requires doing { IsDoing (tables_of code.now) m.old instr }
-    ensures step { PerformsOn (tables_of code.now) (λ outside. does (tables_of code.now) outside instr m.old) m.new (handed (I.left input.old) (I.faults input.old) (O.state out.old) (E.state err.old)) (handed (I.left input.new) (I.faults input.new) (O.state out.new) (E.state err.new)) result }
+    ensures step { PerformsOn (tables_of code.now) (λ outside. does (tables_of code.now) outside instr m.old) m.new (call_streams (I.left input.old) (I.faults input.old) (O.state out.old) (E.state err.old)) (call_streams (I.left input.new) (I.faults input.new) (O.state out.new) (E.state err.new)) result }
     ensures ready { IfOk result (IsReady (tables_of code.now) m.new) }
     ensures halt { IfErr result (IsLiveHalt (world_reach m.new)) }
     ensures limits { m.new.limits ≡ m.old.limits }
@@ -165,7 +165,7 @@ fn do_next<K: Stack<Cell> + Drop, N: Names, I: Source, O: Sink, E: Sink>(
 ) -> Result<Stage, Halt>
     requires known { N.known names.now ≡ all_names (tables_of code.now) }
     requires ready { IsReady (tables_of code.now) m.old Stages.Runs }
-    ensures steps { Advances (tables_of code.now) m.old Stages.Runs (handed (I.left input.old) (I.faults input.old) (O.state out.old) (E.state err.old)) m.new (handed (I.left input.new) (I.faults input.new) (O.state out.new) (E.state err.new)) result }
+    ensures steps { Advances (tables_of code.now) m.old Stages.Runs (call_streams (I.left input.old) (I.faults input.old) (O.state out.old) (E.state err.old)) m.new (call_streams (I.left input.new) (I.faults input.new) (O.state out.new) (E.state err.new)) result }
     ensures ready { IfOk result (IsReady (tables_of code.now) m.new) }
     ensures whole { (instr : InstrSeen) → instruction_at calls (tables_of code.now) (stack_seen m.old) ≡ Some instr → is_whole instr ≡ true → EndsWhole result }
     ensures halt { IfErr result (IsLiveHalt (world_reach m.new)) }
@@ -205,7 +205,7 @@ fn fail_to_next<K: Stack<Cell> + Drop, N: Names, I: Source, O: Sink, E: Sink>(
 ) -> Result<Stepped, Halt>
     requires known { N.known names.now ≡ all_names (tables_of code.now) }
     requires ready { IsReady (tables_of code.now) m.old from }
-    ensures steps { GoesOn (tables_of code.now) m.old from (handed (I.left input.old) (I.faults input.old) (O.state out.old) (E.state err.old)) m.new (handed (I.left input.new) (I.faults input.new) (O.state out.new) (E.state err.new)) (staged result) }
+    ensures steps { GoesOn (tables_of code.now) m.old from (call_streams (I.left input.old) (I.faults input.old) (O.state out.old) (E.state err.old)) m.new (call_streams (I.left input.new) (I.faults input.new) (O.state out.new) (E.state err.new)) (staged result) }
     ensures ready { IfOk result (λ stepped. IsReady (tables_of code.now) m.new (stage_of stepped)) }
     ensures halt { IfErr result (IsLiveHalt (world_reach m.new)) }
     ensures limits { m.new.limits ≡ m.old.limits }
@@ -226,7 +226,7 @@ fn step_named<K: Stack<Cell> + Drop, N: Names, I: Source, O: Sink, E: Sink>(
 ) -> Result<Stepped, Halt>
     requires known { N.known names.now ≡ all_names (tables_of code.now) }
     requires ready { IsReady (tables_of code.now) m.old Stages.Runs }
-    ensures steps { Advances (tables_of code.now) m.old Stages.Runs (handed (I.left input.old) (I.faults input.old) (O.state out.old) (E.state err.old)) m.new (handed (I.left input.new) (I.faults input.new) (O.state out.new) (E.state err.new)) (staged result) }
+    ensures steps { Advances (tables_of code.now) m.old Stages.Runs (call_streams (I.left input.old) (I.faults input.old) (O.state out.old) (E.state err.old)) m.new (call_streams (I.left input.new) (I.faults input.new) (O.state out.new) (E.state err.new)) (staged result) }
     ensures ready { IfOk result (λ stepped. IsReady (tables_of code.now) m.new (stage_of stepped)) }
     ensures no_memory { (instr : InstrSeen) → instruction_at calls (tables_of code.now) (stack_seen m.old) ≡ Some instr → is_whole instr ≡ true → result ≢ Err NoMemory }
     ensures halt { IfErr result (IsLiveHalt (world_reach m.new)) }
@@ -256,7 +256,7 @@ pub fn step<K: Stack<Cell> + Drop, I: Source, O: Sink, E: Sink>(
     err: &mut E,
 ) -> Result<Stepped, Halt>
     requires ready { IsReady (tables_of code.now.code) m.old Stages.Runs }
-    ensures steps { Advances (tables_of code.now.code) m.old Stages.Runs (handed (I.left input.old) (I.faults input.old) (O.state out.old) (E.state err.old)) m.new (handed (I.left input.new) (I.faults input.new) (O.state out.new) (E.state err.new)) (staged result) }
+    ensures steps { Advances (tables_of code.now.code) m.old Stages.Runs (call_streams (I.left input.old) (I.faults input.old) (O.state out.old) (E.state err.old)) m.new (call_streams (I.left input.new) (I.faults input.new) (O.state out.new) (E.state err.new)) (staged result) }
     ensures ready { IfOk result (λ stepped. IsReady (tables_of code.now.code) m.new (stage_of stepped)) }
     ensures no_memory { (instr : InstrSeen) → instruction_at calls (tables_of code.now.code) (stack_seen m.old) ≡ Some instr → is_whole instr ≡ true → result ≢ Err NoMemory }
     ensures halt { IfErr result (IsLiveHalt (world_reach m.new)) }

@@ -7,7 +7,7 @@ use Rattle.icn_value.specs.declared.full.Full.{Full}
 use Rattle.icn_value.specs.declared.full.Full.TheVariants.{Strings, Cells, NoMemory}
 use Rattle.icn_value.specs.Values.{Value, ASet}
 use Rattle.icn_value.specs.Store.{Heap, Setting, having_heap}
-use Rattle.icn_value.specs.Changes.{Changed, Refuses, and_then, charged_cells, next_set}
+use Rattle.icn_value.specs.Changes.{ChangedHeap, Refuses, and_then, charged_cells, next_set}
 use Rattle.icn_defs.specs.Calls.{GoesOn}
 use Rattle.icn_defs.specs.Operations.{new_set_of}
 use Rattle.icn_defs.specs.Rows.{Row, changes_heap, costs_cells}
@@ -30,7 +30,7 @@ set_made setting items made is next =
     ∙ ap (λ (sets : List (List Value)). next (ASet (length sets)) (having_heap (λ other. made) setting)) ((cells_change (1 + length items)).charged setting.world.heap paid.0 paid.1).sets)
 
 -- the charge of the set is refused
-refused : (items : List Value) (charge : Changed) (full : Full) → and_then charge (λ paid. let r : Changed = Ok (having_members items paid) in r) ≡ Err full → charge ≡ Err full
+refused : (items : List Value) (charge : ChangedHeap) (full : Full) → and_then charge (λ paid. let r : ChangedHeap = Ok (having_members items paid) in r) ≡ Err full → charge ≡ Err full
 refused items (Ok paid) full is = cc
 refused items (Err why) full is = cc
 

@@ -10,9 +10,9 @@ ghost use Rattle.icn_heap.specs.Heaps.{extent_of};
 ghost use Rattle.icn_vars.specs.Outcomes.{IsLiveAnswer, IsLiveResidual, residual_in};
 ghost use Rattle.icn_vars.specs.Worlds.{IsLiveItem, KeepsItems, item_in, reach_of};
 ghost use Rattle.icn_args.specs.Words.{Answers};
-ghost use Rattle.icn_streams.specs.Answers.{given};
+ghost use Rattle.icn_streams.specs.Answers.{call_state};
 ghost use Rattle.icn_streams.specs.Applies.{Applies};
-ghost use Rattle.icn_streams.specs.Handed.{handed};
+ghost use Rattle.icn_streams.specs.Handed.{call_streams};
 ghost use Rattle.icn_ops.specs.Kinds.{is_of_operations, wants_values};
 
 use crate::random::random_row;
@@ -45,7 +45,7 @@ pub fn first<L: Locals, I: Source>(
     requires arity { length args.now ≡ arity op }
     requires locals { All (IsLive (extent_of w.old.heap)) (L.items l.old) }
     requires args { All (IsLiveItem (reach_of w.old (L.items l.old))) args.now }
-    ensures { (output errors : SinkState) → Applies (operation_row op (map (item_in (extent_of w.old.heap)) args.now)) (given w.old (L.items l.old) (handed (I.left input.old) (I.faults input.old) output errors)) (given w.new (L.items l.new) (handed (I.left input.new) (I.faults input.new) output errors)) result }
+    ensures { (output errors : SinkState) → Applies (operation_row op (map (item_in (extent_of w.old.heap)) args.now)) (call_state w.old (L.items l.old) (call_streams (I.left input.old) (I.faults input.old) output errors)) (call_state w.new (L.items l.new) (call_streams (I.left input.new) (I.faults input.new) output errors)) result }
 {
     if wants_values(op) {
         return apply_to_values(op, args, w, l);
@@ -69,7 +69,7 @@ pub fn again<L: Locals, I: Source>(
     requires operation { is_of_operations rest ≡ true }
     requires locals { All (IsLive (extent_of w.old.heap)) (L.items l.old) }
     requires rest { IsLiveResidual (reach_of w.old (L.items l.old)) rest }
-    ensures { (output errors : SinkState) → Applies (again (residual_in (extent_of w.old.heap) rest)) (given w.old (L.items l.old) (handed (I.left input.old) (I.faults input.old) output errors)) (given w.new (L.items l.new) (handed (I.left input.new) (I.faults input.new) output errors)) result }
+    ensures { (output errors : SinkState) → Applies (again (residual_in (extent_of w.old.heap) rest)) (call_state w.old (L.items l.old) (call_streams (I.left input.old) (I.faults input.old) output errors)) (call_state w.new (L.items l.new) (call_streams (I.left input.new) (I.faults input.new) output errors)) result }
 {
     match rest {
         Residual::InputLines => lines_again(w, l, buffer, input),
@@ -90,7 +90,7 @@ fn apply_to_one<L: Locals, I: Source>(
     requires arity { arity op ≡ 1 }
     requires locals { All (IsLive (extent_of w.old.heap)) (L.items l.old) }
     requires first { IsLiveItem (reach_of w.old (L.items l.old)) x }
-    ensures { (output errors : SinkState) → Applies (operation_on op (item_in (extent_of w.old.heap) x) (ValItem Null) (ValItem Null)) (given w.old (L.items l.old) (handed (I.left input.old) (I.faults input.old) output errors)) (given w.new (L.items l.new) (handed (I.left input.new) (I.faults input.new) output errors)) result }
+    ensures { (output errors : SinkState) → Applies (operation_on op (item_in (extent_of w.old.heap) x) (ValItem Null) (ValItem Null)) (call_state w.old (L.items l.old) (call_streams (I.left input.old) (I.faults input.old) output errors)) (call_state w.new (L.items l.new) (call_streams (I.left input.new) (I.faults input.new) output errors)) result }
 {
     match op {
         Op::Elements => elements_row(w, l, x, buffer, input),

@@ -5,7 +5,7 @@ ghost use Rattle.icn_value.specs.Members.{members_of};
 ghost use Rattle.icn_value.specs.Store.{Outside, Setting, set_at};
 ghost use Rattle.icn_value.specs.declared.val.Val.TheVariants.{Set};
 ghost use Rattle.icn_defs.specs.Arguments.{set_of};
-ghost use Rattle.icn_defs.specs.Operations.{difference_row, intersection_row, new_set_of, shared, two_sets, union_row, unshared};
+ghost use Rattle.icn_defs.specs.Operations.{difference_row, intersection_row, new_set_of, intersection, two_sets, union_row, difference};
 ghost use Rattle.icn_heap.specs.Extents.{Extent, IsLive, value_in};
 ghost use Rattle.icn_heap.specs.Heaps.{extent_of, heap_of};
 ghost use Rattle.icn_vars.specs.Outcomes.{IsLiveAnswer};
@@ -131,7 +131,7 @@ fn new_union<L: Locals>(w: &mut World, l: &L, first: u32, second: u32) -> Result
     requires second { IsLive (extent_of w.old.heap) (Set second) }
     ensures live { IfOk result (IsLive (extent_of w.new.heap)) }
     ensures stops { IfErr result (IsLiveStop (extent_of w.new.heap)) }
-    ensures found { (outside : Outside) → Found (extent_of w.new.heap) (new_set_of ((set_at (heap_of w.old.heap) first) ++ unshared (set_at (heap_of w.old.heap) second) (set_at (heap_of w.old.heap) first))) (setting_of outside w.old (L.items l.now)) (setting_of outside w.new (L.items l.now)) (value_in (extent_of w.new.heap)) result }
+    ensures found { (outside : Outside) → Found (extent_of w.new.heap) (new_set_of ((set_at (heap_of w.old.heap) first) ++ difference (set_at (heap_of w.old.heap) second) (set_at (heap_of w.old.heap) first))) (setting_of outside w.old (L.items l.now)) (setting_of outside w.new (L.items l.now)) (value_in (extent_of w.new.heap)) result }
     ensures locals { All (IsLive (extent_of w.new.heap)) (L.items l.now) }
     ensures kept { KeepsItems (reach_of w.old (L.items l.now)) (reach_of w.new (L.items l.now)) }
 {
@@ -146,7 +146,7 @@ fn new_difference<L: Locals>(w: &mut World, l: &L, first: u32, second: u32) -> R
     requires second { IsLive (extent_of w.old.heap) (Set second) }
     ensures live { IfOk result (IsLive (extent_of w.new.heap)) }
     ensures stops { IfErr result (IsLiveStop (extent_of w.new.heap)) }
-    ensures found { (outside : Outside) → Found (extent_of w.new.heap) (new_set_of (unshared (set_at (heap_of w.old.heap) first) (set_at (heap_of w.old.heap) second))) (setting_of outside w.old (L.items l.now)) (setting_of outside w.new (L.items l.now)) (value_in (extent_of w.new.heap)) result }
+    ensures found { (outside : Outside) → Found (extent_of w.new.heap) (new_set_of (difference (set_at (heap_of w.old.heap) first) (set_at (heap_of w.old.heap) second))) (setting_of outside w.old (L.items l.now)) (setting_of outside w.new (L.items l.now)) (value_in (extent_of w.new.heap)) result }
     ensures locals { All (IsLive (extent_of w.new.heap)) (L.items l.now) }
     ensures kept { KeepsItems (reach_of w.old (L.items l.now)) (reach_of w.new (L.items l.now)) }
 {
@@ -161,7 +161,7 @@ fn new_intersection<L: Locals>(w: &mut World, l: &L, first: u32, second: u32) ->
     requires second { IsLive (extent_of w.old.heap) (Set second) }
     ensures live { IfOk result (IsLive (extent_of w.new.heap)) }
     ensures stops { IfErr result (IsLiveStop (extent_of w.new.heap)) }
-    ensures found { (outside : Outside) → Found (extent_of w.new.heap) (new_set_of (shared (set_at (heap_of w.old.heap) first) (set_at (heap_of w.old.heap) second))) (setting_of outside w.old (L.items l.now)) (setting_of outside w.new (L.items l.now)) (value_in (extent_of w.new.heap)) result }
+    ensures found { (outside : Outside) → Found (extent_of w.new.heap) (new_set_of (intersection (set_at (heap_of w.old.heap) first) (set_at (heap_of w.old.heap) second))) (setting_of outside w.old (L.items l.now)) (setting_of outside w.new (L.items l.now)) (value_in (extent_of w.new.heap)) result }
     ensures locals { All (IsLive (extent_of w.new.heap)) (L.items l.now) }
     ensures kept { KeepsItems (reach_of w.old (L.items l.now)) (reach_of w.new (L.items l.now)) }
 {

@@ -10,9 +10,9 @@ ghost use Rattle.icn_heap.specs.Heaps.{extent_of};
 ghost use Rattle.icn_vars.specs.Outcomes.{IsLiveAnswer};
 ghost use Rattle.icn_vars.specs.Worlds.{IsLiveItem, KeepsItems, item_in, reach_of};
 ghost use Rattle.icn_args.specs.Words.{Answers, HasText, the_text};
-ghost use Rattle.icn_streams.specs.Answers.{given};
+ghost use Rattle.icn_streams.specs.Answers.{call_state};
 ghost use Rattle.icn_streams.specs.Applies.{Applies};
-ghost use Rattle.icn_streams.specs.Handed.{handed};
+ghost use Rattle.icn_streams.specs.Handed.{call_streams};
 
 use crate::elements::{
     list_items_from, record_fields_from, set_members_from, table_values_from, text_bytes_from,
@@ -40,7 +40,7 @@ pub fn elements_row<L: Locals, I: Source>(
 ) -> Result<Outcome, Halt>
     requires locals { All (IsLive (extent_of w.old.heap)) (L.items l.now) }
     requires first { IsLiveItem (reach_of w.old (L.items l.now)) x }
-    ensures { (output errors : SinkState) → Applies (elements_row (item_in (extent_of w.old.heap) x)) (given w.old (L.items l.now) (handed (I.left input.old) (I.faults input.old) output errors)) (given w.new (L.items l.now) (handed (I.left input.new) (I.faults input.new) output errors)) result }
+    ensures { (output errors : SinkState) → Applies (elements_row (item_in (extent_of w.old.heap) x)) (call_state w.old (L.items l.now) (call_streams (I.left input.old) (I.faults input.old) output errors)) (call_state w.new (L.items l.now) (call_streams (I.left input.new) (I.faults input.new) output errors)) result }
 {
     let val = deref(w, l, x)?;
     match val {

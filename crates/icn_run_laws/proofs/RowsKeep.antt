@@ -4,7 +4,7 @@ use Rattle.icn_value.specs.Values.{Value, Item, Val}
 use Rattle.icn_value.specs.Store.{Setting, Names}
 use Rattle.icn_defs.specs.Rows.{Row, Outcome, Gives, check}
 use Rattle.icn_defs.specs.Keeping.{Keeps, KeepsIn}
-use Rattle.icn_defs.proofs.Kept.{KI, words, operation_keeps, function_keeps, again_keeps, list_keeps}
+use Rattle.icn_defs.proofs.KeptSizes.{KI, words, operation_keeps, function_keeps, again_keeps, list_keeps}
 use Rattle.icn_run.specs.Rows.{Operation, Function, apply, list_row, record_row, coexpression_row, text_row, words_row}
 use Rattle.icn_defs.specs.StepRows.{Applied}
 use Rattle.icn_run_laws.specs.SameStates.{RowsKeep, IsMade}

@@ -11,7 +11,7 @@ use Rattle.icn_value.specs.Limited.{Bounds}
 use Rattle.icn_value.specs.Store.{Setting, Heap, Names, having_position, having_heap, value_at}
 use Rattle.icn_defs.specs.Conversions.{group_of, integer_of, place_of, Group, Textual, Listed, Collected, Tabled, Recorded, Filed, Activated, Single}
 use Rattle.icn_defs.specs.Rows.{Row, Outcome, Fails, Gives, Suspends, Error, Ends, Residual, TextBytes, VariableBytes, ListItems, SetMembers, TableValues, TableKeys, RecordFields, InputLines, UndoAssign, UndoExchange, UndoPosition, Counting, Sequence, Balanced, Found, Among, Mover, Neither, Left, Right, check, present, computed, passing, found, natural, costs_made}
-use Rattle.icn_defs.specs.Reading.{the_value, the_values, the_variable, assigns_keyword, assigns_root, assigns_or, assigns_both, moved, moved_by_left, moved_by_right, costs_unless, reads}
+use Rattle.icn_defs.specs.Reading.{the_value, the_values, the_variable, assigns_keyword, assigns_root, assigns_or, assigns_both, move_part, moved_by_left, moved_by_right, costs_unless, reads}
 use Rattle.icn_defs.specs.Arguments.{Keeper, SetKeeper, TableKeeper}
 use Rattle.icn_defs.specs.Arithmetic.{count_from}
 use Rattle.icn_defs.specs.Operations.{sets_or_csets}
@@ -152,7 +152,7 @@ module _ (b : Heap) where
   w_assigns refused (Whole root) value next a h r f = w_root refused root value (next (Whole root)) a h r (f (Whole root))
   w_assigns refused (Part root place size) value next a h r f = search (words, w_root, r, f) depth 14
 
-  w_moved : (old new : ℕ) (x : Variable) (next : Variable → Row) (a : Setting) → S b a → ((y : Variable) → O b (next y a)) → O b (moved old new x next a)
+  w_moved : (old new : ℕ) (x : Variable) (next : Variable → Row) (a : Setting) → S b a → ((y : Variable) → O b (next y a)) → O b (move_part old new x next a)
   w_moved old new (Whole root) next a h f = f (Whole root)
   w_moved old new (Part root place size) next a h f = search (words, f)
 

@@ -11,7 +11,7 @@ use Rattle.icn_value.specs.Values.{Value, ACoexp, Root, Global, Static, Local, E
 use Rattle.icn_value.specs.Store.{Setting, Heap, Names, having_position, having_heap, list_at, table_at, record_at}
 use Rattle.icn_defs.specs.Conversions.{same, integer_of, place_of, held_text, Group, Textual, Listed, Collected, Tabled, Recorded, Filed, Activated, Single}
 use Rattle.icn_defs.specs.Rows.{Row, Outcome, Fails, Gives, Suspends, Error, Ends, Residual, TextBytes, VariableBytes, ListItems, SetMembers, TableValues, TableKeys, RecordFields, InputLines, UndoAssign, UndoExchange, UndoPosition, Counting, Sequence, Balanced, Found, Among, Mover, Neither, Left, Right, check, present, computed, passing, found, natural, costs_made}
-use Rattle.icn_defs.specs.Reading.{the_value, the_values, the_variable, assigns_keyword, assigns_root, assigns_or, assigns_both, moved, moved_by_left, moved_by_right, costs_unless, stores, reads, reads_root, root_value}
+use Rattle.icn_defs.specs.Reading.{the_value, the_values, the_variable, assigns_keyword, assigns_root, assigns_or, assigns_both, move_part, moved_by_left, moved_by_right, costs_unless, stores, reads, reads_root, root_value}
 use Rattle.icn_defs.specs.Arguments.{Keeper, SetKeeper, TableKeeper}
 use Rattle.icn_defs.specs.Arithmetic.{count_from}
 use Rattle.icn_defs.specs.Operations.{sets_or_csets}
@@ -224,7 +224,7 @@ module _ (n : ℕ) where
       let part : (c d : ℕ) → X n (Part root c d) = λ c d. record { is = x.is } in
       search (words, w_made, w_root, w_assigns_root, part, r, f) depth 14
 
-  w_moved : (old new : ℕ) (x : Variable) (next : Variable → Row) (a : Setting) → X n x → ((y : Variable) → X n y → O n (next y a)) → O n (moved old new x next a)
+  w_moved : (old new : ℕ) (x : Variable) (next : Variable → Row) (a : Setting) → X n x → ((y : Variable) → X n y → O n (next y a)) → O n (move_part old new x next a)
   w_moved old new (Whole root) next a x f = f (Whole root) x
   w_moved old new (Part root place size) next a x f = let part : (c d : ℕ) → X n (Part root c d) = λ c d. record { is = x.is } in search (words, part, f)
 

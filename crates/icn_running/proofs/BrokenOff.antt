@@ -12,7 +12,7 @@ use Rattle.icn_code.specs.Codes.{Tables}
 use Rattle.icn_defs.specs.Interruptions.{LosesPart, Breaks, taken_of, BreaksReading}
 use Rattle.icn_defs.specs.Running.{Ending, Observed, Launch, launch_of, after_steps, with_errors}
 use Rattle.icn_defs.proofs.Interrupting.{outside_begins, reading_breaks}
-use Rattle.icn_streams.specs.Handed.{Handed, Follows, Puts, PutsPart}
+use Rattle.icn_streams.specs.Handed.{CallStreams, Follows, Puts, PutsPart}
 use Rattle.icn_streams.proofs.Following.{follows_then, part_of_nothing, puts_whole, then_puts_part}
 use Rattle.icn_run.specs.FlatStep as Flat
 use Rattle.icn_run.specs.Stacks.{Frames, flat, empty}
@@ -141,7 +141,7 @@ module _ (tables : Tables) where
     next_since_start n was = subst (Extends (outside_of input)) (in_next n was) (since_start (suc n))
 
     -- what is left is that of one outside on the way, and what was put a first part of that of another
-    breaks_at : (before after : Handed) (mid now : Outside) → Extends (outside_of input) mid → Extends mid seen.outside → Extends now seen.outside
+    breaks_at : (before after : CallStreams) (mid now : Outside) → Extends (outside_of input) mid → Extends mid seen.outside → Extends now seen.outside
         → after.left ≡ Some mid.left
         → PutsPart before.output after.output [] now.output → PutsPart before.errors after.errors [] now.errors
         → Breaks input seen (streams_of before) (streams_of after)
@@ -155,13 +155,13 @@ module _ (tables : Tables) where
     from_start = subst (HasOutside (Extends (outside_of input))) (over_seen (at r.count) seen r.is) (reached_extends tables launch r.count)
 
     -- a run of which nothing was done
-    pub run_not_begun : (before : Handed) → before.left ≡ Some input → Breaks input seen (streams_of before) (streams_of before)
+    pub run_not_begun : (before : CallStreams) → before.left ≡ Some input → Breaks input seen (streams_of before) (streams_of before)
     run_not_begun before told =
         breaks_at before before (outside_of input) (outside_of input) (extends_itself (outside_of input)) from_start from_start told
         (part_of_nothing before.output []) (part_of_nothing before.errors [])
 
     -- a run that is over, whose report was not put whole
-    pub run_cut_short : (before between : Handed) (errors : SinkState) (ending : Ending) (report : List ℕ)
+    pub run_cut_short : (before between : CallStreams) (errors : SinkState) (ending : Ending) (report : List ℕ)
         → ComesToEnd tables launch before between ending report
         → GainsPart between.errors.held errors.held report → Breaks input seen (streams_of before) (streams_of (then_errors between errors))
     run_cut_short before between errors ending report comes part =
@@ -172,7 +172,7 @@ module _ (tables : Tables) where
         breaks_at before (then_errors between errors) (with_errors report comes.now) (with_errors report comes.now) since rest rest comes.follows.left
         (puts_whole comes.follows.output) (then_puts_part comes.follows.errors put)
 
-    module _ (n : ℕ) (before between after : Handed) (f : Follows before between (outside_of input) (outside_at (at n))) where
+    module _ (n : ℕ) (before between after : CallStreams) (f : Follows before between (outside_of input) (outside_at (at n))) where
       -- a step that was broken off as it read
       pub run_breaks_reading : Step.BreaksReading (at (suc n)) (outside_at (at n)) between after → BreaksReading seen (streams_of before) (streams_of after)
       run_breaks_reading b = record {
@@ -205,7 +205,7 @@ module _ (tables : Tables) where
 
       from_idle : after ≡ between → Breaks input seen (streams_of before) (streams_of after)
       from_idle e =
-          let g : Follows before after (outside_of input) (outside_at (at n)) = subst (λ (h : Handed). Follows before h (outside_of input) (outside_at (at n))) (sym e) f in
+          let g : Follows before after (outside_of input) (outside_at (at n)) = subst (λ (h : CallStreams). Follows before h (outside_of input) (outside_at (at n))) (sym e) f in
           breaks_at before after (outside_at (at n)) (outside_at (at n)) (since_start n) (until_end n) (until_end n) g.left (puts_whole g.output)
           (puts_whole g.errors)
 

@@ -10,7 +10,7 @@ use Rattle.icn_defs.specs.Running.{Ending, Done, Exit, Errored, AtBound, bound_r
 use Rattle.icn_vars.specs.declared.outcome.Halt.{Halt}
 use Rattle.icn_vars.specs.declared.outcome.Halt.TheVariants as Halts
 use Rattle.icn_run.specs.declared.ending.Ending.{Ending as HeldEnding}
-use Rattle.icn_streams.specs.Handed.{Handed, KeepsAllCounts, KeepsCounts, WantsMemory, uncounted, errors_want}
+use Rattle.icn_streams.specs.Handed.{CallStreams, KeepsAllCounts, KeepsCounts, WantsMemory, uncounted, errors_want}
 use Rattle.icn_control.specs.Machines.{extent}
 use Rattle.icn_control.specs.declared.machine.Machine.{Machine}
 use Rattle.icn_control.specs.declared.machine.Stage.{Stage}
@@ -27,7 +27,7 @@ use Rattle.icn_running.proofs.Observed.{then_errors}
 keeps_then : {a b c : SinkState} → KeepsCounts a b → KeepsCounts b c → KeepsCounts a c
 keeps_then first second = record { faults = second.faults ∙ first.faults; wants = second.wants ∙ first.wants }
 
-module _ (before between : Handed) (errors : SinkState) where
+module _ (before between : CallStreams) (errors : SinkState) where
   wants : (report : List ℕ) → KeepsAllCounts before between → (errors ≡ between.errors) ⊎ RunsShort between.errors errors report
       → WantsMemory before (then_errors between errors)
   wants report kept (inl same) =
@@ -63,7 +63,7 @@ module _ (before between : Handed) (errors : SinkState) where
 
 -- of a run whose machine has stopped
 pub machine_counts : {K : Type 0} (names : Names) (n : Machine K) (stopped : Result Stepped Halt) (answered : Result HeldEnding RunFault)
-    (before between : Handed) (errors : SinkState) → IsFirstFault (staged stopped) before between
+    (before between : CallStreams) (errors : SinkState) → IsFirstFault (staged stopped) before between
     → AnswersMachine names n stopped answered between.errors errors
     → EndsAtFirst answered before (then_errors between errors)
 machine_counts names n (Ok Steppeds.On) answered before between errors first p = absurd p
@@ -73,10 +73,10 @@ machine_counts names n (Err halt) answered before between errors first p =
     at_halt before between errors Stage names (heap_of n.world.heap) (extent n) halt answered first p
 
 -- of one that was over before its first instruction
-none_failed : (before : Handed) → KeepsAllCounts before before
+none_failed : (before : CallStreams) → KeepsAllCounts before before
 none_failed before = record { faults = refl; output = record { faults = refl; wants = refl }; errors = record { faults = refl; wants = refl } }
 
-pub unbegun_counts : (names : Names) (heap : Heap) (halt : Halt) (answered : Result HeldEnding RunFault) (before : Handed) (errors : SinkState)
+pub unbegun_counts : (names : Names) (heap : Heap) (halt : Halt) (answered : Result HeldEnding RunFault) (before : CallStreams) (errors : SinkState)
     → AnswersUnbegun names heap halt answered before.errors errors → EndsAtFirst answered before (then_errors before errors)
 unbegun_counts names heap (Halts.Error number None) answered before errors p = at_end before before errors (Errored number) _ answered (none_failed before) p
 unbegun_counts names heap (Halts.Error number (Some offending)) answered before errors p = absurd p

@@ -9,7 +9,7 @@ use Rattle.icn_run_laws.specs.Measure.{IsEnd}
 use Rattle.icn_run_safe.specs.AnyOutside.{over_outside, run_over}
 use Rattle.icn_run_safe.proofs.AnyOutside.{over_twice}
 use Rattle.icn_run_ends.specs.Falling.{Falls, ends, turned, lighter, left_of, turns_of}
-use Rattle.icn_streams.specs.Handed.{Handed}
+use Rattle.icn_streams.specs.Handed.{CallStreams}
 use Rattle.icn_control.specs.declared.machine.Machine.{Machine}
 use Rattle.icn_control.specs.declared.machine.Stage.TheVariants as Stages
 use Rattle.icn_machine.specs.Stepping.{Advances}
@@ -95,13 +95,13 @@ record After {K : Type 0} (tables : Tables) (m n : Machine K) : Type 0 where
   now : Outside
   is : run_over tables (first ∷ later) (state_seen tables (outside_of []) m) ≡ state_seen tables now n
 
-after : {K : Type 0} (tables : Tables) (m : Machine K) (b : Handed) (n : Machine K) (c : Handed) → Advances tables m Stages.Runs b n c (Ok Stages.Runs)
+after : {K : Type 0} (tables : Tables) (m : Machine K) (b : CallStreams) (n : Machine K) (c : CallStreams) → Advances tables m Stages.Runs b n c (Ok Stages.Runs)
     → After tables m n
 after tables m b n c advances =
     let l = advances.meant (outside_of []) (state_seen tables (outside_of []) m) refl in
     record { first = l.first; later = l.later; now = l.now; is = l.is }
 
-pub lasts_on : {K : Type 0} (tables : Tables) (m : Machine K) (b : Handed) (n : Machine K) (c : Handed) → Lasts tables m → n.limits ≡ m.limits
+pub lasts_on : {K : Type 0} (tables : Tables) (m : Machine K) (b : CallStreams) (n : Machine K) (c : CallStreams) → Lasts tables m → n.limits ≡ m.limits
     → Advances tables m Stages.Runs b n c (Ok Stages.Runs) → Lasts tables n
 lasts_on tables m b n c lasts limits advances outside =
     let a = after tables m b n c advances in
@@ -118,7 +118,7 @@ falls_on tables m n now (made a b) = inl (record { more = a; within = b })
 falls_on tables m n now (less a b) = inr (a, b)
 
 -- a turn was made, or less is left to do
-pub falls_by : {K : Type 0} (tables : Tables) (m : Machine K) (b : Handed) (n : Machine K) (c : Handed) → Lasts tables m
+pub falls_by : {K : Type 0} (tables : Tables) (m : Machine K) (b : CallStreams) (n : Machine K) (c : CallStreams) → Lasts tables m
     → Advances tables m Stages.Runs b n c (Ok Stages.Runs)
     → MadeTurn m n ⊎ ((n.turns ≡ m.turns) × (left_now tables n < left_now tables m))
 falls_by tables m b n c lasts advances =

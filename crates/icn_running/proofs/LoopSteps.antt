@@ -5,7 +5,7 @@ use Rattle.std.proofs.lemmas.Bool.{eqb-true, eqb-false}
 use Rattle.icn_value.specs.declared.limits.Limits.{Limits}
 use Rattle.icn_vars.specs.declared.outcome.Halt.{Halt}
 use Rattle.icn_code.specs.Codes.{Tables}
-use Rattle.icn_streams.specs.Handed.{Handed}
+use Rattle.icn_streams.specs.Handed.{CallStreams}
 use Rattle.icn_control.specs.declared.machine.Machine.{Machine}
 use Rattle.icn_control.specs.declared.machine.Stage.TheVariants as Stages
 use Rattle.icn_machine.specs.declared.stepping.Stepped.{Stepped}
@@ -33,7 +33,7 @@ on_true Steppeds.Finished e = cc
 on_true Steppeds.AtBound e = cc
 
 -- an error ends the loop
-pub run_err : {K : Type 0} (tables : Tables) (m : Machine K) (a : Handed) (n : Machine K) (stepped : Stepped) (b : Handed) (k : Machine K) (c : Handed) (halt : Halt) (result : Result Stepped Halt)
+pub run_err : {K : Type 0} (tables : Tables) (m : Machine K) (a : CallStreams) (n : Machine K) (stepped : Stepped) (b : CallStreams) (k : Machine K) (c : CallStreams) (halt : Halt) (result : Result Stepped Halt)
     → stepped ≡ Steppeds.On
     → GoesOn tables m Stages.Runs a n b (Ok (stage_of stepped)) → GoesOn tables n Stages.Runs b k c (Err halt) → IsErrAnd result (λ h. h ≡ halt)
     → GoesOn tables m Stages.Runs a k c (staged result)
@@ -41,14 +41,14 @@ run_err tables m a n stepped b k c halt (Err h) on p q r =
     loop_err tables m Stages.Runs a n (stage_of stepped) Stages.Runs b k c halt (Err h) (ap stage_of on) refl p q r
 run_err tables m a n stepped b k c halt (Ok s) on p q r = absurd r
 
-pub run_ok : {K : Type 0} (tables : Tables) (m : Machine K) (a : Handed) (n : Machine K) (stepped next : Stepped) (b : Handed) (k : Machine K) (c : Handed)
+pub run_ok : {K : Type 0} (tables : Tables) (m : Machine K) (a : CallStreams) (n : Machine K) (stepped next : Stepped) (b : CallStreams) (k : Machine K) (c : CallStreams)
     → stepped ≡ Steppeds.On
     → GoesOn tables m Stages.Runs a n b (Ok (stage_of stepped)) → GoesOn tables n Stages.Runs b k c (Ok (stage_of next))
     → GoesOn tables m Stages.Runs a k c (Ok (stage_of next))
 run_ok tables m a n stepped next b k c on p q =
     loop_ok tables m Stages.Runs a n (stage_of stepped) Stages.Runs b k c (Ok (stage_of next)) (ap stage_of on) refl p q
 
-module _ {K : Type 0} (tables : Tables) (m : Machine K) (b : Handed) (n : Machine K) (c : Handed) (lasts : Lasts tables m) where
+module _ {K : Type 0} (tables : Tables) (m : Machine K) (b : CallStreams) (n : Machine K) (c : CallStreams) (lasts : Lasts tables m) where
   pub lasts_next : (next : Stepped) → n.limits ≡ m.limits → Advances tables m Stages.Runs b n c (Ok (stage_of next)) → IsTrue (is_on next) → Lasts tables n
   lasts_next Steppeds.On limits steps on = lasts_on tables m b n c lasts limits steps
   lasts_next Steppeds.Finished limits steps on = absurd (cc on)
@@ -107,7 +107,7 @@ turns_fall m n Steppeds.AtBound limits turn = omega arith
 
 -- What stopped has gone on.
 
-pub run_over : {K : Type 0} (tables : Tables) (m : Machine K) (a : Handed) (n : Machine K) (b : Handed) (stepped : Stepped) → is_on stepped ≡ false
+pub run_over : {K : Type 0} (tables : Tables) (m : Machine K) (a : CallStreams) (n : Machine K) (b : CallStreams) (stepped : Stepped) → is_on stepped ≡ false
     → GoesOn tables m Stages.Runs a n b (Ok (stage_of stepped))
     → Advances tables m Stages.Runs a n b (Ok (stage_of stepped))
 run_over tables m a n b stepped off (advances steps) = steps
@@ -115,7 +115,7 @@ run_over tables m a n b Steppeds.On off (stays e h r) = absurd (cc off)
 run_over tables m a n b Steppeds.Finished off (stays e h r) = absurd (cc r)
 run_over tables m a n b Steppeds.AtBound off (stays e h r) = absurd (cc r)
 
-pub stopped_err : {K : Type 0} (tables : Tables) (m : Machine K) (a : Handed) (n : Machine K) (b : Handed) (halt : Halt) (result : Result Stepped Halt)
+pub stopped_err : {K : Type 0} (tables : Tables) (m : Machine K) (a : CallStreams) (n : Machine K) (b : CallStreams) (halt : Halt) (result : Result Stepped Halt)
     → GoesOn tables m Stages.Runs a n b (staged result) → IsErrAnd result (λ h. h ≡ halt)
     → Advances tables m Stages.Runs a n b (staged result)
 stopped_err tables m a n b halt result (advances steps) r = steps

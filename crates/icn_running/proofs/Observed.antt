@@ -15,7 +15,7 @@ use Rattle.icn_code.specs.Codes.{Tables}
 use Rattle.icn_run.specs.FlatStep.{start}
 use Rattle.icn_run.specs.Stacks.{flat}
 use Rattle.icn_run.specs.Step.{all_names, observed, over, steps}
-use Rattle.icn_streams.specs.Handed.{Follows, Handed, Puts}
+use Rattle.icn_streams.specs.Handed.{Follows, CallStreams, Puts}
 use Rattle.icn_streams.proofs.Following.{follows_then, puts_nothing}
 use Rattle.icn_control.specs.Machines.{extent}
 use Rattle.icn_control.specs.declared.machine.Machine.{Machine}
@@ -24,13 +24,13 @@ use Rattle.icn_machine.specs.Stepping.{Leads}
 use Rattle.icn_running.specs.Runs.{RunsTo, streams_of}
 
 -- the error output alone is another since
-abbrev pub then_errors : Handed → SinkState → Handed
+abbrev pub then_errors : CallStreams → SinkState → CallStreams
 then_errors handed errors = record handed { errors = errors }
 
 -- Where a run is over
 
 -- The run is over so after some steps, with this report; what is told of the streams is so before the report is put.
-pub record ComesToEnd (tables : Tables) (launch : Launch) (before between : Handed) (ending : Ending) (report : List ℕ) : Type 0 where
+pub record ComesToEnd (tables : Tables) (launch : Launch) (before between : CallStreams) (ending : Ending) (report : List ℕ) : Type 0 where
   pub count : ℕ
   pub now : Outside
   pub is : steps flat tables count (start tables launch) ≡ over ending (with_errors report now)
@@ -40,7 +40,7 @@ pub record ComesToEnd (tables : Tables) (launch : Launch) (before between : Hand
 no_errors : (now : Outside) → with_errors [] now ≡ now
 no_errors now = ap (λ (text : List ℕ). record now { errors = text }) (append-nil now.errors)
 
-module _ {K : Type 0} (tables : Tables) (launch : Launch) (n : Machine K) (before between : Handed) where
+module _ {K : Type 0} (tables : Tables) (launch : Launch) (n : Machine K) (before between : CallStreams) where
   quiet_end : (ending : Ending) (count : ℕ) (now : Outside) → steps flat tables count (start tables launch) ≡ over ending now
       → Follows before between launch.outside now → ComesToEnd tables launch before between ending []
   quiet_end ending count now is follows = record {
@@ -85,7 +85,7 @@ module _ {K : Type 0} (tables : Tables) (launch : Launch) (n : Machine K) (befor
 gains_all : (before after : SinkState) (now : List ℕ) → Puts before after [] now → Gains before.held after.held now
 gains_all before after now puts = subst (λ (text : List ℕ). Gains before.held after.held text) (sym puts.is) puts.gains
 
-ends_there : (ending : Ending) (input : List ℕ) (before after : Handed) (now : Outside) → Follows before after (outside_of input) now
+ends_there : (ending : Ending) (input : List ℕ) (before after : CallStreams) (now : Outside) → Follows before after (outside_of input) now
     → Ends (record { ending = ending; outside = now }) (streams_of before) (streams_of after)
 ends_there ending input before after now follows = record {
   left = follows.left;
@@ -93,7 +93,7 @@ ends_there ending input before after now follows = record {
   errors = gains_all before.errors after.errors now.errors follows.errors;
 }
 
-follows_report : (between : Handed) (errors : SinkState) (now : Outside) (report : List ℕ) → between.left ≡ Some now.left
+follows_report : (between : CallStreams) (errors : SinkState) (now : Outside) (report : List ℕ) → between.left ≡ Some now.left
     → Gains between.errors.held errors.held report → Follows between (then_errors between errors) now (with_errors report now)
 follows_report between errors now report told gains = record {
   left = told;
@@ -101,7 +101,7 @@ follows_report between errors now report told gains = record {
   errors = record { text = report; is = refl; gains = gains };
 }
 
-pub run_reported : (tables : Tables) (words : List (List ℕ)) (bounds : Bounds) (input : List ℕ) (before between : Handed) (errors : SinkState)
+pub run_reported : (tables : Tables) (words : List (List ℕ)) (bounds : Bounds) (input : List ℕ) (before between : CallStreams) (errors : SinkState)
     (ending : Ending) (report : List ℕ) → ComesToEnd tables (launch_of words bounds input) before between ending report → Gains between.errors.held errors.held report
     → RunsTo tables (launch_of words bounds input) ending before (then_errors between errors)
 run_reported tables words bounds input before between errors ending report comes gains = (

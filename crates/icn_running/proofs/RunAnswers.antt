@@ -18,7 +18,7 @@ use Rattle.icn_run.specs.declared.ending.Ending.{Ending as HeldEnding}
 use Rattle.icn_run.specs.FlatStep.{Runs, start}
 use Rattle.icn_run.specs.Stacks.{Frames}
 use Rattle.icn_run.specs.Step.{State, all_names, first_store, running}
-use Rattle.icn_streams.specs.Handed.{Handed}
+use Rattle.icn_streams.specs.Handed.{CallStreams}
 use Rattle.icn_streams.proofs.Following.{follows_all}
 use Rattle.icn_control.specs.Machines.{extent, stack_seen, store_seen}
 use Rattle.icn_control.specs.declared.machine.Machine.{Machine}
@@ -36,7 +36,7 @@ use Rattle.icn_running.proofs.BrokenOff.{run_breaks_off, run_breaks_putting, run
 use Rattle.icn_running.proofs.Observed.{ComesToEnd, bounded, ended, erred, finished, run_reported, then_errors}
 
 module _ (tables : Tables) (words : List (List ℕ)) (bounds : Bounds) (input : List ℕ) (seen : Observed) (r : Runs tables (launch_of words bounds input) seen)
-    (before between : Handed) (errors : SinkState) where
+    (before between : CallStreams) (errors : SinkState) where
   abbrev launch : Launch
   launch = launch_of words bounds input
 
@@ -100,7 +100,7 @@ module _ (tables : Tables) (words : List (List ℕ)) (bounds : Bounds) (input : 
       at_fault NoMemory answered (run_breaks_off tables words bounds input seen r leads.count before leads.between between leads.follows leads.last) p
 
 -- of a run that has started
-pub started_answers : {K : Type 0} (tables : Tables) (m n : Machine K) (before between : Handed) (errors : SinkState)
+pub started_answers : {K : Type 0} (tables : Tables) (m n : Machine K) (before between : CallStreams) (errors : SinkState)
     (stopped : Result Stepped Halt) (answered : Result HeldEnding RunFault)
     → ((launch : Launch) → (seen : Observed) × Runs tables launch seen)
     → ((was : Outside) (state : State Frames Frames) → IsAt tables was state m Stages.Runs → before.left ≡ Some was.left
@@ -116,7 +116,7 @@ started_answers tables m n before between errors stopped answered ends leads p w
 
 -- of one that was over before its first instruction
 pub unbegun_answers : (K : Type 0) (tables : Tables) (words : List (List ℕ)) (bounds : Bounds) (input : List ℕ) (seen : Observed)
-    (halt : Halt) (answered : Result HeldEnding RunFault) (before : Handed) (errors : SinkState)
+    (halt : Halt) (answered : Result HeldEnding RunFault) (before : CallStreams) (errors : SinkState)
     → Runs tables (launch_of words bounds input) seen → before.left ≡ Some input → StartsAs {K = K} tables (launch_of words bounds input) (Err halt)
     → AnswersUnbegun (all_names tables) (first_store {K = Frames} tables (launch_of words bounds input)).world.heap halt answered before.errors errors
     → AnswersRun tables (launch_of words bounds input) answered before (then_errors before errors)
@@ -134,7 +134,7 @@ unbegun_answers K tables words bounds input seen Halts.NoMemory answered before 
 
 -- By what was answered
 
-module _ (tables : Tables) (launch : List ℕ → Launch) (before after : Handed) where
+module _ (tables : Tables) (launch : List ℕ → Launch) (before after : CallStreams) where
   pub run_ends : (answered : Result HeldEnding RunFault) → ((left : List ℕ) → before.left ≡ Some left → AnswersRun tables (launch left) answered before after)
       → IfOk answered (λ ending. (left : List ℕ) → before.left ≡ Some left → RunsTo tables (launch left) (ending_seen ending) before after)
   run_ends (Ok ending) answers = λ left told. (answers left told).0

@@ -9,7 +9,7 @@ use Rattle.icn_run.specs.FlatStep.{Runs, start}
 use Rattle.icn_run.specs.Step.{running}
 use Rattle.icn_run.specs.declared.ending.Ending.{Ending as HeldEnding}
 use Rattle.icn_run_ends.specs.Falling.{EachStepFalls}
-use Rattle.icn_streams.specs.Handed.{Handed, KeepsAllCounts, WantsMemory}
+use Rattle.icn_streams.specs.Handed.{CallStreams, KeepsAllCounts, WantsMemory}
 use Rattle.icn_control.specs.Machines.{stack_seen, store_seen}
 use Rattle.icn_control.specs.declared.machine.Machine.{Machine}
 use Rattle.icn_machine.specs.Stepping.{InputFails, IsKept, OutputFails}
@@ -18,38 +18,38 @@ use Rattle.icn_running.specs.declared.fault.RunFault.TheVariants.{ReadFault, Wri
 use Rattle.icn_running.specs.Reported.{PutsReport, ending_seen}
 
 -- what the streams tell that a call is handed
-abbrev pub streams_of : Handed → Streams
+abbrev pub streams_of : CallStreams → Streams
 streams_of handed = record { left = handed.left; output = handed.output.held; errors = handed.errors.held }
 
 -- The run of a code ends so, and the streams have gained what it puts, with what it leaves of the input.
-abbrev pub RunsTo : Tables → Launch → Ending → Handed → Handed → Type 0
+abbrev pub RunsTo : Tables → Launch → Ending → CallStreams → CallStreams → Type 0
 RunsTo tables launch ending before after =
     (seen : Observed) × ((seen.ending ≡ ending) × (Runs tables launch seen × Ends seen (streams_of before) (streams_of after)))
 
 -- what this fault leaves of a run that was begun with this input: broken off at a reading, at a put, or for want of memory
-abbrev pub LeavesBy : RunFault → List ℕ → Observed → Handed → Handed → Type 0
+abbrev pub LeavesBy : RunFault → List ℕ → Observed → CallStreams → CallStreams → Type 0
 LeavesBy ReadFault input seen before after = BreaksReading seen (streams_of before) (streams_of after)
 LeavesBy WriteFault input seen before after = Breaks input seen (streams_of before) (streams_of after)
 LeavesBy NoMemory input seen before after = Breaks input seen (streams_of before) (streams_of after)
 
 -- The run of a code was broken off by this fault.
-abbrev pub IsBrokenOff : Tables → Launch → RunFault → Handed → Handed → Type 0
+abbrev pub IsBrokenOff : Tables → Launch → RunFault → CallStreams → CallStreams → Type 0
 IsBrokenOff tables launch fault before after = (seen : Observed) × (Runs tables launch seen × LeavesBy fault launch.outside.left seen before after)
 
 -- what is said of a run that was begun so, by what was answered
-abbrev pub AnswersRun : Tables → Launch → Result HeldEnding RunFault → Handed → Handed → Type 0
+abbrev pub AnswersRun : Tables → Launch → Result HeldEnding RunFault → CallStreams → CallStreams → Type 0
 AnswersRun tables launch (Ok ending) before after =
     RunsTo tables launch (ending_seen ending) before after × PutsReport (ending_seen ending) before.errors after.errors
 AnswersRun tables launch (Err fault) before after = IsBrokenOff tables launch fault before after
 
 -- the same of each run with whose start this machine stands
-abbrev pub AnswersRuns : {K : Type 0} → Tables → Machine K → Result HeldEnding RunFault → Handed → Handed → Type 0
+abbrev pub AnswersRuns : {K : Type 0} → Tables → Machine K → Result HeldEnding RunFault → CallStreams → CallStreams → Type 0
 AnswersRuns tables m result before after = (words : List (List ℕ)) (bounds : Bounds) (left : List ℕ) → before.left ≡ Some left
     → start tables (launch_of words bounds left) ≡ running (stack_seen m) (store_seen tables (outside_of left) m)
     → AnswersRun tables (launch_of words bounds left) result before after
 
 -- A fault is answered where that object has failed for the first time; where it is not, nothing has failed.
-abbrev pub EndsAtFirst : {A : Type 0} → Result A RunFault → Handed → Handed → Type 0
+abbrev pub EndsAtFirst : {A : Type 0} → Result A RunFault → CallStreams → CallStreams → Type 0
 EndsAtFirst (Ok a) before after = KeepsAllCounts before after
 EndsAtFirst (Err ReadFault) before after = InputFails before after
 EndsAtFirst (Err WriteFault) before after = OutputFails before after

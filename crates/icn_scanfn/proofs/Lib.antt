@@ -1,6 +1,6 @@
 mod Places
 mod Occurrences
-mod Moved
+mod Moves
 mod BracketSets
 mod BalancedSets
 mod GivenRegions

@@ -12,15 +12,15 @@ use Rattle.icn_vars.specs.declared.outcome.Halt.{Halt}
 use Rattle.icn_vars.specs.declared.outcome.Halt.TheVariants.{Error as ErrorHalt, Ends as EndsHalt, ReadFault, WriteFault, NoMemory}
 use Rattle.icn_vars.specs.declared.stop.Stop.{Stop}
 use Rattle.icn_vars.specs.declared.stop.Stop.TheVariants.{Error as ErrorStop, NoMemory as NoMemoryStop}
-use Rattle.icn_streams.specs.Handed.{Handed, PutsPart, uncounted}
-use Rattle.icn_streams.specs.Answers.{Answers, Given, Stops, StopsPutting, StopsReading, idle, outside_after, putting, reading, setting_with, telling}
+use Rattle.icn_streams.specs.Handed.{CallStreams, PutsPart, uncounted}
+use Rattle.icn_streams.specs.Answers.{Answers, CallState, Stops, StopsPutting, StopsReading, idle, outside_after, putting, reading, setting_with, with_left}
 use Rattle.icn_streams.specs.Applies.{Applies, reach_given}
 use Rattle.icn_streams.proofs.Following.{follows_all}
 use Rattle.icn_streams.proofs.Idle.{all_counts, items_all}
 
 -- A row that is another one here
 
-module _ (row rest : Row) (at : Setting) (same : row at ≡ rest at) (before after : Handed) where
+module _ (row rest : Row) (at : Setting) (same : row at ≡ rest at) (before after : CallStreams) where
   reading_same : StopsReading rest at before after → StopsReading row at before after
   reading_same stops = record {
     asked = stops.asked;
@@ -42,7 +42,7 @@ module _ (row rest : Row) (at : Setting) (same : row at ≡ rest at) (before aft
   stops_same (reading is) = reading (reading_same is)
   stops_same (putting is) = putting (putting_same is)
 
-answers_same : (row rest : Row) (was : Outside) (before after : Given) (result : Result HeldOutcome Halt) → row (setting_with was before) ≡ rest (setting_with was before)
+answers_same : (row rest : Row) (was : Outside) (before after : CallState) (result : Result HeldOutcome Halt) → row (setting_with was before) ≡ rest (setting_with was before)
     → Answers rest was before after result → Answers row was before after result
 answers_same row rest was before after (Ok outcome) same is = record { now = is.now; follows = is.follows; comes = same ∙ is.comes }
 answers_same row rest was before after (Err (ErrorHalt number offending)) same is = record { now = is.now; follows = is.follows; comes = same ∙ is.comes }
@@ -52,14 +52,14 @@ answers_same row rest was before after (Err WriteFault) same is = putting_same r
 answers_same row rest was before after (Err NoMemory) same is = stops_same row rest (setting_with was before) same before.handed after.handed is
 
 -- the row goes on as another one, of which this is said
-pub applies_same : (row rest : Row) (before after : Given) (result : Result HeldOutcome Halt) → ((was : Outside) → row (setting_with was before) ≡ rest (setting_with was before))
+pub applies_same : (row rest : Row) (before after : CallState) (result : Result HeldOutcome Halt) → ((was : Outside) → row (setting_with was before) ≡ rest (setting_with was before))
     → Applies rest before after result → Applies row before after result
 applies_same row rest before after result same is = record {
   answers = λ was told. answers_same row rest was before after result (same was) (is.answers was told);
   meant = record {
     had = is.meant.had;
     has = is.meant.has;
-    answers = λ was first. answers_same row rest was (telling is.meant.had before) (telling is.meant.has after) result (same was) (is.meant.answers was first);
+    answers = λ was first. answers_same row rest was (with_left is.meant.had before) (with_left is.meant.has after) result (same was) (is.meant.answers was first);
   };
   caused = is.caused;
   live = is.live;
@@ -69,7 +69,7 @@ applies_same row rest before after result same is = record {
 
 -- A row that stops where a thing is looked for
 
-stopped : {A : Type 0} (find : Finds A) (next : A → Row) (all : Given) (stop : Stop)
+stopped : {A : Type 0} (find : Finds A) (next : A → Row) (all : CallState) (stop : Stop)
     → ((was : Outside) → StopsFinding (extent_of all.world.heap) find (setting_with was all) (setting_with was all) stop)
     → IsLiveStop (extent_of all.world.heap) stop → All (IsLive (extent_of all.world.heap)) all.locals → Applies (find next) all all (Err (halt_of stop))
 stopped find next all (ErrorStop number offending) stops live lives = record {
@@ -77,7 +77,7 @@ stopped find next all (ErrorStop number offending) stops live lives = record {
   meant = record {
     had = [];
     has = [];
-    answers = λ was is. record { now = was; follows = follows_all (telling [] all).handed was (ap Some (sym is)); comes = stops was next };
+    answers = λ was is. record { now = was; follows = follows_all (with_left [] all).handed was (ap Some (sym is)); comes = stops was next };
   };
   caused = all_counts all.handed;
   live = live;
@@ -93,7 +93,7 @@ stopped find next all NoMemoryStop stops live lives = record {
   kept = items_all (reach_given all);
 }
 
-pub stops_there : {A : Type 0} (find : Finds A) (next : A → Row) (all : Given) (stop : Stop) (result : Result HeldOutcome Halt) → IsErrAnd result (λ halt. halt ≡ halt_of stop)
+pub stops_there : {A : Type 0} (find : Finds A) (next : A → Row) (all : CallState) (stop : Stop) (result : Result HeldOutcome Halt) → IsErrAnd result (λ halt. halt ≡ halt_of stop)
     → ((was : Outside) → StopsFinding (extent_of all.world.heap) find (setting_with was all) (setting_with was all) stop)
     → IsLiveStop (extent_of all.world.heap) stop → All (IsLive (extent_of all.world.heap)) all.locals → Applies (find next) all all result
 stops_there find next all stop (Ok outcome) same stops live lives = absurd same

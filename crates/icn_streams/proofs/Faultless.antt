@@ -12,15 +12,15 @@ use Rattle.icn_vars.specs.declared.outcome.Outcome.{Outcome}
 use Rattle.icn_vars.specs.declared.outcome.Halt.{Halt}
 use Rattle.icn_vars.specs.declared.outcome.Halt.TheVariants.{Error as ErrorHalt, Ends as EndsHalt, ReadFault, WriteFault, NoMemory}
 use Rattle.icn_vars.specs.declared.world.World.{World}
-use Rattle.icn_streams.specs.Handed.{Handed, uncounted}
-use Rattle.icn_streams.specs.Answers.{Answers, CausedBy, given, idle}
+use Rattle.icn_streams.specs.Handed.{CallStreams, uncounted}
+use Rattle.icn_streams.specs.Answers.{Answers, CausedBy, call_state, idle}
 use Rattle.icn_streams.specs.Applies.{Applies}
 use Rattle.icn_streams.proofs.Following.{follows_all}
 use Rattle.icn_streams.proofs.Idle.{all_counts}
 
-module _ (row : Row) (old new : World) (locals locals' : List Val) (handed : Handed) where
+module _ (row : Row) (old new : World) (locals locals' : List Val) (handed : CallStreams) where
   answers_by : (result : Result Outcome Halt) → ((outside : Outside) → ComesToAnswer (extent_of new.heap) row (setting_of outside old locals) (setting_of outside new locals') result)
-      → (streams : Handed) (was : Outside) → streams.left ≡ Some was.left → Answers row was (given old locals streams) (given new locals' streams) result
+      → (streams : CallStreams) (was : Outside) → streams.left ≡ Some was.left → Answers row was (call_state old locals streams) (call_state new locals' streams) result
   answers_by (Ok outcome) row streams was told = record { now = was; follows = follows_all streams was told; comes = row was }
   answers_by (Err (ErrorHalt number offending)) row streams was told = record { now = was; follows = follows_all streams was told; comes = row was }
   answers_by (Err (EndsHalt status)) row streams was told = record { now = was; follows = follows_all streams was told; comes = row was }
@@ -40,7 +40,7 @@ module _ (row : Row) (old new : World) (locals locals' : List Val) (handed : Han
   -- what it says of every outside is all that is to be said
   pub faultless_applies : (result : Result Outcome Halt) → ((outside : Outside) → ComesToAnswer (extent_of new.heap) row (setting_of outside old locals) (setting_of outside new locals') result)
       → IsLiveAnswer (reach_of new locals') result → All (IsLive (extent_of new.heap)) locals' → KeepsItems (reach_of old locals) (reach_of new locals')
-      → Applies row (given old locals handed) (given new locals' handed) result
+      → Applies row (call_state old locals handed) (call_state new locals' handed) result
   faultless_applies result row live lives kept = record {
     answers = answers_by result row handed;
     meant = record { had = []; has = []; answers = λ was first. answers_by result row (record handed { left = Some [] }) was (ap Some (sym first)) };

@@ -3,7 +3,7 @@ use Rattle.std.proofs.Common.{◌≡◌, ◌∙◌, sym, ap, ℕ, List, [], ◌+
 use Rattle.icn_host.specs.Sinks.{SinkState}
 use Rattle.icn_host.proofs.SinkSteps.{gains_nothing, gains_then, part_nothing, part_whole, then_part}
 use Rattle.icn_value.specs.Store.{Outside}
-use Rattle.icn_streams.specs.Handed.{Handed, Follows, Puts, PutsPart}
+use Rattle.icn_streams.specs.Handed.{CallStreams, Follows, Puts, PutsPart}
 
 -- nothing was put
 pub puts_nothing : (a : SinkState) (text : List ℕ) → Puts a a text text
@@ -36,11 +36,11 @@ pub puts_whole : {a b : SinkState} {t u : List ℕ} → Puts a b t u → PutsPar
 puts_whole puts = record { text = puts.text; is = puts.is; gains = part_whole puts.gains }
 
 -- nothing was read or put
-pub follows_all : (a : Handed) (o : Outside) → a.left ≡ Some o.left → Follows a a o o
+pub follows_all : (a : CallStreams) (o : Outside) → a.left ≡ Some o.left → Follows a a o o
 follows_all a o told = record { left = told; output = puts_nothing a.output o.output; errors = puts_nothing a.errors o.errors }
 
 -- one call behind another
-pub follows_then : {a b c : Handed} {o p q : Outside} → Follows a b o p → Follows b c p q → Follows a c o q
+pub follows_then : {a b c : CallStreams} {o p q : Outside} → Follows a b o p → Follows b c p q → Follows a c o q
 follows_then first second = record {
   left = second.left;
   output = puts_then first.output second.output;

@@ -2,7 +2,7 @@
 use Rattle.std.proofs.Common.{◌≡◌, ◌∙◌, refl, sym, ap, subst, ℕ, zero, suc, ◌+◌, nat_lt, Bool, true, false, List, [], ◌∷◌, length, take, drop, Option, None, Some, Result, Ok, Err, arith, take_while, lt-ltb}
 use Rattle.std.specs.Prelude.{◌==◌, not, IfSome, IsErrAnd, MatchResult}
 use Rattle.icn_value.specs.declared.val.Span.{Span}
-use Rattle.icn_value.specs.Store.{Asked, ALine, SomeBytes, Outside, Setting, with_reading}
+use Rattle.icn_value.specs.Store.{Request, ALine, SomeBytes, Outside, Setting, with_reading}
 use Rattle.icn_defs.specs.Calls.{Passes}
 use Rattle.icn_defs.specs.Interruptions.{LosesPart, asked_of, after_reading}
 use Rattle.icn_defs.specs.Lines.{takes_input}
@@ -13,7 +13,7 @@ use Rattle.icn_vars.specs.Stops.{StopsPassing, halt_of}
 use Rattle.icn_vars.specs.declared.stop.Stop.{Stop}
 use Rattle.icn_vars.specs.declared.stop.Stop.TheVariants.{Error as ErrorStop, NoMemory as NoMemoryStop}
 use Rattle.icn_vars.specs.declared.outcome.Halt.{Halt}
-use Rattle.icn_streams.specs.Answers.{Given, setting_with}
+use Rattle.icn_streams.specs.Answers.{CallState, setting_with}
 use Rattle.icn_streams.specs.Readings.{Fills, Reads, is_there, next_read, read_of}
 
 drop_taken : (count : ℕ) (xs : List ℕ) → drop (length (take count xs)) xs ≡ drop count xs
@@ -22,7 +22,7 @@ drop_taken (suc count) [] = refl
 drop_taken (suc count) (x ∷ xs) = drop_taken count xs
 
 -- something is there, and is taken and charged
-pub next_there : (asked : Asked) (next : List ℕ → Row) (s : Setting) → is_there asked s.outside.left ≡ true
+pub next_there : (asked : Request) (next : List ℕ → Row) (s : Setting) → is_there asked s.outside.left ≡ true
     → next_read asked next s ≡ costs_bytes (length (read_of asked s.outside.left)) (next (read_of asked s.outside.left)) (record s { outside = after_reading asked s.outside })
 next_there ALine next s is =
     ap (λ b. passing b (takes_input (length (take_while (λ byte. not (byte == 10)) s.outside.left) + 1) (costs_bytes (length (take_while (λ byte. not (byte == 10)) s.outside.left)) (next (take_while (λ byte. not (byte == 10)) s.outside.left))))
@@ -33,7 +33,7 @@ next_there (SomeBytes count) next s is =
     ∙ ap (λ left. costs_bytes (length (take count s.outside.left)) (next (take count s.outside.left)) (record s { outside = record (with_reading (SomeBytes count) s.outside) { left = left } })) (drop_taken count s.outside.left)
 
 -- nothing is there
-pub next_gone : (asked : Asked) (next : List ℕ → Row) (s : Setting) → is_there asked s.outside.left ≡ false
+pub next_gone : (asked : Request) (next : List ℕ → Row) (s : Setting) → is_there asked s.outside.left ≡ false
     → next_read asked next s ≡ Fails (record s { outside = with_reading asked s.outside })
 next_gone ALine next s is =
     ap (λ b. passing b (takes_input (length (take_while (λ byte. not (byte == 10)) s.outside.left) + 1) (costs_bytes (length (take_while (λ byte. not (byte == 10)) s.outside.left)) (next (take_while (λ byte. not (byte == 10)) s.outside.left))))
@@ -43,7 +43,7 @@ next_gone (SomeBytes count) next s is =
     (record s { outside = with_reading (SomeBytes count) s.outside })) is
 
 -- where nothing is there nothing is taken
-pub rest_gone : (asked : Asked) (left : List ℕ) → is_there asked left ≡ false → drop (asked_of asked left) left ≡ left
+pub rest_gone : (asked : Request) (left : List ℕ) → is_there asked left ≡ false → drop (asked_of asked left) left ≡ left
 rest_gone ALine [] is = refl
 rest_gone ALine (x ∷ xs) is = let above : nat_lt 0 (suc (length xs)) ≡ true = lt-ltb 0 (suc (length xs)) (omega arith) in cc
 rest_gone (SomeBytes zero) left is = refl
@@ -51,12 +51,12 @@ rest_gone (SomeBytes (suc count)) [] is = refl
 rest_gone (SomeBytes (suc count)) (x ∷ xs) is = let above : nat_lt 0 (suc (length (take count xs))) ≡ true = lt-ltb 0 (suc (length (take count xs))) (omega arith) in cc
 
 -- all that is asked for was taken
-loses_all : (asked : Asked) (left : List ℕ) (after : Option (List ℕ)) → after ≡ Some (drop (asked_of asked left) left) → LosesPart left (asked_of asked left) after
+loses_all : (asked : Request) (left : List ℕ) (after : Option (List ℕ)) → after ≡ Some (drop (asked_of asked left) left) → LosesPart left (asked_of asked left) after
 loses_all asked left after is = record { count = asked_of asked left; within = omega arith; is = is }
 
 -- What a call was answered that read
 
-module _ (asked : Asked) (was : Outside) (before after : Given) where
+module _ (asked : Request) (was : Outside) (before after : CallState) where
   pub reads_some : (there : Bool) (held bytes : List ℕ) (span : Span) → Fills asked was.left there held after.handed.left → there ≡ true → bytes ≡ held → text_in (extent_of after.world.heap) span ≡ bytes
       → Passes (costs_bytes (length bytes)) (setting_with (after_reading asked was) before) (setting_with (after_reading asked was) after)
       → Reads asked was before after (Ok (Some span))

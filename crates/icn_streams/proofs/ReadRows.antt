@@ -6,7 +6,7 @@ use Rattle.std.specs.List.{All}
 use Rattle.icn_host.specs.Sinks.{SinkState}
 use Rattle.icn_value.specs.declared.val.Span.{Span}
 use Rattle.icn_value.specs.declared.val.Val.{Val}
-use Rattle.icn_value.specs.Store.{Asked, ALine, SomeBytes, Outside, Setting, Reading, with_reading}
+use Rattle.icn_value.specs.Store.{Request, ALine, SomeBytes, Outside, Setting, Reading, with_reading}
 use Rattle.icn_defs.specs.Interruptions.{after_reading}
 use Rattle.icn_defs.specs.Lines.{takes_input}
 use Rattle.icn_defs.specs.Rows.{Row, passing, check, costs_bytes, changes_heap}
@@ -19,8 +19,8 @@ use Rattle.icn_vars.specs.declared.outcome.Outcome.TheVariants.{Fails as HeldFai
 use Rattle.icn_vars.specs.declared.outcome.Halt.{Halt}
 use Rattle.icn_vars.specs.declared.outcome.Halt.TheVariants.{Error as ErrorHalt, Ends as EndsHalt, ReadFault, WriteFault, NoMemory}
 use Rattle.icn_vars.specs.declared.world.World.{World}
-use Rattle.icn_streams.specs.Handed.{Follows, handed, uncounted}
-use Rattle.icn_streams.specs.Answers.{Answers, CausedBy, given, outside_after, reading}
+use Rattle.icn_streams.specs.Handed.{Follows, call_streams, uncounted}
+use Rattle.icn_streams.specs.Answers.{Answers, CausedBy, call_state, outside_after, reading}
 use Rattle.icn_streams.specs.Applies.{Applies}
 use Rattle.icn_streams.specs.Readings.{InputCause, Reads, ReadsOfSome, next_read}
 use Rattle.icn_host.proofs.SinkSteps.{gains_nothing}
@@ -42,7 +42,7 @@ passed true next s readings same rest = rest
 passed false next s readings same rest = same
 
 -- The row reads once.
-reads_once : (asked : Asked) (next : List ℕ → Row) (quiet : IsQuiet next) (s : Setting) → (outside_after (next_read asked next s)).readings ≡ (with_reading asked s.outside).readings
+reads_once : (asked : Request) (next : List ℕ → Row) (quiet : IsQuiet next) (s : Setting) → (outside_after (next_read asked next s)).readings ≡ (with_reading asked s.outside).readings
 reads_once ALine next quiet s =
     let line : List ℕ = take_while (λ byte. not (byte == 10)) s.outside.left in
     passed (nat_lt 0 (length s.outside.left)) (takes_input (length line + 1) (costs_bytes (length line) (next line))) (record s { outside = with_reading ALine s.outside })
@@ -56,25 +56,25 @@ reads_once (SomeBytes count) next quiet s =
     (checked _ (next bytes) _ (with_reading (SomeBytes count) s.outside).readings refl
     (λ s' same. ap (λ (o : Outside). o.readings) (quiet.outside bytes s') ∙ same) (length bytes))
 
-module _ (asked : Asked) (next : List ℕ → Row) (quiet : IsQuiet next) (old new : World) (locals : List Val) (left left' : Option (List ℕ)) (faults faults' : ℕ) (output errors : SinkState) where
+module _ (asked : Request) (next : List ℕ → Row) (quiet : IsQuiet next) (old new : World) (locals : List Val) (left left' : Option (List ℕ)) (faults faults' : ℕ) (output errors : SinkState) where
   -- it follows the outside, whatever the input tells
   was_read : (tells tells' : Option (List ℕ)) (was now : Outside) → tells' ≡ Some now.left → now.output ≡ was.output → now.errors ≡ was.errors
-      → Follows (handed tells faults output errors) (handed tells' faults' output errors) was now
+      → Follows (call_streams tells faults output errors) (call_streams tells' faults' output errors) was now
   was_read tells tells' was now told same_output same_errors = record {
     left = told;
     output = record { text = []; is = same_output ∙ sym (append-nil was.output); gains = gains_nothing output.held };
     errors = record { text = []; is = same_errors ∙ sym (append-nil was.errors); gains = gains_nothing errors.held };
   }
 
-  halted : (tells tells' : Option (List ℕ)) (was : Outside) (halt : Halt) → Reads asked was (given old locals (handed tells faults output errors)) (given new locals (handed tells' faults' output errors)) (Err halt)
-      → Answers (next_read asked next) was (given old locals (handed tells faults output errors)) (given new locals (handed tells' faults' output errors)) (Err halt)
+  halted : (tells tells' : Option (List ℕ)) (was : Outside) (halt : Halt) → Reads asked was (call_state old locals (call_streams tells faults output errors)) (call_state new locals (call_streams tells' faults' output errors)) (Err halt)
+      → Answers (next_read asked next) was (call_state old locals (call_streams tells faults output errors)) (call_state new locals (call_streams tells' faults' output errors)) (Err halt)
   halted tells tells' was (ErrorHalt number offending) reads = record { now = after_reading asked was; follows = was_read tells tells' was (after_reading asked was) reads.1 refl refl; comes = reads.0 next }
   halted tells tells' was (EndsHalt status) reads = absurd reads
   halted tells tells' was ReadFault reads = record { asked = asked; made = reads_once asked next quiet _; left = reads; output = refl; errors = refl }
   halted tells tells' was WriteFault reads = absurd reads
   halted tells tells' was NoMemory reads = reading (record { asked = asked; made = reads_once asked next quiet _; left = reads; output = refl; errors = refl })
 
-  halt_caused : (halt : Halt) → InputCause faults faults' (Err halt) → CausedBy (Err halt) (handed left faults output errors) (handed left' faults' output errors)
+  halt_caused : (halt : Halt) → InputCause faults faults' (Err halt) → CausedBy (Err halt) (call_streams left faults output errors) (call_streams left' faults' output errors)
   halt_caused (ErrorHalt number offending) cause = record { faults = cause; output = counts_all output; errors = counts_all errors }
   halt_caused (EndsHalt status) cause = absurd cause
   halt_caused ReadFault cause = record { faults = cause; output = refl; errors = refl }
@@ -83,13 +83,13 @@ module _ (asked : Asked) (next : List ℕ → Row) (quiet : IsQuiet next) (old n
 
   -- the reading was not made, or an error of the row
   pub read_halts : (halt : Halt) (result : Result Outcome Halt) → IsErrAnd result (λ other. other ≡ halt)
-      → ((was : Outside) → left ≡ Some was.left → Reads asked was (given old locals (handed left faults output errors)) (given new locals (handed left' faults' output errors)) (Err halt))
-      → ReadsOfSome asked (given old locals (handed left faults output errors)) (given new locals (handed left' faults' output errors)) (Err halt)
+      → ((was : Outside) → left ≡ Some was.left → Reads asked was (call_state old locals (call_streams left faults output errors)) (call_state new locals (call_streams left' faults' output errors)) (Err halt))
+      → ReadsOfSome asked (call_state old locals (call_streams left faults output errors)) (call_state new locals (call_streams left' faults' output errors)) (Err halt)
       → InputCause faults faults' (Err halt) → IsLiveHalt (reach_of new locals) halt → All (IsLive (extent_of new.heap)) locals → KeepsItems (reach_of old locals) (reach_of new locals)
-      → Applies (next_read asked next) (given old locals (handed left faults output errors)) (given new locals (handed left' faults' output errors)) result
+      → Applies (next_read asked next) (call_state old locals (call_streams left faults output errors)) (call_state new locals (call_streams left' faults' output errors)) result
   read_halts halt (Ok outcome) same reads some cause live lives kept = absurd same
   read_halts halt (Err other) same reads some cause live lives kept =
-      subst (λ h. Applies (next_read asked next) (given old locals (handed left faults output errors)) (given new locals (handed left' faults' output errors)) (Err h)) (sym same) (record {
+      subst (λ h. Applies (next_read asked next) (call_state old locals (call_streams left faults output errors)) (call_state new locals (call_streams left' faults' output errors)) (Err h)) (sym same) (record {
         answers = λ was told. halted left left' was halt (reads was told);
         meant = record { had = some.had; has = some.has; answers = λ was first. halted (Some some.had) (Some some.has) was halt (some.reads was first) };
         caused = halt_caused halt cause;
@@ -99,8 +99,8 @@ module _ (asked : Asked) (next : List ℕ → Row) (quiet : IsQuiet next) (old n
       })
 
   given_by : (tells tells' : Option (List ℕ)) (span : Span) (outcome : Outcome) → ((s : Setting) → next (text_in (extent_of new.heap) span) s ≡ outcome_in (extent_of new.heap) outcome s) → (was : Outside)
-      → Reads asked was (given old locals (handed tells faults output errors)) (given new locals (handed tells' faults' output errors)) (Ok (Some span))
-      → Answers (next_read asked next) was (given old locals (handed tells faults output errors)) (given new locals (handed tells' faults' output errors)) (Ok outcome)
+      → Reads asked was (call_state old locals (call_streams tells faults output errors)) (call_state new locals (call_streams tells' faults' output errors)) (Ok (Some span))
+      → Answers (next_read asked next) was (call_state old locals (call_streams tells faults output errors)) (call_state new locals (call_streams tells' faults' output errors)) (Ok outcome)
   given_by tells tells' span outcome goes was reads = record {
     now = after_reading asked was;
     follows = was_read tells tells' was (after_reading asked was) reads.1 refl refl;
@@ -108,8 +108,8 @@ module _ (asked : Asked) (next : List ℕ → Row) (quiet : IsQuiet next) (old n
   }
 
   failed_by : (tells tells' : Option (List ℕ)) (was : Outside)
-      → Reads asked was (given old locals (handed tells faults output errors)) (given new locals (handed tells' faults' output errors)) (Ok None)
-      → Answers (next_read asked next) was (given old locals (handed tells faults output errors)) (given new locals (handed tells' faults' output errors)) (Ok HeldFails)
+      → Reads asked was (call_state old locals (call_streams tells faults output errors)) (call_state new locals (call_streams tells' faults' output errors)) (Ok None)
+      → Answers (next_read asked next) was (call_state old locals (call_streams tells faults output errors)) (call_state new locals (call_streams tells' faults' output errors)) (Ok HeldFails)
   failed_by tells tells' was reads = record {
     now = with_reading asked was;
     follows = was_read tells tells' was (with_reading asked was) reads.1 refl refl;
@@ -118,18 +118,18 @@ module _ (asked : Asked) (next : List ℕ → Row) (quiet : IsQuiet next) (old n
 
   -- a text was read, and the row goes on with it
   pub read_gives : (found : Option Span) (span : Span) (outcome : Outcome) → found ≡ Some span → ((s : Setting) → next (text_in (extent_of new.heap) span) s ≡ outcome_in (extent_of new.heap) outcome s)
-      → ((was : Outside) → left ≡ Some was.left → Reads asked was (given old locals (handed left faults output errors)) (given new locals (handed left' faults' output errors)) (Ok found))
-      → ReadsOfSome asked (given old locals (handed left faults output errors)) (given new locals (handed left' faults' output errors)) (Ok found)
+      → ((was : Outside) → left ≡ Some was.left → Reads asked was (call_state old locals (call_streams left faults output errors)) (call_state new locals (call_streams left' faults' output errors)) (Ok found))
+      → ReadsOfSome asked (call_state old locals (call_streams left faults output errors)) (call_state new locals (call_streams left' faults' output errors)) (Ok found)
       → faults' ≡ faults → IsLiveOutcome (reach_of new locals) outcome → All (IsLive (extent_of new.heap)) locals → KeepsItems (reach_of old locals) (reach_of new locals)
-      → Applies (next_read asked next) (given old locals (handed left faults output errors)) (given new locals (handed left' faults' output errors)) (Ok outcome)
+      → Applies (next_read asked next) (call_state old locals (call_streams left faults output errors)) (call_state new locals (call_streams left' faults' output errors)) (Ok outcome)
   read_gives found span outcome same goes reads some cause live lives kept = record {
-    answers = λ was told. given_by left left' span outcome goes was (subst (λ f. Reads asked was (given old locals (handed left faults output errors)) (given new locals (handed left' faults' output errors)) (Ok f)) same (reads was told));
+    answers = λ was told. given_by left left' span outcome goes was (subst (λ f. Reads asked was (call_state old locals (call_streams left faults output errors)) (call_state new locals (call_streams left' faults' output errors)) (Ok f)) same (reads was told));
     meant = record {
       had = some.had;
       has = some.has;
       answers = λ was first.
           given_by (Some some.had) (Some some.has) span outcome goes was
-          (subst (λ f. Reads asked was (given old locals (handed (Some some.had) faults output errors)) (given new locals (handed (Some some.has) faults' output errors)) (Ok f)) same (some.reads was first));
+          (subst (λ f. Reads asked was (call_state old locals (call_streams (Some some.had) faults output errors)) (call_state new locals (call_streams (Some some.has) faults' output errors)) (Ok f)) same (some.reads was first));
     };
     caused = record { faults = cause; output = counts_all output; errors = counts_all errors };
     live = live;
@@ -138,18 +138,18 @@ module _ (asked : Asked) (next : List ℕ → Row) (quiet : IsQuiet next) (old n
   }
 
   -- nothing was there, and the row fails
-  pub read_fails : (found : Option Span) → found ≡ None → ((was : Outside) → left ≡ Some was.left → Reads asked was (given old locals (handed left faults output errors)) (given new locals (handed left' faults' output errors)) (Ok found))
-      → ReadsOfSome asked (given old locals (handed left faults output errors)) (given new locals (handed left' faults' output errors)) (Ok found)
+  pub read_fails : (found : Option Span) → found ≡ None → ((was : Outside) → left ≡ Some was.left → Reads asked was (call_state old locals (call_streams left faults output errors)) (call_state new locals (call_streams left' faults' output errors)) (Ok found))
+      → ReadsOfSome asked (call_state old locals (call_streams left faults output errors)) (call_state new locals (call_streams left' faults' output errors)) (Ok found)
       → faults' ≡ faults → All (IsLive (extent_of new.heap)) locals → KeepsItems (reach_of old locals) (reach_of new locals)
-      → Applies (next_read asked next) (given old locals (handed left faults output errors)) (given new locals (handed left' faults' output errors)) (Ok HeldFails)
+      → Applies (next_read asked next) (call_state old locals (call_streams left faults output errors)) (call_state new locals (call_streams left' faults' output errors)) (Ok HeldFails)
   read_fails found same reads some cause lives kept = record {
-    answers = λ was told. failed_by left left' was (subst (λ f. Reads asked was (given old locals (handed left faults output errors)) (given new locals (handed left' faults' output errors)) (Ok f)) same (reads was told));
+    answers = λ was told. failed_by left left' was (subst (λ f. Reads asked was (call_state old locals (call_streams left faults output errors)) (call_state new locals (call_streams left' faults' output errors)) (Ok f)) same (reads was told));
     meant = record {
       had = some.had;
       has = some.has;
       answers = λ was first.
           failed_by (Some some.had) (Some some.has) was
-          (subst (λ f. Reads asked was (given old locals (handed (Some some.had) faults output errors)) (given new locals (handed (Some some.has) faults' output errors)) (Ok f)) same (some.reads was first));
+          (subst (λ f. Reads asked was (call_state old locals (call_streams (Some some.had) faults output errors)) (call_state new locals (call_streams (Some some.has) faults' output errors)) (Ok f)) same (some.reads was first));
     };
     caused = record { faults = cause; output = counts_all output; errors = counts_all errors };
     live = record { live = tt };

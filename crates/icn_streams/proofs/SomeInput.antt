@@ -7,7 +7,7 @@ use Rattle.std.proofs.lemmas.List.Folds.{prefix_len-append}
 use Rattle.std.proofs.Math.Seq.{take-append_seam}
 use Rattle.icn_host.specs.Sources.{ExtendsByLine, is_newline}
 use Rattle.icn_value.specs.declared.val.Span.{Span}
-use Rattle.icn_value.specs.Store.{Asked, ALine, SomeBytes, Outside, with_reading}
+use Rattle.icn_value.specs.Store.{Request, ALine, SomeBytes, Outside, with_reading}
 use Rattle.icn_defs.specs.Calls.{Passes}
 use Rattle.icn_defs.specs.Interruptions.{LosesPart, asked_of, after_reading}
 use Rattle.icn_defs.specs.Rows.{costs_bytes}
@@ -17,7 +17,7 @@ use Rattle.icn_vars.specs.Stops.{StopsPassing, halt_of}
 use Rattle.icn_vars.specs.declared.stop.Stop.{Stop}
 use Rattle.icn_vars.specs.declared.outcome.Halt.{Halt}
 use Rattle.icn_vars.specs.declared.outcome.Halt.TheVariants.{ReadFault, NoMemory}
-use Rattle.icn_streams.specs.Answers.{Given, setting_with, telling}
+use Rattle.icn_streams.specs.Answers.{CallState, setting_with, with_left}
 use Rattle.icn_streams.specs.Readings.{Fills, FillsOfSome, ReadsOfSome}
 use Rattle.icn_streams.proofs.NextRead.{reads_err, reads_none, reads_some}
 
@@ -46,7 +46,7 @@ taken_whole (suc count) [] few = refl
 taken_whole (suc count) (byte ∷ bytes) few = ap (λ rest. byte ∷ rest) (taken_whole count bytes (omega arith))
 
 -- nothing is read where nothing is left
-none_of_some : (asked : Asked) → FillsOfSome asked false []
+none_of_some : (asked : Request) → FillsOfSome asked false []
 none_of_some ALine = record { left = []; fills = record { found = refl; read = refl; rest = refl } }
 none_of_some (SomeBytes count) = record {
   left = [];
@@ -69,7 +69,7 @@ line_read false had has empty extends none = subst (FillsOfSome ALine false) (sy
 lost_of_none : (left : List ℕ) (most : ℕ) → left ≡ [] → LosesPart left most (Some [])
 lost_of_none left most is = record { count = 0; within = omega arith; is = ap Some (sym is) }
 
-module _ (asked : Asked) (before after : Given) where
+module _ (asked : Request) (before after : CallState) where
   module _ (there : Bool) (held bytes : List ℕ) (some : FillsOfSome asked there held) where
     abbrev rest : List ℕ
     rest = drop (asked_of asked some.left) some.left
@@ -82,14 +82,14 @@ module _ (asked : Asked) (before after : Given) where
     some_text span met same text step = record {
       had = some.left;
       has = rest;
-      reads = λ was is. reads_some asked was (telling some.left before) (telling rest after) there held bytes span (filled was is) met same text (step (after_reading asked was));
+      reads = λ was is. reads_some asked was (with_left some.left before) (with_left rest after) there held bytes span (filled was is) met same text (step (after_reading asked was));
     }
 
     pub some_none : there ≡ false → ((outside : Outside) → setting_with outside before ≡ setting_with outside after) → ReadsOfSome asked before after (Ok None)
     some_none missed same = record {
       had = some.left;
       has = rest;
-      reads = λ was is. reads_none asked was (telling some.left before) (telling rest after) there held (filled was is) missed (same (with_reading asked was));
+      reads = λ was is. reads_none asked was (with_left some.left before) (with_left rest after) there held (filled was is) missed (same (with_reading asked was));
     }
 
     pub some_err : (stop : Stop) (result : Result (Option Span) Halt) → there ≡ true → bytes ≡ held
@@ -99,7 +99,7 @@ module _ (asked : Asked) (before after : Given) where
       had = some.left;
       has = rest;
       reads = λ was first.
-          reads_err asked was (telling some.left before) (telling rest after) there held bytes stop result (filled was first) met same (step (after_reading asked was)) is;
+          reads_err asked was (with_left some.left before) (with_left rest after) there held bytes stop result (filled was first) met same (step (after_reading asked was)) is;
     }
 
   pub some_fault : ReadsOfSome asked before after (Err ReadFault)

@@ -1,7 +1,7 @@
 -- What a row that reads or puts leaves, where it is answered and where it is broken off.
 use Rattle.std.specs.Prelude.{◌≡◌, ℕ, List, Some, Result, Ok, Err}
 use Rattle.icn_value.specs.declared.val.Val.{Val}
-use Rattle.icn_value.specs.Store.{Asked, Outside, Setting, with_reading}
+use Rattle.icn_value.specs.Store.{Request, Outside, Setting, with_reading}
 use Rattle.icn_defs.specs.Interruptions.{LosesPart, asked_of}
 use Rattle.icn_defs.specs.Rows.{Row, Outcome, Fails, Gives, Suspends, Error, Ends}
 use Rattle.icn_heap.specs.Heaps.{extent_of}
@@ -11,24 +11,24 @@ use Rattle.icn_vars.specs.declared.outcome.Outcome.{Outcome as HeldOutcome}
 use Rattle.icn_vars.specs.declared.outcome.Halt.{Halt}
 use Rattle.icn_vars.specs.declared.outcome.Halt.TheVariants.{Error as ErrorHalt, Ends as EndsHalt, ReadFault, WriteFault, NoMemory}
 use Rattle.icn_vars.specs.declared.world.World.{World}
-use Rattle.icn_streams.specs.Handed.{Handed, Follows, PutsPart, KeepsAllCounts, ReadingFails, WritingFails, WantsMemory}
+use Rattle.icn_streams.specs.Handed.{CallStreams, Follows, PutsPart, KeepsAllCounts, ReadingFails, WritingFails, WantsMemory}
 
 -- what a call is given beside its arguments: the world, the locals, the input and the outputs
-pub record Given : Type 0 where
+pub record CallState : Type 0 where
   pub world : World
   pub locals : List Val
-  pub handed : Handed
+  pub handed : CallStreams
 
-abbrev pub given : World → List Val → Handed → Given
-given world locals handed = record { world = world; locals = locals; handed = handed }
+abbrev pub call_state : World → List Val → CallStreams → CallState
+call_state world locals handed = record { world = world; locals = locals; handed = handed }
 
 -- the setting of what is given, with this outside
-abbrev pub setting_with : Outside → Given → Setting
+abbrev pub setting_with : Outside → CallState → Setting
 setting_with outside all = setting_of outside all.world all.locals
 
 -- the same, had the input told that it has these bytes left
-abbrev pub telling : List ℕ → Given → Given
-telling left all = record all { handed = record all.handed { left = Some left } }
+abbrev pub with_left : List ℕ → CallState → CallState
+with_left left all = record all { handed = record all.handed { left = Some left } }
 
 -- the outside that a row leaves, whatever it comes to
 abbrev pub outside_after : Outcome → Outside
@@ -39,15 +39,15 @@ outside_after (Error number offending setting) = setting.outside
 outside_after (Ends status setting) = setting.outside
 
 -- What the row comes to is what was answered, with an outside that the input and the outputs tell.
-pub record Comes (row : Row) (was : Outside) (before after : Given) (result : Result HeldOutcome Halt) : Type 0 where
+pub record Comes (row : Row) (was : Outside) (before after : CallState) (result : Result HeldOutcome Halt) : Type 0 where
   pub now : Outside
   pub follows : Follows before.handed after.handed was now
   pub comes : ComesToAnswer (extent_of after.world.heap) row (setting_with was before) (setting_with now after) result
 
 -- The row reads once, and was broken off in that reading or behind it: some first part of what it reads was
 -- taken, and nothing was put.
-pub record StopsReading (row : Row) (at : Setting) (before after : Handed) : Type 0 where
-  pub asked : Asked
+pub record StopsReading (row : Row) (at : Setting) (before after : CallStreams) : Type 0 where
+  pub asked : Request
   pub made : (outside_after (row at)).readings ≡ (with_reading asked at.outside).readings
   pub left : LosesPart at.outside.left (asked_of asked at.outside.left) after.left
   pub output : after.output ≡ before.output
@@ -55,20 +55,20 @@ pub record StopsReading (row : Row) (at : Setting) (before after : Handed) : Typ
 
 -- The row was broken off as it put: each output has gained some first part of what the row puts there, and the
 -- input is as it was.
-pub record StopsPutting (row : Row) (at : Setting) (before after : Handed) : Type 0 where
+pub record StopsPutting (row : Row) (at : Setting) (before after : CallStreams) : Type 0 where
   pub left : after.left ≡ before.left
   pub output : PutsPart before.output after.output at.outside.output (outside_after (row at)).output
   pub errors : PutsPart before.errors after.errors at.outside.errors (outside_after (row at)).errors
 
 -- The row was broken off before it read or put anything, or as it read, or as it put.
-pub data Stops (row : Row) (at : Setting) (before after : Handed) : Type 0 where
+pub data Stops (row : Row) (at : Setting) (before after : CallStreams) : Type 0 where
   idle : after ≡ before → Stops row at before after
   reading : StopsReading row at before after → Stops row at before after
   putting : StopsPutting row at before after → Stops row at before after
 
 -- What was answered, where the outside before is one that the input tells: what the row comes to; or a fault or
 -- want of memory, which broke it off.
-abbrev pub Answers : Row → Outside → Given → Given → Result HeldOutcome Halt → Type 0
+abbrev pub Answers : Row → Outside → CallState → CallState → Result HeldOutcome Halt → Type 0
 Answers row was before after (Ok outcome) = Comes row was before after (Ok outcome)
 Answers row was before after (Err (ErrorHalt number offending)) = Comes row was before after (Err (ErrorHalt number offending))
 Answers row was before after (Err (EndsHalt status)) = Comes row was before after (Err (EndsHalt status))
@@ -78,14 +78,14 @@ Answers row was before after (Err NoMemory) = Stops row (setting_with was before
 
 -- What was answered is what the row comes to, or what broke it off, over some input that has these bytes and leaves
 -- those: so it is whatever the input tells.
-pub record OverSomeInput (row : Row) (before after : Given) (result : Result HeldOutcome Halt) : Type 0 where
+pub record OverSomeInput (row : Row) (before after : CallState) (result : Result HeldOutcome Halt) : Type 0 where
   pub had : List ℕ
   pub has : List ℕ
-  pub answers : (was : Outside) → was.left ≡ had → Answers row was (telling had before) (telling has after) result
+  pub answers : (was : Outside) → was.left ≡ had → Answers row was (with_left had before) (with_left has after) result
 
 -- Why it was answered, whatever the input and the outputs tell: a fault comes where that object has failed in
 -- this call, and no object fails in a call that is answered otherwise.
-abbrev pub CausedBy : Result HeldOutcome Halt → Handed → Handed → Type 0
+abbrev pub CausedBy : Result HeldOutcome Halt → CallStreams → CallStreams → Type 0
 CausedBy (Ok outcome) before after = KeepsAllCounts before after
 CausedBy (Err (ErrorHalt number offending)) before after = KeepsAllCounts before after
 CausedBy (Err (EndsHalt status)) before after = KeepsAllCounts before after

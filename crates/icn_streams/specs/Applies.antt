@@ -9,16 +9,16 @@ use Rattle.icn_vars.specs.Outcomes.{IsLiveAnswer}
 use Rattle.icn_vars.specs.Worlds.{KeepsItems, Reach, reach_of}
 use Rattle.icn_vars.specs.declared.outcome.Outcome.{Outcome}
 use Rattle.icn_vars.specs.declared.outcome.Halt.{Halt}
-use Rattle.icn_streams.specs.Answers.{Given, Answers, CausedBy, OverSomeInput}
+use Rattle.icn_streams.specs.Answers.{CallState, Answers, CausedBy, OverSomeInput}
 
 -- what items may name that are of what is given
-abbrev pub reach_given : Given → Reach
+abbrev pub reach_given : CallState → Reach
 reach_given all = reach_of all.world all.locals
 
 -- The call was answered what the row comes to, or a fault or want of memory broke it off: over the input that was
 -- handed where that tells what it has left, and over some input in any case. What was answered is of the world, and
 -- so are the locals still; every item that was of the world stays so, and stands for the same.
-pub record Applies (row : Row) (before after : Given) (result : Result Outcome Halt) : Type 0 where
+pub record Applies (row : Row) (before after : CallState) (result : Result Outcome Halt) : Type 0 where
   pub answers : (was : Outside) → before.handed.left ≡ Some was.left → Answers row was before after result
   pub meant : OverSomeInput row before after result
   pub caused : CausedBy result before.handed after.handed

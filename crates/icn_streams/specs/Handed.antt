@@ -5,14 +5,14 @@ use Rattle.icn_host.specs.Sinks.{SinkState, Gains, GainsPart}
 use Rattle.icn_value.specs.Store.{Outside}
 
 -- what is left of the input, where it tells that, and how often it has failed; the output, and the error output
-pub record Handed : Type 0 where
+pub record CallStreams : Type 0 where
   pub left : Option (List ℕ)
   pub faults : ℕ
   pub output : SinkState
   pub errors : SinkState
 
-abbrev pub handed : Option (List ℕ) → ℕ → SinkState → SinkState → Handed
-handed left faults output errors = record { left = left; faults = faults; output = output; errors = errors }
+abbrev pub call_streams : Option (List ℕ) → ℕ → SinkState → SinkState → CallStreams
+call_streams left faults output errors = record { left = left; faults = faults; output = output; errors = errors }
 
 -- What is put
 
@@ -29,7 +29,7 @@ pub record PutsPart (before after : SinkState) (was now : List ℕ) : Type 0 whe
   pub gains : GainsPart before.held after.held text
 
 -- the outside that was has become the one that is now, and the input and the outputs tell so
-pub record Follows (before after : Handed) (was now : Outside) : Type 0 where
+pub record Follows (before after : CallStreams) (was now : Outside) : Type 0 where
   pub left : after.left ≡ Some now.left
   pub output : Puts before.output after.output was.output now.output
   pub errors : Puts before.errors after.errors was.errors now.errors
@@ -52,26 +52,26 @@ pub record WantsOnce (before after : SinkState) : Type 0 where
   pub wants : after.wants ≡ one_more before.wants
 
 -- nothing has failed, and no sink has wanted memory
-pub record KeepsAllCounts (before after : Handed) : Type 0 where
+pub record KeepsAllCounts (before after : CallStreams) : Type 0 where
   pub faults : after.faults ≡ before.faults
   pub output : KeepsCounts before.output after.output
   pub errors : KeepsCounts before.errors after.errors
 
 -- the input has failed, once, and the outputs were left alone
-pub record ReadingFails (before after : Handed) : Type 0 where
+pub record ReadingFails (before after : CallStreams) : Type 0 where
   pub faults : after.faults ≡ one_more before.faults
   pub output : after.output ≡ before.output
   pub errors : after.errors ≡ before.errors
 
 -- the input was left alone, and one of the outputs has failed, once
-pub data WritingFails (before after : Handed) : Type 0 where
+pub data WritingFails (before after : CallStreams) : Type 0 where
   output_fails : after.left ≡ before.left → after.faults ≡ before.faults
       → FailsOnce before.output after.output → KeepsCounts before.errors after.errors → WritingFails before after
   errors_fail : after.left ≡ before.left → after.faults ≡ before.faults
       → KeepsCounts before.output after.output → FailsOnce before.errors after.errors → WritingFails before after
 
 -- nothing has failed, and at most one of the outputs has wanted memory, once
-pub data WantsMemory (before after : Handed) : Type 0 where
+pub data WantsMemory (before after : CallStreams) : Type 0 where
   uncounted : KeepsAllCounts before after → WantsMemory before after
   output_wants : after.faults ≡ before.faults → WantsOnce before.output after.output
       → KeepsCounts before.errors after.errors → WantsMemory before after

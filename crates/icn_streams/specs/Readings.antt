@@ -2,7 +2,7 @@
 use Rattle.std.specs.Prelude.{◌≡◌, ◌==◌, ℕ, Bool, not, List, length, drop, take, take_while, nat_lt, Option, None, Some, Result, Ok, Err}
 use Rattle.std.specs.Option.{option_map}
 use Rattle.icn_value.specs.declared.val.Span.{Span}
-use Rattle.icn_value.specs.Store.{Asked, ALine, SomeBytes, Outside, with_reading}
+use Rattle.icn_value.specs.Store.{Request, ALine, SomeBytes, Outside, with_reading}
 use Rattle.icn_defs.specs.Calls.{GoesOn, ComesTo}
 use Rattle.icn_defs.specs.Interruptions.{LosesPart, asked_of, after_reading}
 use Rattle.icn_defs.specs.Lines.{next_line, next_bytes}
@@ -12,44 +12,44 @@ use Rattle.icn_heap.specs.Extents.{text_in, value_in}
 use Rattle.icn_heap.specs.Heaps.{extent_of}
 use Rattle.icn_vars.specs.declared.outcome.Halt.{Halt}
 use Rattle.icn_vars.specs.declared.outcome.Halt.TheVariants.{Error as ErrorHalt, Ends as EndsHalt, ReadFault, WriteFault, NoMemory}
-use Rattle.icn_streams.specs.Answers.{Given, setting_with, telling}
+use Rattle.icn_streams.specs.Answers.{CallState, setting_with, with_left}
 use Rattle.icn_streams.specs.declared.ask.Ask.{Ask}
 use Rattle.icn_streams.specs.declared.ask.Ask.TheVariants.{Line, Bytes}
 
-abbrev pub asked_in : Ask → Asked
+abbrev pub asked_in : Ask → Request
 asked_in Line = ALine
 asked_in (Bytes count) = SomeBytes count
 
 -- whether there is something to be read
-abbrev pub is_there : Asked → List ℕ → Bool
+abbrev pub is_there : Request → List ℕ → Bool
 is_there ALine left = nat_lt 0 (length left)
 is_there (SomeBytes count) left = nat_lt 0 (length (take count left))
 
 -- what is read: a line without its newline, or so many bytes, or all where fewer are left
-abbrev pub read_of : Asked → List ℕ → List ℕ
+abbrev pub read_of : Request → List ℕ → List ℕ
 read_of ALine left = take_while (λ byte. not (byte == 10)) left
 read_of (SomeBytes count) left = take count left
 
 -- the part of a row that reads
-abbrev pub next_read : Asked → Finds (List ℕ)
+abbrev pub next_read : Request → Finds (List ℕ)
 next_read ALine next = next_line next
 next_read (SomeBytes count) next = next_bytes count next
 
 -- what was asked for was taken from the input
-pub record Fills (asked : Asked) (left : List ℕ) (there : Bool) (bytes : List ℕ) (after : Option (List ℕ)) : Type 0 where
+pub record Fills (asked : Request) (left : List ℕ) (there : Bool) (bytes : List ℕ) (after : Option (List ℕ)) : Type 0 where
   pub found : there ≡ is_there asked left
   pub read : bytes ≡ read_of asked left
   pub rest : after ≡ Some (drop (asked_of asked left) left)
 
 -- What was taken is what is asked for of some bytes, whether or not the input tells which it had.
-pub record FillsOfSome (asked : Asked) (there : Bool) (bytes : List ℕ) : Type 0 where
+pub record FillsOfSome (asked : Request) (there : Bool) (bytes : List ℕ) : Type 0 where
   pub left : List ℕ
   pub fills : Fills asked left there bytes (Some (drop (asked_of asked left) left))
 
 -- What the reading of a row was answered, where the outside before is one that the input tells: a text, with which
 -- the row goes on; nothing, and the row fails; an error of the row; or a fault or want of memory, where some first
 -- part of what is asked for was taken.
-abbrev pub Reads : Asked → Outside → Given → Given → Result (Option Span) Halt → Type 0
+abbrev pub Reads : Request → Outside → CallState → CallState → Result (Option Span) Halt → Type 0
 Reads asked was before after (Ok (Some span)) =
     GoesOn (next_read asked) (setting_with was before) (text_in (extent_of after.world.heap) span) (setting_with (after_reading asked was) after)
     × (after.handed.left ≡ Some (after_reading asked was).left)
@@ -65,10 +65,10 @@ Reads asked was before after (Err WriteFault) = ⊥
 Reads asked was before after (Err NoMemory) = LosesPart was.left (asked_of asked was.left) after.handed.left
 
 -- What the reading was answered is so over some input that has these bytes and leaves those.
-pub record ReadsOfSome (asked : Asked) (before after : Given) (result : Result (Option Span) Halt) : Type 0 where
+pub record ReadsOfSome (asked : Request) (before after : CallState) (result : Result (Option Span) Halt) : Type 0 where
   pub had : List ℕ
   pub has : List ℕ
-  pub reads : (was : Outside) → was.left ≡ had → Reads asked was (telling had before) (telling has after) result
+  pub reads : (was : Outside) → was.left ≡ had → Reads asked was (with_left had before) (with_left has after) result
 
 -- The input's count of faults rose, once, where a fault of it is answered, and stayed where none is. A reading neither
 -- ends the program nor writes.

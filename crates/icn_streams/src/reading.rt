@@ -10,8 +10,8 @@ ghost use Rattle.icn_heap.specs.Heaps.{extent_of};
 ghost use Rattle.icn_vars.specs.Stops.{IsLiveStop, StopsPassing};
 ghost use Rattle.icn_vars.specs.Outcomes.{IsLiveHalt};
 ghost use Rattle.icn_vars.specs.Worlds.{KeepsItems, reach_of, setting_of};
-ghost use Rattle.icn_streams.specs.Answers.{given};
-ghost use Rattle.icn_streams.specs.Handed.{handed};
+ghost use Rattle.icn_streams.specs.Answers.{call_state};
+ghost use Rattle.icn_streams.specs.Handed.{call_streams};
 ghost use Rattle.icn_streams.specs.Readings.{InputCause, Reads, ReadsOfSome, asked_in};
 
 use crate::ask::Ask;
@@ -34,8 +34,8 @@ pub fn read_text<L: Locals, I: Source>(
     input: &mut I,
 ) -> Result<Option<Span>, Halt>
     requires locals { All (IsLive (extent_of w.old.heap)) (L.items l.now) }
-    ensures reads { (was : Outside) (output errors : SinkState) → I.left input.old ≡ Some was.left → Reads (asked_in ask) was (given w.old (L.items l.now) (handed (I.left input.old) (I.faults input.old) output errors)) (given w.new (L.items l.now) (handed (I.left input.new) (I.faults input.new) output errors)) result }
-    ensures some { (output errors : SinkState) → ReadsOfSome (asked_in ask) (given w.old (L.items l.now) (handed (I.left input.old) (I.faults input.old) output errors)) (given w.new (L.items l.now) (handed (I.left input.new) (I.faults input.new) output errors)) result }
+    ensures reads { (was : Outside) (output errors : SinkState) → I.left input.old ≡ Some was.left → Reads (asked_in ask) was (call_state w.old (L.items l.now) (call_streams (I.left input.old) (I.faults input.old) output errors)) (call_state w.new (L.items l.now) (call_streams (I.left input.new) (I.faults input.new) output errors)) result }
+    ensures some { (output errors : SinkState) → ReadsOfSome (asked_in ask) (call_state w.old (L.items l.now) (call_streams (I.left input.old) (I.faults input.old) output errors)) (call_state w.new (L.items l.now) (call_streams (I.left input.new) (I.faults input.new) output errors)) result }
     ensures cause { InputCause (I.faults input.old) (I.faults input.new) result }
     ensures live { IfOk result (λ found. IfSome found (IsText (extent_of w.new.heap))) }
     ensures halts { IfErr result (IsLiveHalt (reach_of w.new (L.items l.now))) }

@@ -11,7 +11,7 @@ use Rattle.icn_value.specs.declared.item.Pair.{Pair}
 use Rattle.icn_value.specs.declared.val.Val.{Val}
 use Rattle.icn_value.specs.Values.{Value, AList}
 use Rattle.icn_value.specs.Store.{Heap, Outside, Setting, list_at, new_list, with_list}
-use Rattle.icn_value.specs.Changes.{Changed, Refuses, and_then, charged_cells}
+use Rattle.icn_value.specs.Changes.{ChangedHeap, Refuses, and_then, charged_cells}
 use Rattle.icn_defs.specs.Arguments.{list}
 use Rattle.icn_defs.specs.Calls.{Passes}
 use Rattle.icn_defs.specs.Rows.{Row, here, changes_heap, costs_cells, gives_value}
@@ -34,7 +34,7 @@ paid_cells : (heap : Heap) (count : ℕ) (paid : Heap) → charged_cells heap co
 unfolding charged_cells
 paid_cells heap count paid is = by_test (nat_le (heap.cells + count) heap.bounds.cells) is
   where
-    by_test : (b : Bool) → (let r : Changed = if b then Ok (with_cells (heap.cells + count) heap) else Err (Cells heap.cells heap.bounds.cells) in r) ≡ Ok paid → paid ≡ with_cells (heap.cells + count) heap
+    by_test : (b : Bool) → (let r : ChangedHeap = if b then Ok (with_cells (heap.cells + count) heap) else Err (Cells heap.cells heap.bounds.cells) in r) ≡ Ok paid → paid ≡ with_cells (heap.cells + count) heap
     by_test true is = cc
     by_test false is = cc
 
@@ -43,21 +43,21 @@ module _ (grown : Numbered Value → Value → Numbered Value) (id : ℕ) where
   one_more : Value → Heap → Heap
   one_more value heap = with_list id (grown (list_at heap id) value) (with_cells (heap.cells + 1) heap)
 
-  added_one : (heap new : Heap) (value : Value) → and_then (charged_cells heap 1) (λ paid. let r : Changed = Ok (with_list id (grown (list_at paid id) value) paid) in r) ≡ Ok new → new ≡ one_more value heap
+  added_one : (heap new : Heap) (value : Value) → and_then (charged_cells heap 1) (λ paid. let r : ChangedHeap = Ok (with_list id (grown (list_at paid id) value) paid) in r) ≡ Ok new → new ≡ one_more value heap
   unfolding one_more
   added_one heap new value step =
       let paid = charged_then (λ paid. with_list id (grown (list_at paid id) value) paid) (charged_cells heap 1) new step in
       sym paid.2 ∙ ap (λ paid. with_list id (grown (list_at paid id) value) paid) (paid_cells heap 1 paid.0 paid.1)
 
-  pub cells_more : (heap new : Heap) (value : Value) → and_then (charged_cells heap 1) (λ paid. let r : Changed = Ok (with_list id (grown (list_at paid id) value) paid) in r) ≡ Ok new → new.cells ≡ heap.cells + 1
+  pub cells_more : (heap new : Heap) (value : Value) → and_then (charged_cells heap 1) (λ paid. let r : ChangedHeap = Ok (with_list id (grown (list_at paid id) value) paid) in r) ≡ Ok new → new.cells ≡ heap.cells + 1
   unfolding one_more
   cells_more heap new value step = ap (λ (h : Heap). h.cells) (added_one heap new value step)
 
-  pub bounds_stay : (heap new : Heap) (value : Value) → and_then (charged_cells heap 1) (λ paid. let r : Changed = Ok (with_list id (grown (list_at paid id) value) paid) in r) ≡ Ok new → new.bounds.cells ≡ heap.bounds.cells
+  pub bounds_stay : (heap new : Heap) (value : Value) → and_then (charged_cells heap 1) (λ paid. let r : ChangedHeap = Ok (with_list id (grown (list_at paid id) value) paid) in r) ≡ Ok new → new.bounds.cells ≡ heap.bounds.cells
   unfolding one_more
   bounds_stay heap new value step = ap (λ (h : Heap). h.bounds.cells) (added_one heap new value step)
 
-  pub records_stay : (heap new : Heap) (value : Value) → and_then (charged_cells heap 1) (λ paid. let r : Changed = Ok (with_list id (grown (list_at paid id) value) paid) in r) ≡ Ok new → new.records ≡ heap.records
+  pub records_stay : (heap new : Heap) (value : Value) → and_then (charged_cells heap 1) (λ paid. let r : ChangedHeap = Ok (with_list id (grown (list_at paid id) value) paid) in r) ≡ Ok new → new.records ≡ heap.records
   unfolding one_more
   records_stay heap new value step = ap (λ (h : Heap). h.records) (added_one heap new value step)
 
@@ -78,7 +78,7 @@ module _ (grown : Numbered Value → Value → Numbered Value) (id : ℕ) where
 
   -- one element is added, and others are left
   pub adds_next : (heap new : Heap) (value : Value) (values : List Value) → id < length heap.lists
-      → and_then (charged_cells heap 1) (λ paid. let r : Changed = Ok (with_list id (grown (list_at paid id) value) paid) in r) ≡ Ok new
+      → and_then (charged_cells heap 1) (λ paid. let r : ChangedHeap = Ok (with_list id (grown (list_at paid id) value) paid) in r) ≡ Ok new
       → added_to grown id values new ≡ added_to grown id (value ∷ values) heap
   adds_next heap new value values there step = ap (added_to grown id values) (added_one heap new value step) ∙ grows_next heap value values there
 
@@ -90,14 +90,14 @@ module _ (grown : Numbered Value → Value → Numbered Value) (id : ℕ) where
 
   -- where there is room, only memory may be wanting
   pub no_refusal : (heap : Heap) (value : Value) (full : Full) → heap.cells + 1 ≤ heap.bounds.cells
-      → Refuses (and_then (charged_cells heap 1) (λ paid. let r : Changed = Ok (with_list id (grown (list_at paid id) value) paid) in r)) full → full ≡ NoMemory
+      → Refuses (and_then (charged_cells heap 1) (λ paid. let r : ChangedHeap = Ok (with_list id (grown (list_at paid id) value) paid) in r)) full → full ≡ NoMemory
   no_refusal heap value full room why =
       let paid : charged_cells heap 1 ≡ Ok (with_cells (heap.cells + 1) heap) = charge_fits heap 1 (heap.cells + 1) refl room in
       ⊎_elim (λ (e : full ≡ NoMemory). e)
-      (λ (e : and_then (charged_cells heap 1) (λ paid. let r : Changed = Ok (with_list id (grown (list_at paid id) value) paid) in r) ≡ Err full).
-      absurd (never (ap (λ c. and_then c (λ paid. let r : Changed = Ok (with_list id (grown (list_at paid id) value) paid) in r)) (sym paid) ∙ e))) why
+      (λ (e : and_then (charged_cells heap 1) (λ paid. let r : ChangedHeap = Ok (with_list id (grown (list_at paid id) value) paid) in r) ≡ Err full).
+      absurd (never (ap (λ c. and_then c (λ paid. let r : ChangedHeap = Ok (with_list id (grown (list_at paid id) value) paid) in r)) (sym paid) ∙ e))) why
     where
-      never : {heap : Heap} → (let r : Changed = Ok heap in r) ≡ Err full → ⊥
+      never : {heap : Heap} → (let r : ChangedHeap = Ok heap in r) ≡ Err full → ⊥
       never is = cc
 
   -- The part of a row

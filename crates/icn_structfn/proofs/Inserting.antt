@@ -13,7 +13,7 @@ use Rattle.icn_value.specs.declared.val.Val.{Val}
 use Rattle.icn_value.specs.Values.{Value, Null, Integer, Text, Chars, Std, Procedure, ARecord, AList, ASet, ATable, ACoexp, Val as ItemVal}
 use Rattle.icn_value.specs.Sameness.{same, with_member}
 use Rattle.icn_value.specs.Store.{Heap, Outside, Setting, Table, having_heap, set_at, table_at, with_set, with_table}
-use Rattle.icn_value.specs.Changes.{Changed, Refuses, and_then, having_member, with_pair, without_key as without_value}
+use Rattle.icn_value.specs.Changes.{ChangedHeap, Refuses, and_then, having_member, with_pair, without_key as without_value}
 use Rattle.icn_defs.specs.Arguments.{Keeper, keeper, keeper_of}
 use Rattle.icn_defs.specs.Calls.{Passes}
 use Rattle.icn_defs.specs.Rows.{Row, here, passing, present, changes_heap, gives_value, Error, Fails, Gives}
@@ -79,18 +79,18 @@ takes_none_out kept key is setting = by_keeper (keeper_of kept) is
 
 -- Putting in
 
-refused_first : (charge : Changed) (change : Heap → Heap) (full : Full) → and_then charge (λ paid. let r : Changed = Ok (change paid) in r) ≡ Err full → charge ≡ Err full
+refused_first : (charge : ChangedHeap) (change : Heap → Heap) (full : Full) → and_then charge (λ paid. let r : ChangedHeap = Ok (change paid) in r) ≡ Err full → charge ≡ Err full
 refused_first (Ok paid) change full is = absurd (never is)
   where
-    never : (let r : Changed = Ok (change paid) in r) ≡ Err full → ⊥
+    never : (let r : ChangedHeap = Ok (change paid) in r) ≡ Err full → ⊥
     never is = cc
 refused_first (Err why) change full is = is
 
 module _ (old new : HeldHeap) (pair : Pair) (random : ℕ) (globals statics locals : List Val) (keeps : Keeps (extent_of old) (extent_of new))
     (sound : IsSoundWorld (extent_of old) pair random globals statics) (live : All (IsLive (extent_of old)) locals)
-    {part : Row → Row} {charge : Heap → Changed} (is : IsChange part charge) (change after : Heap → Heap) where
+    {part : Row → Row} {charge : Heap → ChangedHeap} (is : IsChange part charge) (change after : Heap → Heap) where
   -- it is charged, and the heap is changed
-  pub charged : ((paid : Heap) → IsCharged (heap_of old) paid → change paid ≡ after paid) → and_then (charge (heap_of old)) (λ paid. let r : Changed = Ok (after paid) in r) ≡ Ok (heap_of new) → (outside : Outside)
+  pub charged : ((paid : Heap) → IsCharged (heap_of old) paid → change paid ≡ after paid) → and_then (charge (heap_of old)) (λ paid. let r : ChangedHeap = Ok (after paid) in r) ≡ Ok (heap_of new) → (outside : Outside)
       → Passes (λ next. part (changes_heap change next)) (setting_over outside old pair random globals statics locals) (setting_over outside new pair random globals statics locals)
   charged same step outside next =
       let before : Setting = setting_over outside old pair random globals statics locals in
@@ -99,12 +99,12 @@ module _ (old new : HeldHeap) (pair : Pair) (random : ℕ) (globals statics loca
       ∙ (ap (λ (heap : Heap). next (having_heap (λ old. heap) before)) (same paid.0 (is.charged (heap_of old) paid.0 paid.1) ∙ paid.2)
       ∙ ap next (heap_changed outside old new pair random globals statics locals keeps refl sound live))
 
-  pub not_charged : {B : Type 0} (full : Full) (result : Result B Stop) → heap_of new ≡ heap_of old → Refuses (and_then (charge (heap_of old)) (λ paid. let r : Changed = Ok (after paid) in r)) full
+  pub not_charged : {B : Type 0} (full : Full) (result : Result B Stop) → heap_of new ≡ heap_of old → Refuses (and_then (charge (heap_of old)) (λ paid. let r : ChangedHeap = Ok (after paid) in r)) full
       → IsErrAnd result (λ stop. stop ≡ stop_of full) → (outside : Outside)
       → Passed (extent_of new) (λ next. part (changes_heap change next)) (setting_over outside old pair random globals statics locals) (setting_over outside new pair random globals statics locals) result
   not_charged full result same why err outside =
       let first : Refuses (charge (heap_of old)) full =
-      ⊎_elim (λ (e : full ≡ NoMemory). inl e) (λ (e : and_then (charge (heap_of old)) (λ paid. let r : Changed = Ok (after paid) in r) ≡ Err full). inr (refused_first (charge (heap_of old)) after full e)) why in
+      ⊎_elim (λ (e : full ≡ NoMemory). inl e) (λ (e : and_then (charge (heap_of old)) (λ paid. let r : ChangedHeap = Ok (after paid) in r) ≡ Err full). inr (refused_first (charge (heap_of old)) after full e)) why in
       first_part_stops (extent_of new) part (changes_heap change) (setting_over outside old pair random globals statics locals) (setting_over outside new pair random globals statics locals) (stop_of full) result err
       (stops old new pair random globals statics locals keeps sound live is same full first (extent_of new) outside)
 

@@ -8,7 +8,7 @@ use Rattle.icn_value.specs.declared.item.Pair.{Pair}
 use Rattle.icn_value.specs.declared.val.Val.{Val}
 use Rattle.icn_value.specs.Values.{Value, AList, ASet, ATable, ARecord}
 use Rattle.icn_value.specs.Store.{Heap, Outside, Setting, having_heap}
-use Rattle.icn_value.specs.Changes.{Changed, Refuses, and_then, charged_cells, having_record}
+use Rattle.icn_value.specs.Changes.{ChangedHeap, Refuses, and_then, charged_cells, having_record}
 use Rattle.icn_defs.specs.Calls.{GoesOn}
 use Rattle.icn_defs.specs.Rows.{Row, Finds, here, changes_heap, costs_cells}
 use Rattle.icn_heap.specs.declared.heap.Heap.{Heap as HeldHeap}
@@ -55,10 +55,10 @@ tables_stay heap paid is = ap (λ tables. ATable (length tables)) is.tables
 pub records_stay : (heap paid : Heap) → IsCharged heap paid → record_number paid ≡ record_number heap
 records_stay heap paid is = ap (λ records. ARecord (length records)) is.records
 
-refused_first : (charge : Changed) (change : Heap → Heap) (full : Full) → and_then charge (λ paid. let r : Changed = Ok (change paid) in r) ≡ Err full → charge ≡ Err full
+refused_first : (charge : ChangedHeap) (change : Heap → Heap) (full : Full) → and_then charge (λ paid. let r : ChangedHeap = Ok (change paid) in r) ≡ Err full → charge ≡ Err full
 refused_first (Ok paid) change full is = absurd (never is)
   where
-    never : (let r : Changed = Ok (change paid) in r) ≡ Err full → ⊥
+    never : (let r : ChangedHeap = Ok (change paid) in r) ≡ Err full → ⊥
     never is = cc
 refused_first (Err why) change full is = is
 
@@ -72,7 +72,7 @@ module _ (old new : HeldHeap) (pair : Pair) (random : ℕ) (globals statics loca
     (count : ℕ) (change : Heap → Heap) (number : Heap → Value) where
   -- it is made
   pub made : ((paid : Heap) → IsCharged (heap_of old) paid → number paid ≡ number (heap_of old)) → (value : Value) → value ≡ number (heap_of old)
-      → and_then (charged_cells (heap_of old) count) (λ paid. let r : Changed = Ok (change paid) in r) ≡ Ok (heap_of new) → (outside : Outside)
+      → and_then (charged_cells (heap_of old) count) (λ paid. let r : ChangedHeap = Ok (change paid) in r) ≡ Ok (heap_of new) → (outside : Outside)
       → GoesOn (makes count change number) (setting_over outside old pair random globals statics locals) value (setting_over outside new pair random globals statics locals)
   made same value is step outside next =
       let before : Setting = setting_over outside old pair random globals statics locals in
@@ -83,19 +83,19 @@ module _ (old new : HeldHeap) (pair : Pair) (random : ℕ) (globals statics loca
 
   -- it is refused
   pub refused : {B : Type 0} (shown : B → Value) (full : Full) (result : Result B Stop) → heap_of new ≡ heap_of old
-      → Refuses (and_then (charged_cells (heap_of old) count) (λ paid. let r : Changed = Ok (change paid) in r)) full → IsErrAnd result (λ stop. stop ≡ stop_of full) → (outside : Outside)
+      → Refuses (and_then (charged_cells (heap_of old) count) (λ paid. let r : ChangedHeap = Ok (change paid) in r)) full → IsErrAnd result (λ stop. stop ≡ stop_of full) → (outside : Outside)
       → Found (extent_of new) (makes count change number) (setting_over outside old pair random globals statics locals) (setting_over outside new pair random globals statics locals) shown result
   refused shown full result same why err outside =
       let before : Setting = setting_over outside old pair random globals statics locals in
       let after : Setting = setting_over outside new pair random globals statics locals in
       let first : Refuses (charged_cells (heap_of old) count) full =
-      ⊎_elim (λ (e : full ≡ NoMemory). inl e) (λ (e : and_then (charged_cells (heap_of old) count) (λ paid. let r : Changed = Ok (change paid) in r) ≡ Err full). inr (refused_first (charged_cells (heap_of old) count) change full e)) why in
+      ⊎_elim (λ (e : full ≡ NoMemory). inl e) (λ (e : and_then (charged_cells (heap_of old) count) (λ paid. let r : ChangedHeap = Ok (change paid) in r) ≡ Err full). inr (refused_first (charged_cells (heap_of old) count) change full e)) why in
       found_err (extent_of new) (makes count change number) before after shown (stop_of full) result err
       (finding_of (extent_of new) (costs_cells count) (λ next. here (λ setting. changes_heap change (next (number setting.world.heap)))) before after (stop_of full)
       (stops old new pair random globals statics locals keeps sound live (cells_change count) same full first (extent_of new) outside))
 
 -- a record is made
-pub fields_new : (count kind : ℕ) (fields : List Value) (old new : Heap) → and_then (charged_cells old count) (λ paid. let r : Changed = Ok (having_record kind fields paid) in r) ≡ Ok new
+pub fields_new : (count kind : ℕ) (fields : List Value) (old new : Heap) → and_then (charged_cells old count) (λ paid. let r : ChangedHeap = Ok (having_record kind fields paid) in r) ≡ Ok new
     → KeepsFields (field_counts old) (field_counts new)
 fields_new count kind fields old new step =
     let paid = charged_then (having_record kind fields) (charged_cells old count) new step in

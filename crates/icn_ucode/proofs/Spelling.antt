@@ -14,7 +14,7 @@ use Rattle.icn_text.specs.declared.op.TheConstants.Op.{ALL as ops}
 use Rattle.icn_text.specs.Keywords.{keyword_name}
 use Rattle.icn_text.specs.Ops.{op_number}
 use Rattle.icn_defs.specs.Numbers.{op_of}
-use Rattle.icn_defs.proofs.Found.{numbered}
+use Rattle.icn_defs.proofs.FoundFacts.{numbered}
 use Rattle.icn_tree.specs.Spellings.{lookup_text}
 use Rattle.icn_unit.specs.declared.instr_word.InstrWord.{InstrWord}
 use Rattle.icn_unit.specs.declared.instr_word.InstrWord.TheVariants.{Pnull, Int, Str, Cset, Var, Keywd, Pop, Dup, Op, Llist, Field, Invoke, Appl, Mark, Mark0, Unmark, Eret, Esusp, Limit, Lsusp, Efail, Chfail, Goto, Loop, Bscan, Escan, Ccase, Init, Psusp, Pret, Pfail, Create, Coact, Coret, Cofail, Lab}

@@ -9,8 +9,8 @@ use Rattle.icn_value.specs.declared.full.Full.{Full}
 use Rattle.icn_value.specs.declared.full.Full.TheVariants.{Strings, Cells, NoMemory}
 
 -- the heap once a change is made, or why it is not
-abbrev pub Changed : Type 0
-Changed = Result Heap Full
+abbrev pub ChangedHeap : Type 0
+ChangedHeap = Result Heap Full
 
 -- one step after another, as far as none is refused
 abbrev pub and_then : {A B : Type 0} → Result A Full → (A → Result B Full) → Result B Full
@@ -28,17 +28,17 @@ LimitsFirst change result = (full : Full) → change ≡ Err full → result ≡
 -- Charges
 
 -- string bytes, where the sum stays within the limit
-unfoldable pub charged_strings : Heap → ℕ → Changed
+unfoldable pub charged_strings : Heap → ℕ → ChangedHeap
 charged_strings heap count =
     if nat_le (heap.strings + count) heap.bounds.strings then Ok (record heap { strings = heap.strings + count }) else Err (Strings heap.strings heap.bounds.strings)
 
 -- cells, where the sum stays within the limit
-unfoldable pub charged_cells : Heap → ℕ → Changed
+unfoldable pub charged_cells : Heap → ℕ → ChangedHeap
 charged_cells heap count =
     if nat_le (heap.cells + count) heap.bounds.cells then Ok (record heap { cells = heap.cells + count }) else Err (Cells heap.cells heap.bounds.cells)
 
 -- a cell for what is new
-abbrev pub charged_unless : Bool → Heap → Changed
+abbrev pub charged_unless : Bool → Heap → ChangedHeap
 charged_unless true heap = Ok heap
 charged_unless false heap = charged_cells heap 1
 
@@ -47,32 +47,32 @@ charged_unless false heap = charged_cells heap 1
 abbrev pub having_list : List Value → Heap → Heap
 having_list items heap = record heap { lists = heap.lists ++ new_list items ∷ [] }
 
-abbrev pub made_list : Heap → List Value → Changed
+abbrev pub made_list : Heap → List Value → ChangedHeap
 made_list heap items = and_then (charged_cells heap (1 + length items)) (λ paid. Ok (having_list items paid))
 
 abbrev pub having_set : Heap → Heap
 having_set heap = record heap { sets = heap.sets ++ [] ∷ [] }
 
-abbrev pub made_set : Heap → Changed
+abbrev pub made_set : Heap → ChangedHeap
 made_set heap = and_then (charged_cells heap 1) (λ paid. Ok (having_set paid))
 
 abbrev pub having_table : Value → Heap → Heap
 having_table default heap = record heap { tables = heap.tables ++ record { default = default; pairs = [] } ∷ [] }
 
-abbrev pub made_table : Heap → Value → Changed
+abbrev pub made_table : Heap → Value → ChangedHeap
 made_table heap default = and_then (charged_cells heap 1) (λ paid. Ok (having_table default paid))
 
 abbrev pub having_record : ℕ → List Value → Heap → Heap
 having_record kind fields heap = record heap { records = heap.records ++ record { kind = kind; fields = fields } ∷ [] }
 
-abbrev pub made_record : Heap → ℕ → List Value → Changed
+abbrev pub made_record : Heap → ℕ → List Value → ChangedHeap
 made_record heap kind fields = and_then (charged_cells heap (1 + length fields)) (λ paid. Ok (having_record kind fields paid))
 
 abbrev pub having_coexp : Heap → Heap
 having_coexp heap = record heap { coexps = heap.coexps ++ 0 ∷ [] }
 
 -- a co-expression that has given nothing, which costs a cell and one more for each of its parameters and locals
-abbrev pub made_coexp : Heap → ℕ → Changed
+abbrev pub made_coexp : Heap → ℕ → ChangedHeap
 made_coexp heap locals = and_then (charged_cells heap (1 + locals)) (λ paid. Ok (having_coexp paid))
 
 -- the value of the structure of each type that is made next
@@ -94,34 +94,34 @@ next_coexp heap = ACoexp (length heap.coexps)
 -- Elements
 
 -- a list with one more item at the right, or at the left, which costs a cell
-abbrev pub put_on : Heap → ℕ → Value → Changed
+abbrev pub put_on : Heap → ℕ → Value → ChangedHeap
 put_on heap id value = and_then (charged_cells heap 1) (λ paid. Ok (with_list id (with_right (list_at paid id) value) paid))
 
-abbrev pub pushed_on : Heap → ℕ → Value → Changed
+abbrev pub pushed_on : Heap → ℕ → Value → ChangedHeap
 pushed_on heap id value = and_then (charged_cells heap 1) (λ paid. Ok (with_list id (with_left (list_at paid id) value) paid))
 
 -- the value at a key of a table, if the key is there
-abbrev pub looked : Heap → ℕ → Value → Option Value
-looked heap id key = value_of same (table_at heap id).pairs key
+abbrev pub value_at_key : Heap → ℕ → Value → Option Value
+value_at_key heap id key = value_of same (table_at heap id).pairs key
 
 abbrev pub with_pair : ℕ → Value → Value → Heap → Heap
 with_pair id key value heap = with_table id (record (table_at heap id) { pairs = stored same (table_at heap id).pairs key value }) heap
 
 -- a table with a value at a key; a new key costs a cell
-abbrev pub stored_in : Heap → ℕ → Value → Value → Changed
-stored_in heap id key value = and_then (charged_unless (is_some (looked heap id key)) heap) (λ paid. Ok (with_pair id key value paid))
+abbrev pub stored_in : Heap → ℕ → Value → Value → ChangedHeap
+stored_in heap id key value = and_then (charged_unless (is_some (value_at_key heap id key)) heap) (λ paid. Ok (with_pair id key value paid))
 
 abbrev pub having_member : ℕ → Value → Heap → Heap
 having_member id value heap = with_set id (with_member (set_at heap id) value) heap
 
 -- a set with a member; a new one costs a cell
-abbrev pub added_in : Heap → ℕ → Value → Changed
+abbrev pub added_in : Heap → ℕ → Value → ChangedHeap
 added_in heap id value = and_then (charged_unless (has_value (set_at heap id) value) heap) (λ paid. Ok (having_member id value paid))
 
 -- whether a set or a table has a member or a key
 abbrev pub has_key : Heap → Value → Value → Bool
 has_key heap (ASet id) key = has_value (set_at heap id) key
-has_key heap (ATable id) key = is_some (looked heap id key)
+has_key heap (ATable id) key = is_some (value_at_key heap id key)
 has_key heap other key = false
 
 -- a set or a table without a member or a key

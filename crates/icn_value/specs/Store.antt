@@ -35,14 +35,14 @@ pub record World : Type 0 where
   pub statics : List Value
 
 -- what a reading asks for: a line, or so many bytes
-pub data Asked : Type 0 where
-  ALine : Asked
-  SomeBytes : ℕ → Asked
+pub data Request : Type 0 where
+  ALine : Request
+  SomeBytes : ℕ → Request
 
 -- a reading: what it asks for, the input that is left before it, and how much stands on the output and on
 -- the error output by then
 pub record Reading : Type 0 where
-  pub asked : Asked
+  pub asked : Request
   pub left : List ℕ
   pub output : ℕ
   pub errors : ℕ
@@ -60,7 +60,7 @@ abbrev pub outside_of : List ℕ → Outside
 outside_of input = record { left = input; output = []; errors = []; readings = [] }
 
 -- a reading is made: the history keeps it, whatever it finds
-abbrev pub with_reading : Asked → Outside → Outside
+abbrev pub with_reading : Request → Outside → Outside
 with_reading asked outside =
     let seen : Reading =
     record { asked = asked; left = outside.left; output = length outside.output; errors = length outside.errors } in

@@ -9,8 +9,8 @@ use Rattle.icn_value.specs.declared.item.Pair.{Pair}
 use Rattle.icn_value.specs.declared.val.Val.{Val}
 use Rattle.icn_value.specs.Values.{Value}
 use Rattle.icn_value.specs.Store.{Heap, Outside, Record, Setting, having_heap}
-use Rattle.icn_value.specs.Changes.{Changed, Refuses, and_then, charged_cells, charged_strings, charged_unless, having_record, with_field}
-use Rattle.icn_convert.specs.Texting.{charged_made, texted}
+use Rattle.icn_value.specs.Changes.{ChangedHeap, Refuses, and_then, charged_cells, charged_strings, charged_unless, having_record, with_field}
+use Rattle.icn_convert.specs.Texting.{charged_made, heap_with_text}
 use Rattle.icn_defs.specs.Calls.{Passes}
 use Rattle.icn_defs.specs.Conversions.{form_of, text_made}
 use Rattle.icn_defs.specs.Reading.{costs_unless}
@@ -44,17 +44,17 @@ pub record IsCharged (heap made : Heap) : Type 0 where
   pub records : made.records ≡ heap.records
 
 -- the part of a row makes this change of the heap, or comes to the error of its refusal
-pub record IsChange (part : Row → Row) (change : Heap → Changed) : Type 0 where
+pub record IsChange (part : Row → Row) (change : Heap → ChangedHeap) : Type 0 where
   pub ok : (setting : Setting) (made : Heap) → change setting.world.heap ≡ Ok made → Passes part setting (having_heap (λ heap. made) setting)
   pub err : (all : Extent) (setting : Setting) (full : Full) → change setting.world.heap ≡ Err full → StopsPassing all part setting setting (stop_of full)
   pub charged : (heap made : Heap) → change heap ≡ Ok made → IsCharged heap made
 
-paid_is : (t : Bool) (paid made : Heap) (why : Full) → (let r : Changed = if t then Ok paid else Err why in r) ≡ Ok made → paid ≡ made
+paid_is : (t : Bool) (paid made : Heap) (why : Full) → (let r : ChangedHeap = if t then Ok paid else Err why in r) ≡ Ok made → paid ≡ made
 paid_is true paid made why is = cc
 paid_is false paid made why is = cc
 
 passed_by : (t : Bool) (number : ℕ) (f : Heap → Heap) (made : Heap) (why : Full) (setting : Setting) (next : Row)
-    → (let r : Changed = if t then Ok (f setting.world.heap) else Err why in r) ≡ Ok made
+    → (let r : ChangedHeap = if t then Ok (f setting.world.heap) else Err why in r) ≡ Ok made
     → check t number None (changes_heap f next) setting ≡ next (having_heap (λ heap. made) setting)
 passed_by true number f made why setting next is =
     let same : f setting.world.heap ≡ made = cc in
@@ -65,7 +65,7 @@ record IsRefused (t : Bool) (why full : Full) : Type 0 where
   test : t ≡ false
   same : why ≡ full
 
-refused_by : (t : Bool) (paid : Heap) (why full : Full) → (let r : Changed = if t then Ok paid else Err why in r) ≡ Err full → IsRefused t why full
+refused_by : (t : Bool) (paid : Heap) (why full : Full) → (let r : ChangedHeap = if t then Ok paid else Err why in r) ≡ Err full → IsRefused t why full
 refused_by true paid why full is = cc
 refused_by false paid why full is = record { test = refl; same = cc }
 
@@ -103,7 +103,7 @@ cells_change count = record {
       (record { lists = refl; sets = refl; tables = refl; records = refl });
 }
 
-nothing_made : (heap made : Heap) → (let r : Changed = Ok heap in r) ≡ Ok made → heap ≡ made
+nothing_made : (heap made : Heap) → (let r : ChangedHeap = Ok heap in r) ≡ Ok made → heap ≡ made
 nothing_made heap made is = cc
 
 -- a part that changes nothing
@@ -114,7 +114,7 @@ nothing_changes = record {
   charged = λ heap made is. subst (IsCharged heap) (nothing_made heap made is) (record { lists = refl; sets = refl; tables = refl; records = refl });
 }
   where
-    never : (heap : Heap) (full : Full) → (let r : Changed = Ok heap in r) ≡ Err full → ⊥
+    never : (heap : Heap) (full : Full) → (let r : ChangedHeap = Ok heap in r) ≡ Err full → ⊥
     never heap full is = cc
 
 made_change : (text : Option (List ℕ)) → IsChange (costs_made text) (λ heap. charged_made heap text)
@@ -122,7 +122,7 @@ made_change None = nothing_changes
 made_change (Some text) = bytes_change (length text)
 
 -- a value becomes a text
-pub text_change : (value : Value) → IsChange (costs_text value) (λ heap. texted heap value)
+pub text_change : (value : Value) → IsChange (costs_text value) (λ heap. heap_with_text heap value)
 text_change value = made_change (text_made (form_of value))
 
 -- a cell for what is new
@@ -131,22 +131,22 @@ unless_change true = nothing_changes
 unless_change false = cells_change 1
 
 -- a charge that is followed by a change which charges nothing
-pub charged_then : (f : Heap → Heap) (charged : Changed) (new : Heap) → and_then charged (λ paid. let r : Changed = Ok (f paid) in r) ≡ Ok new → (paid : Heap) × (charged ≡ Ok paid) × (f paid ≡ new)
+pub charged_then : (f : Heap → Heap) (charged : ChangedHeap) (new : Heap) → and_then charged (λ paid. let r : ChangedHeap = Ok (f paid) in r) ≡ Ok new → (paid : Heap) × (charged ≡ Ok paid) × (f paid ≡ new)
 charged_then f (Ok paid) new is = (paid, refl, nothing_made (f paid) new is)
 charged_then f (Err full) new is = absurd (never full is)
   where
-    never : (full : Full) → (let r : Changed = Err full in r) ≡ Ok new → ⊥
+    never : (full : Full) → (let r : ChangedHeap = Err full in r) ≡ Ok new → ⊥
     never full is = cc
 
 -- where it keeps the records, they stay
-pub fields_behind : {part : Row → Row} {change : Heap → Changed} → IsChange part change → (f : Heap → Heap) → ((heap : Heap) → (f heap).records ≡ heap.records) → (old new : Heap)
-    → and_then (change old) (λ paid. let r : Changed = Ok (f paid) in r) ≡ Ok new → KeepsFields (field_counts old) (field_counts new)
+pub fields_behind : {part : Row → Row} {change : Heap → ChangedHeap} → IsChange part change → (f : Heap → Heap) → ((heap : Heap) → (f heap).records ≡ heap.records) → (old new : Heap)
+    → and_then (change old) (λ paid. let r : ChangedHeap = Ok (f paid) in r) ≡ Ok new → KeepsFields (field_counts old) (field_counts new)
 fields_behind {change = change} is f keeps old new step =
     let made = charged_then f (change old) new step in
     same_records old new (sym (ap (λ (heap : Heap). heap.records) made.2) ∙ (keeps made.0 ∙ (is.charged old made.0 made.1).records))
 
 -- where it charges alone, they stay
-pub fields_charged : {part : Row → Row} {change : Heap → Changed} → IsChange part change → (old new : Heap) → change old ≡ Ok new → KeepsFields (field_counts old) (field_counts new)
+pub fields_charged : {part : Row → Row} {change : Heap → ChangedHeap} → IsChange part change → (old new : Heap) → change old ≡ Ok new → KeepsFields (field_counts old) (field_counts new)
 fields_charged is old new step = same_records old new (is.charged old new step).records
 
 -- Changes of records
@@ -183,13 +183,13 @@ fields_by old made new keeps is = fields_then (field_counts old) (field_counts m
 module _ (old new : HeldHeap) (pair : Pair) (random : ℕ) (globals statics locals : List Val) (keeps : Keeps (extent_of old) (extent_of new))
     (sound : IsSoundWorld (extent_of old) pair random globals statics) (live : All (IsLive (extent_of old)) locals) where
   -- the part of a row is passed
-  pub passes : {part : Row → Row} {change : Heap → Changed} → IsChange part change → change (heap_of old) ≡ Ok (heap_of new) → (outside : Outside)
+  pub passes : {part : Row → Row} {change : Heap → ChangedHeap} → IsChange part change → change (heap_of old) ≡ Ok (heap_of new) → (outside : Outside)
       → Passes part (setting_over outside old pair random globals statics locals) (setting_over outside new pair random globals statics locals)
   passes is step outside next =
       is.ok (setting_over outside old pair random globals statics locals) (heap_of new) step next ∙ ap next (heap_changed outside old new pair random globals statics locals keeps refl sound live)
 
   -- it stops there
-  pub stops : {part : Row → Row} {change : Heap → Changed} → IsChange part change → heap_of new ≡ heap_of old → (full : Full) → Refuses (change (heap_of old)) full
+  pub stops : {part : Row → Row} {change : Heap → ChangedHeap} → IsChange part change → heap_of new ≡ heap_of old → (full : Full) → Refuses (change (heap_of old)) full
       → (all : Extent) (outside : Outside)
       → StopsPassing all part (setting_over outside old pair random globals statics locals) (setting_over outside new pair random globals statics locals) (stop_of full)
   stops {part} {change} is same full why all outside =

@@ -9,7 +9,7 @@ use Rattle.icn_value.specs.Store.{Setting}
 use Rattle.icn_defs.specs.Calls.{ComesTo, GoesOn}
 use Rattle.icn_defs.specs.Conversions.{held_text, text_of}
 use Rattle.icn_defs.specs.Facts.{can_hold}
-use Rattle.icn_defs.specs.Reading.{undoes_exchange, assigns_both, assigns_or, assigns_root, moved, moved_by_left, moved_by_right, part_length, reads_text, replaced, root_value}
+use Rattle.icn_defs.specs.Reading.{undoes_exchange, assigns_both, assigns_or, assigns_root, move_part, moved_by_left, moved_by_right, part_length, reads_text, replaced, root_value}
 use Rattle.icn_defs.specs.Rows.{Row, Finds, Error, Mover, Neither, Left, Right, check, costs_bytes, costs_text, present, wrong}
 use Rattle.icn_heap.specs.Extents.{Extent}
 use Rattle.icn_vars.specs.declared.stop.Stop.{Stop}
@@ -148,17 +148,17 @@ left_stays all mover x y y' x_now to_x to_y to_y' s t u result stays same_y same
 -- The right side, that the left one moves
 
 -- it was moved
-pub right_moved : (all : Extent) (x_now y y' : Variable) (to_y : Value) (old new : ℕ) (s t : Setting) (result : Result Exchange Stop) → new ≡ part_length x_now → GoesOn (moved old new y) s y' s
+pub right_moved : (all : Extent) (x_now y y' : Variable) (to_y : Value) (old new : ℕ) (s t : Setting) (result : Result Exchange Stop) → new ≡ part_length x_now → GoesOn (move_part old new y) s y' s
     → ExchangesAs all (λ refused. assigns_right refused Left x_now y' to_y) s t result → ExchangesAs all (λ refused. assigns_moved refused old x_now y to_y) s t result
 right_moved all x_now y y' to_y old new s t result same goes is =
     exchange_then all (λ refused. assigns_moved refused old x_now y to_y) (λ refused. assigns_right refused Left x_now y' to_y) s s t result
-    (λ refused next. sym (ap (λ n. moved old n y (λ y_moved. assigns_right refused Left x_now y_moved to_y next) s) same) ∙ goes (λ y_moved. assigns_right refused Left x_now y_moved to_y next)) is
+    (λ refused next. sym (ap (λ n. move_part old n y (λ y_moved. assigns_right refused Left x_now y_moved to_y next) s) same) ∙ goes (λ y_moved. assigns_right refused Left x_now y_moved to_y next)) is
 
 -- it would begin before its text
-pub right_before : (x_now y : Variable) (to_y : Value) (old new : ℕ) (s : Setting) → new ≡ part_length x_now → ComesTo (moved old new y) s (Error 205 None s)
+pub right_before : (x_now y : Variable) (to_y : Value) (old new : ℕ) (s : Setting) → new ≡ part_length x_now → ComesTo (move_part old new y) s (Error 205 None s)
     → (refused : Row) → ComesTo (assigns_moved refused old x_now y to_y) s (Error 205 None s)
 right_before x_now y to_y old new s same comes refused next =
-    sym (ap (λ n. moved old n y (λ y_moved. assigns_right refused Left x_now y_moved to_y next) s) same) ∙ comes (λ y_moved. assigns_right refused Left x_now y_moved to_y next)
+    sym (ap (λ n. move_part old n y (λ y_moved. assigns_right refused Left x_now y_moved to_y next) s) same) ∙ comes (λ y_moved. assigns_right refused Left x_now y_moved to_y next)
 
 -- it begins behind every text
 pub right_behind : (all : Extent) (x_now : Variable) (root : Root) (place size : ℕ) (to_y : Value) (old new : ℕ) (s t : Setting) (result : Result Exchange Stop) → new ≡ part_length x_now → old < 2 ^ 63 → new < 2 ^ 63
@@ -169,7 +169,7 @@ right_behind all x_now root place size to_y old new s t result same low low' far
     (λ refused next.
     let on : Variable → Row = λ y_moved. assigns_right refused Left x_now y_moved to_y next in
     let past : old < place + new = omega arith in
-    sym (ap (λ n. moved old n (Part root place size) on s) same)
+    sym (ap (λ n. move_part old n (Part root place size) on s) same)
     ∙ (ap (λ b. check b 205 None (on (Part root (place + new - old) size)) s) (lt-ltb old (place + new) past)
     ∙ far_same refused root (place + new - old) place size to_y (λ y_now. next (x_now, y_now)) (λ y_now. next (x_now, y_now)) s
     (λ text holds. (let bound = short text holds in omega arith)) (λ text holds. (let bound = short text holds in omega arith)))) is
@@ -194,22 +194,22 @@ module _ (all : Extent) (mover : Mover) (x_now y : Variable) (to_y : Value) (s t
 
 -- the left side is moved
 pub right_moves : (x_now y : Variable) (to_y : Value) (s t : Setting) (old new : ℕ) (x_moved y_now x_after : Variable) → old ≡ part_length y → new ≡ part_length y_now → x_after ≡ x_now
-    → ((refused : Row) → GoesOn (assigns_or refused y to_y) s y_now t) → GoesOn (moved old new x_after) t x_moved t
+    → ((refused : Row) → GoesOn (assigns_or refused y to_y) s y_now t) → GoesOn (move_part old new x_after) t x_moved t
     → (refused : Row) → GoesOn (assigns_right refused Right x_now y to_y) s (x_moved, y_now) t
 right_moves x_now y to_y s t old new x_moved y_now x_after same_old same_new same is goes refused next =
-    is refused (λ y_now. moved (part_length y) (part_length y_now) x_now (λ x_moved. next (x_moved, y_now)))
-    ∙ (sym (ap (λ o. moved o (part_length y_now) x_now (λ x_moved. next (x_moved, y_now)) t) same_old)
-    ∙ (sym (ap (λ n. moved old n x_now (λ x_moved. next (x_moved, y_now)) t) same_new)
-    ∙ (sym (ap (λ x. moved old new x (λ x_moved. next (x_moved, y_now)) t) same) ∙ goes (λ x_moved. next (x_moved, y_now)))))
+    is refused (λ y_now. move_part (part_length y) (part_length y_now) x_now (λ x_moved. next (x_moved, y_now)))
+    ∙ (sym (ap (λ o. move_part o (part_length y_now) x_now (λ x_moved. next (x_moved, y_now)) t) same_old)
+    ∙ (sym (ap (λ n. move_part old n x_now (λ x_moved. next (x_moved, y_now)) t) same_new)
+    ∙ (sym (ap (λ x. move_part old new x (λ x_moved. next (x_moved, y_now)) t) same) ∙ goes (λ x_moved. next (x_moved, y_now)))))
 
 pub right_moves_before : (x_now y : Variable) (to_y : Value) (s t : Setting) (old new : ℕ) (y_now x_after : Variable) → old ≡ part_length y → new ≡ part_length y_now → x_after ≡ x_now
-    → ((refused : Row) → GoesOn (assigns_or refused y to_y) s y_now t) → ComesTo (moved old new x_after) t (Error 205 None t)
+    → ((refused : Row) → GoesOn (assigns_or refused y to_y) s y_now t) → ComesTo (move_part old new x_after) t (Error 205 None t)
     → (refused : Row) → ComesTo (assigns_right refused Right x_now y to_y) s (Error 205 None t)
 right_moves_before x_now y to_y s t old new y_now x_after same_old same_new same is comes refused next =
-    is refused (λ y_now. moved (part_length y) (part_length y_now) x_now (λ x_moved. next (x_moved, y_now)))
-    ∙ (sym (ap (λ o. moved o (part_length y_now) x_now (λ x_moved. next (x_moved, y_now)) t) same_old)
-    ∙ (sym (ap (λ n. moved old n x_now (λ x_moved. next (x_moved, y_now)) t) same_new)
-    ∙ (sym (ap (λ x. moved old new x (λ x_moved. next (x_moved, y_now)) t) same) ∙ comes (λ x_moved. next (x_moved, y_now)))))
+    is refused (λ y_now. move_part (part_length y) (part_length y_now) x_now (λ x_moved. next (x_moved, y_now)))
+    ∙ (sym (ap (λ o. move_part o (part_length y_now) x_now (λ x_moved. next (x_moved, y_now)) t) same_old)
+    ∙ (sym (ap (λ n. move_part old n x_now (λ x_moved. next (x_moved, y_now)) t) same_new)
+    ∙ (sym (ap (λ x. move_part old new x (λ x_moved. next (x_moved, y_now)) t) same) ∙ comes (λ x_moved. next (x_moved, y_now)))))
 
 -- an answer by what it stands for
 pub exchanges_as : (all : Extent) (mover mover' : Mover) (x y : Variable) (to_x to_y : Value) (s t : Setting) (result : Result Exchange Stop) → mover' ≡ mover

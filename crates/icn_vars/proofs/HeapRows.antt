@@ -5,7 +5,7 @@ use Rattle.icn_value.specs.declared.full.Full.{Full}
 use Rattle.icn_value.specs.declared.full.Full.TheVariants.{Cells}
 use Rattle.icn_value.specs.Values.{Item, ACoexp, Val}
 use Rattle.icn_value.specs.Store.{Heap, Setting, having_heap}
-use Rattle.icn_value.specs.Changes.{Changed, and_then, charged_cells, having_coexp, made_coexp, next_coexp, with_result}
+use Rattle.icn_value.specs.Changes.{ChangedHeap, and_then, charged_cells, having_coexp, made_coexp, next_coexp, with_result}
 use Rattle.icn_defs.specs.Rows.{Row, Gives, Error, check}
 use Rattle.icn_defs.specs.StepRows.{coexpression_row}
 
@@ -13,7 +13,7 @@ use Rattle.icn_defs.specs.StepRows.{coexpression_row}
 
 charged_row : (t : Bool) (next : Row) (item : Item) (paid made : Heap) (why : Full) (setting : Setting)
     → next setting ≡ Gives item (having_heap (λ old. having_coexp paid) setting)
-    → and_then (let r : Changed = if t then Ok paid else Err why in r) (λ heap. let r : Changed = Ok (having_coexp heap) in r) ≡ Ok made
+    → and_then (let r : ChangedHeap = if t then Ok paid else Err why in r) (λ heap. let r : ChangedHeap = Ok (having_coexp heap) in r) ≡ Ok made
     → check t 307 None next setting ≡ Gives item (having_heap (λ old. made) setting)
 charged_row true next item paid made why setting gives is =
     let same : having_coexp paid ≡ made = cc in
@@ -21,7 +21,7 @@ charged_row true next item paid made why setting gives is =
 charged_row false next item paid made why setting gives is = cc
 
 refused_row : (t : Bool) (next : Row) (paid : Heap) (why full : Full) (setting : Setting)
-    → and_then (let r : Changed = if t then Ok paid else Err why in r) (λ heap. let r : Changed = Ok (having_coexp heap) in r) ≡ Err full
+    → and_then (let r : ChangedHeap = if t then Ok paid else Err why in r) (λ heap. let r : ChangedHeap = Ok (having_coexp heap) in r) ≡ Err full
     → check t 307 None next setting ≡ Error 307 None setting
 refused_row true next paid why full setting is = cc
 refused_row false next paid why full setting is = refl

@@ -12,7 +12,7 @@ use Rattle.icn_value.specs.declared.item.Pair.{Pair}
 use Rattle.icn_value.specs.declared.val.Val.{Val}
 use Rattle.icn_value.specs.Values.{Value, Null, Element, Field, Global, Key, Local, Static}
 use Rattle.icn_value.specs.Store.{Heap, Outside, Setting, Table, having_heap, list_at, new_list, table_at, with_list, with_table}
-use Rattle.icn_value.specs.Changes.{Changed, Refuses, and_then, charged_unless, looked, stored_in, with_field, with_pair}
+use Rattle.icn_value.specs.Changes.{ChangedHeap, Refuses, and_then, charged_unless, value_at_key, stored_in, with_field, with_pair}
 use Rattle.icn_defs.specs.Conversions.{same}
 use Rattle.icn_defs.specs.Reading.{assigns_root, costs_unless}
 use Rattle.icn_defs.specs.Rows.{Row, Error, changes_heap, check}
@@ -119,7 +119,7 @@ module _ (outside : Outside) (old new : HeldHeap) (pair : Pair) (random : ℕ) (
       → (refused next : Row) → assigns_root refused (Key id key) value next (setting_over outside old pair random globals statics locals) ≡ next (setting_over outside new pair random globals statics locals)
   key_assigned key value step refused next =
       let setting : Setting = setting_over outside old pair random globals statics locals in
-      let nothing : Bool = is_some (looked (heap_of old) id key) in
+      let nothing : Bool = is_some (value_at_key (heap_of old) id key) in
       let made = charged_then (with_pair id key value) (charged_unless nothing (heap_of old)) (heap_of new) step in
       let table : Table = table_at (heap_of old) id in
       let put : Table → Row = λ one. changes_heap (with_table id (record one { pairs = stored same one.pairs key value })) next in
@@ -128,7 +128,7 @@ module _ (outside : Outside) (old new : HeldHeap) (pair : Pair) (random : ℕ) (
       ∙ (ap (λ (tables : List Table). put (unwrap_or (slice_get tables id) none) (having_heap (λ heap. made.0) setting)) (sym ((unless_change nothing).charged (heap_of old) made.0 made.1).tables)
       ∙ ap next (ap (λ (heap : Heap). having_heap (λ other. heap) setting) made.2 ∙ heap_changed outside old new pair random globals statics locals keeps refl sound live))
 
-refused_first : (f : Heap → Heap) (charged : Changed) (full : Full) → and_then charged (λ paid. let r : Changed = Ok (f paid) in r) ≡ Err full → charged ≡ Err full
+refused_first : (f : Heap → Heap) (charged : ChangedHeap) (full : Full) → and_then charged (λ paid. let r : ChangedHeap = Ok (f paid) in r) ≡ Err full → charged ≡ Err full
 refused_first f (Ok paid) full is = cc
 refused_first f (Err why) full is = cc
 
@@ -136,9 +136,9 @@ refused_first f (Err why) full is = cc
 key_refused : (all : Extent) (setting : Setting) (id : ℕ) (key value : Value) (full : Full) → stored_in setting.world.heap id key value ≡ Err full
     → (refused : Row) → StopsPassing all (assigns_root refused (Key id key) value) setting setting (stop_of full)
 key_refused all setting id key value full step refused =
-    by full ((unless_change (is_some (looked setting.world.heap id key))).err all setting full (refused_first (with_pair id key value) (charged_unless (is_some (looked setting.world.heap id key)) setting.world.heap) full step))
+    by full ((unless_change (is_some (value_at_key setting.world.heap id key))).err all setting full (refused_first (with_pair id key value) (charged_unless (is_some (value_at_key setting.world.heap id key)) setting.world.heap) full step))
   where
-    by : (full : Full) → StopsPassing all (costs_unless (is_some (looked setting.world.heap id key))) setting setting (stop_of full) → StopsPassing all (assigns_root refused (Key id key) value) setting setting (stop_of full)
+    by : (full : Full) → StopsPassing all (costs_unless (is_some (value_at_key setting.world.heap id key))) setting setting (stop_of full) → StopsPassing all (assigns_root refused (Key id key) value) setting setting (stop_of full)
     by (Strings sum limit) is = λ next. is (changes_heap (with_table id (record (table_at setting.world.heap id) { pairs = stored same (table_at setting.world.heap id).pairs key value })) next)
     by (Cells sum limit) is = λ next. is (changes_heap (with_table id (record (table_at setting.world.heap id) { pairs = stored same (table_at setting.world.heap id).pairs key value })) next)
     by NoMemory is = tt

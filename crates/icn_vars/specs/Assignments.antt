@@ -6,7 +6,7 @@ use Rattle.icn_value.specs.Values.{Value, Text, Root, Global, Static, Local, Ele
 use Rattle.icn_value.specs.Store.{Setting}
 use Rattle.icn_defs.specs.Calls.{ComesTo, GoesOn}
 use Rattle.icn_defs.specs.Facts.{can_hold}
-use Rattle.icn_defs.specs.Reading.{assigns_both, assigns_or, moved, moved_by_right, mover_of, part_length, root_value}
+use Rattle.icn_defs.specs.Reading.{assigns_both, assigns_or, move_part, moved_by_right, mover_of, part_length, root_value}
 use Rattle.icn_defs.specs.Rows.{Row, Finds, Mover, Left, Error as ErrorOutcome, ◌>>=◌}
 use Rattle.icn_heap.specs.Extents.{Extent}
 use Rattle.icn_vars.specs.declared.assignment.Assignment.{Assignment}
@@ -52,7 +52,7 @@ assigns_right refused mover x_now y to_y next = do
 -- what is left of it where the left side, which was so long, moves the right one first
 abbrev pub assigns_moved : Row → ℕ → Variable → Variable → Value → Finds (Variable × Variable)
 assigns_moved refused old x_now y to_y next = do
-  y_moved ← moved old (part_length x_now) y
+  y_moved ← move_part old (part_length x_now) y
   assigns_right refused Left x_now y_moved to_y next
 
 -- two variables that hold these values are exchanged
@@ -88,9 +88,9 @@ IsBehind new (HeldPart root place len) = 2 ^ 64 ≤ place + new
 -- a part that was moved is this one; or would begin before its text; or begins behind every text
 abbrev pub MovesTo : ℕ → ℕ → VarRef → Moved → Type 0
 MovesTo old new variable (MovedTo now) =
-    (all : Extent) (setting : Setting) → GoesOn (moved old new (variable_in all variable)) setting (variable_in all now) setting
+    (all : Extent) (setting : Setting) → GoesOn (move_part old new (variable_in all variable)) setting (variable_in all now) setting
 MovesTo old new variable BeforeText =
-    (all : Extent) (setting : Setting) → ComesTo (moved old new (variable_in all variable)) setting (ErrorOutcome 205 None setting)
+    (all : Extent) (setting : Setting) → ComesTo (move_part old new (variable_in all variable)) setting (ErrorOutcome 205 None setting)
 MovesTo old new variable BehindTexts = IsBehind new variable
 
 abbrev pub IsLiveMoved : Reach → Moved → Type 0

@@ -5,7 +5,7 @@ use Rattle.icn_code.specs.Codes.{Tables}
 use Rattle.icn_defs.specs.Interruptions.{Breaks, BreaksReading, IsOutsideOf, LosesPart, Streams}
 use Rattle.icn_defs.specs.Running.{Launch, Observed}
 use Rattle.icn_simulation.specs.Law.{RunsFlat}
-use Rattle.icn_streams.specs.Handed.{Handed}
+use Rattle.icn_streams.specs.Handed.{CallStreams}
 use Rattle.icn_running.specs.declared.fault.RunFault.{RunFault}
 use Rattle.icn_running.specs.declared.fault.RunFault.TheVariants as RunFaults
 use Rattle.icn_running.specs.Runs.{LeavesBy}
@@ -33,13 +33,13 @@ lost_part part = (part.count, part.is)
 lost_rest : {left rest : List ℕ} {after : Option (List ℕ)} (count : ℕ) → after ≡ Some rest → rest ≡ drop count left → LosesSome left after
 lost_rest count told e = (count, told ∙ ap (λ (l : List ℕ). Some l) e)
 
-broken_lost : Break → (fault : RunFault) (left : List ℕ) (seen : Observed) (before after : Handed) → IsOutsideOf left seen.outside
+broken_lost : Break → (fault : RunFault) (left : List ℕ) (seen : Observed) (before after : CallStreams) → IsOutsideOf left seen.outside
     → LeavesBy fault left seen before after → LosesSome left after.left
 broken_lost breaks RunFaults.ReadFault left seen before after rest by = lost_part (breaks left seen _ _ rest by).left
 broken_lost breaks RunFaults.WriteFault left seen before after rest by = lost_part by.left
 broken_lost breaks RunFaults.NoMemory left seen before after rest by = lost_part by.left
 
-pub run_lost : Leave → Break → Begin → {tables : Tables} {number : Option ℕ} {answer : Answer} {before after : Handed} (run : Run) (left : List ℕ)
+pub run_lost : Leave → Break → Begin → {tables : Tables} {number : Option ℕ} {answer : Answer} {before after : CallStreams} (run : Run) (left : List ℕ)
     → HasRun tables (launched run left) number answer before after → LosesSome left after.left
 run_lost leave breaks begin {tables} run left (has_ended seen flat same told out err) =
     let rest : IsOutsideOf left seen.outside = leave left tables (launched run left) seen (begin left) flat in

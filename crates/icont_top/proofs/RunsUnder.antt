@@ -4,7 +4,7 @@ use Rattle.icn_code.specs.Codes.{Tables}
 use Rattle.icn_value.specs.Limited.{Bounds}
 use Rattle.icn_defs.specs.Running.{Launch, launch_of}
 use Rattle.icn_run.specs.declared.ending.Ending.{Ending}
-use Rattle.icn_streams.specs.Handed.{Handed}
+use Rattle.icn_streams.specs.Handed.{CallStreams}
 use Rattle.icn_running.specs.declared.fault.RunFault.{RunFault}
 use Rattle.icn_running.specs.Reported.{ending_seen}
 use Rattle.icn_running.specs.Runs.{EndsAtFirst as RunEnds, IsBrokenOff, RunsTo}
@@ -21,22 +21,22 @@ use Rattle.icont_top.specs.Running.{IsRanOrBroken, broken, ran}
 launched_as : (run : Run) (bounds : Bounds) (left : List ℕ) → bounds ≡ bounds_with run.turns → launch_of run.arguments bounds left ≡ launched run left
 launched_as run bounds left e = ap (λ b. launch_of run.arguments b left) e
 
-pub run_ended : {before after : Handed} (tables : Tables) (run : Run) (left : List ℕ) (bounds : Bounds) (ending : Ending) → bounds ≡ bounds_with run.turns
+pub run_ended : {before after : CallStreams} (tables : Tables) (run : Run) (left : List ℕ) (bounds : Bounds) (ending : Ending) → bounds ≡ bounds_with run.turns
     → RunsTo tables (launch_of run.arguments bounds left) (ending_seen ending) before after
     → IsRanOrBroken tables (launched run left) (Ran ending) before after
 run_ended {before} {after} tables run left bounds ending e ends =
     ran ending refl (subst (λ launch. RunsTo tables launch (ending_seen ending) before after) (launched_as run bounds left e) ends)
 
 -- what a run put that was broken off
-pub off_puts : (tables : Tables) (launch : Launch) (wrong : RunFault) (before after : Handed) → IsBrokenOff tables launch wrong before after
+pub off_puts : (tables : Tables) (launch : Launch) (wrong : RunFault) (before after : CallStreams) → IsBrokenOff tables launch wrong before after
     → PutsSome before.errors after.errors
 off_puts tables launch wrong before after off = broken_puts wrong launch.outside.left off.0 before after off.1.1
 
-pub run_broken : (tables : Tables) (run : Run) (left : List ℕ) (bounds : Bounds) (wrong : RunFault) (before between after : Handed)
+pub run_broken : (tables : Tables) (run : Run) (left : List ℕ) (bounds : Bounds) (wrong : RunFault) (before between after : CallStreams)
     → bounds ≡ bounds_with run.turns → RunEnds {A = Ending} (Err wrong) before between
     → IsBrokenOff tables (launch_of run.arguments bounds left) wrong before between → PutsOwn (of_run wrong) between.errors after.errors
     → with_errors between.errors after ≡ between → IsRanOrBroken tables (launched run left) (of_run wrong) before after
 run_broken tables run left bounds wrong before between after e first off puts same =
-    broken wrong between.errors refl (subst (λ (h : Handed). RunEnds {A = Ending} (Err wrong) before h) (sym same) first)
-    (subst (λ (h : Handed). IsBrokenOff tables (launched run left) wrong before h) (sym same)
+    broken wrong between.errors refl (subst (λ (h : CallStreams). RunEnds {A = Ending} (Err wrong) before h) (sym same) first)
+    (subst (λ (h : CallStreams). IsBrokenOff tables (launched run left) wrong before h) (sym same)
     (subst (λ launch. IsBrokenOff tables launch wrong before between) (launched_as run bounds left e) off)) (puts_own _ _ (of_run wrong) puts)

@@ -11,7 +11,7 @@ use Rattle.icn_defs.specs.Running.{Launch, Observed, Done, Exit, Errored, AtBoun
 use Rattle.icn_run.specs.declared.ending.Ending.{Ending}
 use Rattle.icn_run.specs.declared.ending.Ending.TheVariants as Endings
 use Rattle.icn_simulation.specs.Law.{RunsFlat}
-use Rattle.icn_streams.specs.Handed.{Handed, KeepsAllCounts, KeepsCounts, handed, uncounted, output_wants}
+use Rattle.icn_streams.specs.Handed.{CallStreams, KeepsAllCounts, KeepsCounts, call_streams, uncounted, output_wants}
 use Rattle.icn_machine.specs.Stepping.{output_fails}
 use Rattle.icn_running.specs.declared.fault.RunFault.{RunFault}
 use Rattle.icn_running.specs.declared.fault.RunFault.TheVariants as Runs
@@ -46,7 +46,7 @@ gains_alone : {before after : Option (List ℕ)} (text more : List ℕ) → more
 gains_alone {before} {after} text more none gains = subst (Gains before after) (sym (ap (λ m. text ++ m) none ∙ append-nil text)) gains
 
 -- a program that has no number
-pub ran_alone : {tables : Tables} {launch : Launch} {answer : Answer} {before after : Handed} → IsRanOrBroken tables launch answer before after
+pub ran_alone : {tables : Tables} {launch : Launch} {answer : Answer} {before after : CallStreams} → IsRanOrBroken tables launch answer before after
     → HasRun tables launch None answer before after
 ran_alone {answer = answer} (ran ending same to) =
     has_ended to.0 to.1.1.0 (answered_seen answer ending to.0.ending same to.1.0) to.1.1.1.left
@@ -60,7 +60,7 @@ none_behind n (Errored error) e = refl
 none_behind n AtBound e = refl
 
 -- the program of a number that was not done
-pub ran_undone : {tables : Tables} {launch : Launch} {answer : Answer} {before after : Handed} (n : ℕ) → is_done answer ≡ false
+pub ran_undone : {tables : Tables} {launch : Launch} {answer : Answer} {before after : CallStreams} (n : ℕ) → is_done answer ≡ false
     → IsRanOrBroken tables launch answer before after → HasRun tables launch (Some n) answer before after
 ran_undone {answer = answer} n undone (ran ending same to) =
     let seen = answered_seen answer ending to.0.ending same to.1.0 in
@@ -88,7 +88,7 @@ done_of WriteFault e = absurd (let wrong : false ≡ true = e in cc)
 done_of NoMemory e = absurd (let wrong : false ≡ true = e in cc)
 
 -- what was observed of a run that was done
-record HasDone (tables : Tables) (launch : Launch) (before after : Handed) : Type 0 where
+record HasDone (tables : Tables) (launch : Launch) (before after : CallStreams) : Type 0 where
   pub seen : Observed
   pub flat : RunsFlat tables launch seen
   pub done : seen.ending ≡ Done
@@ -107,7 +107,7 @@ undone Runs.ReadFault = refl
 undone Runs.WriteFault = refl
 undone Runs.NoMemory = refl
 
-has_done : {tables : Tables} {launch : Launch} {answer : Answer} {before after : Handed} → is_done answer ≡ true
+has_done : {tables : Tables} {launch : Launch} {answer : Answer} {before after : CallStreams} → is_done answer ≡ true
     → IsRanOrBroken tables launch answer before after → HasDone tables launch before after
 has_done e (ran ending same to) = record {
   seen = to.0;
@@ -120,7 +120,7 @@ has_done e (ran ending same to) = record {
 has_done e (broken wrong between same first off puts) = absurd (let wrong : true ≡ false = sym e ∙ (ap is_done same ∙ undone wrong) in cc)
 
 -- no count rose in the run
-counts_kept : {before after : Handed} (answer : Answer) → is_done answer ≡ true → RunEndsAtFirst answer before after → KeepsAllCounts before after
+counts_kept : {before after : CallStreams} (answer : Answer) → is_done answer ≡ true → RunEndsAtFirst answer before after → KeepsAllCounts before after
 counts_kept {before} {after} answer e ends =
     let there : RunEndsAtFirst (Ran Endings.Done) before after = rw (done_of answer e) at ends in
     record {
@@ -142,9 +142,9 @@ stops_put Faults.Failed = tt
 stops_put Faults.NoMemory = tt
 
 -- the count of the output rose, if any did
-ends_behind : (left : Option (List ℕ)) (input : ℕ) (before : Handed) (out out' err : SinkState) (fault : Fault) (line : List ℕ)
-    → KeepsAllCounts before (handed left input out err) → LeadsBy fault out out' line
-    → RunEnds {A = Ending} (Err (run_fault fault)) before (handed left input out' err)
+ends_behind : (left : Option (List ℕ)) (input : ℕ) (before : CallStreams) (out out' err : SinkState) (fault : Fault) (line : List ℕ)
+    → KeepsAllCounts before (call_streams left input out err) → LeadsBy fault out out' line
+    → RunEnds {A = Ending} (Err (run_fault fault)) before (call_streams left input out' err)
 ends_behind left input before out out' err Faults.Failed line kept stops =
     output_fails kept.faults
     (record { faults = stops.faults ∙ ap one_more kept.output.faults; wants = stops.wants ∙ kept.output.wants }) kept.errors
@@ -169,10 +169,10 @@ part_put {out} {out'} Faults.NoMemory line (inl same) =
     record { count = 0; gains = subst (λ (sink : SinkState). Gains out.held sink.held []) (sym same) (gains_nothing out.held) }
 part_put Faults.NoMemory line (inr short) = record { count = short.part.count; gains = record { appends = short.part.appends } }
 
-pub sizes_run : {tables : Tables} {launch : Launch} {left : Option (List ℕ)} {input : ℕ} {before : Handed} {out out' err err' : SinkState}
-    (n : ℕ) (answer given : Answer) → is_done answer ≡ true → IsRanOrBroken tables launch answer before (handed left input out err)
-    → RunEndsAtFirst answer before (handed left input out err) → PutsSizes n given out out' err err'
-    → HasRun tables launch (Some n) given before (handed left input out' err')
+pub sizes_run : {tables : Tables} {launch : Launch} {left : Option (List ℕ)} {input : ℕ} {before : CallStreams} {out out' err err' : SinkState}
+    (n : ℕ) (answer given : Answer) → is_done answer ≡ true → IsRanOrBroken tables launch answer before (call_streams left input out err)
+    → RunEndsAtFirst answer before (call_streams left input out err) → PutsSizes n given out out' err err'
+    → HasRun tables launch (Some n) given before (call_streams left input out' err')
 sizes_run {before = before} {out' = out'} n answer given e run ends (sizes_put same put kept) =
     let was = has_done e run in
     has_ended was.seen was.flat (same ∙ ap (λ ending. Ran (ending_held ending)) (sym was.done)) was.left
@@ -188,20 +188,20 @@ sizes_run {left = left} {input} {before} {out} {out'} {err} n answer given e run
     (puts_own _ _ given own)
 
 -- what the run put on the error output
-put_some : {tables : Tables} {launch : Launch} {before after : Handed} → HasDone tables launch before after → PutsSome before.errors after.errors
+put_some : {tables : Tables} {launch : Launch} {before after : CallStreams} → HasDone tables launch before after → PutsSome before.errors after.errors
 put_some was = record { own = was.seen.outside.errors; gains = was.errors }
 
-pub some_put : {tables : Tables} {launch : Launch} {before after : Handed} (answer : Answer) → is_done answer ≡ true
+pub some_put : {tables : Tables} {launch : Launch} {before after : CallStreams} (answer : Answer) → is_done answer ≡ true
     → IsRanOrBroken tables launch answer before after → PutsSome before.errors after.errors
 some_put answer e run = put_some (has_done e run)
 
-pub sizes_reports : {told left : Option (List ℕ)} {input : ℕ} {before : Handed} {out out' err err' : SinkState} (n : ℕ) (answer given : Answer)
-    → is_done answer ≡ true → RunEndsAtFirst answer before (handed left input out err) → Reports usage [] told before.errors err answer
+pub sizes_reports : {told left : Option (List ℕ)} {input : ℕ} {before : CallStreams} {out out' err err' : SinkState} (n : ℕ) (answer given : Answer)
+    → is_done answer ≡ true → RunEndsAtFirst answer before (call_streams left input out err) → Reports usage [] told before.errors err answer
     → IfSome told (λ _. PutsSome before.errors err) → PutsSizes n given out out' err err' → Reports usage [] told before.errors err' given
 sizes_reports {told} {before = before} {err = err} n answer given e ends reports some (sizes_put same put kept) =
     let there : Reports usage [] told before.errors err given = subst (Reports usage [] told before.errors err) (done_of answer e ∙ sym same) reports in
     subst (λ (sink : SinkState). Reports usage [] told before.errors sink given) (sym kept) there
 sizes_reports {left = left} {input} {before} {out} {out'} {err} {err'} n answer given e ends reports some (sizes_broken fault same leads own) =
     let run = same ∙ as_run fault in
-    rw run (fault_reports before (handed left input out' err) err' (run_fault fault)
+    rw run (fault_reports before (call_streams left input out' err) err' (run_fault fault)
     (ends_behind left input before out out' err fault (sizes_line n) (counts_kept answer e ends) leads) some (rw run at own))

@@ -21,7 +21,7 @@ use Rattle.icn_verify.specs.Faults.{IsVerified}
 use Rattle.icn_image.specs.Reading.{image_read}
 use Rattle.icn_image.specs.Spelling.{image_of}
 use Rattle.icn_simulation.specs.Law.{IsLinked, FilesMean, RunsFlat}
-use Rattle.icn_streams.specs.Handed.{Handed, handed}
+use Rattle.icn_streams.specs.Handed.{CallStreams, call_streams}
 use Rattle.icn_lines.specs.declared.answer.Answer.{Answer}
 use Rattle.icn_lines.specs.declared.answer.Answer.TheVariants.{Wrote, Ran, Refused, Command, Missing, BadUcode, BadImage, FileFault, ReadFault, WriteFault, NoMemory}
 use Rattle.icn_lines.specs.Answers.{IsFault}
@@ -69,7 +69,7 @@ begins_of {left = left} answer before between is (inr stops) = inr (refusal left
 refused : {words : List (List ℕ)} {files : FileMap} {left : List ℕ} (answer given : Answer) (held held' : Option FileMap) (left' : Option (List ℕ))
     (input : ℕ) (out before after : SinkState) → Asked words files answer → held' ≡ held → left' ≡ Some left
     → PutsRefusal usage [] answer before after given
-    → Outcome words files left given (told held (handed left' input out before)) (told held' (handed left' input out after))
+    → Outcome words files left given (told held (call_streams left' input out before)) (told held' (call_streams left' input out after))
 refused answer given held held' left' input out before after (inl f) same d (put n h) = absurd (n f)
 refused {left = left} answer given held held' left' input out before after (inr is) same d (put n h) =
     done (refusal left answer) (refuses answer is)
@@ -105,7 +105,7 @@ given_none Holds answer _ a w m (want n between leads puts) is = m is
 pub refused_done : {words : List (List ℕ)} {files : FileMap} (answer given : Answer) (held held' : Option FileMap) (left : Option (List ℕ))
     (input : ℕ) (out before after : SinkState) → (HasWritten answer → ⊥) → Asked words files answer → held' ≡ held
     → PutsRefusal usage [] answer before after given
-    → IsDone words files given (told held (handed left input out before)) (told held' (handed left input out after))
+    → IsDone words files given (told held (call_streams left input out before)) (told held' (call_streams left input out after))
 refused_done answer given held held' left input out before after none asks same line = record {
   outcome = if_some left _ (λ bytes d. refused answer given held held' left input out before after asks same d line);
   headline = λ w. absurd (given_none HasWritten answer given none (λ x. x) (λ x. x) line w);
@@ -114,7 +114,7 @@ refused_done answer given held held' left input out before after none asks same 
 }
 
 -- the files as they were before they were read
-pub held_as : {words : List (List ℕ)} {files : FileMap} {answer : Answer} {streams : Handed} {after : Told} (held held' : Option FileMap) → held' ≡ held
+pub held_as : {words : List (List ℕ)} {files : FileMap} {answer : Answer} {streams : CallStreams} {after : Told} (held held' : Option FileMap) → held' ≡ held
     → IsDone words files answer (told held' streams) after → IsDone words files answer (told held streams) after
 held_as {words} {files} {answer} {streams} {after} held held' e is =
     subst (λ (h : Option FileMap). IsDone words files answer (told h streams) after) e is
@@ -215,7 +215,7 @@ holds_image {files = files} members plan program back alike ready e sets =
 -- Outcomes of a program
 
 pub wrote_done : {words : List (List ℕ)} {files : FileMap} {held held' : Option FileMap} (members : List Member) (plan : PlanHeld) (program : Program)
-    (streams : Handed) → ReadBack → EndsAlike → IsReady words files members plan program → held ≡ Some files
+    (streams : CallStreams) → ReadBack → EndsAlike → IsReady words files members plan program → held ≡ Some files
     → WritesAll held held' (plan_file plan members ∷ []) → plan.run ≡ None → IsDone words files Wrote (told held streams) (told held' streams)
 wrote_done members plan program streams back alike ready e sets no_run =
     let none : (plan_seen plan).run ≡ None = ap (option_map run_seen) no_run in
@@ -257,7 +257,7 @@ ran_or_fault (BadImage rule) o = absurd o
 ran_or_fault FileFault o = absurd o
 
 ran_outcome : {words : List (List ℕ)} {files : FileMap} {held held' : Option FileMap} (left : List ℕ) (members : List Member) (plan : PlanHeld)
-    (program : Program) (run : Run) (answer : Answer) (before after : Handed) → EndsAlike → IsReady words files members plan program
+    (program : Program) (run : Run) (answer : Answer) (before after : CallStreams) → EndsAlike → IsReady words files members plan program
     → WritesAll held held' (plan_file plan members ∷ []) → (plan_seen plan).run ≡ Some run
     → HasRun (tables_of program.made.code.code) (launched run left) (plan_seen plan).number answer before after
     → Outcome words files left answer (told held before) (told held' after)
@@ -276,7 +276,7 @@ ran_outcome left members plan program run answer before after alike ready sets e
     (record { seen = seen; behaves = behaves alike members program ready.is (launched run left) seen flat; leaves = leaves }) puts)
 
 pub ran_done : {words : List (List ℕ)} {files : FileMap} {held held' : Option FileMap} (members : List Member) (plan : PlanHeld) (program : Program)
-    (run : Run) (answer : Answer) (before after : Handed) → ReadBack → EndsAlike → IsReady words files members plan program → held ≡ Some files
+    (run : Run) (answer : Answer) (before after : CallStreams) → ReadBack → EndsAlike → IsReady words files members plan program → held ≡ Some files
     → WritesAll held held' (plan_file plan members ∷ []) → (plan_seen plan).run ≡ Some run → IsOfRun answer
     → IfSome before.left (λ left. HasRun (tables_of program.made.code.code) (launched run left) (plan_seen plan).number answer before after)
     → IsDone words files answer (told held before) (told held' after)
@@ -301,7 +301,7 @@ torn_no_image answer (inr e) w = rw e at w
 torn_done : {words : List (List ℕ)} {files : FileMap} {held held' : Option FileMap} (written : List Written) (answer : Answer)
     (left : Option (List ℕ)) (input : ℕ) (out before after : SinkState) → AreWritten words files written → WritesPart held held' written
     → (answer ≡ FileFault) ⊎ (answer ≡ NoMemory) → PutsOwn answer before after
-    → IsDone words files answer (told held (handed left input out before)) (told held' (handed left input out after))
+    → IsDone words files answer (told held (call_streams left input out before)) (told held' (call_streams left input out after))
 torn_done written answer left input out before after are part is puts = record {
   outcome = if_some left _ (λ bytes d. fault (is_torn answer is) (torn written are part refl refl (puts_own _ _ answer puts)));
   headline = λ w. absurd (torn_no_image answer is w);
@@ -312,7 +312,7 @@ torn_done written answer left input out before after are part is puts = record {
 pub image_torn : {words : List (List ℕ)} {files : FileMap} {held held' : Option FileMap} (members : List Member) (plan : PlanHeld) (program : Program)
     (answer : Answer) (left : Option (List ℕ)) (input : ℕ) (out before after : SinkState) → IsReady words files members plan program
     → WritesPart held held' (plan_file plan members ∷ []) → (answer ≡ FileFault) ⊎ (answer ≡ NoMemory) → PutsOwn answer before after
-    → IsDone words files answer (told held (handed left input out before)) (told held' (handed left input out after))
+    → IsDone words files answer (told held (call_streams left input out before)) (told held' (call_streams left input out after))
 image_torn members plan program answer left input out before after ready part is puts =
     torn_done (plan_file plan members ∷ []) answer left input out before after
     (AreWritten.image (plan_seen plan) members (linked members) (planned ready)) part is puts
@@ -320,7 +320,7 @@ image_torn members plan program answer left input out before after ready part is
 -- Units
 
 pub units_done : {words : List (List ℕ)} {files : FileMap} {held held' : Option FileMap} (members : List Member) (texts : List Written)
-    (streams : Handed) → IsTranslated words files (Ok members) → texts ≡ ucode_files members → All IsReadBack members → held ≡ Some files
+    (streams : CallStreams) → IsTranslated words files (Ok members) → texts ≡ ucode_files members → All IsReadBack members → held ≡ Some files
     → WritesAll held held' texts → IsDone words files Wrote (told held streams) (told held' streams)
 units_done {held = held} {held'} members texts streams is e read h sets =
     let there : WritesAll held held' (ucode_files members) = subst (WritesAll held held') e sets in
@@ -335,7 +335,7 @@ units_done {held = held} {held'} members texts streams is e read h sets =
 pub units_torn : {words : List (List ℕ)} {files : FileMap} {held held' : Option FileMap} (members : List Member) (texts : List Written)
     (answer : Answer) (left : Option (List ℕ)) (input : ℕ) (out before after : SinkState) → IsTranslated words files (Ok members)
     → texts ≡ ucode_files members → WritesPart held held' texts → (answer ≡ FileFault) ⊎ (answer ≡ NoMemory) → PutsOwn answer before after
-    → IsDone words files answer (told held (handed left input out before)) (told held' (handed left input out after))
+    → IsDone words files answer (told held (call_streams left input out before)) (told held' (call_streams left input out after))
 units_torn {held = held} {held'} members texts answer left input out before after is e part t puts =
     torn_done (ucode_files members) answer left input out before after (AreWritten.ucode members is)
     (subst (WritesPart held held') e part) t puts

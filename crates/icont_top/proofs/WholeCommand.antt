@@ -12,7 +12,7 @@ use Rattle.icn_lines.specs.Reporting.{Reports}
 use Rattle.icn_lines.specs.Telling.{Told, told}
 use Rattle.icn_lines.proofs.Counted.{no_cause, refused_ends, unmoved}
 use Rattle.icn_lines.proofs.Reports.{reports_of}
-use Rattle.icn_streams.specs.Handed.{handed}
+use Rattle.icn_streams.specs.Handed.{call_streams}
 use Rattle.icn_verify.specs.Laws.{HaveOneFault, HaveNoFault}
 use Rattle.icont_words.specs.declared.words.Task.{Task as TaskHeld}
 use Rattle.icont_words.specs.declared.words.WordsFault.{WordsFault}
@@ -124,14 +124,14 @@ module _ (words : List (List ℕ)) (fault : WordsFault) (answer given : Answer) 
 
   pub words_done : (held : Option FileMap) (left : Option (List ℕ)) (input : ℕ) (out : SinkState)
       → (let found : Result TaskHeld WordsFault = Err fault in IsReading words found)
-      → IfSome held (λ files. IsDone words files given (told held (handed left input out before)) (told held (handed left input out after)))
+      → IfSome held (λ files. IsDone words files given (told held (call_streams left input out before)) (told held (call_streams left input out after)))
   words_done None left input out is = tt
   words_done (Some files) left input out is =
       refused_done (words_answer fault) given (Some files) (Some files) left input out before after
       (words_no_image fault) (words_asked fault is) refl line_again
 
   pub words_end : (files absences input : ℕ) (left : Option (List ℕ)) (out : SinkState)
-      → EndsAtFirst given (IsAbsence given) (outside files absences (handed left input out before)) (outside files absences (handed left input out after))
+      → EndsAtFirst given (IsAbsence given) (outside files absences (call_streams left input out before)) (outside files absences (call_streams left input out after))
   words_end files absences input left out =
       refused_ends (words_answer fault) given (words_no_write fault) (words_no_read fault) (unmoved (words_no_file fault)) (no_cause (words_no_absence fault))
       (absence_of (words_answer fault) given line_again) line_again

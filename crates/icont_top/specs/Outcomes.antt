@@ -12,7 +12,7 @@ use Rattle.icn_ucode.specs.UnitReading.{Whole, unit_read}
 use Rattle.icn_image.specs.Reading.{image_read}
 use Rattle.icn_verify.specs.Faults.{IsVerified}
 use Rattle.icn_simulation.specs.Law.{RunsFlat}
-use Rattle.icn_streams.specs.Handed.{Handed}
+use Rattle.icn_streams.specs.Handed.{CallStreams}
 use Rattle.icn_run.specs.declared.ending.Ending.{Ending}
 use Rattle.icn_running.specs.declared.fault.RunFault.{RunFault}
 use Rattle.icn_running.specs.declared.fault.RunFault.TheVariants as RunFaults
@@ -69,7 +69,7 @@ abbrev pub Begins : (Job → Type 0) → SinkState → SinkState → Type 0
 Begins IsJobOf before between = (between ≡ before) ⊎ ((job : Job) × IsJobOf job × (job.written ≡ []) × Stops before between job.errors)
 
 -- What a fault leaves of a program that is run with this input: all is said of what is observed of it, as each program comes to an end.
-pub record BrokenOff (members : List Member) (run : Run) (left : List ℕ) (fault : RunFault) (before after : Handed) : Type 0 where
+pub record BrokenOff (members : List Member) (run : Run) (left : List ℕ) (fault : RunFault) (before after : CallStreams) : Type 0 where
   pub seen : Observed
   pub behaves : Behaves members (launched run left) seen
   pub leaves : LeavesBy fault left seen before after
@@ -81,7 +81,7 @@ StopsPut RunFaults.WriteFault = Unit {0}
 StopsPut RunFaults.NoMemory = Unit {0}
 
 -- What a put that was stopped leaves of the line of the sizes, behind a program that was done.
-pub record LeavesBehind (number : ℕ) (seen : Observed) (before after : Handed) : Type 0 where
+pub record LeavesBehind (number : ℕ) (seen : Observed) (before after : CallStreams) : Type 0 where
   pub done : seen.ending ≡ Done
   pub input : after.left ≡ Some seen.outside.left
   pub count : ℕ
@@ -89,7 +89,7 @@ pub record LeavesBehind (number : ℕ) (seen : Observed) (before after : Handed)
   pub errors : Gains before.errors.held after.errors.held seen.outside.errors
 
 -- The program of a number was done, and the line of its sizes was put in part behind its output.
-pub record BrokenBehind (members : List Member) (run : Run) (number : ℕ) (left : List ℕ) (before after : Handed) : Type 0 where
+pub record BrokenBehind (members : List Member) (run : Run) (number : ℕ) (left : List ℕ) (before after : CallStreams) : Type 0 where
   pub seen : Observed
   pub behaves : Behaves members (launched run left) seen
   pub leaves : LeavesBehind number seen before after

@@ -9,7 +9,7 @@ use Rattle.icn_defs.specs.Running.{Launch, Observed}
 use Rattle.icn_run.specs.declared.ending.Ending.{Ending}
 use Rattle.icn_run.specs.declared.ending.Ending.TheVariants as Endings
 use Rattle.icn_simulation.specs.Law.{RunsFlat}
-use Rattle.icn_streams.specs.Handed.{Handed}
+use Rattle.icn_streams.specs.Handed.{CallStreams}
 use Rattle.icn_running.specs.declared.fault.RunFault.{RunFault}
 use Rattle.icn_running.specs.Reported.{ending_seen}
 use Rattle.icn_running.specs.Runs.{EndsAtFirst, IsBrokenOff, RunsTo}
@@ -25,7 +25,7 @@ use Rattle.icont_top.specs.Job.{behind}
 use Rattle.icont_top.specs.Outcomes.{LeavesBehind, StopsPut}
 
 -- the run ended, or it was broken off, and a fault is answered whose line was put behind
-pub data IsRanOrBroken (tables : Tables) (launch : Launch) (answer : Answer) (before after : Handed) : Type 0 where
+pub data IsRanOrBroken (tables : Tables) (launch : Launch) (answer : Answer) (before after : CallStreams) : Type 0 where
   ran : (ending : Ending) → answer ≡ Ran ending → RunsTo tables launch (ending_seen ending) before after
       → IsRanOrBroken tables launch answer before after
   broken : (fault : RunFault) (between : SinkState) → answer ≡ of_run fault
@@ -64,7 +64,7 @@ pub data PutsSizes (number : ℕ) (answer : Answer) (out out' err err' : SinkSta
       → PutsSizes number answer out out' err err'
 
 -- The program ended, and the line of its sizes was put where it is that of a number; or it was broken off, or that line was.
-pub data HasRun (tables : Tables) (launch : Launch) (number : Option ℕ) (answer : Answer) (before after : Handed) : Type 0 where
+pub data HasRun (tables : Tables) (launch : Launch) (number : Option ℕ) (answer : Answer) (before after : CallStreams) : Type 0 where
   has_ended : (seen : Observed) → RunsFlat tables launch seen → answer ≡ Ran (ending_held seen.ending)
       → after.left ≡ Some seen.outside.left
       → Gains before.output.held after.output.held (seen.outside.output ++ behind number seen.ending)

@@ -6,7 +6,7 @@ ghost use Rattle.icn_host.specs.FileMaps.{FileMap};
 ghost use Rattle.icn_host.specs.Puts.{LeadsBy, PutsAll};
 ghost use Rattle.icn_host.specs.Sinks.{SinkState};
 ghost use Rattle.icn_code.specs.Seen.{tables_of};
-ghost use Rattle.icn_streams.specs.Handed.{handed};
+ghost use Rattle.icn_streams.specs.Handed.{call_streams};
 ghost use Rattle.icn_lines.specs.Answers.{IsFault, IsRefusal};
 ghost use Rattle.icn_lines.specs.Causes.{EndsAtFirst, RunEndsAtFirst, outside};
 ghost use Rattle.icn_lines.specs.Faulting.{IsOfRun};
@@ -72,8 +72,8 @@ pub fn icont_main<F: Files, I: Source, O: Sink, E: Sink>(
 ) -> Answer
     // Where the files and the input tell their content, the job was done, or a fault is answered and leaves a part of it.
     ensures outcome { IfSome (F.held files.old) (λ held. IfSome (I.left input.old) (λ left. Outcome (map string_bytes words.now) held left result
-        (told (F.held files.old) (handed (I.left input.old) (I.faults input.old) (O.state out.old) (E.state err.old)))
-        (told (F.held files.new) (handed (I.left input.new) (I.faults input.new) (O.state out.new) (E.state err.new))))) }
+        (told (F.held files.old) (call_streams (I.left input.old) (I.faults input.old) (O.state out.old) (E.state err.old)))
+        (told (F.held files.new) (call_streams (I.left input.new) (I.faults input.new) (O.state out.new) (E.state err.new))))) }
 
     // Where no count of faults rose, no fault is answered but want of memory.
     ensures faultless { ¬ Rose (F.faults files.old) (F.faults files.new) → ¬ Rose (I.faults input.old) (I.faults input.new)
@@ -120,8 +120,8 @@ pub fn icont_main<F: Files, I: Source, O: Sink, E: Sink>(
     // The first fault ends the call: its object's count rose once, and no other count of faults did but at the put of the fault's
     // own line. An absence (also of an included file) is answered only where that count rose.
     ensures causes { EndsAtFirst result (IsAbsence result)
-        (outside (F.faults files.old) (F.absences files.old) (handed (I.left input.old) (I.faults input.old) (O.state out.old) (E.state err.old)))
-        (outside (F.faults files.new) (F.absences files.new) (handed (I.left input.new) (I.faults input.new) (O.state out.new) (E.state err.new))) }
+        (outside (F.faults files.old) (F.absences files.old) (call_streams (I.left input.old) (I.faults input.old) (O.state out.old) (E.state err.old)))
+        (outside (F.faults files.new) (F.absences files.new) (call_streams (I.left input.new) (I.faults input.new) (O.state out.new) (E.state err.new))) }
 {
     one_reading();
     one_fault();
@@ -155,14 +155,14 @@ fn translate_answer<F: Files, E: Sink>(
     err: &mut E,
 ) -> Answer
     ensures done { (words : List (List ℕ)) (left : Option (List ℕ)) (input : ℕ) (out : SinkState) → ComeTo words (Asks (Translate (texts names.now)))
-        → IfSome (F.held files.old) (λ held. IsDone words held result (told (F.held files.old) (handed left input out (E.state err.old)))
-        (told (F.held files.new) (handed left input out (E.state err.new)))) }
+        → IfSome (F.held files.old) (λ held. IsDone words held result (told (F.held files.old) (call_streams left input out (E.state err.old)))
+        (told (F.held files.new) (call_streams left input out (E.state err.new)))) }
     ensures reported { (left : Option (List ℕ)) → Reports usage [] left (E.state err.old) (E.state err.new) result }
     ensures command { IsCommand result → ⊥ }
     ensures untouched { IsRefusal result → F.held files.new ≡ F.held files.old }
     ensures causes { (left : Option (List ℕ)) (input : ℕ) (out : SinkState) → EndsAtFirst result (IsAbsence result)
-        (outside (F.faults files.old) (F.absences files.old) (handed left input out (E.state err.old)))
-        (outside (F.faults files.new) (F.absences files.new) (handed left input out (E.state err.new))) }
+        (outside (F.faults files.old) (F.absences files.old) (call_streams left input out (E.state err.old)))
+        (outside (F.faults files.new) (F.absences files.new) (call_streams left input out (E.state err.new))) }
 {
     match translated(alloc, names, files) {
         Ok(texts) => texts_answer(&texts, files, err),
@@ -175,13 +175,13 @@ fn texts_answer<F: Files, E: Sink>(texts: &[Text], files: &mut F, err: &mut E) -
     ensures done { (words : List (List ℕ)) (held : FileMap) (members : List Member) (left : Option (List ℕ)) (input : ℕ) (out : SinkState)
         → IsTranslated words held (Ok members)
         → texts_seen texts.now ≡ ucode_files members → All IsReadBack members → F.held files.old ≡ Some held
-        → IsDone words held result (told (F.held files.old) (handed left input out (E.state err.old)))
-        (told (F.held files.new) (handed left input out (E.state err.new))) }
+        → IsDone words held result (told (F.held files.old) (call_streams left input out (E.state err.old)))
+        (told (F.held files.new) (call_streams left input out (E.state err.new))) }
     ensures reported { (left : Option (List ℕ)) → Reports usage [] left (E.state err.old) (E.state err.new) result }
     ensures no_refusal { IsRefusal result → ⊥ }
     ensures causes { (left : Option (List ℕ)) (input : ℕ) (out : SinkState) → EndsAtFirst result (IsAbsence result)
-        (outside (F.faults files.old) (F.absences files.old) (handed left input out (E.state err.old)))
-        (outside (F.faults files.new) (F.absences files.new) (handed left input out (E.state err.new))) }
+        (outside (F.faults files.old) (F.absences files.old) (call_streams left input out (E.state err.old)))
+        (outside (F.faults files.new) (F.absences files.new) (call_streams left input out (E.state err.new))) }
 {
     match write_all(files, texts) {
         Ok(()) => Answer::Wrote,
@@ -203,8 +203,8 @@ fn link_answer<F: Files, I: Source, O: Sink, E: Sink>(
     ensures done { (words : List (List ℕ))
         → ComeTo words (Asks (Link (texts names.now) (option_map (λ name. name.now) image.entry) (option_map run_seen run.entry)))
         → IfSome (F.held files.old) (λ held. IsDone words held result
-        (told (F.held files.old) (handed (I.left input.old) (I.faults input.old) (O.state out.old) (E.state err.old)))
-        (told (F.held files.new) (handed (I.left input.new) (I.faults input.new) (O.state out.new) (E.state err.new)))) }
+        (told (F.held files.old) (call_streams (I.left input.old) (I.faults input.old) (O.state out.old) (E.state err.old)))
+        (told (F.held files.new) (call_streams (I.left input.new) (I.faults input.new) (O.state out.new) (E.state err.new)))) }
     ensures reported { Reports usage [] (I.left input.old) (E.state err.old) (E.state err.new) result }
     ensures links { IfSome (F.held files.old) (λ held. (members : List Member) → Load held (files_named (texts names.now)) (Ok members)
         → IsFault result ⊎ IsTold (Rose (F.absences files.old) (F.absences files.new)) members) }
@@ -214,8 +214,8 @@ fn link_answer<F: Files, I: Source, O: Sink, E: Sink>(
     ensures refused { (IsOfRun result → ⊥) → (O.state out.new).held ≡ (O.state out.old).held }
     ensures unread { (IsOfRun result → ⊥) → I.left input.new ≡ I.left input.old }
     ensures causes { EndsAtFirst result (IsAbsence result)
-        (outside (F.faults files.old) (F.absences files.old) (handed (I.left input.old) (I.faults input.old) (O.state out.old) (E.state err.old)))
-        (outside (F.faults files.new) (F.absences files.new) (handed (I.left input.new) (I.faults input.new) (O.state out.new) (E.state err.new))) }
+        (outside (F.faults files.old) (F.absences files.old) (call_streams (I.left input.old) (I.faults input.old) (O.state out.old) (E.state err.old)))
+        (outside (F.faults files.new) (F.absences files.new) (call_streams (I.left input.new) (I.faults input.new) (O.state out.new) (E.state err.new))) }
 {
     match linked_program(alloc, names, files) {
         Ok(program) => {
@@ -242,8 +242,8 @@ fn generate_answer<F: Files, I: Source, O: Sink, E: Sink>(
 ) -> Answer
     ensures done { (words : List (List ℕ)) → ComeTo words (Asks (Generate number turns))
         → IfSome (F.held files.old) (λ held. IsDone words held result
-        (told (F.held files.old) (handed (I.left input.old) (I.faults input.old) (O.state out.old) (E.state err.old)))
-        (told (F.held files.new) (handed (I.left input.new) (I.faults input.new) (O.state out.new) (E.state err.new)))) }
+        (told (F.held files.old) (call_streams (I.left input.old) (I.faults input.old) (O.state out.old) (E.state err.old)))
+        (told (F.held files.new) (call_streams (I.left input.new) (I.faults input.new) (O.state out.new) (E.state err.new)))) }
     ensures reported { Reports usage [] (I.left input.old) (E.state err.old) (E.state err.new) result }
     ensures input { IfSome (I.left input.old) (λ left. LosesSome left (I.left input.new)) }
     ensures command { IsCommand result → ⊥ }
@@ -251,8 +251,8 @@ fn generate_answer<F: Files, I: Source, O: Sink, E: Sink>(
     ensures refused { (IsOfRun result → ⊥) → (O.state out.new).held ≡ (O.state out.old).held }
     ensures unread { (IsOfRun result → ⊥) → I.left input.new ≡ I.left input.old }
     ensures causes { EndsAtFirst result (IsAbsence result)
-        (outside (F.faults files.old) (F.absences files.old) (handed (I.left input.old) (I.faults input.old) (O.state out.old) (E.state err.old)))
-        (outside (F.faults files.new) (F.absences files.new) (handed (I.left input.new) (I.faults input.new) (O.state out.new) (E.state err.new))) }
+        (outside (F.faults files.old) (F.absences files.old) (call_streams (I.left input.old) (I.faults input.old) (O.state out.old) (E.state err.old)))
+        (outside (F.faults files.new) (F.absences files.new) (call_streams (I.left input.new) (I.faults input.new) (O.state out.new) (E.state err.new))) }
 {
     match numbered_program(alloc, number) {
         Ok(program) => {
@@ -282,16 +282,16 @@ fn image_answer<F: Files, I: Source, O: Sink, E: Sink>(
 ) -> Answer
     ensures done { (words : List (List ℕ)) (held : FileMap) (members : List Member) → IsReady words held members plan.entry program.now
         → F.held files.old ≡ Some held → IsDone words held result
-        (told (F.held files.old) (handed (I.left input.old) (I.faults input.old) (O.state out.old) (E.state err.old)))
-        (told (F.held files.new) (handed (I.left input.new) (I.faults input.new) (O.state out.new) (E.state err.new))) }
+        (told (F.held files.old) (call_streams (I.left input.old) (I.faults input.old) (O.state out.old) (E.state err.old)))
+        (told (F.held files.new) (call_streams (I.left input.new) (I.faults input.new) (O.state out.new) (E.state err.new))) }
     ensures reported { Reports usage [] (I.left input.old) (E.state err.old) (E.state err.new) result }
     ensures input { IfSome (I.left input.old) (λ left. LosesSome left (I.left input.new)) }
     ensures no_refusal { IsRefusal result → ⊥ }
     ensures refused { (IsOfRun result → ⊥) → (O.state out.new).held ≡ (O.state out.old).held }
     ensures unread { (IsOfRun result → ⊥) → I.left input.new ≡ I.left input.old }
     ensures causes { EndsAtFirst result (IsAbsence result)
-        (outside (F.faults files.old) (F.absences files.old) (handed (I.left input.old) (I.faults input.old) (O.state out.old) (E.state err.old)))
-        (outside (F.faults files.new) (F.absences files.new) (handed (I.left input.new) (I.faults input.new) (O.state out.new) (E.state err.new))) }
+        (outside (F.faults files.old) (F.absences files.old) (call_streams (I.left input.old) (I.faults input.old) (O.state out.old) (E.state err.old)))
+        (outside (F.faults files.new) (F.absences files.new) (call_streams (I.left input.new) (I.faults input.new) (O.state out.new) (E.state err.new))) }
 {
     one_spelling();
     same_ends();
@@ -339,13 +339,13 @@ fn ran_answer<I: Source, O: Sink, E: Sink>(
     err: &mut E,
 ) -> Answer
     ensures ran { IfSome (I.left input.old) (λ left. HasRun (tables_of code.now.code) (launched (run_seen run.entry) left) number result
-        (handed (I.left input.old) (I.faults input.old) (O.state out.old) (E.state err.old))
-        (handed (I.left input.new) (I.faults input.new) (O.state out.new) (E.state err.new))) }
+        (call_streams (I.left input.old) (I.faults input.old) (O.state out.old) (E.state err.old))
+        (call_streams (I.left input.new) (I.faults input.new) (O.state out.new) (E.state err.new))) }
     ensures reported { Reports usage [] (I.left input.old) (E.state err.old) (E.state err.new) result }
     ensures others { IsOfRun result }
     ensures causes { RunEndsAtFirst result
-        (handed (I.left input.old) (I.faults input.old) (O.state out.old) (E.state err.old))
-        (handed (I.left input.new) (I.faults input.new) (O.state out.new) (E.state err.new)) }
+        (call_streams (I.left input.old) (I.faults input.old) (O.state out.old) (E.state err.old))
+        (call_streams (I.left input.new) (I.faults input.new) (O.state out.new) (E.state err.new)) }
 {
     let answer = run_answer(alloc, code, run, input, out, err);
     match number {
@@ -370,13 +370,13 @@ fn run_answer<I: Source, O: Sink, E: Sink>(
     err: &mut E,
 ) -> Answer
     ensures ran { IfSome (I.left input.old) (λ left. IsRanOrBroken (tables_of code.now.code) (launched (run_seen asked.entry) left) result
-        (handed (I.left input.old) (I.faults input.old) (O.state out.old) (E.state err.old))
-        (handed (I.left input.new) (I.faults input.new) (O.state out.new) (E.state err.new))) }
+        (call_streams (I.left input.old) (I.faults input.old) (O.state out.old) (E.state err.old))
+        (call_streams (I.left input.new) (I.faults input.new) (O.state out.new) (E.state err.new))) }
     ensures reported { Reports usage [] (I.left input.old) (E.state err.old) (E.state err.new) result }
     ensures others { IsOfRun result }
     ensures causes { RunEndsAtFirst result
-        (handed (I.left input.old) (I.faults input.old) (O.state out.old) (E.state err.old))
-        (handed (I.left input.new) (I.faults input.new) (O.state out.new) (E.state err.new)) }
+        (call_streams (I.left input.old) (I.faults input.old) (O.state out.old) (E.state err.old))
+        (call_streams (I.left input.new) (I.faults input.new) (O.state out.new) (E.state err.new)) }
 {
     let standard = Limits::standard();
     let limits = Limits {

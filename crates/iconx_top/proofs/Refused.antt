@@ -9,7 +9,7 @@ use Rattle.icn_host.specs.Puts.{all, Leads}
 use Rattle.icn_value.specs.Limited.{Bounds}
 use Rattle.icn_value.specs.Store.{outside_of}
 use Rattle.icn_defs.specs.Running.{Launch}
-use Rattle.icn_streams.specs.Handed.{Handed, handed}
+use Rattle.icn_streams.specs.Handed.{CallStreams, call_streams}
 use Rattle.icn_code.specs.Codes.{Tables}
 use Rattle.icn_code.specs.Seen.{tables_of}
 use Rattle.icn_run.specs.declared.ending.Ending.{Ending}
@@ -50,7 +50,7 @@ begins_of {files = files} {left} name answer before between is (inr stops) = inr
 pub refused : {words : List (List ℕ)} {files : FileMap} {left : List ℕ} (name : List ℕ) (answer given : Answer)
     (held held' : Option FileMap) (left' : Option (List ℕ)) (input : ℕ) (out before after : SinkState)
     → Asked words files left name answer → held' ≡ held → held ≡ Some files → left' ≡ Some left → Refuses usage name answer before after given
-    → Outcome words files left given (told held (handed left' input out before)) (told held' (handed left' input out after))
+    → Outcome words files left given (told held (call_streams left' input out before)) (told held' (call_streams left' input out after))
 refused name answer given held held' left' input out before after (inl f) same e d (put n h) = absurd (n f)
 refused {files = files} {left} name answer given held held' left' input out before after (inr is) same e d (put n h) =
     done (refusal files left name answer) is (record { answered = refl; files = same ∙ e; left = d; output = gains_nothing out.held; errors = h.gains })
@@ -82,7 +82,7 @@ pub run_asked : {words : List (List ℕ)} {files : FileMap} (left : List ℕ) (l
     → launch.outside ≡ outside_of left → IsLoaded (files name) name (Ok verified) → IsRun words files left (tables_of verified.code) launch
 run_asked left launch name verified e input is = record { name = name; bytes = is.0; asks = e; there = is.1.0; judged = is.1.1; input = input }
 
-pub ran_outcome : {words : List (List ℕ)} {files : FileMap} {left : List ℕ} {before after : Handed} (tables : Tables) (launch : Launch) (ending : Ending)
+pub ran_outcome : {words : List (List ℕ)} {files : FileMap} {left : List ℕ} {before after : CallStreams} (tables : Tables) (launch : Launch) (ending : Ending)
     (held : Option FileMap) → held ≡ Some files → IsRun words files left tables launch → RunsTo tables launch (ending_seen ending) before after
     → Outcome words files left (Ran ending) (told held before) (told held after)
 ran_outcome {files = files} tables launch ending held e is (seen, (ended, (runs, ends))) =
@@ -95,16 +95,16 @@ ran_outcome {files = files} tables launch ending held e is (seen, (ended, (runs,
       errors = ends.errors;
     })
 
-pub broke_outcome : {words : List (List ℕ)} {files : FileMap} {left : List ℕ} {before : Handed} {left' : Option (List ℕ)} {input : ℕ}
-    {out : SinkState} (between after : SinkState) (tables : Tables) (launch : Launch) (stopped : RunFault) (held : Option FileMap) → IsRun words files left tables launch → RunEnds {A = Ending} (Err stopped) before (handed left' input out between)
-    → IsBrokenOff tables launch stopped before (handed left' input out between) → PutsOwn (of_run stopped) between after
-    → Outcome words files left (of_run stopped) (told held before) (told held (handed left' input out after))
+pub broke_outcome : {words : List (List ℕ)} {files : FileMap} {left : List ℕ} {before : CallStreams} {left' : Option (List ℕ)} {input : ℕ}
+    {out : SinkState} (between after : SinkState) (tables : Tables) (launch : Launch) (stopped : RunFault) (held : Option FileMap) → IsRun words files left tables launch → RunEnds {A = Ending} (Err stopped) before (call_streams left' input out between)
+    → IsBrokenOff tables launch stopped before (call_streams left' input out between) → PutsOwn (of_run stopped) between after
+    → Outcome words files left (of_run stopped) (told held before) (told held (call_streams left' input out after))
 broke_outcome {before = before} between after tables launch stopped held is first broken puts =
     fault (is_run_fault stopped) refl
     (broke stopped between tables launch refl is (broken_first before _ stopped first) broken (puts_own _ _ (of_run stopped) puts))
 
 -- what a run put that was broken off
-pub off_puts : (tables : Tables) (launch : Launch) (stopped : RunFault) (before after : Handed) → IsBrokenOff tables launch stopped before after
+pub off_puts : (tables : Tables) (launch : Launch) (stopped : RunFault) (before after : CallStreams) → IsBrokenOff tables launch stopped before after
     → PutsSome before.errors after.errors
 off_puts tables launch stopped before after (seen, (runs, leaves)) = broken_puts stopped launch.outside.left seen before after leaves
 
@@ -116,7 +116,7 @@ pub at_some : {T : Type 0} (P : T → Type 0) (o : Option T) (x : T) → o ≡ S
 at_some P o x e h = rw e at h
 
 -- the files that are told behind a call
-pub held_as : {words : List (List ℕ)} {files : FileMap} {left : List ℕ} {answer : Answer} {before : Told} {after : Handed} (held held' : Option FileMap)
+pub held_as : {words : List (List ℕ)} {files : FileMap} {left : List ℕ} {answer : Answer} {before : Told} {after : CallStreams} (held held' : Option FileMap)
     → held' ≡ held
     → Outcome words files left answer before (told held after) → Outcome words files left answer before (told held' after)
 held_as held held' e outcome = rw e outcome
@@ -146,7 +146,7 @@ absence_of answer _ (want n between leads puts) is = absurd is
 -- faulty words
 pub command_ends : {files absences input : ℕ} {left : Option (List ℕ)} {out before after : SinkState} (kind : ℕ) (given : Answer)
     → Refuses usage [] (Command kind) before after given
-    → EndsAtFirst given (IsAbsence given) (outside files absences (handed left input out before)) (outside files absences (handed left input out after))
+    → EndsAtFirst given (IsAbsence given) (outside files absences (call_streams left input out before)) (outside files absences (call_streams left input out after))
 command_ends kind given refuses =
     refused_ends (Command kind) given no_write no_read (unmoved no_file) (no_cause (λ (a : IsAbsence (Command kind)). a))
     (absence_of (Command kind) given refuses) refuses where

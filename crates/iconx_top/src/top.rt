@@ -2,7 +2,7 @@
 ghost use Rattle.std.specs.Prelude.{◌≡◌, ◌⊎◌, ℕ, List, Option, Ok, Some, map, string_bytes, IfSome};
 ghost use Rattle.icn_host.specs.Counts.{Rose};
 ghost use Rattle.icn_host.specs.FileMaps.{FileMap};
-ghost use Rattle.icn_streams.specs.Handed.{handed};
+ghost use Rattle.icn_streams.specs.Handed.{call_streams};
 ghost use Rattle.icn_lines.specs.Answers.{IsFault, IsRefusal};
 ghost use Rattle.iconx_top.specs.Answered.{IsAnswered};
 ghost use Rattle.iconx_top.specs.Asking.{asking};
@@ -41,8 +41,8 @@ pub fn iconx_main<F: Files, I: Source, O: Sink, E: Sink>(
 ) -> Answer
     // Where the files and the input tell their content, the job was done, or a fault is answered and leaves a part of it.
     ensures outcome { IfSome (F.held files.old) (λ held. IfSome (I.left input.old) (λ left. Outcome (map string_bytes words.now) held left result
-        (told (F.held files.old) (handed (I.left input.old) (I.faults input.old) (O.state out.old) (E.state err.old)))
-        (told (F.held files.new) (handed (I.left input.new) (I.faults input.new) (O.state out.new) (E.state err.new))))) }
+        (told (F.held files.old) (call_streams (I.left input.old) (I.faults input.old) (O.state out.old) (E.state err.old)))
+        (told (F.held files.new) (call_streams (I.left input.new) (I.faults input.new) (O.state out.new) (E.state err.new))))) }
     // Where no count of faults rose, no fault is answered but want of memory.
     ensures faultless { ¬ Rose (F.faults files.old) (F.faults files.new) → ¬ Rose (I.faults input.old) (I.faults input.new)
         → ¬ Rose (O.state out.old).faults (O.state out.new).faults → ¬ Rose (E.state err.old).faults (E.state err.new).faults
@@ -72,8 +72,8 @@ pub fn iconx_main<F: Files, I: Source, O: Sink, E: Sink>(
     // The first fault ends the call: its object's count rose once, and no other count did but at the put of the fault's own line. An
     // absence is answered only where that count rose.
     ensures causes { EndsAtFirst result (IsAbsence result)
-        (outside (F.faults files.old) (F.absences files.old) (handed (I.left input.old) (I.faults input.old) (O.state out.old) (E.state err.old)))
-        (outside (F.faults files.new) (F.absences files.new) (handed (I.left input.new) (I.faults input.new) (O.state out.new) (E.state err.new))) }
+        (outside (F.faults files.old) (F.absences files.old) (call_streams (I.left input.old) (I.faults input.old) (O.state out.old) (E.state err.old)))
+        (outside (F.faults files.new) (F.absences files.new) (call_streams (I.left input.new) (I.faults input.new) (O.state out.new) (E.state err.new))) }
 {
     match asked(words) {
         Ok(asked) => image_answer(alloc, asked, files, input, out, err),
@@ -92,8 +92,8 @@ fn image_answer<F: Files, I: Source, O: Sink, E: Sink>(
 ) -> Answer
     ensures outcome { (words : List (List ℕ)) → read words ≡ asking run.entry
         → IfSome (F.held files.old) (λ held. IfSome (I.left input.old) (λ left. Outcome words held left result
-        (told (F.held files.old) (handed (I.left input.old) (I.faults input.old) (O.state out.old) (E.state err.old)))
-        (told (F.held files.new) (handed (I.left input.new) (I.faults input.new) (O.state out.new) (E.state err.new))))) }
+        (told (F.held files.old) (call_streams (I.left input.old) (I.faults input.old) (O.state out.old) (E.state err.old)))
+        (told (F.held files.new) (call_streams (I.left input.new) (I.faults input.new) (O.state out.new) (E.state err.new))))) }
     ensures reported { Reports usage run.entry.image.now (I.left input.old) (E.state err.old) (E.state err.new) result }
     ensures answered { (words : List (List ℕ)) → read words ≡ asking run.entry → IfSome (F.held files.old) (λ held. IsAnswered words held result) }
     ensures command { IsCommand result → ⊥ }
@@ -101,8 +101,8 @@ fn image_answer<F: Files, I: Source, O: Sink, E: Sink>(
     ensures unread { IsRefusal result → I.left input.new ≡ I.left input.old }
     ensures files { F.held files.new ≡ F.held files.old }
     ensures causes { EndsAtFirst result (IsAbsence result)
-        (outside (F.faults files.old) (F.absences files.old) (handed (I.left input.old) (I.faults input.old) (O.state out.old) (E.state err.old)))
-        (outside (F.faults files.new) (F.absences files.new) (handed (I.left input.new) (I.faults input.new) (O.state out.new) (E.state err.new))) }
+        (outside (F.faults files.old) (F.absences files.old) (call_streams (I.left input.old) (I.faults input.old) (O.state out.old) (E.state err.old)))
+        (outside (F.faults files.new) (F.absences files.new) (call_streams (I.left input.new) (I.faults input.new) (O.state out.new) (E.state err.new))) }
 {
     match load(alloc, run.image, files) {
         Ok(verified) => run_answer(alloc, &verified, run, input, out, err),
@@ -122,13 +122,13 @@ fn run_answer<I: Source, O: Sink, E: Sink>(
     ensures outcome { (words : List (List ℕ)) (held : FileMap) (told_files : Option FileMap) → read words ≡ asking asked.entry
         → IsLoaded (held asked.entry.image.now) asked.entry.image.now (Ok code.now) → told_files ≡ Some held
         → IfSome (I.left input.old) (λ left. Outcome words held left result
-        (told told_files (handed (I.left input.old) (I.faults input.old) (O.state out.old) (E.state err.old)))
-        (told told_files (handed (I.left input.new) (I.faults input.new) (O.state out.new) (E.state err.new)))) }
+        (told told_files (call_streams (I.left input.old) (I.faults input.old) (O.state out.old) (E.state err.old)))
+        (told told_files (call_streams (I.left input.new) (I.faults input.new) (O.state out.new) (E.state err.new)))) }
     ensures reported { (name : List ℕ) → Reports usage name (I.left input.old) (E.state err.old) (E.state err.new) result }
     ensures others { IsOfRun result }
     ensures causes { RunEndsAtFirst result
-        (handed (I.left input.old) (I.faults input.old) (O.state out.old) (E.state err.old))
-        (handed (I.left input.new) (I.faults input.new) (O.state out.new) (E.state err.new)) }
+        (call_streams (I.left input.old) (I.faults input.old) (O.state out.old) (E.state err.old))
+        (call_streams (I.left input.new) (I.faults input.new) (O.state out.new) (E.state err.new)) }
 {
     match run::<VecStack<Cell>, I, O, E>(
         alloc,

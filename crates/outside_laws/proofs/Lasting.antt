@@ -3,7 +3,7 @@ use Rattle.std.proofs.Common.{ℕ, List, [], ◌∷◌, ◌++◌, length, refl, 
 use Rattle.std.specs.Prelude.{◌+◌, drop}
 use Rattle.std.proofs.lemmas.List.{drop-drop, append_assoc, append-nil}
 use Rattle.icn_value.specs.Values.{File, Input, Output, Errout}
-use Rattle.icn_value.specs.Store.{Asked, Outside, Reading}
+use Rattle.icn_value.specs.Store.{Request, Outside, Reading}
 use Rattle.icn_defs.specs.InputOutput.{put_on}
 use Rattle.icn_defs.specs.Interruptions.{IsOutsideOf, asked_of, after_reading}
 use Rattle.icn_defs.proofs.Interrupting.{put_keeps, read_keeps}
@@ -13,7 +13,7 @@ use Rattle.outside_laws.specs.Outsides.{Extends}
 pub record Lasting : Type 1 where
   pub is : Outside → Type 0
   pub put : (outside : Outside) (file : File) (text : List ℕ) → is outside → is (put_on file text outside)
-  pub read : (outside : Outside) (asked : Asked) → is outside → is (after_reading asked outside)
+  pub read : (outside : Outside) (asked : Request) → is outside → is (after_reading asked outside)
 
 -- that the outside is one that a run with this input comes to
 abbrev pub of_input : List ℕ → Lasting
@@ -47,7 +47,7 @@ put_extends was outside Errout text e = record {
   left = e.left;
 }
 
-pub read_extends : (was outside : Outside) (asked : Asked) → Extends was outside → Extends was (after_reading asked outside)
+pub read_extends : (was outside : Outside) (asked : Request) → Extends was outside → Extends was (after_reading asked outside)
 read_extends was outside asked e = record {
   output_text = e.output_text;
   output = e.output;

@@ -10,10 +10,10 @@ use Rattle.icn_text.specs.declared.op.Op.TheVariants as Ops
 use Rattle.icn_text.specs.declared.func.Func.{Func}
 use Rattle.icn_text.specs.declared.func.Func.TheVariants as Funcs
 use Rattle.icn_value.specs.Values.{Value, Text, Integer, Std, File, Input, Output, Errout, Root, Global, Static, Local, Element, Field, Key, Keyword, KeywordVariable, Subject, Position, Random, Variable, Whole, Part, Item, Val, Var}
-use Rattle.icn_value.specs.Store.{Setting, Asked, ALine, SomeBytes, Outside, with_reading, having_left, Heap, Names, having_position, having_heap}
+use Rattle.icn_value.specs.Store.{Setting, Request, ALine, SomeBytes, Outside, with_reading, having_left, Heap, Names, having_position, having_heap}
 use Rattle.icn_defs.specs.Conversions.{integer_of, place_of, Group, Textual, Listed, Collected, Tabled, Recorded, Filed, Activated, Single}
 use Rattle.icn_defs.specs.Rows.{Row, costs_bytes, gives_value, ends, suspends, Outcome, Fails, Gives, Suspends, Error, Ends, Residual, TextBytes, VariableBytes, ListItems, SetMembers, TableValues, TableKeys, RecordFields, InputLines, UndoAssign, UndoExchange, UndoPosition, Counting, Sequence, Balanced, Found, Among, Mover, Neither, Left, Right, check, present, computed, passing, found, natural, costs_made, gives_list}
-use Rattle.icn_defs.specs.Reading.{the_value, the_values, the_variable, assigns_keyword, assigns_root, assigns_or, assigns_both, moved, moved_by_left, moved_by_right, costs_unless, reads}
+use Rattle.icn_defs.specs.Reading.{the_value, the_values, the_variable, assigns_keyword, assigns_root, assigns_or, assigns_both, move_part, moved_by_left, moved_by_right, costs_unless, reads}
 use Rattle.icn_defs.specs.Arguments.{Keeper, SetKeeper, TableKeeper}
 use Rattle.icn_defs.specs.Arithmetic.{count_from}
 use Rattle.icn_defs.specs.Operations.{sets_or_csets}
@@ -148,7 +148,7 @@ k_assigns : (b : Lasting) (refused : Row) (x : Variable) (value : Value) (next :
 k_assigns b refused (Whole root) value next a k r f = k_root b refused root value (next (Whole root)) a k r (f (Whole root))
 k_assigns b refused (Part root place size) value next a k r f = search (words, k_root, r, f) depth 12
 
-k_moved : (b : Lasting) (old new : ℕ) (x : Variable) (next : Variable → Row) (a : Setting) → Keeps b a → ((v : Variable) → KI b (next v a)) → KI b (moved old new x next a)
+k_moved : (b : Lasting) (old new : ℕ) (x : Variable) (next : Variable → Row) (a : Setting) → Keeps b a → ((v : Variable) → KI b (next v a)) → KI b (move_part old new x next a)
 k_moved b old new (Whole root) next a k f = f (Whole root)
 k_moved b old new (Part root place size) next a k f = search (words, f)
 
@@ -168,7 +168,7 @@ k_both b refused m x y v w next a k r f = search (k_assigns, k_moved_left, k_mov
 -- Reading and writing
 
 -- a reading at the end of the input takes nothing
-at_end : (b : Lasting) (asked : Asked) (o : Outside) → nat_lt 0 (length o.left) ≡ false → b.is o → b.is (with_reading asked o)
+at_end : (b : Lasting) (asked : Request) (o : Outside) → nat_lt 0 (length o.left) ≡ false → b.is o → b.is (with_reading asked o)
 at_end b asked o e k = subst b.is (ap (λ l. record (with_reading asked o) { left = l }) (nothing o.left e)) (b.read o asked k)
   where
     nothing : (left : List ℕ) → nat_lt 0 (length left) ≡ false → drop (asked_of asked left) left ≡ left

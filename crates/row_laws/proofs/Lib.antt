@@ -1,4 +1,4 @@
-pub mod Sorted
+pub mod SortOrder
 pub mod Numbers
 pub mod InOrder
 pub mod Undone

@@ -3,7 +3,7 @@ use Rattle.std.specs.Prelude.{ℕ, List, [], ◌∷◌, codes}
 use Rattle.icn_text.specs.declared.op.Op.TheVariants as O
 use Rattle.icn_text.specs.declared.func.Func.TheVariants as F
 use Rattle.icn_value.specs.Values.{Std, File, Input, Output, Errout, Item, Val}
-use Rattle.icn_value.specs.Store.{Setting, Asked, ALine, SomeBytes, Reading}
+use Rattle.icn_value.specs.Store.{Setting, Request, ALine, SomeBytes, Reading}
 use Rattle.row_tests.specs.Cases.{Case, case, case_from, plain, op, fn, int, below, str, chars, null, list, gives, stops, Gave, Suspended, Failed, Ended, costs}
 
 abbrev file : File → Item
@@ -20,7 +20,7 @@ read left readings setting =
     record setting { outside = record setting.outside { left = left; readings = readings } }
 
 -- a reading before which this was left, where nothing was put
-abbrev asked : Asked → List ℕ → Reading
+abbrev asked : Request → List ℕ → Reading
 asked what left = record { asked = what; left = left; output = 0; errors = 0 }
 
 abbrev at_end : Setting

@@ -6,8 +6,8 @@ use Rattle.icn_vars.specs.Outcomes.{residual_in}
 use Rattle.icn_vars.specs.Worlds.{setting_of}
 use Rattle.icn_named.proofs.RowSizes.{rows_keep_sizes}
 use Rattle.icn_named.proofs.RowsNamed.{rows_keep_names}
-use Rattle.icn_streams.specs.Answers.{given}
-use Rattle.icn_streams.specs.Handed.{handed}
+use Rattle.icn_streams.specs.Answers.{call_state}
+use Rattle.icn_streams.specs.Handed.{call_streams}
 use Rattle.icn_apply.proofs.NamesStay.{applies_named, elsewhere}
 use Rattle.icn_apply.proofs.SizesStay.{applies_sized}
 use Rattle.icn_apply.proofs.applying.again.Goals as goal
@@ -18,8 +18,8 @@ returns-clause-applies g c = c.resume.ensures.applies
 pub returns-clause-named : goal.returns-clause-named
 returns-clause-named g c =
     applies_named (g.N.Names.known c.args.names.now) (again (residual_in (extent_of c.args.w.now.heap) c.args.rest))
-    (given c.args.w.now (g.L.Locals.items c.args.l.now) (handed (g.I.Source.left c.args.input.now) (g.I.Source.faults c.args.input.now) (g.O.Sink.state c.args.out.now) (g.E.Sink.state c.args.err.now)))
-    (given c.resume.new.w (g.L.Locals.items c.resume.new.l) (handed (g.I.Source.left c.resume.new.input) (g.I.Source.faults c.resume.new.input) (g.O.Sink.state c.resume.new.out) (g.E.Sink.state c.resume.new.err)))
+    (call_state c.args.w.now (g.L.Locals.items c.args.l.now) (call_streams (g.I.Source.left c.args.input.now) (g.I.Source.faults c.args.input.now) (g.O.Sink.state c.args.out.now) (g.E.Sink.state c.args.err.now)))
+    (call_state c.resume.new.w (g.L.Locals.items c.resume.new.l) (call_streams (g.I.Source.left c.resume.new.input) (g.I.Source.faults c.resume.new.input) (g.O.Sink.state c.resume.new.out) (g.E.Sink.state c.resume.new.err)))
     c.resume.result
     (λ was. rows_keep_names.resumed (g.N.Names.known c.args.names.now) (residual_in (extent_of c.args.w.now.heap) c.args.rest) (setting_of was c.args.w.now (g.L.Locals.items c.args.l.now))
     (elsewhere (g.N.Names.known c.args.names.now) c.args.w.now (g.L.Locals.items c.args.l.now) (outside_of []) was c.requires.named) c.requires.rest_named)
@@ -31,8 +31,8 @@ returns-clause-memory g c = c.resume.ensures.memory
 pub returns-clause-sized : goal.returns-clause-sized
 returns-clause-sized g c =
     applies_sized (again (residual_in (extent_of c.args.w.now.heap) c.args.rest))
-    (given c.args.w.now (g.L.Locals.items c.args.l.now) (handed (g.I.Source.left c.args.input.now) (g.I.Source.faults c.args.input.now) (g.O.Sink.state c.args.out.now) (g.E.Sink.state c.args.err.now)))
-    (given c.resume.new.w (g.L.Locals.items c.resume.new.l) (handed (g.I.Source.left c.resume.new.input) (g.I.Source.faults c.resume.new.input) (g.O.Sink.state c.resume.new.out) (g.E.Sink.state c.resume.new.err)))
+    (call_state c.args.w.now (g.L.Locals.items c.args.l.now) (call_streams (g.I.Source.left c.args.input.now) (g.I.Source.faults c.args.input.now) (g.O.Sink.state c.args.out.now) (g.E.Sink.state c.args.err.now)))
+    (call_state c.resume.new.w (g.L.Locals.items c.resume.new.l) (call_streams (g.I.Source.left c.resume.new.input) (g.I.Source.faults c.resume.new.input) (g.O.Sink.state c.resume.new.out) (g.E.Sink.state c.resume.new.err)))
     c.resume.result
     (λ was sizes. rows_keep_sizes.resumed sizes (residual_in (extent_of c.args.w.now.heap) c.args.rest) (setting_of was c.args.w.now (g.L.Locals.items c.args.l.now)))
     c.resume.ensures.applies

@@ -5,8 +5,8 @@ use Rattle.icn_defs.specs.Applying.{operation_row}
 use Rattle.icn_vars.specs.Worlds.{item_in, setting_of}
 use Rattle.icn_named.proofs.RowSizes.{rows_keep_sizes}
 use Rattle.icn_named.proofs.RowsNamed.{rows_keep_names}
-use Rattle.icn_streams.specs.Answers.{given}
-use Rattle.icn_streams.specs.Handed.{handed}
+use Rattle.icn_streams.specs.Answers.{call_state}
+use Rattle.icn_streams.specs.Handed.{call_streams}
 use Rattle.icn_apply.specs.Applicable.{IsApplicable}
 use Rattle.icn_apply.specs.declared.applied.Applied.{Applied}
 use Rattle.icn_apply.proofs.NamesStay.{applies_named, elsewhere}
@@ -22,8 +22,8 @@ returns-in-Op-clause-applies g c = rw c.in-Op.is (c.first.ensures (g.O.Sink.stat
 pub returns-in-Op-clause-named : goal.returns-in-Op-clause-named
 returns-in-Op-clause-named g c =
     applies_named (g.N.Names.known c.args.names.now) (operation_row c.in-Op.op (map (item_in (extent_of c.args.w.now.heap)) c.args.args.now))
-    (given c.args.w.now (g.L.Locals.items c.args.l.now) (handed (g.I.Source.left c.args.input.now) (g.I.Source.faults c.args.input.now) (g.O.Sink.state c.args.out.now) (g.E.Sink.state c.args.err.now)))
-    (given c.first.new.w (g.L.Locals.items c.first.new.l) (handed (g.I.Source.left c.first.new.input) (g.I.Source.faults c.first.new.input) (g.O.Sink.state c.args.out.now) (g.E.Sink.state c.args.err.now)))
+    (call_state c.args.w.now (g.L.Locals.items c.args.l.now) (call_streams (g.I.Source.left c.args.input.now) (g.I.Source.faults c.args.input.now) (g.O.Sink.state c.args.out.now) (g.E.Sink.state c.args.err.now)))
+    (call_state c.first.new.w (g.L.Locals.items c.first.new.l) (call_streams (g.I.Source.left c.first.new.input) (g.I.Source.faults c.first.new.input) (g.O.Sink.state c.args.out.now) (g.E.Sink.state c.args.err.now)))
     c.first.result
     (λ was. rows_keep_names.operations (g.N.Names.known c.args.names.now) c.in-Op.op (map (item_in (extent_of c.args.w.now.heap)) c.args.args.now) (setting_of was c.args.w.now (g.L.Locals.items c.args.l.now))
     (elsewhere (g.N.Names.known c.args.names.now) c.args.w.now (g.L.Locals.items c.args.l.now) (outside_of []) was c.requires.named) c.requires.args_named)
@@ -38,8 +38,8 @@ returns-in-Func-clause-named g c = c.apply_function.ensures.named
 pub returns-in-Op-clause-sized : goal.returns-in-Op-clause-sized
 returns-in-Op-clause-sized g c =
     applies_sized (operation_row c.in-Op.op (map (item_in (extent_of c.args.w.now.heap)) c.args.args.now))
-    (given c.args.w.now (g.L.Locals.items c.args.l.now) (handed (g.I.Source.left c.args.input.now) (g.I.Source.faults c.args.input.now) (g.O.Sink.state c.args.out.now) (g.E.Sink.state c.args.err.now)))
-    (given c.first.new.w (g.L.Locals.items c.first.new.l) (handed (g.I.Source.left c.first.new.input) (g.I.Source.faults c.first.new.input) (g.O.Sink.state c.args.out.now) (g.E.Sink.state c.args.err.now)))
+    (call_state c.args.w.now (g.L.Locals.items c.args.l.now) (call_streams (g.I.Source.left c.args.input.now) (g.I.Source.faults c.args.input.now) (g.O.Sink.state c.args.out.now) (g.E.Sink.state c.args.err.now)))
+    (call_state c.first.new.w (g.L.Locals.items c.first.new.l) (call_streams (g.I.Source.left c.first.new.input) (g.I.Source.faults c.first.new.input) (g.O.Sink.state c.args.out.now) (g.E.Sink.state c.args.err.now)))
     c.first.result
     (λ was sizes. rows_keep_sizes.operations sizes c.in-Op.op (map (item_in (extent_of c.args.w.now.heap)) c.args.args.now) (setting_of was c.args.w.now (g.L.Locals.items c.args.l.now)))
     (c.first.ensures (g.O.Sink.state c.args.out.now) (g.E.Sink.state c.args.err.now))

@@ -3,8 +3,8 @@ use Rattle.icn_value.specs.Store.{outside_of}
 use Rattle.icn_heap.specs.Heaps.{extent_of}
 use Rattle.icn_defs.specs.Applying.{function_row}
 use Rattle.icn_vars.specs.Worlds.{item_in, setting_of}
-use Rattle.icn_streams.specs.Answers.{given}
-use Rattle.icn_streams.specs.Handed.{handed}
+use Rattle.icn_streams.specs.Answers.{call_state}
+use Rattle.icn_streams.specs.Handed.{call_streams}
 use Rattle.icn_apply.specs.declared.kinds.Kind.{Kind}
 use Rattle.icn_apply.specs.Kinds.{IsOfKind}
 use Rattle.icn_apply.proofs.NamesStay.{applies_named, elsewhere, file_function_named}
@@ -20,8 +20,8 @@ returns-in-Files-clause-applies g c = c.first.ensures (g.N.Names.known c.args.na
 pub returns-in-Files-clause-named : goal.returns-in-Files-clause-named
 returns-in-Files-clause-named g c =
     applies_named (g.N.Names.known c.args.names.now) (function_row (g.N.Names.known c.args.names.now) c.args.func (map (item_in (extent_of c.args.w.now.heap)) c.args.args.now))
-    (given c.args.w.now (g.L.Locals.items c.args.l.now) (handed (g.I.Source.left c.args.input.now) (g.I.Source.faults c.args.input.now) (g.O.Sink.state c.args.out.now) (g.E.Sink.state c.args.err.now)))
-    (given c.first.new.w (g.L.Locals.items c.args.l.now) (handed (g.I.Source.left c.first.new.input) (g.I.Source.faults c.first.new.input) (g.O.Sink.state c.first.new.out) (g.E.Sink.state c.first.new.err)))
+    (call_state c.args.w.now (g.L.Locals.items c.args.l.now) (call_streams (g.I.Source.left c.args.input.now) (g.I.Source.faults c.args.input.now) (g.O.Sink.state c.args.out.now) (g.E.Sink.state c.args.err.now)))
+    (call_state c.first.new.w (g.L.Locals.items c.args.l.now) (call_streams (g.I.Source.left c.first.new.input) (g.I.Source.faults c.first.new.input) (g.O.Sink.state c.first.new.out) (g.E.Sink.state c.first.new.err)))
     c.first.result
     (λ was. file_function_named (g.N.Names.known c.args.names.now) c.args.func (map (item_in (extent_of c.args.w.now.heap)) c.args.args.now) (setting_of was c.args.w.now (g.L.Locals.items c.args.l.now))
     (subst (λ (kind : Kind). IsOfKind kind c.args.func) c.in-Files.is c.kind_of.ensures)
@@ -32,7 +32,7 @@ pub apply_scanning-requires-clause-function : goal.apply_scanning-requires-claus
 apply_scanning-requires-clause-function g c = subst (λ (kind : Kind). IsOfKind kind c.args.func) c.in-Scanning.is c.kind_of.ensures
 
 pub returns-in-Scanning-clause-applies : goal.returns-in-Scanning-clause-applies
-returns-in-Scanning-clause-applies g c = c.apply_scanning.ensures.applies (handed (g.I.Source.left c.args.input.now) (g.I.Source.faults c.args.input.now) (g.O.Sink.state c.args.out.now) (g.E.Sink.state c.args.err.now))
+returns-in-Scanning-clause-applies g c = c.apply_scanning.ensures.applies (call_streams (g.I.Source.left c.args.input.now) (g.I.Source.faults c.args.input.now) (g.O.Sink.state c.args.out.now) (g.E.Sink.state c.args.err.now))
 
 pub returns-in-Scanning-clause-named : goal.returns-in-Scanning-clause-named
 returns-in-Scanning-clause-named g c = c.apply_scanning.ensures.named
@@ -41,7 +41,7 @@ pub apply_to_strings-requires-clause-function : goal.apply_to_strings-requires-c
 apply_to_strings-requires-clause-function g c = subst (λ (kind : Kind). IsOfKind kind c.args.func) c.in-Strings.is c.kind_of.ensures
 
 pub returns-in-Strings-clause-applies : goal.returns-in-Strings-clause-applies
-returns-in-Strings-clause-applies g c = c.apply_to_strings.ensures.applies (handed (g.I.Source.left c.args.input.now) (g.I.Source.faults c.args.input.now) (g.O.Sink.state c.args.out.now) (g.E.Sink.state c.args.err.now))
+returns-in-Strings-clause-applies g c = c.apply_to_strings.ensures.applies (call_streams (g.I.Source.left c.args.input.now) (g.I.Source.faults c.args.input.now) (g.O.Sink.state c.args.out.now) (g.E.Sink.state c.args.err.now))
 
 pub returns-in-Strings-clause-named : goal.returns-in-Strings-clause-named
 returns-in-Strings-clause-named g c = c.apply_to_strings.ensures.named
@@ -50,7 +50,7 @@ pub apply_to_structures-requires-clause-function : goal.apply_to_structures-requ
 apply_to_structures-requires-clause-function g c = subst (λ (kind : Kind). IsOfKind kind c.args.func) c.in-Structures.is c.kind_of.ensures
 
 pub returns-in-Structures-clause-applies : goal.returns-in-Structures-clause-applies
-returns-in-Structures-clause-applies g c = c.apply_to_structures.ensures.applies (handed (g.I.Source.left c.args.input.now) (g.I.Source.faults c.args.input.now) (g.O.Sink.state c.args.out.now) (g.E.Sink.state c.args.err.now))
+returns-in-Structures-clause-applies g c = c.apply_to_structures.ensures.applies (call_streams (g.I.Source.left c.args.input.now) (g.I.Source.faults c.args.input.now) (g.O.Sink.state c.args.out.now) (g.E.Sink.state c.args.err.now))
 
 pub returns-in-Structures-clause-named : goal.returns-in-Structures-clause-named
 returns-in-Structures-clause-named g c = c.apply_to_structures.ensures.named
@@ -58,8 +58,8 @@ returns-in-Structures-clause-named g c = c.apply_to_structures.ensures.named
 pub returns-in-Files-clause-sized : goal.returns-in-Files-clause-sized
 returns-in-Files-clause-sized g c =
     applies_sized (function_row (g.N.Names.known c.args.names.now) c.args.func (map (item_in (extent_of c.args.w.now.heap)) c.args.args.now))
-    (given c.args.w.now (g.L.Locals.items c.args.l.now) (handed (g.I.Source.left c.args.input.now) (g.I.Source.faults c.args.input.now) (g.O.Sink.state c.args.out.now) (g.E.Sink.state c.args.err.now)))
-    (given c.first.new.w (g.L.Locals.items c.args.l.now) (handed (g.I.Source.left c.first.new.input) (g.I.Source.faults c.first.new.input) (g.O.Sink.state c.first.new.out) (g.E.Sink.state c.first.new.err)))
+    (call_state c.args.w.now (g.L.Locals.items c.args.l.now) (call_streams (g.I.Source.left c.args.input.now) (g.I.Source.faults c.args.input.now) (g.O.Sink.state c.args.out.now) (g.E.Sink.state c.args.err.now)))
+    (call_state c.first.new.w (g.L.Locals.items c.args.l.now) (call_streams (g.I.Source.left c.first.new.input) (g.I.Source.faults c.first.new.input) (g.O.Sink.state c.first.new.out) (g.E.Sink.state c.first.new.err)))
     c.first.result
     (λ was. file_function_sized (g.N.Names.known c.args.names.now) c.args.func (map (item_in (extent_of c.args.w.now.heap)) c.args.args.now) (setting_of was c.args.w.now (g.L.Locals.items c.args.l.now))
     (subst (λ (kind : Kind). IsOfKind kind c.args.func) c.in-Files.is c.kind_of.ensures))

@@ -7,7 +7,7 @@ use Rattle.icn_heap.specs.Heaps.{extent_of}
 use Rattle.icn_defs.specs.Applying.{function_of, function_row}
 use Rattle.icn_defs.specs.Reading.{the_values}
 use Rattle.icn_vars.specs.Worlds.{item_in, setting_of}
-use Rattle.icn_streams.specs.Answers.{given}
+use Rattle.icn_streams.specs.Answers.{call_state}
 use Rattle.icn_streams.proofs.Behind.{applies_same, stops_there}
 use Rattle.icn_streams.proofs.Faultless.{faultless_applies}
 use Rattle.icn_apply.proofs.NamesStay.{answers_named, function_named, records_named, stop_named, vals_named, values_named}
@@ -16,7 +16,7 @@ use Rattle.icn_apply.proofs.functions.apply_to_strings.Goals as goal
 
 pub returns-in_err-vals-clause-applies : goal.returns-in_err-vals-clause-applies
 returns-in_err-vals-clause-applies g c = λ handed.
-    stops_there (the_values (map (item_in (extent_of c.args.w.now.heap)) c.args.args.now)) (λ values. function_of (g.N.Names.known c.args.names.now) c.args.func values) (given c.args.w.now (g.L.Locals.items c.args.l.now) handed)
+    stops_there (the_values (map (item_in (extent_of c.args.w.now.heap)) c.args.args.now)) (λ values. function_of (g.N.Names.known c.args.names.now) c.args.func values) (call_state c.args.w.now (g.L.Locals.items c.args.l.now) handed)
     c.in_err-vals.field-0.0 c.from_residual.result c.from_residual.ensures.1 (λ was. c.in_err-vals.ensures.found was) c.in_err-vals.ensures.stops c.requires.locals
 
 pub returns-in_err-vals-clause-named : goal.returns-in_err-vals-clause-named
@@ -40,7 +40,7 @@ first-requires-clause-records g c = records_named (g.N.Names.known c.args.names.
 pub returns-clause-applies : goal.returns-clause-applies
 returns-clause-applies g c = λ handed.
     applies_same (function_row (g.N.Names.known c.args.names.now) c.args.func (map (item_in (extent_of c.args.w.now.heap)) c.args.args.now)) (function_of (g.N.Names.known c.args.names.now) c.args.func (map (value_in (extent_of c.args.w.now.heap)) c.deref.result.now))
-    (given c.args.w.now (g.L.Locals.items c.args.l.now) handed) (given c.first.new.w (g.L.Locals.items c.args.l.now) handed) c.first.result
+    (call_state c.args.w.now (g.L.Locals.items c.args.l.now) handed) (call_state c.first.new.w (g.L.Locals.items c.args.l.now) handed) c.first.result
     (λ was. c.in_ok-vals.ensures.found was (λ values. function_of (g.N.Names.known c.args.names.now) c.args.func values)
     ∙ ap (λ (vals : List Val). function_of (g.N.Names.known c.args.names.now) c.args.func (map (value_in (extent_of c.args.w.now.heap)) vals) (setting_of was c.args.w.now (g.L.Locals.items c.args.l.now))) (sym c.deref.ensures.value))
     (faultless_applies (function_of (g.N.Names.known c.args.names.now) c.args.func (map (value_in (extent_of c.args.w.now.heap)) c.deref.result.now)) c.args.w.now c.first.new.w (g.L.Locals.items c.args.l.now) (g.L.Locals.items c.args.l.now) handed c.first.result

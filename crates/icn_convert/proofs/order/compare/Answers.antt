@@ -4,7 +4,7 @@ use Rattle.std.specs.Int.{w64, cast_signed, cast_unsigned}
 use Rattle.std.specs.Ordering.{int_cmp}
 use Rattle.icn_heap.specs.Extents.{value_in}
 use Rattle.icn_heap.specs.Heaps.{extent_of, heap_of}
-use Rattle.icn_convert.proofs.Compared.{alike}
+use Rattle.icn_convert.proofs.Comparison.{alike}
 use Rattle.icn_convert.proofs.order.compare.Goals as goal
 
 pub returns-in-Equal : goal.returns-in-Equal

@@ -4,7 +4,7 @@ use Rattle.icn_text.specs.Ops.{op_number}
 use Rattle.icn_text.specs.declared.func.TheConstants.Func.{ALL as funcs}
 use Rattle.icn_text.specs.declared.keyword.TheConstants.Keyword.{ALL as keywords}
 use Rattle.icn_text.specs.declared.op.TheConstants.Op.{ALL as ops}
-use Rattle.icn_defs.proofs.Found.{numbered}
+use Rattle.icn_defs.proofs.FoundFacts.{numbered}
 use Rattle.icn_defs.proofs.OpNumbers.{op_back}
 use Rattle.icn_defs.proofs.FuncNumbers.{func_back}
 use Rattle.icn_defs.proofs.KeywordNumbers.{keyword_back}

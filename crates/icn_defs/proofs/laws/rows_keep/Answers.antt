@@ -1,4 +1,4 @@
-use Rattle.icn_defs.proofs.Kept.{operation_keeps, function_keeps, again_keeps}
+use Rattle.icn_defs.proofs.KeptSizes.{operation_keeps, function_keeps, again_keeps}
 use Rattle.icn_defs.proofs.laws.rows_keep.Goals as goal
 
 pub returns-clause-operations : goal.returns-clause-operations

@@ -3,7 +3,7 @@ use Rattle.icn_heap.specs.Extents.{value_in}
 use Rattle.icn_heap.specs.Heaps.{extent_of}
 use Rattle.icn_defs.specs.InputOutput.{exit_row}
 use Rattle.icn_vars.specs.Worlds.{reach_of}
-use Rattle.icn_streams.specs.Handed.{handed}
+use Rattle.icn_streams.specs.Handed.{call_streams}
 use Rattle.icn_streams.proofs.Faultless.{faultless_applies}
 use Rattle.icn_streams.proofs.Idle.{items_all}
 use Rattle.icn_vars.specs.Worlds.{setting_of}
@@ -12,7 +12,7 @@ use Rattle.icn_iofn.proofs.functions.of_values.Goals as goal
 pub returns-in-Exit : goal.returns-in-Exit
 returns-in-Exit g c = λ names. rw c.in-Exit.is
     (faultless_applies (exit_row (map (value_in (extent_of c.args.w.now.heap)) c.args.vals.now)) c.args.w.now c.args.w.now (g.L.Locals.items c.args.l.now) (g.L.Locals.items c.args.l.now)
-    (handed (g.I.Source.left c.args.input.now) (g.I.Source.faults c.args.input.now) (g.O.Sink.state c.args.out.now) (g.E.Sink.state c.args.err.now))
+    (call_streams (g.I.Source.left c.args.input.now) (g.I.Source.faults c.args.input.now) (g.O.Sink.state c.args.out.now) (g.E.Sink.state c.args.err.now))
     c.exit.result (λ was. c.exit.ensures.row (setting_of was c.args.w.now (g.L.Locals.items c.args.l.now)))
     (c.exit.ensures.live (reach_of c.args.w.now (g.L.Locals.items c.args.l.now)) refl) c.requires.locals (items_all (reach_of c.args.w.now (g.L.Locals.items c.args.l.now))))
 

@@ -6,7 +6,7 @@ use Rattle.icn_heap.specs.Heaps.{extent_of}
 use Rattle.icn_heap.specs.Keys.{file_of}
 use Rattle.icn_args.specs.Words.{the_text}
 use Rattle.icn_host.specs.declared.fault.Fault.TheVariants.{NoMemory}
-use Rattle.icn_iofn.specs.Putting.{Advances, file_after, outputs, piece_in, text_of_piece, waiting}
+use Rattle.icn_iofn.specs.Putting.{Advances, file_after, outputs, piece_in, text_of_piece, waiting_text}
 use Rattle.icn_iofn.proofs.PutSteps.{err_is, no_ok, stops_idle, text_piece, waits_more}
 use Rattle.icn_iofn.proofs.putting.put_piece.Goals as goal
 
@@ -23,8 +23,8 @@ returns-in_err-push_text-in_default g c = record {
 pub returns-in_ok-push_text-in_default : goal.returns-in_ok-push_text-in_default
 returns-in_ok-push_text-in_default g c = record {
   ok =
-      subst (λ p. Advances (waiting (file_of c.args.file) c.args.buffer.now.items (outputs (g.O.Sink.state c.args.out.now) (g.E.Sink.state c.args.err.now)))
-      (waiting (file_of c.args.file) c.push_text.new.buffer.items (outputs (g.O.Sink.state c.args.out.now) (g.E.Sink.state c.args.err.now)))
+      subst (λ p. Advances (waiting_text (file_of c.args.file) c.args.buffer.now.items (outputs (g.O.Sink.state c.args.out.now) (g.E.Sink.state c.args.err.now)))
+      (waiting_text (file_of c.args.file) c.push_text.new.buffer.items (outputs (g.O.Sink.state c.args.out.now) (g.E.Sink.state c.args.err.now)))
       (put_on (file_of c.args.file) (text_of_piece newline (not c.args.ends) p)))
       (sym (text_piece (extent_of c.args.heap.now) c.args.val c.in_default.not-Std))
       (waits_more (file_of c.args.file) (file_of c.args.file) c.args.buffer.now.items (the_text (value_in (extent_of c.args.heap.now) c.args.val)) c.push_text.new.buffer.items

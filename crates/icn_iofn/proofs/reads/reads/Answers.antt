@@ -9,8 +9,8 @@ use Rattle.icn_defs.specs.InputOutput.{reads_row}
 use Rattle.icn_defs.specs.Lines.{is_input, next_bytes}
 use Rattle.icn_defs.specs.Rows.{check, gives_value}
 use Rattle.icn_vars.specs.Worlds.{setting_of}
-use Rattle.icn_streams.specs.Answers.{given}
-use Rattle.icn_streams.specs.Handed.{handed}
+use Rattle.icn_streams.specs.Answers.{call_state}
+use Rattle.icn_streams.specs.Handed.{call_streams}
 use Rattle.icn_streams.proofs.Behind.{applies_same, stops_there}
 use Rattle.icn_iofn.specs.Reading.{count_read, read_from}
 use Rattle.icn_iofn.proofs.reads.reads.Goals as goal
@@ -20,7 +20,7 @@ returns-in_err-file g c = λ output errors.
     stops_there (file (arg_or (Std Input) (map (value_in (extent_of c.args.w.now.heap)) c.args.vals.now) 0))
     (λ from. count_read (map (value_in (extent_of c.args.w.now.heap)) c.args.vals.now)
     (λ count. check (is_input from) 212 (Some (arg (map (value_in (extent_of c.args.w.now.heap)) c.args.vals.now) 0)) (next_bytes count (λ bytes. gives_value (Text bytes)))))
-    (given c.args.w.now (g.L.Locals.items c.args.l.now) (handed (g.I.Source.left c.args.input.now) (g.I.Source.faults c.args.input.now) output errors))
+    (call_state c.args.w.now (g.L.Locals.items c.args.l.now) (call_streams (g.I.Source.left c.args.input.now) (g.I.Source.faults c.args.input.now) output errors))
     c.in_err-file.field-0.0 c.from_residual.result c.from_residual.ensures.1
     (λ was. c.in_err-file.ensures.found (extent_of c.args.w.now.heap) (setting_of was c.args.w.now (g.L.Locals.items c.args.l.now)))
     (c.in_err-file.ensures.stops (extent_of c.args.w.now.heap) c.requires.live) c.requires.locals
@@ -30,15 +30,15 @@ returns-in_err-count g c = λ output errors.
     applies_same (reads_row (map (value_in (extent_of c.args.w.now.heap)) c.args.vals.now))
     (count_read (map (value_in (extent_of c.args.w.now.heap)) c.args.vals.now)
     (λ count. check (is_input (file_of c.in_ok-file.file)) 212 (Some (arg (map (value_in (extent_of c.args.w.now.heap)) c.args.vals.now) 0)) (next_bytes count (λ bytes. gives_value (Text bytes)))))
-    (given c.args.w.now (g.L.Locals.items c.args.l.now) (handed (g.I.Source.left c.args.input.now) (g.I.Source.faults c.args.input.now) output errors))
-    (given c.args.w.now (g.L.Locals.items c.args.l.now) (handed (g.I.Source.left c.args.input.now) (g.I.Source.faults c.args.input.now) output errors))
+    (call_state c.args.w.now (g.L.Locals.items c.args.l.now) (call_streams (g.I.Source.left c.args.input.now) (g.I.Source.faults c.args.input.now) output errors))
+    (call_state c.args.w.now (g.L.Locals.items c.args.l.now) (call_streams (g.I.Source.left c.args.input.now) (g.I.Source.faults c.args.input.now) output errors))
     c.from_residual-in_err-count.result
     (λ was. c.in_ok-file.ensures.found (extent_of c.args.w.now.heap) (setting_of was c.args.w.now (g.L.Locals.items c.args.l.now))
     (λ from. count_read (map (value_in (extent_of c.args.w.now.heap)) c.args.vals.now)
     (λ count. check (is_input from) 212 (Some (arg (map (value_in (extent_of c.args.w.now.heap)) c.args.vals.now) 0)) (next_bytes count (λ bytes. gives_value (Text bytes))))))
     (stops_there (count_read (map (value_in (extent_of c.args.w.now.heap)) c.args.vals.now))
     (λ count. check (is_input (file_of c.in_ok-file.file)) 212 (Some (arg (map (value_in (extent_of c.args.w.now.heap)) c.args.vals.now) 0)) (next_bytes count (λ bytes. gives_value (Text bytes))))
-    (given c.args.w.now (g.L.Locals.items c.args.l.now) (handed (g.I.Source.left c.args.input.now) (g.I.Source.faults c.args.input.now) output errors))
+    (call_state c.args.w.now (g.L.Locals.items c.args.l.now) (call_streams (g.I.Source.left c.args.input.now) (g.I.Source.faults c.args.input.now) output errors))
     c.in_err-count.field-0.0 c.from_residual-in_err-count.result c.from_residual-in_err-count.ensures.1
     (λ was. c.in_err-count.ensures.found (setting_of was c.args.w.now (g.L.Locals.items c.args.l.now))) c.in_err-count.ensures.stops c.requires.locals)
 
@@ -46,8 +46,8 @@ pub returns : goal.returns
 returns g c = λ output errors.
     applies_same (reads_row (map (value_in (extent_of c.args.w.now.heap)) c.args.vals.now))
     (read_from (SomeBytes c.in_ok-count.count) (file_of c.in_ok-file.file) (value_in (extent_of c.args.w.now.heap) c.arg.result))
-    (given c.args.w.now (g.L.Locals.items c.args.l.now) (handed (g.I.Source.left c.args.input.now) (g.I.Source.faults c.args.input.now) output errors))
-    (given c.read_from.new.w (g.L.Locals.items c.args.l.now) (handed (g.I.Source.left c.read_from.new.input) (g.I.Source.faults c.read_from.new.input) output errors)) c.read_from.result
+    (call_state c.args.w.now (g.L.Locals.items c.args.l.now) (call_streams (g.I.Source.left c.args.input.now) (g.I.Source.faults c.args.input.now) output errors))
+    (call_state c.read_from.new.w (g.L.Locals.items c.args.l.now) (call_streams (g.I.Source.left c.read_from.new.input) (g.I.Source.faults c.read_from.new.input) output errors)) c.read_from.result
     (λ was. c.in_ok-file.ensures.found (extent_of c.args.w.now.heap) (setting_of was c.args.w.now (g.L.Locals.items c.args.l.now))
     (λ from. count_read (map (value_in (extent_of c.args.w.now.heap)) c.args.vals.now)
     (λ count. check (is_input from) 212 (Some (arg (map (value_in (extent_of c.args.w.now.heap)) c.args.vals.now) 0)) (next_bytes count (λ bytes. gives_value (Text bytes)))))

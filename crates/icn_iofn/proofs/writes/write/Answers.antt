@@ -8,8 +8,8 @@ use Rattle.icn_defs.specs.Rows.{Gives, gives_value}
 use Rattle.icn_value.specs.declared.item.Item.TheVariants.{Val as HeldVal}
 use Rattle.icn_vars.specs.Worlds.{setting_of}
 use Rattle.icn_vars.specs.declared.outcome.Outcome.TheVariants.{Gives as HeldGives}
-use Rattle.icn_streams.specs.Answers.{given}
-use Rattle.icn_streams.specs.Handed.{handed}
+use Rattle.icn_streams.specs.Answers.{call_state}
+use Rattle.icn_streams.specs.Handed.{call_streams}
 use Rattle.icn_streams.proofs.Behind.{stops_there}
 use Rattle.icn_iofn.specs.Putting.{BrokenBy, outputs}
 use Rattle.icn_iofn.proofs.WriteRows.{write_fails, write_wants, wrote_gives}
@@ -18,7 +18,7 @@ use Rattle.icn_iofn.proofs.writes.write.Goals as goal
 pub returns-in_err-check_pieces : goal.returns-in_err-check_pieces
 returns-in_err-check_pieces g c = λ left faults.
     stops_there (pieces (map (value_in (extent_of c.args.w.now.heap)) c.args.vals.now)) (λ parts. puts_line (if c.args.ends then newline else []) Output parts (gives_value (last_of (map (value_in (extent_of c.args.w.now.heap)) c.args.vals.now))))
-    (given c.args.w.now (g.L.Locals.items c.args.l.now) (handed left faults (g.O.Sink.state c.args.out.now) (g.E.Sink.state c.args.err.now)))
+    (call_state c.args.w.now (g.L.Locals.items c.args.l.now) (call_streams left faults (g.O.Sink.state c.args.out.now) (g.E.Sink.state c.args.err.now)))
     c.in_err-check_pieces.field-0.0 c.from_residual.result c.from_residual.ensures.1
     (λ was. c.in_err-check_pieces.ensures.found (extent_of c.args.w.now.heap) (setting_of was c.args.w.now (g.L.Locals.items c.args.l.now)))
     (c.in_err-check_pieces.ensures.stops (extent_of c.args.w.now.heap) c.requires.live) c.requires.locals

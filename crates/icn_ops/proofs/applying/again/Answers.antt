@@ -1,7 +1,7 @@
 use Rattle.icn_heap.specs.Heaps.{extent_of}
 use Rattle.icn_vars.specs.Outcomes.{residual_in}
 use Rattle.icn_streams.proofs.Faultless.{faultless_applies}
-use Rattle.icn_streams.specs.Handed.{handed}
+use Rattle.icn_streams.specs.Handed.{call_streams}
 use Rattle.icn_defs.specs.Applying.{again}
 use Rattle.icn_ops.proofs.applying.again.Goals as goal
 
@@ -10,4 +10,4 @@ returns-in-InputLines g c = λ output errors. rw c.in-InputLines.is (c.lines_aga
 
 pub returns-in_default : goal.returns-in_default
 returns-in_default g c = λ output errors.
-    faultless_applies (again (residual_in (extent_of c.args.w.now.heap) c.args.rest)) c.args.w.now c.resume.new.w (g.L.Locals.items c.args.l.now) (g.L.Locals.items c.resume.new.l) (handed (g.I.Source.left c.args.input.now) (g.I.Source.faults c.args.input.now) output errors) c.resume.result (λ was. c.resume.ensures.row was) c.resume.ensures.live c.resume.ensures.locals c.resume.ensures.kept
+    faultless_applies (again (residual_in (extent_of c.args.w.now.heap) c.args.rest)) c.args.w.now c.resume.new.w (g.L.Locals.items c.args.l.now) (g.L.Locals.items c.resume.new.l) (call_streams (g.I.Source.left c.args.input.now) (g.I.Source.faults c.args.input.now) output errors) c.resume.result (λ was. c.resume.ensures.row was) c.resume.ensures.live c.resume.ensures.locals c.resume.ensures.kept

@@ -6,7 +6,7 @@ use Rattle.icn_code.specs.Seen.{tables_of}
 use Rattle.icn_code.specs.declared.code.Code.{Code}
 use Rattle.icn_run.specs.Stacks.{Frames}
 use Rattle.icn_run.specs.Step.{all_names, first_store}
-use Rattle.icn_streams.specs.Handed.{handed}
+use Rattle.icn_streams.specs.Handed.{call_streams}
 use Rattle.icn_machine.specs.Starting.{StartsAs, launch_with}
 use Rattle.icn_running.proofs.Counting.{unbegun_counts}
 use Rattle.icn_running.proofs.RunAnswers.{run_breaks, run_ends, run_reports, unbegun_answers}
@@ -37,8 +37,8 @@ pub returns-in-Ok-clause-ends : goal.returns-in-Ok-clause-ends
 returns-in-Ok-clause-ends g c =
     let launch : List ℕ → Launch = λ left. launch_with c.args.words.now c.args.limits (outside_of left) in
     run_ends (tables_of c.args.code.now.code) launch
-    (handed (g.I.Source.left c.args.input.now) (g.I.Source.faults c.args.input.now) (g.O.Sink.state c.args.out.now) (g.E.Sink.state c.args.err.now))
-    (handed (g.I.Source.left c.run_started.new.input) (g.I.Source.faults c.run_started.new.input)
+    (call_streams (g.I.Source.left c.args.input.now) (g.I.Source.faults c.args.input.now) (g.O.Sink.state c.args.out.now) (g.E.Sink.state c.args.err.now))
+    (call_streams (g.I.Source.left c.run_started.new.input) (g.I.Source.faults c.run_started.new.input)
     (g.O.Sink.state c.run_started.new.out) (g.E.Sink.state c.run_started.new.err))
     c.run_started.result
     (λ left told. c.run_started.ensures.answers (launch left).words (launch left).bounds left told
@@ -48,8 +48,8 @@ pub returns-in-Ok-clause-breaks : goal.returns-in-Ok-clause-breaks
 returns-in-Ok-clause-breaks g c =
     let launch : List ℕ → Launch = λ left. launch_with c.args.words.now c.args.limits (outside_of left) in
     run_breaks (tables_of c.args.code.now.code) launch
-    (handed (g.I.Source.left c.args.input.now) (g.I.Source.faults c.args.input.now) (g.O.Sink.state c.args.out.now) (g.E.Sink.state c.args.err.now))
-    (handed (g.I.Source.left c.run_started.new.input) (g.I.Source.faults c.run_started.new.input)
+    (call_streams (g.I.Source.left c.args.input.now) (g.I.Source.faults c.args.input.now) (g.O.Sink.state c.args.out.now) (g.E.Sink.state c.args.err.now))
+    (call_streams (g.I.Source.left c.run_started.new.input) (g.I.Source.faults c.run_started.new.input)
     (g.O.Sink.state c.run_started.new.out) (g.E.Sink.state c.run_started.new.err))
     c.run_started.result
     (λ left told. c.run_started.ensures.answers (launch left).words (launch left).bounds left told
@@ -59,8 +59,8 @@ pub returns-in-Ok-clause-reported : goal.returns-in-Ok-clause-reported
 returns-in-Ok-clause-reported g c =
     let launch : List ℕ → Launch = λ left. launch_with c.args.words.now c.args.limits (outside_of left) in
     run_reports (tables_of c.args.code.now.code) launch
-    (handed (g.I.Source.left c.args.input.now) (g.I.Source.faults c.args.input.now) (g.O.Sink.state c.args.out.now) (g.E.Sink.state c.args.err.now))
-    (handed (g.I.Source.left c.run_started.new.input) (g.I.Source.faults c.run_started.new.input)
+    (call_streams (g.I.Source.left c.args.input.now) (g.I.Source.faults c.args.input.now) (g.O.Sink.state c.args.out.now) (g.E.Sink.state c.args.err.now))
+    (call_streams (g.I.Source.left c.run_started.new.input) (g.I.Source.faults c.run_started.new.input)
     (g.O.Sink.state c.run_started.new.out) (g.E.Sink.state c.run_started.new.err))
     c.run_started.result
     (λ left told. c.run_started.ensures.answers (launch left).words (launch left).bounds left told
@@ -71,12 +71,12 @@ returns-in-Err-clause-ends g c =
     let tables : Tables = tables_of c.args.code.now.code in
     let launch : List ℕ → Launch = λ left. launch_with c.args.words.now c.args.limits (outside_of left) in
     run_ends tables launch
-    (handed (g.I.Source.left c.args.input.now) (g.I.Source.faults c.args.input.now) (g.O.Sink.state c.args.out.now) (g.E.Sink.state c.args.err.now))
-    (handed (g.I.Source.left c.args.input.now) (g.I.Source.faults c.args.input.now) (g.O.Sink.state c.args.out.now) (g.E.Sink.state c.end_unbegun.new.err))
+    (call_streams (g.I.Source.left c.args.input.now) (g.I.Source.faults c.args.input.now) (g.O.Sink.state c.args.out.now) (g.E.Sink.state c.args.err.now))
+    (call_streams (g.I.Source.left c.args.input.now) (g.I.Source.faults c.args.input.now) (g.O.Sink.state c.args.out.now) (g.E.Sink.state c.end_unbegun.new.err))
     c.end_unbegun.result
     (λ left told. let run = (c.runs_hold.ensures tables c.args.code.now.code.rules c.args.code.now.verified (launch left)).ends in
     unbegun_answers g.row.K.Denot tables (launch left).words (launch left).bounds left run.0 c.in-Err.halt c.end_unbegun.result
-    (handed (g.I.Source.left c.args.input.now) (g.I.Source.faults c.args.input.now) (g.O.Sink.state c.args.out.now) (g.E.Sink.state c.args.err.now))
+    (call_streams (g.I.Source.left c.args.input.now) (g.I.Source.faults c.args.input.now) (g.O.Sink.state c.args.out.now) (g.E.Sink.state c.args.err.now))
     (g.E.Sink.state c.end_unbegun.new.err) run.1 told
     (subst (λ (code : Code). StartsAs {K = g.row.K.Denot} (tables_of code) (launch left) (Err c.in-Err.halt)) c.code.ensures.code
     (c.in-Err.ensures.step (outside_of left)))
@@ -87,12 +87,12 @@ returns-in-Err-clause-breaks g c =
     let tables : Tables = tables_of c.args.code.now.code in
     let launch : List ℕ → Launch = λ left. launch_with c.args.words.now c.args.limits (outside_of left) in
     run_breaks tables launch
-    (handed (g.I.Source.left c.args.input.now) (g.I.Source.faults c.args.input.now) (g.O.Sink.state c.args.out.now) (g.E.Sink.state c.args.err.now))
-    (handed (g.I.Source.left c.args.input.now) (g.I.Source.faults c.args.input.now) (g.O.Sink.state c.args.out.now) (g.E.Sink.state c.end_unbegun.new.err))
+    (call_streams (g.I.Source.left c.args.input.now) (g.I.Source.faults c.args.input.now) (g.O.Sink.state c.args.out.now) (g.E.Sink.state c.args.err.now))
+    (call_streams (g.I.Source.left c.args.input.now) (g.I.Source.faults c.args.input.now) (g.O.Sink.state c.args.out.now) (g.E.Sink.state c.end_unbegun.new.err))
     c.end_unbegun.result
     (λ left told. let run = (c.runs_hold.ensures tables c.args.code.now.code.rules c.args.code.now.verified (launch left)).ends in
     unbegun_answers g.row.K.Denot tables (launch left).words (launch left).bounds left run.0 c.in-Err.halt c.end_unbegun.result
-    (handed (g.I.Source.left c.args.input.now) (g.I.Source.faults c.args.input.now) (g.O.Sink.state c.args.out.now) (g.E.Sink.state c.args.err.now))
+    (call_streams (g.I.Source.left c.args.input.now) (g.I.Source.faults c.args.input.now) (g.O.Sink.state c.args.out.now) (g.E.Sink.state c.args.err.now))
     (g.E.Sink.state c.end_unbegun.new.err) run.1 told
     (subst (λ (code : Code). StartsAs {K = g.row.K.Denot} (tables_of code) (launch left) (Err c.in-Err.halt)) c.code.ensures.code
     (c.in-Err.ensures.step (outside_of left)))
@@ -103,12 +103,12 @@ returns-in-Err-clause-reported g c =
     let tables : Tables = tables_of c.args.code.now.code in
     let launch : List ℕ → Launch = λ left. launch_with c.args.words.now c.args.limits (outside_of left) in
     run_reports tables launch
-    (handed (g.I.Source.left c.args.input.now) (g.I.Source.faults c.args.input.now) (g.O.Sink.state c.args.out.now) (g.E.Sink.state c.args.err.now))
-    (handed (g.I.Source.left c.args.input.now) (g.I.Source.faults c.args.input.now) (g.O.Sink.state c.args.out.now) (g.E.Sink.state c.end_unbegun.new.err))
+    (call_streams (g.I.Source.left c.args.input.now) (g.I.Source.faults c.args.input.now) (g.O.Sink.state c.args.out.now) (g.E.Sink.state c.args.err.now))
+    (call_streams (g.I.Source.left c.args.input.now) (g.I.Source.faults c.args.input.now) (g.O.Sink.state c.args.out.now) (g.E.Sink.state c.end_unbegun.new.err))
     c.end_unbegun.result
     (λ left told. let run = (c.runs_hold.ensures tables c.args.code.now.code.rules c.args.code.now.verified (launch left)).ends in
     unbegun_answers g.row.K.Denot tables (launch left).words (launch left).bounds left run.0 c.in-Err.halt c.end_unbegun.result
-    (handed (g.I.Source.left c.args.input.now) (g.I.Source.faults c.args.input.now) (g.O.Sink.state c.args.out.now) (g.E.Sink.state c.args.err.now))
+    (call_streams (g.I.Source.left c.args.input.now) (g.I.Source.faults c.args.input.now) (g.O.Sink.state c.args.out.now) (g.E.Sink.state c.args.err.now))
     (g.E.Sink.state c.end_unbegun.new.err) run.1 told
     (subst (λ (code : Code). StartsAs {K = g.row.K.Denot} (tables_of code) (launch left) (Err c.in-Err.halt)) c.code.ensures.code
     (c.in-Err.ensures.step (outside_of left)))
@@ -119,5 +119,5 @@ returns-in-Err-clause-first_fault g c =
     let tables : Tables = tables_of c.args.code.now.code in
     let launch : Launch = launch_with c.args.words.now c.args.limits (outside_of []) in
     unbegun_counts (all_names tables) (first_store {K = Frames} tables launch).world.heap c.in-Err.halt c.end_unbegun.result
-    (handed (g.I.Source.left c.args.input.now) (g.I.Source.faults c.args.input.now) (g.O.Sink.state c.args.out.now) (g.E.Sink.state c.args.err.now))
+    (call_streams (g.I.Source.left c.args.input.now) (g.I.Source.faults c.args.input.now) (g.O.Sink.state c.args.out.now) (g.E.Sink.state c.args.err.now))
     (g.E.Sink.state c.end_unbegun.new.err) (rw c.code-in-Err.ensures.code at (c.end_unbegun.ensures (first_store {K = Frames} tables launch).world.heap))

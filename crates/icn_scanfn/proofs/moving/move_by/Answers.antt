@@ -3,7 +3,7 @@ use Rattle.std.specs.Prelude.{◌+ℤ◌}
 use Rattle.std.specs.Int.{w64}
 use Rattle.icn_defs.specs.Scanning.{plain_place}
 use Rattle.icn_vars.specs.Worlds.{setting_of}
-use Rattle.icn_scanfn.proofs.Moved.{held, move_found}
+use Rattle.icn_scanfn.proofs.Moves.{held, move_found}
 use Rattle.icn_scanfn.proofs.moving.move_by.Goals as goal
 
 pub returns-in-Some-clause-row : goal.returns-in-Some-clause-row

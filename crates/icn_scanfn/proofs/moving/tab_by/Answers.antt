@@ -2,7 +2,7 @@ use Rattle.std.proofs.Common.{◌∙◌, ap, length, rules, FitsSigned}
 use Rattle.std.specs.Int.{w64}
 use Rattle.icn_defs.specs.Conversions.{place_of}
 use Rattle.icn_vars.specs.Worlds.{setting_of}
-use Rattle.icn_scanfn.proofs.Moved.{held, tab_found}
+use Rattle.icn_scanfn.proofs.Moves.{held, tab_found}
 use Rattle.icn_scanfn.proofs.moving.tab_by.Goals as goal
 
 pub returns-in-Some-clause-row : goal.returns-in-Some-clause-row

@@ -6,7 +6,7 @@ use Rattle.icn_vars.specs.Stops.{StopsFinding}
 use Rattle.icn_vars.specs.Worlds.{setting_of}
 use Rattle.icn_args.proofs.Answering.{row_stops}
 use Rattle.std.specs.Int.{w64}
-use Rattle.icn_scanfn.proofs.Moved.{held}
+use Rattle.icn_scanfn.proofs.Moves.{held}
 use Rattle.icn_scanfn.specs.Moves.{tabs_by}
 use Rattle.icn_scanfn.proofs.moving.tab_row.Goals as goal
 

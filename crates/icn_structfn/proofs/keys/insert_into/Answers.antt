@@ -8,7 +8,7 @@ use Rattle.std.proofs.Common.{is_some}
 use Rattle.icn_structs.specs.PairLists.{stored}
 use Rattle.icn_value.specs.Sameness.{has_value, same, with_member}
 use Rattle.icn_value.specs.Store.{with_set, with_table}
-use Rattle.icn_value.specs.Changes.{having_member, looked, with_pair}
+use Rattle.icn_value.specs.Changes.{having_member, value_at_key, with_pair}
 use Rattle.icn_vars.proofs.Growing.{setting_over}
 use Rattle.icn_vars.proofs.Changing.{fields_behind, unless_change}
 use Rattle.icn_args.specs.Words.{Passed}
@@ -43,18 +43,18 @@ returns-in_err-store-in-Table-clause-step g c outside =
     let is : inserts_in (value_in (extent_of c.args.w.now.heap) c.args.kept) (value_in (extent_of c.args.w.now.heap) c.args.key) (value_in (extent_of c.args.w.now.heap) c.args.val) ≡ inserts_in (ATable c.in-Table.table) (value_in (extent_of c.args.w.now.heap) c.args.key) (value_in (extent_of c.args.w.now.heap) c.args.val) = ap (λ kept. inserts_in (value_in (extent_of c.args.w.now.heap) kept) (value_in (extent_of c.args.w.now.heap) c.args.key) (value_in (extent_of c.args.w.now.heap) c.args.val)) c.in-Table.is in
     subst (λ part. Passed (extent_of c.store.new.self) part (setting_of outside c.args.w.now (g.L.Locals.items c.args.l.now)) (setting_over outside c.store.new.self c.args.w.now.pair c.args.w.now.random c.args.w.now.globals.items c.args.w.now.statics.items (g.L.Locals.items c.args.l.now)) c.from_residual-in_err-store-in-Table.result) (sym is)
     (not_charged c.args.w.now.heap c.store.new.self c.args.w.now.pair c.args.w.now.random c.args.w.now.globals.items c.args.w.now.statics.items (g.L.Locals.items c.args.l.now) c.store.ensures.kept
-    c.args.w.now.sound c.requires.locals (unless_change (is_some (looked (heap_of c.args.w.now.heap) c.in-Table.table (value_in (extent_of c.args.w.now.heap) c.args.key)))) (with_table c.in-Table.table (record (table_at (heap_of c.args.w.now.heap) c.in-Table.table) { pairs = stored same (table_at (heap_of c.args.w.now.heap) c.in-Table.table).pairs (value_in (extent_of c.args.w.now.heap) c.args.key) (value_in (extent_of c.args.w.now.heap) c.args.val) })) (with_pair c.in-Table.table (value_in (extent_of c.args.w.now.heap) c.args.key) (value_in (extent_of c.args.w.now.heap) c.args.val)) c.in_err-store-in-Table.field-0.0 c.from_residual-in_err-store-in-Table.result c.in_err-store-in-Table.ensures.unchanged c.in_err-store-in-Table.ensures.step c.from_residual-in_err-store-in-Table.ensures.1 outside)
+    c.args.w.now.sound c.requires.locals (unless_change (is_some (value_at_key (heap_of c.args.w.now.heap) c.in-Table.table (value_in (extent_of c.args.w.now.heap) c.args.key)))) (with_table c.in-Table.table (record (table_at (heap_of c.args.w.now.heap) c.in-Table.table) { pairs = stored same (table_at (heap_of c.args.w.now.heap) c.in-Table.table).pairs (value_in (extent_of c.args.w.now.heap) c.args.key) (value_in (extent_of c.args.w.now.heap) c.args.val) })) (with_pair c.in-Table.table (value_in (extent_of c.args.w.now.heap) c.args.key) (value_in (extent_of c.args.w.now.heap) c.args.val)) c.in_err-store-in-Table.field-0.0 c.from_residual-in_err-store-in-Table.result c.in_err-store-in-Table.ensures.unchanged c.in_err-store-in-Table.ensures.step c.from_residual-in_err-store-in-Table.ensures.1 outside)
 
 pub returns-in_ok-store-in-Table-clause-step : goal.returns-in_ok-store-in-Table-clause-step
 returns-in_ok-store-in-Table-clause-step g c outside next =
     ap (λ kept. inserts_in (value_in (extent_of c.args.w.now.heap) kept) (value_in (extent_of c.args.w.now.heap) c.args.key) (value_in (extent_of c.args.w.now.heap) c.args.val) next (setting_of outside c.args.w.now (g.L.Locals.items c.args.l.now))) c.in-Table.is
     ∙ charged c.args.w.now.heap c.store.new.self c.args.w.now.pair c.args.w.now.random c.args.w.now.globals.items c.args.w.now.statics.items (g.L.Locals.items c.args.l.now) c.store.ensures.kept
-    c.args.w.now.sound c.requires.locals (unless_change (is_some (looked (heap_of c.args.w.now.heap) c.in-Table.table (value_in (extent_of c.args.w.now.heap) c.args.key)))) (with_table c.in-Table.table (record (table_at (heap_of c.args.w.now.heap) c.in-Table.table) { pairs = stored same (table_at (heap_of c.args.w.now.heap) c.in-Table.table).pairs (value_in (extent_of c.args.w.now.heap) c.args.key) (value_in (extent_of c.args.w.now.heap) c.args.val) })) (with_pair c.in-Table.table (value_in (extent_of c.args.w.now.heap) c.args.key) (value_in (extent_of c.args.w.now.heap) c.args.val)) (pair_after c.in-Table.table (value_in (extent_of c.args.w.now.heap) c.args.key) (value_in (extent_of c.args.w.now.heap) c.args.val) (heap_of c.args.w.now.heap)) c.in_ok-store-in-Table.ensures.step outside next
+    c.args.w.now.sound c.requires.locals (unless_change (is_some (value_at_key (heap_of c.args.w.now.heap) c.in-Table.table (value_in (extent_of c.args.w.now.heap) c.args.key)))) (with_table c.in-Table.table (record (table_at (heap_of c.args.w.now.heap) c.in-Table.table) { pairs = stored same (table_at (heap_of c.args.w.now.heap) c.in-Table.table).pairs (value_in (extent_of c.args.w.now.heap) c.args.key) (value_in (extent_of c.args.w.now.heap) c.args.val) })) (with_pair c.in-Table.table (value_in (extent_of c.args.w.now.heap) c.args.key) (value_in (extent_of c.args.w.now.heap) c.args.val)) (pair_after c.in-Table.table (value_in (extent_of c.args.w.now.heap) c.args.key) (value_in (extent_of c.args.w.now.heap) c.args.val) (heap_of c.args.w.now.heap)) c.in_ok-store-in-Table.ensures.step outside next
 
 pub returns-in_ok-store-in-Table-clause-kept : goal.returns-in_ok-store-in-Table-clause-kept
 returns-in_ok-store-in-Table-clause-kept g c = record {
   extent = c.store.ensures.kept;
-  fields = fields_behind (unless_change (is_some (looked (heap_of c.args.w.now.heap) c.in-Table.table (value_in (extent_of c.args.w.now.heap) c.args.key)))) (with_pair c.in-Table.table (value_in (extent_of c.args.w.now.heap) c.args.key) (value_in (extent_of c.args.w.now.heap) c.args.val)) (λ heap. refl) (heap_of c.args.w.now.heap) (heap_of c.store.new.self) c.in_ok-store-in-Table.ensures.step;
+  fields = fields_behind (unless_change (is_some (value_at_key (heap_of c.args.w.now.heap) c.in-Table.table (value_in (extent_of c.args.w.now.heap) c.args.key)))) (with_pair c.in-Table.table (value_in (extent_of c.args.w.now.heap) c.args.key) (value_in (extent_of c.args.w.now.heap) c.args.val)) (λ heap. refl) (heap_of c.args.w.now.heap) (heap_of c.store.new.self) c.in_ok-store-in-Table.ensures.step;
   globals = refl;
   statics = refl;
   locals = refl;

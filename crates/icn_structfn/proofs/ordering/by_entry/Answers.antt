@@ -4,7 +4,7 @@ use Rattle.std.proofs.lemmas.Result.{IfOk-weaker}
 use Rattle.icn_value.specs.Values.{Null}
 use Rattle.icn_defs.specs.Structures.{entry_cmp}
 use Rattle.icn_heap.specs.Extents.{values_in}
-use Rattle.row_laws.proofs.Sorted.{entries_are_one, total_entries}
+use Rattle.row_laws.proofs.SortOrder.{entries_are_one, total_entries}
 use Rattle.row_laws.proofs.SortedOnce.{alone}
 use Rattle.icn_heap.specs.Heaps.{extent_of, heap_of}
 use Rattle.icn_structfn.proofs.Placing.{ordered}

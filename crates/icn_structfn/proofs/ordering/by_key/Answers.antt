@@ -4,7 +4,7 @@ use Rattle.std.proofs.lemmas.Result.{IfOk-weaker}
 use Rattle.icn_value.specs.Values.{Null}
 use Rattle.icn_defs.specs.Structures.{key_cmp}
 use Rattle.icn_heap.specs.Extents.{values_in}
-use Rattle.row_laws.proofs.Sorted.{ties_are_one, total_keys}
+use Rattle.row_laws.proofs.SortOrder.{ties_are_one, total_keys}
 use Rattle.row_laws.proofs.SortedOnce.{keys_alone}
 use Rattle.icn_heap.specs.Heaps.{extent_of, heap_of}
 use Rattle.icn_structfn.proofs.Placing.{ordered}

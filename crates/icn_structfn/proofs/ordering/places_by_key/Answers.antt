@@ -1,6 +1,6 @@
 use Rattle.std.proofs.Common.{rules, map}
 use Rattle.std.proofs.lemmas.Cmp.{on_total}
-use Rattle.row_laws.proofs.Sorted.{total_keys}
+use Rattle.row_laws.proofs.SortOrder.{total_keys}
 use Rattle.icn_defs.specs.Structures.{key_cmp}
 use Rattle.icn_heap.specs.Extents.{values_in}
 use Rattle.icn_structfn.specs.Sorting.{pair_at}

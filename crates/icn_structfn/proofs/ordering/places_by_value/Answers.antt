@@ -1,6 +1,6 @@
 use Rattle.std.proofs.Common.{rules, map}
 use Rattle.std.proofs.lemmas.Cmp.{on_total}
-use Rattle.row_laws.proofs.Sorted.{total}
+use Rattle.row_laws.proofs.SortOrder.{total}
 use Rattle.icn_defs.specs.Arguments.{arg}
 use Rattle.icn_defs.specs.Images.{value_cmp}
 use Rattle.icn_heap.specs.Extents.{value_in}

@@ -1,4 +1,4 @@
-use Rattle.row_laws.proofs.Sorted.{total, total_keys, total_entries, ties_are_one, entries_are_one}
+use Rattle.row_laws.proofs.SortOrder.{total, total_keys, total_entries, ties_are_one, entries_are_one}
 use Rattle.row_laws.proofs.SortedOnce.{alone, keys_alone}
 use Rattle.icn_defs.specs.Images.{value_cmp}
 use Rattle.icn_defs.specs.Structures.{entry_cmp, key_cmp}

@@ -1,4 +1,4 @@
-use Rattle.row_laws.proofs.Sorted.{total, ties}
+use Rattle.row_laws.proofs.SortOrder.{total, ties}
 use Rattle.row_laws.proofs.values.sorting_is_total.Goals as goal
 
 pub returns-clause-total : goal.returns-clause-total

@@ -11,7 +11,7 @@ use Rattle.icn_value.specs.Values.{Value, Root, Global, Static, Local, Element, 
 use Rattle.icn_value.specs.Store.{Setting, Heap, Names, having_position, having_heap}
 use Rattle.icn_defs.specs.Conversions.{integer_of, place_of, Group, Textual, Listed, Collected, Tabled, Recorded, Filed, Activated, Single}
 use Rattle.icn_defs.specs.Rows.{Row, Outcome, Fails, Gives, Suspends, Error, Ends, Residual, TextBytes, VariableBytes, ListItems, SetMembers, TableValues, TableKeys, RecordFields, InputLines, UndoAssign, UndoExchange, UndoPosition, Counting, Sequence, Balanced, Found, Among, Mover, Neither, Left, Right, check, present, computed, passing, found, natural, costs_made, gives_list}
-use Rattle.icn_defs.specs.Reading.{the_value, the_values, the_variable, assigns_keyword, assigns_root, assigns_or, assigns_both, moved, moved_by_left, moved_by_right, costs_unless, reads}
+use Rattle.icn_defs.specs.Reading.{the_value, the_values, the_variable, assigns_keyword, assigns_root, assigns_or, assigns_both, move_part, moved_by_left, moved_by_right, costs_unless, reads}
 use Rattle.icn_defs.specs.Arguments.{Keeper, SetKeeper, TableKeeper}
 use Rattle.icn_defs.specs.Arithmetic.{count_from}
 use Rattle.icn_defs.specs.Operations.{sets_or_csets}
@@ -139,7 +139,7 @@ k_assigns : (b : Setting) (refused : Row) (x : Variable) (value : Value) (next :
 k_assigns b refused (Whole root) value next a k r f = k_root b refused root value (next (Whole root)) a k r (f (Whole root))
 k_assigns b refused (Part root place size) value next a k r f = search (words, k_root, r, f) depth 12
 
-k_moved : (b : Setting) (old new : ℕ) (x : Variable) (next : Variable → Row) (a : Setting) → ((v : Variable) → KI b (next v a)) → KI b (moved old new x next a)
+k_moved : (b : Setting) (old new : ℕ) (x : Variable) (next : Variable → Row) (a : Setting) → ((v : Variable) → KI b (next v a)) → KI b (move_part old new x next a)
 k_moved b old new (Whole root) next a f = f (Whole root)
 k_moved b old new (Part root place size) next a f = search (words, f)
 
