@@ -18,7 +18,7 @@ use Rattle.icn_code.specs.Codes.{Tables}
 use Rattle.icn_run.specs.Rows as rows
 use Rattle.icn_run.specs.Stacks.{Frames, flat}
 use Rattle.icn_run.specs.Step as code
-use Rattle.icn_run.specs.Step.{State, Store, callee_called, callee_of, chosen, errs, failing, integer_called, invoked, pushed_or_fails, with_world}
+use Rattle.icn_run.specs.Step.{State, Store, callee_called, callee_of, choose_item, errs, failing, integer_called, invoke_value, pushed_or_fails, with_world}
 use Rattle.icn_control.specs.Parts.{FailsWith, HaltsWith, RunsWith, StandsWith}
 use Rattle.icn_control.specs.declared.machine.Stage.{Stage}
 use Rattle.icn_control.specs.Standing.{stack_in}
@@ -37,13 +37,13 @@ never_function tables val n func e f g =
 -- what a number names is called with items
 pub called_by_number : (tables : Tables) (all : Extent) (val : Val) (n : ℕ) (callee : code.Callee) (items : List rows.Item) (m : Frames) (st : Store Frames)
     → val ≡ Vals.Proc n → callee_of tables n ≡ callee
-    → invoked flat tables (value_in all val) items m st ≡ callee_called flat callee n items m st
+    → invoke_value flat tables (value_in all val) items m st ≡ callee_called flat callee n items m st
 called_by_number tables all val n callee items m st e f =
-    ap (λ (x : Val). invoked flat tables (value_in all x) items m st) e ∙ ap (λ (c : code.Callee). callee_called flat c n items m st) f
+    ap (λ (x : Val). invoke_value flat tables (value_in all x) items m st) e ∙ ap (λ (c : code.Callee). callee_called flat c n items m st) f
 
 pub nothing_called : (w : World) (tables : Tables) (val : Val) (n : ℕ) (items : List rows.Item) (m : Frames) (st : Store Frames) → val ≡ Vals.Proc n
     → callee_of tables n ≡ code.IsNothing → st.world ≡ world_of w
-    → invoked flat tables (value_in (extent_of w.heap) val) items m st ≡ errs 106 (Some (rows.Procedure n)) (with_world (world_of w) st)
+    → invoke_value flat tables (value_in (extent_of w.heap) val) items m st ≡ errs 106 (Some (rows.Procedure n)) (with_world (world_of w) st)
 nothing_called w tables val n items m st e f same =
     called_by_number tables (extent_of w.heap) val n code.IsNothing items m st e f ∙ ap (errs 106 (Some (rows.Procedure n))) (same_world w st same)
 
@@ -55,7 +55,7 @@ nothing_counted (Err halt) w = tt
 -- Other values
 
 pub by_number : (tables : Tables) (all : Extent) (val : Val) (items : List rows.Item) (m : Frames) (st : Store Frames) → ((n : ℕ) → val ≡ Vals.Proc n → ⊥)
-    → invoked flat tables (value_in all val) items m st ≡ integer_called flat (value_in all val) (number_of (value_in all val)) items m st
+    → invoke_value flat tables (value_in all val) items m st ≡ integer_called flat (value_in all val) (number_of (value_in all val)) items m st
 by_number tables all Vals.Null items m st h = refl
 by_number tables all (Vals.Integer n) items m st h = refl
 by_number tables all (Vals.Text span) items m st h = refl
@@ -71,7 +71,7 @@ by_number tables all (Vals.Coexp n) items m st h = refl
 -- Integers
 
 pub none_runs : (w : World) (value : Value) (n : Option _) (k : _) (items : List rows.Item) (m : FlatStack) (found : Option Item) → n ≡ Some k
-    → option_map (item_in (extent_of w.heap)) found ≡ chosen k items → found ≡ None → (st : Store Frames) → st.world ≡ world_of w
+    → option_map (item_in (extent_of w.heap)) found ≡ choose_item k items → found ≡ None → (st : Store Frames) → st.world ≡ world_of w
     → FailsWith (integer_called flat value n items (stack_in (extent_of w.heap) m) st) st w m
 none_runs w value n k items m found e f g st same =
     let all : Extent = extent_of w.heap in

@@ -21,7 +21,7 @@ use Rattle.icn_frames_laws.proofs.CallsRead.{level_read}
 use Rattle.icn_frames_laws.proofs.ScansRead.{enter_read}
 use Rattle.icn_value.specs.Store.{World as StoreWorld}
 use Rattle.icn_control.specs.Standing.{reading_of}
-use Rattle.icn_run.specs.Step.{State, Store, called, called_if, entered, errs, filled, list_made, running, with_world}
+use Rattle.icn_run.specs.Step.{State, Store, call_procedure, called_if, enter_procedure, errs, fill_nulls, list_made, running, with_world}
 use Rattle.icn_control.specs.Parts.{HaltsWith}
 use Rattle.icn_control.specs.Standing.{stack_in}
 use Rattle.icn_control.specs.Taking.{MakesValue}
@@ -38,7 +38,7 @@ map_fill all (suc n) zero [] = refl
 map_fill all (suc n) (suc k) [] = ap (λ (r : List Value). NullValue ∷ r) (map_fill all n k [])
 map_fill all (suc n) k (x ∷ xs) = ap (λ (r : List Value). value_in all x ∷ r) (map_fill all n k xs)
 
-pub map_values_for : (all : Extent) (n : ℕ) (xs : List Val) → map (value_in all) (values_for n xs) ≡ filled n (map (value_in all) xs)
+pub map_values_for : (all : Extent) (n : ℕ) (xs : List Val) → map (value_in all) (values_for n xs) ≡ fill_nulls n (map (value_in all) xs)
 map_values_for all n xs = map_fill all n n xs
 
 map_drop : (all : Extent) (n : ℕ) (xs : List Val) → map (value_in all) (drop n xs) ≡ drop n (map (value_in all) xs)
@@ -93,12 +93,12 @@ pub collects : (w v : World) (m : FlatStack) (count : ℕ) (vals cut parameters 
 collects w v m count vals cut parameters list made_so c p k a st next same =
     let all : Extent = extent_of w.heap in
     let new : Extent = extent_of v.heap in
-    let behind : Value → Frames → Store Frames → State Frames Frames = λ rest x s. next (filled (count - 1) (map (value_in all) vals) ++ rest ∷ []) x s in
-    let is : map (value_in new) parameters ≡ filled (count - 1) (map (value_in all) vals) ++ value_in new list ∷ []
+    let behind : Value → Frames → Store Frames → State Frames Frames = λ rest x s. next (fill_nulls (count - 1) (map (value_in all) vals) ++ rest ∷ []) x s in
+    let is : map (value_in new) parameters ≡ fill_nulls (count - 1) (map (value_in all) vals) ++ value_in new list ∷ []
     = ap (map (value_in new)) p ∙ map-append (value_in new) cut (list ∷ [])
     ∙ ap (λ (xs : List Val). map (value_in new) xs ++ value_in new list ∷ []) c
     ∙ ap (λ (xs : List Value). xs ++ value_in new list ∷ []) (map_values_for new (count - 1) vals)
-    ∙ ap (λ (xs : List Value). filled (count - 1) xs ++ value_in new list ∷ []) (values_same all new k vals a) in
+    ∙ ap (λ (xs : List Value). fill_nulls (count - 1) xs ++ value_in new list ∷ []) (values_same all new k vals a) in
     ap (λ (xs : List Value). list_made flat xs (stack_in all m) st behind) (sym (map_drop all (count - 1) vals))
     ∙ made_so st behind same
     ∙ ap (λ (xs : List Value). next xs (stack_in new m) (with_world (world_of v) st)) (sym is)
@@ -109,7 +109,7 @@ pub collects_not : (w v : World) (m : FlatStack) (count : ℕ) (vals : List Val)
     → HaltsWith (with_parameters_in true count w m vals st next) st v (halt_of stop)
 collects_not w v m count vals stop made_so st next same =
     let all : Extent = extent_of w.heap in
-    let behind : Value → Frames → Store Frames → State Frames Frames = λ rest x s. next (filled (count - 1) (map (value_in all) vals) ++ rest ∷ []) x s in
+    let behind : Value → Frames → Store Frames → State Frames Frames = λ rest x s. next (fill_nulls (count - 1) (map (value_in all) vals) ++ rest ∷ []) x s in
     subst (λ (x : State Frames Frames). HaltsWith x st v (halt_of stop))
     (ap (λ (xs : List Value). list_made flat xs (stack_in all m) st behind) (map_drop all (count - 1) vals)) (made_so st behind same)
 
@@ -129,7 +129,7 @@ map_nulls all (suc n) = ap (λ (r : List Value). NullValue ∷ r) (map_nulls all
 -- what a call is, once its level was tested
 called_by : (w : World) (m : FlatStack) (number : ℕ) (entry : Proc) (vals : List Val) (b : Bool)
     → nat_le (suc (held.level m)) (heap_of w.heap).bounds.levels ≡ b → (st : Store Frames) → st.world ≡ world_of w
-    → called flat number entry (map (value_in (extent_of w.heap)) vals) (stack_in (extent_of w.heap) m) st
+    → call_procedure flat number entry (map (value_in (extent_of w.heap)) vals) (stack_in (extent_of w.heap) m) st
     ≡ called_if flat b number entry (map (value_in (extent_of w.heap)) vals) (stack_in (extent_of w.heap) m) st
 called_by w m number entry vals b e st same =
     let F : Bool → State Frames Frames = λ x. called_if flat x number entry (map (value_in (extent_of w.heap)) vals) (stack_in (extent_of w.heap) m) st in
@@ -139,7 +139,7 @@ called_by w m number entry vals b e st same =
 
 pub called_deep : (w : World) (m : FlatStack) (number : ℕ) (entry : Proc) (vals : List Val)
     → nat_le (suc (held.level m)) (heap_of w.heap).bounds.levels ≡ false → (st : Store Frames) → st.world ≡ world_of w
-    → called flat number entry (map (value_in (extent_of w.heap)) vals) (stack_in (extent_of w.heap) m) st ≡ errs 301 None (with_world (world_of w) st)
+    → call_procedure flat number entry (map (value_in (extent_of w.heap)) vals) (stack_in (extent_of w.heap) m) st ≡ errs 301 None (with_world (world_of w) st)
 called_deep w m number entry vals e st same = called_by w m number entry vals false e st same ∙ ap (errs 301 None) (same_world w st same)
 
 pub called_runs : (w v : World) (m k n : FlatStack) (number : ℕ) (entry : Proc) (vals parameters : List Val)
@@ -148,7 +148,7 @@ pub called_runs : (w v : World) (m k n : FlatStack) (number : ℕ) (entry : Proc
     → with_parameters_in entry.collects entry.parameters w m vals st next
     ≡ next (map (value_in (extent_of v.heap)) parameters) (stack_in (extent_of v.heap) m) (with_world (world_of v) st))
     → k ≡ m → n ≡ held.enter number (parameters ++ replicate entry.locals Null) 0 k → (st : Store Frames) → st.world ≡ world_of w
-    → called flat number entry (map (value_in (extent_of w.heap)) vals) (stack_in (extent_of w.heap) m) st
+    → call_procedure flat number entry (map (value_in (extent_of w.heap)) vals) (stack_in (extent_of w.heap) m) st
     ≡ running (stack_in (extent_of v.heap) n) (with_world (world_of v) st)
 called_runs w v m k n number entry vals parameters b f e p st same =
     let new : Extent = extent_of v.heap in
@@ -157,7 +157,7 @@ called_runs w v m k n number entry vals parameters b f e p st same =
     = map-append (value_in new) parameters (replicate entry.locals Null)
     ∙ ap (λ (r : List Value). map (value_in new) parameters ++ r) (map_nulls new entry.locals) in
     called_by w m number entry vals true b st same
-    ∙ f st (λ ps a s. entered flat number entry ps a s) same
+    ∙ f st (λ ps a s. enter_procedure flat number entry ps a s) same
     ∙ ap (λ (xs : List Value). running (flat.enter number xs (stack_in new m)) (with_world (world_of v) st)) (sym is)
     ∙ ap (λ (a : Frames). running a (with_world (world_of v) st)) (enter_read (reading_of new) number locals m)
     ∙ ap (λ (x : FlatStack). running (stack_in new (held.enter number locals 0 x)) (with_world (world_of v) st)) (sym e)
@@ -168,10 +168,10 @@ pub called_halts : (w v : World) (m : FlatStack) (number : ℕ) (entry : Proc) (
     → ((st : Store Frames) (next : List Value → Frames → Store Frames → State Frames Frames) → st.world ≡ world_of w
     → HaltsWith (with_parameters_in entry.collects entry.parameters w m vals st next) st v (halt_of stop))
     → (st : Store Frames) → st.world ≡ world_of w
-    → HaltsWith (called flat number entry (map (value_in (extent_of w.heap)) vals) (stack_in (extent_of w.heap) m) st) st v (halt_of stop)
+    → HaltsWith (call_procedure flat number entry (map (value_in (extent_of w.heap)) vals) (stack_in (extent_of w.heap) m) st) st v (halt_of stop)
 called_halts w v m number entry vals stop b f st same =
     subst (λ (x : State Frames Frames). HaltsWith x st v (halt_of stop)) (sym (called_by w m number entry vals true b st same))
-    (f st (λ ps a s. entered flat number entry ps a s) same)
+    (f st (λ ps a s. enter_procedure flat number entry ps a s) same)
 
 pub nulls_live : (all : Extent) (n : ℕ) → All (IsLive all) (replicate n Null)
 nulls_live all zero = All-nil (IsLive all)

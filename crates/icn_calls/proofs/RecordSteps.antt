@@ -33,7 +33,7 @@ use Rattle.icn_frames.specs.Stacks.{FlatStack}
 use Rattle.icn_code.specs.Codes.{RecordType, Tables}
 use Rattle.icn_run.specs.Rows as rows
 use Rattle.icn_run.specs.Stacks.{Frames, flat}
-use Rattle.icn_run.specs.Step.{State, Store, constructed, errs, field_applied, field_of, field_place, field_taken, filled, here, pushed, running, with_world}
+use Rattle.icn_run.specs.Step.{State, Store, construct_record, errs, field_applied, field_of, field_place, field_taken, fill_nulls, here, push_item, running, with_world}
 use Rattle.icn_control.specs.Parts.{FindsValue, HaltsWith, RunsWith}
 use Rattle.icn_control.proofs.PartSteps.{same_world, value_goes, value_halts}
 use Rattle.icn_control.specs.Standing.{stack_in}
@@ -44,36 +44,36 @@ use Rattle.icn_calls.proofs.ParameterSteps.{map_values_for}
 
 -- the record is made of the fields, and pushed
 abbrev made_and_pushed : World → ℕ → List Value → FlatStack → Store Frames → State Frames Frames
-made_and_pushed w kind fields m st = made_in (record_row kind fields) w m st (λ value m st. pushed flat (rows.Val value) m st)
+made_and_pushed w kind fields m st = made_in (record_row kind fields) w m st (λ value m st. push_item flat (rows.Val value) m st)
 
 constructed_is : (w : World) (m : FlatStack) (kind at count : ℕ) (entry : RecordType) (vals fields : List Val) → at ≡ kind → count ≡ length entry.fields
     → fields ≡ values_for count vals → (st : Store Frames)
-    → constructed flat kind entry (map (value_in (extent_of w.heap)) vals) (stack_in (extent_of w.heap) m) st
+    → construct_record flat kind entry (map (value_in (extent_of w.heap)) vals) (stack_in (extent_of w.heap) m) st
     ≡ made_and_pushed w at (map (value_in (extent_of w.heap)) fields) m st
 constructed_is w m kind at count entry vals fields k c e st =
     let all : Extent = extent_of w.heap in
-    let is : map (value_in all) fields ≡ filled (length entry.fields) (map (value_in all) vals)
-    = ap (map (value_in all)) e ∙ map_values_for all count vals ∙ ap (λ (n : ℕ). filled n (map (value_in all) vals)) c in
+    let is : map (value_in all) fields ≡ fill_nulls (length entry.fields) (map (value_in all) vals)
+    = ap (map (value_in all)) e ∙ map_values_for all count vals ∙ ap (λ (n : ℕ). fill_nulls n (map (value_in all) vals)) c in
     ap (λ (xs : List Value). made_and_pushed w kind xs m st) (sym is) ∙ ap (λ (n : ℕ). made_and_pushed w n (map (value_in all) fields) m st) (sym k)
 
 pub record_runs : (w v : World) (m k n : FlatStack) (kind at count : ℕ) (entry : RecordType) (vals fields : List Val) (val : Val) → at ≡ kind
     → count ≡ length entry.fields → fields ≡ values_for count vals
     → MakesValue (record_row at (map (value_in (extent_of w.heap)) fields)) w m v (Ok val) → k ≡ m → n ≡ held.push (HeldVal val) k → (st : Store Frames)
     → st.world ≡ world_of w
-    → RunsWith (constructed flat kind entry (map (value_in (extent_of w.heap)) vals) (stack_in (extent_of w.heap) m) st) st v n
+    → RunsWith (construct_record flat kind entry (map (value_in (extent_of w.heap)) vals) (stack_in (extent_of w.heap) m) st) st v n
 record_runs w v m k n kind at count entry vals fields val a c e made_so p q st same =
     constructed_is w m kind at count entry vals fields a c e st
-    ∙ made_so st (λ value m st. pushed flat (rows.Val value) m st) same
+    ∙ made_so st (λ value m st. push_item flat (rows.Val value) m st) same
     ∙ ap (λ (x : FlatStack). running (stack_in (extent_of v.heap) (held.push (HeldVal val) x)) (with_world (world_of v) st)) (sym p)
     ∙ ap (λ (x : FlatStack). running (stack_in (extent_of v.heap) x) (with_world (world_of v) st)) (sym q)
 
 pub record_halts : (w v : World) (m : FlatStack) (kind at count : ℕ) (entry : RecordType) (vals fields : List Val) (stop : Stop) → at ≡ kind
     → count ≡ length entry.fields → fields ≡ values_for count vals
     → MakesValue (record_row at (map (value_in (extent_of w.heap)) fields)) w m v (Err stop) → (st : Store Frames) → st.world ≡ world_of w
-    → HaltsWith (constructed flat kind entry (map (value_in (extent_of w.heap)) vals) (stack_in (extent_of w.heap) m) st) st v (halt_of stop)
+    → HaltsWith (construct_record flat kind entry (map (value_in (extent_of w.heap)) vals) (stack_in (extent_of w.heap) m) st) st v (halt_of stop)
 record_halts w v m kind at count entry vals fields stop a c e made_so st same =
     subst (λ (x : State Frames Frames). HaltsWith x st v (halt_of stop)) (sym (constructed_is w m kind at count entry vals fields a c e st))
-    (made_so st (λ value m st. pushed flat (rows.Val value) m st) same)
+    (made_so st (λ value m st. push_item flat (rows.Val value) m st) same)
 
 pub record_counted : (w v : World) (locals : List Val) (kind : ℕ) (fields : List Value) (result : Result Val Stop)
     → ((outside : Outside) → Found (extent_of v.heap) (new_record_of (record { kind = kind; fields = fields })) (setting_of outside w locals)

@@ -16,7 +16,7 @@ use Rattle.icn_frames.specs.Stacks.{FlatStack}
 use Rattle.icn_code.specs.Codes.{Tables, Proc, RecordType}
 use Rattle.icn_run.specs.Stacks.{Frames, flat}
 use Rattle.icn_run.specs.Step as code
-use Rattle.icn_run.specs.Step.{State, Store, callee_of, collected, with_world}
+use Rattle.icn_run.specs.Step.{State, Store, callee_of, collect_rest, with_world}
 use Rattle.icn_control.specs.Parts.{HaltsWith}
 use Rattle.icn_control.specs.declared.machine.Stage.{Stage}
 use Rattle.icn_control.specs.declared.machine.Stage.TheVariants as Stages
@@ -37,7 +37,7 @@ IsCallee tables n Callees.Nothing = callee_of tables n ≡ code.IsNothing
 
 -- what comes of arguments that become parameters, of which the last one may collect
 abbrev pub with_parameters_in : Bool → ℕ → World → FlatStack → List Val → Store Frames → (List Value → Frames → Store Frames → State Frames Frames) → State Frames Frames
-with_parameters_in collects count w m vals st next = collected flat collects count (map (value_in (extent_of w.heap)) vals) (stack_in (extent_of w.heap) m) st next
+with_parameters_in collects count w m vals st next = collect_rest flat collects count (map (value_in (extent_of w.heap)) vals) (stack_in (extent_of w.heap) m) st next
 
 -- Arguments become parameters, in the world after it, where the stack is the same, or why they do not.
 abbrev pub FindsParameters : {A : Type 0} → Bool → ℕ → World → FlatStack → List Val → World → List Val → Result A Stop → Type 0

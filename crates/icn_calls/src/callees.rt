@@ -4,7 +4,7 @@ ghost use Rattle.icn_defs.specs.Numbers.{func_of};
 ghost use Rattle.icn_heap.specs.Extents.{Extent, value_in};
 ghost use Rattle.icn_run.specs.Rows.{Function, Item, apply};
 ghost use Rattle.icn_run.specs.Stacks.{Frames, flat as calls};
-ghost use Rattle.icn_run.specs.Step.{Store, here, invoked, outcome};
+ghost use Rattle.icn_run.specs.Step.{Store, here, invoke_value, outcome};
 ghost use Rattle.icn_code.specs.Seen.{tables_of};
 ghost use Rattle.icn_calls.specs.Calling.{IsCallee, function_in};
 
@@ -72,7 +72,7 @@ pub fn callee_of(code: &Code, number: u32) -> Callee
 /// The built-in function that a value names, where it names one. It takes no memory.
 pub fn function_of(code: &Code, callee: Val) -> Option<Func>
     ensures function { result ≡ function_in (tables_of code.now) callee }
-    ensures invoked { IfSome result (λ func. (all : Extent) (items : List Item) (m : Frames) (st : Store Frames) → invoked calls (tables_of code.now) (value_in all callee) items m st ≡ outcome calls (apply st.names (Function func) items (here calls m st)) m st) }
+    ensures invoked { IfSome result (λ func. (all : Extent) (items : List Item) (m : Frames) (st : Store Frames) → invoke_value calls (tables_of code.now) (value_in all callee) items m st ≡ outcome calls (apply st.names (Function func) items (here calls m st)) m st) }
 {
     let Val::Proc(number) = callee else {
         return None;

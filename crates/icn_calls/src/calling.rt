@@ -12,7 +12,7 @@ ghost use Rattle.icn_vars.specs.Outcomes.{IsLiveHalt};
 ghost use Rattle.icn_vars.specs.Stops.{IsLiveStop};
 ghost use Rattle.icn_vars.specs.Worlds.{KeepsItems, reach_of, world_of};
 ghost use Rattle.icn_run.specs.Stacks.{Frames as FramesRead, flat as calls};
-ghost use Rattle.icn_run.specs.Step.{Store, called};
+ghost use Rattle.icn_run.specs.Step.{Store, call_procedure};
 ghost use Rattle.icn_calls.specs.Calling.{FindsParameters};
 ghost use Rattle.icn_control.specs.Living.{IsLiveStack};
 ghost use Rattle.icn_control.specs.Parts.{HaltsWith, RunsWith};
@@ -133,7 +133,7 @@ pub fn call_procedure<K: Stack<Cell> + Drop>(
     requires bounds { (heap_of world.old.heap).bounds ≡ limits_of limits.now }
     requires stack { (tables : Tables) × IsLiveStack tables (reach_of world.old []) frames.old.flat }
     requires vals { All (IsLive (extent_of world.old.heap)) vals.old.items }
-    ensures step { (entry : Proc) → slice_get (tables_of code.now).procs number ≡ Some entry → (st : Store FramesRead) → st.world ≡ world_of world.old → MatchResult result (λ _. RunsWith (called calls number entry (map (value_in (extent_of world.old.heap)) vals.old.items) (stack_in (extent_of world.old.heap) frames.old.flat) st) st world.new frames.new.flat) (HaltsWith (called calls number entry (map (value_in (extent_of world.old.heap)) vals.old.items) (stack_in (extent_of world.old.heap) frames.old.flat) st) st world.new) }
+    ensures step { (entry : Proc) → slice_get (tables_of code.now).procs number ≡ Some entry → (st : Store FramesRead) → st.world ≡ world_of world.old → MatchResult result (λ _. RunsWith (call_procedure calls number entry (map (value_in (extent_of world.old.heap)) vals.old.items) (stack_in (extent_of world.old.heap) frames.old.flat) st) st world.new frames.new.flat) (HaltsWith (call_procedure calls number entry (map (value_in (extent_of world.old.heap)) vals.old.items) (stack_in (extent_of world.old.heap) frames.old.flat) st) st world.new) }
     ensures live { IsLiveStack (tables_of code.now) (reach_of world.old []) frames.old.flat → OnOk result (IsLiveStack (tables_of code.now) (reach_of world.new []) frames.new.flat) }
     ensures halt { IfErr result (IsLiveHalt (reach_of world.new [])) }
     ensures kept { KeepsItems (reach_of world.old []) (reach_of world.new []) }

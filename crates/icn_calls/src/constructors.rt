@@ -11,7 +11,7 @@ ghost use Rattle.icn_vars.specs.Outcomes.{IsLiveHalt};
 ghost use Rattle.icn_vars.specs.Stops.{IsLiveStop};
 ghost use Rattle.icn_vars.specs.Worlds.{KeepsItems, reach_of, world_of};
 ghost use Rattle.icn_run.specs.Stacks.{Frames as FramesRead, flat as calls};
-ghost use Rattle.icn_run.specs.Step.{Store, constructed};
+ghost use Rattle.icn_run.specs.Step.{Store, construct_record};
 ghost use Rattle.icn_control.specs.Living.{IsLiveStack};
 ghost use Rattle.icn_control.specs.Parts.{HaltsWith, RunsWith};
 ghost use Rattle.icn_control.specs.Standing.{stack_in};
@@ -79,7 +79,7 @@ pub fn construct<K: Stack<Cell> + Drop>(
     requires there { kind < length (tables_of code.now).records }
     requires stack { (tables : Tables) × IsLiveStack tables (reach_of world.old []) frames.old.flat }
     requires vals { All (IsLive (extent_of world.old.heap)) vals.old.items }
-    ensures step { (entry : RecordType) → slice_get (tables_of code.now).records kind ≡ Some entry → (st : Store FramesRead) → st.world ≡ world_of world.old → MatchResult result (λ _. RunsWith (constructed calls kind entry (map (value_in (extent_of world.old.heap)) vals.old.items) (stack_in (extent_of world.old.heap) frames.old.flat) st) st world.new frames.new.flat) (HaltsWith (constructed calls kind entry (map (value_in (extent_of world.old.heap)) vals.old.items) (stack_in (extent_of world.old.heap) frames.old.flat) st) st world.new) }
+    ensures step { (entry : RecordType) → slice_get (tables_of code.now).records kind ≡ Some entry → (st : Store FramesRead) → st.world ≡ world_of world.old → MatchResult result (λ _. RunsWith (construct_record calls kind entry (map (value_in (extent_of world.old.heap)) vals.old.items) (stack_in (extent_of world.old.heap) frames.old.flat) st) st world.new frames.new.flat) (HaltsWith (construct_record calls kind entry (map (value_in (extent_of world.old.heap)) vals.old.items) (stack_in (extent_of world.old.heap) frames.old.flat) st) st world.new) }
     ensures live { (tables : Tables) → IsLiveStack tables (reach_of world.old []) frames.old.flat → OnOk result (IsLiveStack tables (reach_of world.new []) frames.new.flat) }
     ensures halt { IfErr result (IsLiveHalt (reach_of world.new [])) }
     ensures kept { KeepsItems (reach_of world.old []) (reach_of world.new []) }

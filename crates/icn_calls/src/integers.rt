@@ -10,7 +10,7 @@ ghost use Rattle.icn_heap.specs.Heaps.{extent_of};
 ghost use Rattle.icn_vars.specs.Outcomes.{IsLiveHalt};
 ghost use Rattle.icn_vars.specs.Worlds.{IsLiveItem, Reach, item_in, reach_of, world_of};
 ghost use Rattle.icn_run.specs.Stacks.{Frames as FramesRead, flat as calls};
-ghost use Rattle.icn_run.specs.Step.{Store, chosen, integer_called};
+ghost use Rattle.icn_run.specs.Step.{Store, choose_item, integer_called};
 ghost use Rattle.icn_control.specs.Living.{IsLiveStack, with_locals};
 ghost use Rattle.icn_control.specs.Parts.{HaltsWith, StandsWith};
 ghost use Rattle.icn_control.specs.Standing.{stack_in};
@@ -56,7 +56,7 @@ fn item_at(items: &[Item], place: usize) -> Option<Item>
 /// The argument of a number, from the left from 1 on or from the right from -1 on, where it is there. It takes no memory.
 pub fn chosen(items: &[Item], n: i64) -> Option<Item>
     requires { length items.now < 2 ^ 63 }
-    ensures item { (all : Extent) → option_map (item_in all) result ≡ chosen n (map (item_in all) items.now) }
+    ensures item { (all : Extent) → option_map (item_in all) result ≡ choose_item n (map (item_in all) items.now) }
     ensures live { (reach : Reach) → All (IsLiveItem reach) items.now → IfSome result (IsLiveItem reach) }
 {
     let Some(place) = place_of(n, items.len() as u64) else {

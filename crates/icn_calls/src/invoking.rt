@@ -10,7 +10,7 @@ ghost use Rattle.icn_heap.specs.Heaps.{extent_of, heap_of};
 ghost use Rattle.icn_vars.specs.Outcomes.{IsLiveHalt};
 ghost use Rattle.icn_vars.specs.Worlds.{IsLiveItem, KeepsItems, item_in, reach_of, world_of};
 ghost use Rattle.icn_run.specs.Stacks.{Frames as FramesRead, flat as calls};
-ghost use Rattle.icn_run.specs.Step.{Store, called, constructed, invoked};
+ghost use Rattle.icn_run.specs.Step.{Store, call_procedure, construct_record, invoke_value};
 ghost use Rattle.icn_control.specs.Living.{IsLiveStack, with_locals};
 ghost use Rattle.icn_control.specs.Parts.{HaltsWith, StandsWith};
 ghost use Rattle.icn_control.specs.Standing.{stack_in};
@@ -43,7 +43,7 @@ fn call_with<K: Stack<Cell> + Drop>(
     requires bounds { (heap_of world.old.heap).bounds ≡ limits_of limits.now }
     requires stack { (tables : Tables) × IsLiveStack tables (reach_of world.old []) frames.old.flat }
     requires items { All (IsLiveItem (with_locals (flat.local_count frames.old.flat) (reach_of world.old []))) items.now }
-    ensures step { (entry : Proc) → slice_get (tables_of code.now).procs number ≡ Some entry → (st : Store FramesRead) → st.world ≡ world_of world.old → MatchResult result (StandsWith (with_values_in world.old frames.old.flat items.now st (λ values. called calls number entry values (stack_in (extent_of world.old.heap) frames.old.flat) st)) st world.new frames.new.flat) (HaltsWith (with_values_in world.old frames.old.flat items.now st (λ values. called calls number entry values (stack_in (extent_of world.old.heap) frames.old.flat) st)) st world.new) }
+    ensures step { (entry : Proc) → slice_get (tables_of code.now).procs number ≡ Some entry → (st : Store FramesRead) → st.world ≡ world_of world.old → MatchResult result (StandsWith (with_values_in world.old frames.old.flat items.now st (λ values. call_procedure calls number entry values (stack_in (extent_of world.old.heap) frames.old.flat) st)) st world.new frames.new.flat) (HaltsWith (with_values_in world.old frames.old.flat items.now st (λ values. call_procedure calls number entry values (stack_in (extent_of world.old.heap) frames.old.flat) st)) st world.new) }
     ensures live { IsLiveStack (tables_of code.now) (reach_of world.old []) frames.old.flat → OnOk result (IsLiveStack (tables_of code.now) (reach_of world.new []) frames.new.flat) }
     ensures halt { IfErr result (IsLiveHalt (reach_of world.new [])) }
     ensures going { IfOk result IsGoing }
@@ -70,7 +70,7 @@ fn construct_with<K: Stack<Cell> + Drop>(
     requires there { kind < length (tables_of code.now).records }
     requires stack { (tables : Tables) × IsLiveStack tables (reach_of world.old []) frames.old.flat }
     requires items { All (IsLiveItem (with_locals (flat.local_count frames.old.flat) (reach_of world.old []))) items.now }
-    ensures step { (entry : RecordType) → slice_get (tables_of code.now).records kind ≡ Some entry → (st : Store FramesRead) → st.world ≡ world_of world.old → MatchResult result (StandsWith (with_values_in world.old frames.old.flat items.now st (λ values. constructed calls kind entry values (stack_in (extent_of world.old.heap) frames.old.flat) st)) st world.new frames.new.flat) (HaltsWith (with_values_in world.old frames.old.flat items.now st (λ values. constructed calls kind entry values (stack_in (extent_of world.old.heap) frames.old.flat) st)) st world.new) }
+    ensures step { (entry : RecordType) → slice_get (tables_of code.now).records kind ≡ Some entry → (st : Store FramesRead) → st.world ≡ world_of world.old → MatchResult result (StandsWith (with_values_in world.old frames.old.flat items.now st (λ values. construct_record calls kind entry values (stack_in (extent_of world.old.heap) frames.old.flat) st)) st world.new frames.new.flat) (HaltsWith (with_values_in world.old frames.old.flat items.now st (λ values. construct_record calls kind entry values (stack_in (extent_of world.old.heap) frames.old.flat) st)) st world.new) }
     ensures live { (tables : Tables) → IsLiveStack tables (reach_of world.old []) frames.old.flat → OnOk result (IsLiveStack tables (reach_of world.new []) frames.new.flat) }
     ensures halt { IfErr result (IsLiveHalt (reach_of world.new [])) }
     ensures going { IfOk result IsGoing }
@@ -104,7 +104,7 @@ pub fn invoke<K: Stack<Cell> + Drop>(
     requires stack { (tables : Tables) × IsLiveStack tables (reach_of world.old []) frames.old.flat }
     requires callee { IsLive (extent_of world.old.heap) callee }
     requires items { All (IsLiveItem (with_locals (flat.local_count frames.old.flat) (reach_of world.old []))) items.now }
-    ensures step { (st : Store FramesRead) → st.world ≡ world_of world.old → MatchResult result (StandsWith (invoked calls (tables_of code.now) (value_in (extent_of world.old.heap) callee) (map (item_in (extent_of world.old.heap)) items.now) (stack_in (extent_of world.old.heap) frames.old.flat) st) st world.new frames.new.flat) (HaltsWith (invoked calls (tables_of code.now) (value_in (extent_of world.old.heap) callee) (map (item_in (extent_of world.old.heap)) items.now) (stack_in (extent_of world.old.heap) frames.old.flat) st) st world.new) }
+    ensures step { (st : Store FramesRead) → st.world ≡ world_of world.old → MatchResult result (StandsWith (invoke_value calls (tables_of code.now) (value_in (extent_of world.old.heap) callee) (map (item_in (extent_of world.old.heap)) items.now) (stack_in (extent_of world.old.heap) frames.old.flat) st) st world.new frames.new.flat) (HaltsWith (invoke_value calls (tables_of code.now) (value_in (extent_of world.old.heap) callee) (map (item_in (extent_of world.old.heap)) items.now) (stack_in (extent_of world.old.heap) frames.old.flat) st) st world.new) }
     ensures live { IsLiveStack (tables_of code.now) (reach_of world.old []) frames.old.flat → OnOk result (IsLiveStack (tables_of code.now) (reach_of world.new []) frames.new.flat) }
     ensures halt { IfErr result (IsLiveHalt (reach_of world.new [])) }
     ensures going { IfOk result IsGoing }

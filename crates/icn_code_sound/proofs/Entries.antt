@@ -16,7 +16,7 @@ use Rattle.icn_verify.specs.Given as V
 use Rattle.icn_simulation.specs.Translation.{Names, size, bounded_size}
 use Rattle.icn_simulation.specs.Translation as C
 use Rattle.icn_simulation.specs.Linkage.{Linkage}
-use Rattle.icn_code_sound.specs.Noted.{Note, marked, start, bounded, body, procedure, instrs}
+use Rattle.icn_code_sound.specs.Noted.{Note, marked, start, bounded_notes, body, procedure, instrs}
 use Rattle.icn_code_sound.specs.Fit.{FitAll}
 use Rattle.icn_code_sound.specs.Laws.{FitInitial}
 use Rattle.icn_code_sound.specs.Bridge.{plain_at, CodesSound}
@@ -36,7 +36,7 @@ module _ (L : Linkage) (j : ℕ) (N : Names) where
   body_block (More T.Empty es) p p' e f = body_block es (p + 0) p' (omega arith) f.1
   body_block (More x es) p p' e f =
       let n = neat L j N x [] [] [] true (marked (start false)) tt f.0 (p + 1) (suc p') (omega arith) nowhere in
-      let b : Neat [] p' (bounded N p x) (p' + (size [] x + 2)) = label _ (suc (suc p' + size [] x)) e_mark (omega arith) (omega arith) (before n (omega arith) (skip _ refl over)) (append n (plain _ refl (nil _ (omega arith))) nowhere) in
+      let b : Neat [] p' (bounded_notes N p x) (p' + (size [] x + 2)) = label _ (suc (suc p' + size [] x)) e_mark (omega arith) (omega arith) (before n (omega arith) (skip _ refl over)) (append n (plain _ refl (nil _ (omega arith))) nowhere) in
       let r = body_block es (p + (size [] x + 2)) (p' + (size [] x + 2)) (omega arith) f.1 in
       record { end = r.end; is = append b r.is nowhere }
 

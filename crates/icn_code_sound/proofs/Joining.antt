@@ -6,7 +6,7 @@ use Rattle.icn_tree.specs.Trees.{Declaration}
 use Rattle.icn_code.specs.Codes.{Proc, Tables}
 use Rattle.icn_verify.specs.Faults.{IsSound, IsVerified}
 use Rattle.icn_meaning.specs.Program as M
-use Rattle.icn_meaning.specs.Program.{program_of, joined, procedures_of}
+use Rattle.icn_meaning.specs.Program.{program_of, joined_declarations, procedures_of}
 use Rattle.icn_run.specs.Step.{instrs_of}
 use Rattle.icn_simulation.specs.Linkage.{Linkage}
 use Rattle.icn_simulation.specs.Joined.{code_with}
@@ -15,7 +15,7 @@ use Rattle.icn_simulation.specs.Translated.{linkage, TranslatedRoutine, Routines
 use Rattle.icn_simulation.proofs.Checked.{IsSoundProcedure, Each, sound_files}
 use Rattle.icn_simulation.proofs.Joining.{is_translated}
 use Rattle.icn_code_sound.proofs.Entries.{codes_sound}
-use Rattle.icn_code_sound.proofs.Fitted.{fit_routine}
+use Rattle.icn_code_sound.proofs.TreesFit.{fit_routine}
 
 -- the code of a translated procedure is sound
 routine_sound : (L : Linkage) (j : ℕ) (routine : M.Routine) (entry : Proc) → TranslatedRoutine L j routine entry → IsSound (instrs_of L.tables j)
@@ -38,7 +38,7 @@ instrs_at tables number proc at = ap (λ o. option_map_or (λ (entry : Proc). en
 
 pub joined_verified : (files : List (List Declaration)) (tables : Tables) → IsLinked files tables → IsVerified tables
 joined_verified files tables h =
-    let D = joined files in
+    let D = joined_declarations files in
     let sound : Each IsSoundProcedure (procedures_of D) = sound_files files h.faultless in
     let translated = is_translated D tables.csets h.code.csets sound in
     let code = code_with D tables.csets in

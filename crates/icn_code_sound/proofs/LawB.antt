@@ -15,13 +15,13 @@ use Rattle.icn_tree.specs.Trees as T
 use Rattle.icn_tree.specs.Trees.{Tree, Trees, MaybeTree, Clause, Clauses, Absent, Present, NoTrees, More, Default, Guarded, NoClauses, MoreClauses}
 use Rattle.icn_simulation.specs.Translation.{bodies_size, Names, Depth, Ways, loop_of, ways, deeper, opened_in, dropped_by_next, around, last_way, next_way, size, sizes, elements_size, conjunction_size, compound_size, creates_size, subscripts_size, by_size, body_size, clauses_size, default_size, elements, count_of, keyword_code, section_op, Form, Both, Scanning, Either, Limiting, Applying, PrefixForm, Activating, Repeating, Operating}
 use Rattle.icn_simulation.specs.Linkage.{Linkage, Loads, l_null, l_integer, l_string, l_cset, l_local, l_static, l_global}
-use Rattle.icn_code_sound.specs.Noted.{bodies_code, Shape, o, start, many, more, marked, within, Limited, scanned, drops, unmarks, created, code, operands, elements_code, conjunction, compound, creates, subscripts, by_code, body_code, clauses_code, clause_code, default_code, prefix_code, plain_code, augmented_code}
+use Rattle.icn_code_sound.specs.Noted.{bodies_code, Shape, o, start, many, more, marked, within, Limited, scanned, drops, unmarks, create_notes, code, operands, elements_code, conjunction, compound, creates, subscripts, by_code, body_code, clauses_code, clause_code, default_code, prefix_code, plain_code, augmented_code}
 use Rattle.icn_code_sound.specs.Fit.{Infixes, x_both, x_scan, x_either, x_limit, x_at, x_bang, x_op, Augments, u_both, u_scan, u_at, u_op, Prefixes, p_at, p_bar, p_op, Some_trees, Fit, FitAll, FitCreates, FitBy, FitMaybe, FitClauses, FitDefault}
 use Rattle.icn_code_sound.specs.Verified.{Pushes, u_null, u_int, u_str, u_cset, u_local, u_static, u_global, u_keyword, Takes, t_op, t_list, t_field, t_invoke, t_appl, t_coact, Fine, f_push, f_pop, f_dup, f_takes, f_mark, f_mark0, f_unmark, f_eret, f_esusp, f_limit, f_lsusp, f_efail, f_chfail, f_goto, f_loop, f_bscan, f_escan, f_ccase, f_psusp, f_pret, f_pfail, f_create, f_coret, f_cofail, d_zero, d_suc, n_no, n_yes, Ctx, c_create, c_loop, Has, AllFine}
 use Rattle.icn_code_sound.proofs.Basics.{none_unmarks}
 use Rattle.icn_code_sound.proofs.Notes.{len, elements_len, bodies_len, by_len, body_len, clauses_len, clause_len}
 use Rattle.icn_code_sound.proofs.Lengths.{created_len}
-use Rattle.icn_code_sound.proofs.Shaped.{cut, «at», later, under, push, scan, weaken, proper, unmarks_fine, dropped_to, as_many, invoked}
+use Rattle.icn_code_sound.proofs.ShapeLemmas.{cut, «at», later, under, push, scan, weaken, proper, unmarks_fine, dropped_to, as_many, invoked}
 
 pushes : (L : Linkage) (j : ℕ) {i : Instr} {x : _} → Loads L j i x → Pushes i
 pushes L j l_null = u_null
@@ -149,7 +149,7 @@ module _ (At : ℕ → Shape → Type 0) (L : Linkage) (j : ℕ) (N : Names) whe
       let u = g r D W B c s a f p p' e (omega arith) k.0 k.1.0 in
       (u.0, k.2 u.1 (f_dup s w.0, m.2 w.1 (f_takes 2 (more s) (takes _ q) m.1.1.0, (f_takes 2 s t_op (to _ z (omega arith)), tt))))
 
-  created_fine : (s : Shape) (x : Tree) → Goal x → Fit L j N [] false x → (p p' : ℕ) → p' ≡ p → Has At p' (created p (size [] x) s (code N [] [] (p + 2) (marked (start true)) x)) → At (p' + (size [] x + 5)) (more s) → At p' s × AllFine At p' (created p (size [] x) s (code N [] [] (p + 2) (marked (start true)) x))
+  created_fine : (s : Shape) (x : Tree) → Goal x → Fit L j N [] false x → (p p' : ℕ) → p' ≡ p → Has At p' (create_notes p (size [] x) s (code N [] [] (p + 2) (marked (start true)) x)) → At (p' + (size [] x + 5)) (more s) → At p' s × AllFine At p' (create_notes p (size [] x) s (code N [] [] (p + 2) (marked (start true)) x))
   created_fine s x g f p p' e h z =
       let k = cut At _ _ (suc (suc p')) (size [] x) (len N x [] [] (p + 2) (marked (start true))) h.1.1 in
       let u = g (suc (suc p') + size [] x) [] [] [] false (marked (start true)) (c_create (marked (start true)) refl) f (p + 2) (suc (suc p')) (omega arith) (omega arith) k.0 k.1.0 in (
@@ -370,7 +370,7 @@ module _ (At : ℕ → Shape → Type 0) (L : Linkage) (j : ℕ) (N : Names) whe
     creates_fine NoTrees D s f p p' e h z = (to _ z (omega arith), tt)
     creates_fine (More T.Empty NoTrees) D s f p p' e h z = (to _ z (omega arith), tt)
     creates_fine (More x es) D s f p p' e h z =
-        let k = cut At (created p (size [] x) s (code N [] [] (p + 2) (marked (start true)) x)) (creates N (p + size [] x + 5) (more s) es) p' (size [] x + 5) (created_len p (size [] x) s (code N [] [] (p + 2) (marked (start true)) x) (len N x [] [] (p + 2) (marked (start true)))) h in
+        let k = cut At (create_notes p (size [] x) s (code N [] [] (p + 2) (marked (start true)) x)) (creates N (p + size [] x + 5) (more s) es) p' (size [] x + 5) (created_len p (size [] x) s (code N [] [] (p + 2) (marked (start true)) x) (len N x [] [] (p + 2) (marked (start true)))) h in
         let u = creates_fine_all es D (more s) f.1 (p + size [] x + 5) (p' + (size [] x + 5)) (omega arith) k.1 (as_many At (count_of es) s (to _ z (omega arith))) in
         let v = created_fine s x (fine x) f.0 p p' e k.0 u.0 in
         (v.0, k.2 v.1 u.1)
@@ -378,7 +378,7 @@ module _ (At : ℕ → Shape → Type 0) (L : Linkage) (j : ℕ) (N : Names) whe
     creates_fine_all : (es : Trees) (D : List Depth) (s : Shape) → FitCreates L j N es → (p p' : ℕ) → p' ≡ p → Has At p' (creates N p s es) → At (p' + creates_size D es) (many (count_of es) s) → At p' s × AllFine At p' (creates N p s es)
     creates_fine_all NoTrees D s f p p' e h z = (to _ z (omega arith), tt)
     creates_fine_all (More x es) D s f p p' e h z =
-        let k = cut At (created p (size [] x) s (code N [] [] (p + 2) (marked (start true)) x)) (creates N (p + size [] x + 5) (more s) es) p' (size [] x + 5) (created_len p (size [] x) s (code N [] [] (p + 2) (marked (start true)) x) (len N x [] [] (p + 2) (marked (start true)))) h in
+        let k = cut At (create_notes p (size [] x) s (code N [] [] (p + 2) (marked (start true)) x)) (creates N (p + size [] x + 5) (more s) es) p' (size [] x + 5) (created_len p (size [] x) s (code N [] [] (p + 2) (marked (start true)) x) (len N x [] [] (p + 2) (marked (start true)))) h in
         let u = creates_fine_all es D (more s) f.1 (p + size [] x + 5) (p' + (size [] x + 5)) (omega arith) k.1 (as_many At (count_of es) s (to _ z (omega arith))) in
         let v = created_fine s x (fine x) f.0 p p' e k.0 u.0 in
         (v.0, k.2 v.1 u.1)

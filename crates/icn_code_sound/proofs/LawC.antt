@@ -11,7 +11,7 @@ use Rattle.icn_tree.specs.Trees as T
 use Rattle.icn_tree.specs.Trees.{Tree, Trees, MaybeTree, Clause, Clauses, Absent, Present, NoTrees, More, Default, Guarded, NoClauses, MoreClauses}
 use Rattle.icn_simulation.specs.Translation.{bodies_size, Names, Depth, Ways, loop_of, ways, deeper, opened_in, dropped_by_next, around, size, sizes, elements_size, conjunction_size, compound_size, creates_size, subscripts_size, by_size, body_size, clauses_size, default_size, keyword_code, Form, Both, Scanning, Either, Limiting, Applying, PrefixForm, Activating, Repeating, Operating}
 use Rattle.icn_simulation.specs.Linkage.{Linkage, Loads, l_null, l_integer, l_string, l_cset, l_local, l_static, l_global}
-use Rattle.icn_code_sound.specs.Noted.{bodies_code, Shape, o, flagged, start, more, marked, within, Limited, scanned, drops, created, code, operands, elements_code, conjunction, compound, creates, subscripts, by_code, body_code, clauses_code, clause_code, default_code, prefix_code, plain_code, augmented_code}
+use Rattle.icn_code_sound.specs.Noted.{bodies_code, Shape, o, flagged, start, more, marked, within, Limited, scanned, drops, create_notes, code, operands, elements_code, conjunction, compound, creates, subscripts, by_code, body_code, clauses_code, clause_code, default_code, prefix_code, plain_code, augmented_code}
 use Rattle.icn_code_sound.specs.Fit.{Infixes, x_both, x_scan, x_either, x_limit, x_at, x_bang, x_op, Augments, u_both, u_scan, u_at, u_op, Prefixes, p_at, p_bar, p_op, Fit, FitAll, FitCreates, FitBy, FitMaybe, FitClauses, FitDefault}
 use Rattle.icn_code_sound.proofs.Neat.{e_mark, e_goto, e_create, k_loop, k_chfail, is_plain, no_lead, no_back, one_back, i_last, i_next, i_outer, Ahead, ahead, Neat, append, nil, plain, label, out, before, lies_before, lies_after, skip, skip_label, over, back, stay, leave, wider, to, chfail_leads, loop_leads, none_in, nowhere, ahead_loop, ahead_outer, narrow, unmarks_neat}
 
@@ -78,7 +78,7 @@ module _ (L : Linkage) (j : ℕ) (N : Names) where
   augmented_neat D W B c s x y g v w u_at f t p p' e a = append (g D W B c s w f p p' e (ahead (omega arith) a)) (plain _ refl (append (v D W B c (more (more s)) w t (p + size D x + 1) (suc (p' + size D x)) (omega arith) (ahead (omega arith) a)) (plain _ refl (plain _ refl (nil _ (omega arith)))) a)) a
   augmented_neat D W B c s x y g v w (u_op i q) f t p p' e a = append (g D W B c s w f p p' e (ahead (omega arith) a)) (plain _ refl (append (v D W B c (more (more s)) w t (p + size D x + 1) (suc (p' + size D x)) (omega arith) (ahead (omega arith) a)) (plain _ refl (plain _ refl (nil _ (omega arith)))) a)) a
 
-  created_neat : (W : List Ways) (s : Shape) (x : Tree) → Goal x → Fit L j N [] false x → (p p' : ℕ) → p' ≡ p → Ahead (p' + (size [] x + 5)) W → Neat W p' (created p (size [] x) s (code N [] [] (p + 2) (marked (start true)) x)) (p' + (size [] x + 5))
+  created_neat : (W : List Ways) (s : Shape) (x : Tree) → Goal x → Fit L j N [] false x → (p p' : ℕ) → p' ≡ p → Ahead (p' + (size [] x + 5)) W → Neat W p' (create_notes p (size [] x) s (code N [] [] (p + 2) (marked (start true)) x)) (p' + (size [] x + 5))
   created_neat W s x g f p p' e a =
       let n = wider W (λ m i. absurd (none_in i)) (g [] [] [] false (marked (start true)) tt f (p + 2) (suc (suc p')) (omega arith) nowhere) in
       label _ (p' + (size [] x + 5)) e_create (omega arith) (omega arith) (skip_label _ e_mark (before n (omega arith) (skip _ refl (skip _ refl (skip _ refl over)))))

@@ -3,11 +3,11 @@ use Rattle.std.proofs.Common.{◌≡◌, ℕ, ◌+◌, List, [], ◌∷◌, ◌+
 use Rattle.icn_code.specs.declared.instr.Instr.TheVariants as I
 use Rattle.icn_tree.specs.Trees.{Tree}
 use Rattle.icn_simulation.specs.Translation.{Names, size}
-use Rattle.icn_code_sound.specs.Noted.{Shape, Note, o, more, marked, start, created, code}
+use Rattle.icn_code_sound.specs.Noted.{Shape, Note, o, more, marked, start, create_notes, code}
 use Rattle.icn_code_sound.proofs.Notes.{len}
 
 -- the body of a `create`
-pub created_len : (p n : ℕ) (s : Shape) (xs : List Note) → length xs ≡ n → length (created p n s xs) ≡ n + 5
+pub created_len : (p n : ℕ) (s : Shape) (xs : List Note) → length xs ≡ n → length (create_notes p n s xs) ≡ n + 5
 created_len p n s xs e = let a = length-append xs (o (more (marked (start true))) I.Coret ∷ o (more (marked (start true))) I.Efail ∷ o (start true) I.Cofail ∷ []) in omega arith
 
 -- a bounded expression of a body

@@ -1,7 +1,7 @@
 pub mod Basics
 pub mod Notes
 pub mod Lengths
-pub mod Shaped
+pub mod ShapeLemmas
 pub mod LawB
 pub mod Verifies
 pub mod Bridges
@@ -10,5 +10,5 @@ pub mod Neat
 pub mod LawC
 pub mod Entries
 pub mod Findings
-pub mod Fitted
+pub mod TreesFit
 pub mod Joining

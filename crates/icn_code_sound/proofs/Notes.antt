@@ -9,7 +9,7 @@ use Rattle.icn_code.specs.declared.instr.Instr.{Instr}
 use Rattle.icn_code.specs.declared.instr.Instr.TheVariants as I
 use Rattle.icn_simulation.specs.Translation.{bodies_size, Names, Depth, Ways, loop_of, deeper, opened_in, dropped_by_next, around, last_way, next_way, is_empty, is_nothing, is_no_element, elements, Form, Both, Scanning, Either, Limiting, Applying, form_of, PrefixForm, Activating, Repeating, Operating, prefix_of, section_op, size, sizes, elements_size, conjunction_size, compound_size, creates_size, subscripts_size, by_size, if_size, body_size, clauses_size, clause_size, default_size, is_default_size, ways, bounded_size}
 use Rattle.icn_simulation.specs.Translation as C
-use Rattle.icn_code_sound.specs.Noted.{bodies_code, Shape, Note, start, more, marked, within, Limited, scanned, drops, dropped, unmarks, created, code, operands, elements_code, conjunction, compound, creates, subscripts, by_code, body_code, clauses_code, clause_code, default_code, prefix_code, plain_code, augmented_code, instrs, bounded, body, procedure}
+use Rattle.icn_code_sound.specs.Noted.{bodies_code, Shape, Note, start, more, marked, within, Limited, scanned, drops, dropped, unmarks, create_notes, code, operands, elements_code, conjunction, compound, creates, subscripts, by_code, body_code, clauses_code, clause_code, default_code, prefix_code, plain_code, augmented_code, instrs, bounded_notes, body, procedure}
 use Rattle.icn_simulation.proofs.Sizes as Z
 
 cat : (xs ys : List Note) → instrs (xs ++ ys) ≡ instrs xs ++ instrs ys
@@ -70,7 +70,7 @@ augmented_noted N D W p s a b Either g h = refl
 augmented_noted N D W p s a b Limiting g h = refl
 augmented_noted N D W p s a b (Applying i) g h = join _ _ (g D W p s) (next I.Dup (join _ _ (h D W (p + size D a + 1) (more (more s))) refl))
 
-created_noted : (p n : ℕ) (s : Shape) (xs : List Note) (A : List Instr) → instrs xs ≡ A → instrs (created p n s xs) ≡ C.created p n A
+created_noted : (p n : ℕ) (s : Shape) (xs : List Note) (A : List Instr) → instrs xs ≡ A → instrs (create_notes p n s xs) ≡ C.create_code p n A
 created_noted p n s xs A e = next _ (next _ (join _ _ e refl))
 
 mutual
@@ -133,11 +133,11 @@ mutual
 
   pub creates_noted : (N : Names) (es : Trees) (p : ℕ) (s : Shape) → instrs (creates N p s es) ≡ C.creates N p es
   creates_noted N NoTrees p s = refl
-  creates_noted N (More e es) p s = join (created p (size [] e) s (code N [] [] (p + 2) (marked (start true)) e)) (creates N (p + size [] e + 5) (more s) es) (created_noted p (size [] e) s (code N [] [] (p + 2) (marked (start true)) e) (C.code N [] [] (p + 2) e) (noted N e [] [] (p + 2) (marked (start true)))) (creates_noted N es (p + size [] e + 5) (more s))
+  creates_noted N (More e es) p s = join (create_notes p (size [] e) s (code N [] [] (p + 2) (marked (start true)) e)) (creates N (p + size [] e + 5) (more s) es) (created_noted p (size [] e) s (code N [] [] (p + 2) (marked (start true)) e) (C.code N [] [] (p + 2) e) (noted N e [] [] (p + 2) (marked (start true)))) (creates_noted N es (p + size [] e + 5) (more s))
 
   pub bodies_noted : (N : Names) (es : Trees) (p : ℕ) (s : Shape) → instrs (bodies_code N p s es) ≡ C.bodies_code N p es
   bodies_noted N NoTrees p s = refl
-  bodies_noted N (More e es) p s = choose (is_no_element (More e es)) _ _ _ _ refl (join (created p (size [] e) s (code N [] [] (p + 2) (marked (start true)) e)) (creates N (p + size [] e + 5) (more s) es) (created_noted p (size [] e) s (code N [] [] (p + 2) (marked (start true)) e) (C.code N [] [] (p + 2) e) (noted N e [] [] (p + 2) (marked (start true)))) (creates_noted N es (p + size [] e + 5) (more s)))
+  bodies_noted N (More e es) p s = choose (is_no_element (More e es)) _ _ _ _ refl (join (create_notes p (size [] e) s (code N [] [] (p + 2) (marked (start true)) e)) (creates N (p + size [] e + 5) (more s) es) (created_noted p (size [] e) s (code N [] [] (p + 2) (marked (start true)) e) (C.code N [] [] (p + 2) e) (noted N e [] [] (p + 2) (marked (start true)))) (creates_noted N es (p + size [] e + 5) (more s)))
 
   subscripts_noted : (N : Names) (es : Trees) (D : List Depth) (W : List Ways) (p : ℕ) (s : Shape) → instrs (subscripts N D W p s es) ≡ C.subscripts N D W p es
   subscripts_noted N NoTrees D W p s = refl
@@ -164,7 +164,7 @@ mutual
   default_noted N (MoreClauses (Default place e) cs) D W p s = noted N e D W p s
   default_noted N (MoreClauses (Guarded place c b) cs) D W p s = default_noted N cs D W p s
 
-bounded_noted : (N : Names) (p : ℕ) (e : Tree) → instrs (bounded N p e) ≡ C.bounded N p e
+bounded_noted : (N : Names) (p : ℕ) (e : Tree) → instrs (bounded_notes N p e) ≡ C.bounded_code N p e
 bounded_noted N p e = choose (is_empty e) _ _ _ _ refl (next _ (join _ _ (noted N e [] [] (p + 1) (marked (start false))) refl))
 
 body_of_noted : (N : Names) (p : ℕ) (es : Trees) → instrs (body N p es) ≡ C.body N p es

@@ -8,13 +8,13 @@ use Rattle.icn_tree.specs.Trees as T
 use Rattle.icn_tree.specs.Trees.{Tree, Trees, NoTrees, More, Initial, NoInitial, Initially}
 use Rattle.icn_simulation.specs.Translation.{Names, size, bounded_size}
 use Rattle.icn_simulation.specs.Linkage.{Linkage}
-use Rattle.icn_code_sound.specs.Noted.{Shape, Note, o, more, marked, start, code, bounded, body, procedure, instrs}
+use Rattle.icn_code_sound.specs.Noted.{Shape, Note, o, more, marked, start, code, bounded_notes, body, procedure, instrs}
 use Rattle.icn_code_sound.specs.Fit.{FitAll}
 use Rattle.icn_code_sound.specs.Verified.{Fine, f_mark, f_unmark, f_init, f_pfail, c_proper, Has, AllFine}
 use Rattle.icn_code_sound.specs.Laws.{FitInitial, At, CodesVerified}
 use Rattle.icn_code_sound.proofs.Notes.{len, procedure_noted}
 use Rattle.icn_code_sound.proofs.Lengths.{bounded_len}
-use Rattle.icn_code_sound.proofs.Shaped.{cut, «at»}
+use Rattle.icn_code_sound.proofs.ShapeLemmas.{cut, «at»}
 use Rattle.icn_code_sound.proofs.LawB.{fine}
 
 module _ (A : ℕ → Shape → Type 0) (L : Linkage) (j : ℕ) (N : Names) where
@@ -31,7 +31,7 @@ module _ (A : ℕ → Shape → Type 0) (L : Linkage) (j : ℕ) (N : Names) wher
   body_fine NoTrees p p' e f h = (h.0, (f_pfail (start false) refl, tt))
   body_fine (More T.Empty es) p p' e f h = body_fine es (p + 0) p' (omega arith) f.1 h
   body_fine (More x es) p p' e f h =
-      let k = cut A (bounded N p x) (body N (p + bounded_size x) es) p' (size [] x + 2) (bounded_len N p x) h in
+      let k = cut A (bounded_notes N p x) (body N (p + bounded_size x) es) p' (size [] x + 2) (bounded_len N p x) h in
       let m = cut A (code N [] [] (p + 1) (marked (start false)) x) (o (more (marked (start false))) I.Unmark ∷ []) (suc p') (size [] x) (len N x [] [] (p + 1) (marked (start false))) k.0.1 in
       let u = body_fine es (p + (size [] x + 2)) (p' + (size [] x + 2)) (omega arith) f.1 k.1 in
       let v = fine A L j N x (suc p' + size [] x) [] [] [] true (marked (start false)) (c_proper (marked (start false)) refl) f.0 (p + 1) (suc p') (omega arith) (omega arith) m.0 m.1.0 in

@@ -80,8 +80,8 @@ unmarks zero s = []
 unmarks (suc n) s = o s I.Unmark ∷ unmarks n (dropped s)
 
 -- a co-expression with a body of some size
-abbrev pub created : ℕ → ℕ → Shape → List Note → List Note
-created p n s body = o s (I.Create (p + n + 5)) ∷ o (start true) (I.Mark (p + n + 4)) ∷ body ++ (o (more (marked (start true))) I.Coret ∷ o (more (marked (start true))) I.Efail ∷ o (start true) I.Cofail ∷ [])
+abbrev pub create_notes : ℕ → ℕ → Shape → List Note → List Note
+create_notes p n s body = o s (I.Create (p + n + 5)) ∷ o (start true) (I.Mark (p + n + 4)) ∷ body ++ (o (more (marked (start true))) I.Coret ∷ o (more (marked (start true))) I.Efail ∷ o (start true) I.Cofail ∷ [])
 
 -- the code of a part, in loops with these depths, from a place, with a shape
 abbrev pub Part : Type 0
@@ -141,7 +141,7 @@ abbrev mutual
   code N D W p s (Repeat place b) =
       let n = size (loop_of 1 0 ∷ D) b in let w = ways (p + n + 3) (p + n + 2) in
       o s (I.Mark (p + n + 2)) ∷ code N (loop_of 1 0 ∷ D) (w ∷ W) (p + 1) (marked s) b ++ (o (more (marked s)) I.Unmark ∷ o s (I.Loop p) ∷ [])
-  code N D W p s (Create place e) = created p (size [] e) s (code N [] [] (p + 2) (marked (start true)) e)
+  code N D W p s (Create place e) = create_notes p (size [] e) s (code N [] [] (p + 2) (marked (start true)) e)
   code N D W p s (Next place) = unmarks (dropped_by_next D) s ++ o (drops (dropped_by_next D) s) (I.Goto (next_way W)) ∷ []
   code N D W p s (Fail place) = o s I.Pfail ∷ []
   code N D W p s (Break place e) = unmarks (opened_in D) s ++ (code N (around D) (around W) (p + opened_in D) (drops (opened_in D) s) e ++ o (more (drops (opened_in D) s)) (I.Goto (last_way W)) ∷ [])
@@ -168,11 +168,11 @@ abbrev mutual
 
   pub creates : Names → ℕ → Shape → Trees → List Note
   creates N p s NoTrees = []
-  creates N p s (More e es) = created p (size [] e) s (code N [] [] (p + 2) (marked (start true)) e) ++ creates N (p + size [] e + 5) (more s) es
+  creates N p s (More e es) = create_notes p (size [] e) s (code N [] [] (p + 2) (marked (start true)) e) ++ creates N (p + size [] e + 5) (more s) es
 
   pub bodies_code : Names → ℕ → Shape → Trees → List Note
   bodies_code N p s NoTrees = []
-  bodies_code N p s (More e es) = if is_no_element (More e es) then [] else created p (size [] e) s (code N [] [] (p + 2) (marked (start true)) e) ++ creates N (p + size [] e + 5) (more s) es
+  bodies_code N p s (More e es) = if is_no_element (More e es) then [] else create_notes p (size [] e) s (code N [] [] (p + 2) (marked (start true)) e) ++ creates N (p + size [] e + 5) (more s) es
 
   pub subscripts : Names → List Depth → List Ways → ℕ → Shape → Trees → List Note
   subscripts N D W p s NoTrees = []
@@ -209,12 +209,12 @@ abbrev mutual
   is_default N D W p s (Guarded place c b) later = later
 
 -- a bounded expression of a body; an empty one has no code
-abbrev pub bounded : Names → ℕ → Tree → List Note
-bounded N p e = if is_empty e then [] else o (start false) (I.Mark (p + size [] e + 2)) ∷ code N [] [] (p + 1) (marked (start false)) e ++ o (more (marked (start false))) I.Unmark ∷ []
+abbrev pub bounded_notes : Names → ℕ → Tree → List Note
+bounded_notes N p e = if is_empty e then [] else o (start false) (I.Mark (p + size [] e + 2)) ∷ code N [] [] (p + 1) (marked (start false)) e ++ o (more (marked (start false))) I.Unmark ∷ []
 
 abbrev pub body : Names → ℕ → Trees → List Note
 body N p NoTrees = o (start false) I.Pfail ∷ []
-body N p (More e es) = bounded N p e ++ body N (p + bounded_size e) es
+body N p (More e es) = bounded_notes N p e ++ body N (p + bounded_size e) es
 
 -- the code of a procedure
 abbrev pub procedure : Names → Initial → Trees → List Note

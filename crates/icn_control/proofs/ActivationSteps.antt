@@ -32,7 +32,7 @@ use Rattle.icn_code.specs.Codes.{Tables}
 use Rattle.icn_run.specs.Rows.{Val as ItemVal, ACoexp, coexpression_row}
 use Rattle.icn_run.specs.Stacks.{Frames, flat}
 use Rattle.icn_run.specs.Step as code
-use Rattle.icn_run.specs.Step.{State, Store, Status, Fresh, Active, Waiting, Exhausted, errs, running, failing, hopping, instruction, turn_if, turn, activation, activation_of, operated, refreshed, result_given, counted_result, passed_value, passed_failure, activator_of, entered_if, entered_by, exhausted, hop, with_popped, with_status, with_value, with_world, at_bound, is_main, stuck}
+use Rattle.icn_run.specs.Step.{State, Store, Status, Fresh, Active, Waiting, Exhausted, errs, running, failing, hopping, instruction, turn_if, turn, activation, activation_of, operate, refresh, result_given, counted_result, passed_value, passed_failure, activator_of, entered_if, entered_by, exhaust_active, hop, with_popped, with_status, with_value, with_world, at_bound, is_main, stuck}
 use Rattle.icn_control.specs.Creations.{charged_and_made, copied, copied_on}
 use Rattle.icn_control.specs.Landing.{Beside, is_moved, landed, store_with}
 use Rattle.icn_control.specs.Living.{IsLiveStack}
@@ -143,9 +143,9 @@ refresh_bound tables names outside w turns begun table m k item e b p =
     let st : Store Frames = store_in names outside (world_of w) turns begun (extent_of w.heap) table in
     let all : Extent = extent_of w.heap in
     ap (λ (o : Option FlatStack). instruction flat tables (Instrs.Op Ops.Refresh) (stack_in all (running_of o)) st) e
-    ∙ one_popped (stack_in all m) (λ items n. turn tables st (operated flat Ops.Refresh items n))
-    ∙ popped_runs m k item p all (λ i n. turn tables st (operated flat Ops.Refresh (i ∷ []) n))
-    ∙ ap (λ (x : Bool). turn_if x st (operated flat Ops.Refresh (item_in all item ∷ []) (stack_in all k))) b
+    ∙ one_popped (stack_in all m) (λ items n. turn tables st (operate flat Ops.Refresh items n))
+    ∙ popped_runs m k item p all (λ i n. turn tables st (operate flat Ops.Refresh (i ∷ []) n))
+    ∙ ap (λ (x : Bool). turn_if x st (operate flat Ops.Refresh (item_in all item ∷ []) (stack_in all k))) b
 
 pub coret_bound : (tables : Tables) (names : Names) (outside : Outside) (w : World) (turns : ℕ) (begun : List Bool) (table : Table) (m k : FlatStack) (item : Item) → table.running ≡ Some m
     → nat_lt turns (heap_of w.heap).bounds.turns ≡ false → held.pop m ≡ Some (item, k) → held.is_base m ≡ true → 0 < table.active
@@ -279,7 +279,7 @@ same_turn true st f g e = e
 same_turn false st f g e = refl
 
 -- a hop is what is done where one is exhausted, as it is already
-pub hop_exhausts : (tables : Tables) (beside : Beside) (t : Table) (m : Frames) → table.status_of t.active t ≡ Exhausted → hop flat tables m (store_with beside t) ≡ exhausted flat tables m (store_with beside t)
+pub hop_exhausts : (tables : Tables) (beside : Beside) (t : Table) (m : Frames) → table.status_of t.active t ≡ Exhausted → hop flat tables m (store_with beside t) ≡ exhaust_active flat tables m (store_with beside t)
 hop_exhausts tables beside t m s =
     let st : Store Frames = store_with (turned beside) t in
     let F : List Coexp → Store Frames = λ cs. store_with (turned beside) (record t { coexps = cs }) in
@@ -301,24 +301,24 @@ reached_other t e d = by_number t.active e
 pub refresh_goes : (tables : Tables) (names : Names) (outside : Outside) (w : World) (turns : ℕ) (begun : List Bool) (table : Table) (m : FlatStack) → table.running ≡ Some m → nat_lt turns (heap_of w.heap).bounds.turns ≡ true
     → instruction flat tables (Instrs.Op Ops.Refresh) (stack_in (extent_of w.heap) (running_of table.running)) (store_in names outside (world_of w) turns begun (extent_of w.heap) table)
     ≡ with_top (stack_in (extent_of w.heap) m) (store_in names outside (world_of w) (suc turns) begun (extent_of w.heap) table)
-    (λ value n. refreshed flat value n (store_in names outside (world_of w) (suc turns) begun (extent_of w.heap) table))
+    (λ value n. refresh flat value n (store_in names outside (world_of w) (suc turns) begun (extent_of w.heap) table))
 refresh_goes tables names outside w turns begun table m e b =
     let st : Store Frames = store_in names outside (world_of w) turns begun (extent_of w.heap) table in
     let M : Frames = stack_in (extent_of w.heap) m in
     ap (λ (o : Option FlatStack). instruction flat tables (Instrs.Op Ops.Refresh) (stack_in (extent_of w.heap) (running_of o)) st) e
-    ∙ one_popped M (λ items n. turn tables st (operated flat Ops.Refresh items n))
-    ∙ ap (λ (x : Bool). with_popped flat M (λ item n. turn_if x st (operated flat Ops.Refresh (item ∷ []) n))) b
+    ∙ one_popped M (λ items n. turn tables st (operate flat Ops.Refresh items n))
+    ∙ ap (λ (x : Bool). with_popped flat M (λ item n. turn_if x st (operate flat Ops.Refresh (item ∷ []) n))) b
 
 pub copy_goes : (t : Tables) (w v : World) (m : FlatStack) (id : ℕ) (names : Names) (outside : Outside) (turns : ℕ) (begun : List Bool) (table : Table) → table.running ≡ Some m → 0 < id → id < length table.coexps
     → KeepsItems (reach_of w []) (reach_of v []) → IsLiveStack t (reach_of w []) m → AllLive t (reach_of w []) table.coexps
-    → refreshed flat (ACoexp id) (stack_in (extent_of w.heap) (running_of table.running)) (store_in names outside (world_of w) turns begun (extent_of w.heap) table)
+    → refresh flat (ACoexp id) (stack_in (extent_of w.heap) (running_of table.running)) (store_in names outside (world_of w) turns begun (extent_of w.heap) table)
     ≡ charged_and_made (beside_in names outside w turns begun v) (length (values_of id table)) table (with_copy table (slice_get table.coexps id)) (stack_in (extent_of v.heap) m)
 copy_goes t w v m zero names outside turns begun table e p l keeps live all = absurd (omega (arith, p))
 copy_goes t w v m (suc k) names outside turns begun table e p l keeps live all =
     let st : Store Frames = store_in names outside (world_of w) turns begun (extent_of w.heap) table in
-    ap (λ (o : Option FlatStack). refreshed flat (ACoexp (suc k)) (stack_in (extent_of w.heap) (running_of o)) st) e
-    ∙ ap (λ (x : Frames). refreshed flat (ACoexp (suc k)) x st) (sym (stack_same t (reach_of w []) (reach_of v []) m keeps live))
-    ∙ ap (refreshed flat (ACoexp (suc k)) (stack_in (extent_of v.heap) m)) (sym (store_same names outside (world_of w) turns begun t (reach_of w []) (reach_of v []) table keeps all))
+    ap (λ (o : Option FlatStack). refresh flat (ACoexp (suc k)) (stack_in (extent_of w.heap) (running_of o)) st) e
+    ∙ ap (λ (x : Frames). refresh flat (ACoexp (suc k)) x st) (sym (stack_same t (reach_of w []) (reach_of v []) m keeps live))
+    ∙ ap (refresh flat (ACoexp (suc k)) (stack_in (extent_of v.heap) m)) (sym (store_same names outside (world_of w) turns begun t (reach_of w []) (reach_of v []) table keeps all))
     ∙ (creations_are (beside_in names outside w turns begun v) table (stack_in (extent_of v.heap) m)).refreshes k l
 
 -- what is copied, by its number
@@ -333,7 +333,7 @@ copied_is table u m id number e c n =
 pub copy_runs : (t : Tables) (w v : World) (m : FlatStack) (id count number : ℕ) (names : Names) (outside : Outside) (turns : ℕ) (begun : List Bool) (table u : Table) → table.running ≡ Some m → 0 < id → id < length table.coexps
     → KeepsItems (reach_of w []) (reach_of v []) → IsLiveStack t (reach_of w []) m → AllLive t (reach_of w []) table.coexps → held.set_locals (held.locals m) m ≡ m → count ≡ length (values_of id table)
     → coexpression_row count (setting_of outside w (held.locals m)) ≡ Gives (ItemVal (ACoexp number)) (setting_of outside v (held.locals m)) → number ≡ length table.coexps → u ≡ copied id (record table { running = Some m })
-    → refreshed flat (ACoexp id) (stack_in (extent_of w.heap) (running_of table.running)) (store_in names outside (world_of w) turns begun (extent_of w.heap) table)
+    → refresh flat (ACoexp id) (stack_in (extent_of w.heap) (running_of table.running)) (store_in names outside (world_of w) turns begun (extent_of w.heap) table)
     ≡ running (stack_in (extent_of v.heap) (running_of u.running)) (store_in names outside (world_of v) turns begun (extent_of v.heap) u)
 copy_runs t w v m id count number names outside turns begun table u e p l keeps live all same c row n made =
     let after : Table = with_copy table (slice_get table.coexps id) in
@@ -355,7 +355,7 @@ copy_runs t w v m id count number names outside turns begun table u e p l keeps 
 pub copy_errs : (t : Tables) (w v : World) (m : FlatStack) (id count number : ℕ) (offending : Option Val) (stop : Stop) (names : Names) (outside : Outside) (turns : ℕ) (begun : List Bool) (table other : Table) → table.running ≡ Some m → 0 < id
     → id < length table.coexps → KeepsItems (reach_of w []) (reach_of v []) → IsLiveStack t (reach_of w []) m → AllLive t (reach_of w []) table.coexps → count ≡ length (values_of id table)
     → HaltsRow (extent_of v.heap) (coexpression_row count) (setting_of outside w (held.locals m)) (setting_of outside v (held.locals m)) (halt_of stop) → stop ≡ StopError number offending
-    → refreshed flat (ACoexp id) (stack_in (extent_of w.heap) (running_of table.running)) (store_in names outside (world_of w) turns begun (extent_of w.heap) table)
+    → refresh flat (ACoexp id) (stack_in (extent_of w.heap) (running_of table.running)) (store_in names outside (world_of w) turns begun (extent_of w.heap) table)
     ≡ errs number (option_map (value_in (extent_of v.heap)) offending) (store_in names outside (world_of v) turns begun (extent_of v.heap) other)
 copy_errs t w v m id count number offending stop names outside turns begun table other e p l keeps live all c row s =
     let after : Table = with_copy table (slice_get table.coexps id) in

@@ -26,7 +26,7 @@ use Rattle.icn_code.specs.declared.instr.Instr.TheVariants as Instrs
 use Rattle.icn_code.specs.Codes.{Tables}
 use Rattle.icn_run.specs.Rows.{Val as ItemVal, ACoexp, coexpression_row}
 use Rattle.icn_run.specs.Stacks.{Frames, flat}
-use Rattle.icn_run.specs.Step.{State, Store, running, errs, instruction, turn_if, coexp_made, here, made, pushed}
+use Rattle.icn_run.specs.Step.{State, Store, running, errs, instruction, turn_if, coexp_made, here, with_made, push_item}
 use Rattle.icn_control.specs.Living.{IsLiveStack}
 use Rattle.icn_control.specs.Landing.{Beside, store_with}
 use Rattle.icn_control.specs.Machines.{store_in, running_of}
@@ -62,10 +62,10 @@ charged_runs t w v n count number names outside turns begun before after keeps l
     let b : Extent = extent_of v.heap in
     let beside : Beside = beside_in names outside w turns begun v in
     let st : Store Frames = store_with beside before in
-    let next : Value → Frames → Store Frames → State Frames Frames = λ value n st. pushed flat (ItemVal value) n (with_coexps beside after st) in
+    let next : Value → Frames → Store Frames → State Frames Frames = λ value n st. push_item flat (ItemVal value) n (with_coexps beside after st) in
     let done : ℕ → Store Frames = λ a. record (store_in names outside (world_of v) turns begun b after) { active = a } in
-    ap (λ (s : Setting). made flat (coexpression_row count s) (stack_in b n) st next) (charged_here t w v n st refl keeps live)
-    ∙ ap (λ (o : Outcome). made flat o (stack_in b n) st next) row
+    ap (λ (s : Setting). with_made flat (coexpression_row count s) (stack_in b n) st next) (charged_here t w v n st refl keeps live)
+    ∙ ap (λ (o : Outcome). with_made flat o (stack_in b n) st next) row
     ∙ ap (λ (x : Frames). running (flat.push (ItemVal (ACoexp number)) x) (done before.active)) (set_locals_read (reading_of b) (held.locals n) n ∙ ap (stack_in b) same)
     ∙ ap (λ (a : ℕ). running (stack_in b (held.push (HeldVal (HeldCoexp number)) n)) (done a)) (sym active)
 
@@ -78,9 +78,9 @@ charged_errs t w v n count number value names outside turns begun before after o
     let b : Extent = extent_of v.heap in
     let beside : Beside = beside_in names outside w turns begun v in
     let st : Store Frames = store_with beside before in
-    let next : Value → Frames → Store Frames → State Frames Frames = λ value n st. pushed flat (ItemVal value) n (with_coexps beside after st) in
-    ap (λ (s : Setting). made flat (coexpression_row count s) (stack_in b n) st next) (charged_here t w v n st refl keeps live)
-    ∙ ap (λ (o : Outcome). made flat o (stack_in b n) st next) row
+    let next : Value → Frames → Store Frames → State Frames Frames = λ value n st. push_item flat (ItemVal value) n (with_coexps beside after st) in
+    ap (λ (s : Setting). with_made flat (coexpression_row count s) (stack_in b n) st next) (charged_here t w v n st refl keeps live)
+    ∙ ap (λ (o : Outcome). with_made flat o (stack_in b n) st next) row
 
 -- create, up to its charge
 pub create_goes : (t tables : Tables) (w v : World) (m : FlatStack) (label : ℕ) (names : Names) (outside : Outside) (turns : ℕ) (begun : List Bool) (table : Table) → table.running ≡ Some m

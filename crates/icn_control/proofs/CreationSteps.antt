@@ -15,7 +15,7 @@ use Rattle.icn_coexp.proofs.Puts.{live_entry}
 use Rattle.icn_run.specs.Rows.{Val as ItemVal, Var as ItemVar, coexpression_row}
 use Rattle.icn_run.specs.Stacks.{Frames, flat}
 use Rattle.icn_run.specs.Step as code
-use Rattle.icn_run.specs.Step.{State, Store, Fresh, coexp_made, here, made, pushed, refreshed_from}
+use Rattle.icn_run.specs.Step.{State, Store, Fresh, coexp_made, here, with_made, push_item, refreshed_from}
 use Rattle.icn_control.specs.Machines.{coexp_in}
 use Rattle.icn_control.specs.Standing.{stack_in, reading_of}
 use Rattle.icn_control.specs.Landing.{Beside, store_with}
@@ -31,11 +31,11 @@ added_is beside t values proc place =
 
 -- whatever the charge comes to
 made_by : (beside : Beside) (t : Table) (values : List Val) (proc place : ℕ) (n : Frames) (o : Outcome)
-    → made flat o n (store_with beside t) (λ value n st. pushed flat (ItemVal value) n (code.with_new (map (value_in beside.all) values) proc place st))
-    ≡ made flat o n (store_with beside t) (λ value n st. pushed flat (ItemVal value) n (with_coexps beside (with_new values proc place t) st))
+    → with_made flat o n (store_with beside t) (λ value n st. push_item flat (ItemVal value) n (code.with_new (map (value_in beside.all) values) proc place st))
+    ≡ with_made flat o n (store_with beside t) (λ value n st. push_item flat (ItemVal value) n (with_coexps beside (with_new values proc place t) st))
 made_by beside t values proc place n (Gives (ItemVal value) seen) =
     let F : List (code.Coexp Frames) → State Frames Frames
-    = λ w. pushed flat (ItemVal value) (flat.set_locals seen.locals n) (record (store_with beside t) { world = seen.world; outside = seen.outside; coexps = w }) in
+    = λ w. push_item flat (ItemVal value) (flat.set_locals seen.locals n) (record (store_with beside t) { world = seen.world; outside = seen.outside; coexps = w }) in
     ap F (added_is beside t values proc place)
 made_by beside t values proc place n (Gives (ItemVar variable) seen) = refl
 made_by beside t values proc place n (Fails seen) = refl
@@ -46,8 +46,8 @@ made_by beside t values proc place n (Ends status seen) = refl
 pub adds : (beside : Beside) (t : Table) (values : List Val) (proc place : ℕ) (n : Frames)
     → coexp_made flat (map (value_in beside.all) values) proc place n (store_with beside t) ≡ charged_and_made beside (length values) t (with_new values proc place t) n
 adds beside t values proc place n =
-    let next : Value → Frames → Store Frames → State Frames Frames = λ value n st. pushed flat (ItemVal value) n (code.with_new (map (value_in beside.all) values) proc place st) in
-    ap (λ (count : ℕ). made flat (coexpression_row count (here flat n (store_with beside t))) n (store_with beside t) next) (length-map values (value_in beside.all))
+    let next : Value → Frames → Store Frames → State Frames Frames = λ value n st. push_item flat (ItemVal value) n (code.with_new (map (value_in beside.all) values) proc place st) in
+    ap (λ (count : ℕ). with_made flat (coexpression_row count (here flat n (store_with beside t))) n (store_with beside t) next) (length-map values (value_in beside.all))
     ∙ made_by beside t values proc place n (coexpression_row (length values) (here flat n (store_with beside t)))
 
 refreshed_is : (beside : Beside) (t : Table) (n : Frames) (o : Option Coexp) (c : Coexp) → o ≡ Some c

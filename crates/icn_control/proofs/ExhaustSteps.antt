@@ -6,7 +6,7 @@ use Rattle.icn_coexp.specs.Transfers.{Table, exhaust, went_by}
 use Rattle.icn_coexp.specs.declared.table.Went.{Went}
 use Rattle.icn_code.specs.Codes.{Tables}
 use Rattle.icn_run.specs.Stacks.{Frames, flat}
-use Rattle.icn_run.specs.Step.{State, Store, failing, hopping, turn_if, exhausted, passed_failure, activator_of, with_status, Exhausted}
+use Rattle.icn_run.specs.Step.{State, Store, failing, hopping, turn_if, exhaust_active, passed_failure, activator_of, with_status, Exhausted}
 use Rattle.icn_control.specs.Machines.{running_of}
 use Rattle.icn_control.specs.Standing.{stack_in}
 use Rattle.icn_control.specs.Landing.{Beside, is_moved, store_with, landed}
@@ -17,7 +17,7 @@ abbrev pub turned : Beside → Beside
 turned beside = record beside { turns = suc beside.turns }
 
 pub exhausts : (beside : Beside) (tables : Tables) (t u : Table) (m : Frames) → nat_lt beside.turns beside.world.heap.bounds.turns ≡ true → exhaust t ≡ Some u
-    → exhausted flat tables m (store_with beside t) ≡ landed (turned beside) failing m u u.running
+    → exhaust_active flat tables m (store_with beside t) ≡ landed (turned beside) failing m u u.running
 exhausts beside tables t u m b e =
     let event : Store Frames → State Frames Frames = λ st. passed_failure flat (activator_of st.active st) m (with_status st.active Exhausted st) in
     ap (λ (x : Bool). turn_if x (store_with beside t) event) b ∙ (are_read (turned beside) t u m).exhausts e

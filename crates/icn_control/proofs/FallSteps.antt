@@ -22,7 +22,7 @@ use Rattle.icn_frames_laws.proofs.DropsRead.{drop_read, drop_none_read}
 use Rattle.icn_code.specs.Codes.{Tables}
 use Rattle.icn_run.specs.Calls as calls
 use Rattle.icn_run.specs.Stacks.{Frames, flat, swap_at}
-use Rattle.icn_run.specs.Step.{State, Store, running, failing, stuck, with_world, pair_now, exchanged, turn, fails, resumed, resumed_or_dropped, mark_dropped}
+use Rattle.icn_run.specs.Step.{State, Store, running, failing, stuck, with_world, pair_now, with_exchange, turn, fails, resume_by, resumed_or_dropped, mark_dropped}
 use Rattle.icn_control.specs.declared.failing.Due.{Due}
 use Rattle.icn_control.specs.declared.failing.Due.TheVariants as Dues
 use Rattle.icn_control.specs.Standing.{stack_in, reading_of, pair_in}
@@ -71,7 +71,7 @@ pair_up why reason n r =
 pub resumed_as : (m n : FlatStack) (why reason : Why) → held.resume m ≡ Some (why, n) → why ≡ reason → held.resume m ≡ Some (reason, n)
 resumed_as m n why reason e r = e ∙ pair_up why reason n r
 
-falls_by : (all : Extent) (m n : FlatStack) (why : Why) → held.resume m ≡ Some (why, n) → (tables : Tables) (st : Store Frames) → fails flat tables (stack_in all m) st ≡ resumed flat tables (why_read (reading_of all) why) (stack_in all n) st
+falls_by : (all : Extent) (m n : FlatStack) (why : Why) → held.resume m ≡ Some (why, n) → (tables : Tables) (st : Store Frames) → fails flat tables (stack_in all m) st ≡ resume_by flat tables (why_read (reading_of all) why) (stack_in all n) st
 falls_by all m n why e tables st = ap (resumed_or_dropped flat tables (stack_in all m) st) (resume_read (reading_of all) m ∙ ap (option_map (resumed_read (reading_of all))) e)
 
 none_newest : (m : FlatStack) → m.registers.newest ≡ None → held.resume m ≡ None
@@ -86,10 +86,10 @@ fall_alt w m n e tables st same = falls_by (extent_of w.heap) m n Alt e tables s
 pub fall_op : (w : World) (m n : FlatStack) (rest : HeldResidual) → held.resume m ≡ Some (Op rest, n) → (tables : Tables) (st : Store Frames) → st.world ≡ world_of w
     → FallsTo tables (fails flat tables (stack_in (extent_of w.heap) m) st) st w n (Dues.Resuming rest)
 fall_op w m n rest e tables st same =
-    falls_by (extent_of w.heap) m n (Op rest) e tables st ∙ ap (resumed flat tables (calls.Op (residual_in (extent_of w.heap) rest)) (stack_in (extent_of w.heap) n)) (same_world w st same)
+    falls_by (extent_of w.heap) m n (Op rest) e tables st ∙ ap (resume_by flat tables (calls.Op (residual_in (extent_of w.heap) rest)) (stack_in (extent_of w.heap) n)) (same_world w st same)
 
 pub fall_proc : (w : World) (m n : FlatStack) → held.resume m ≡ Some (Proc, n) → (tables : Tables) (st : Store Frames) → st.world ≡ world_of w → FallsTo tables (fails flat tables (stack_in (extent_of w.heap) m) st) st w n Dues.Reentering
-fall_proc w m n e tables st same = falls_by (extent_of w.heap) m n Proc e tables st ∙ ap (resumed flat tables calls.Proc (stack_in (extent_of w.heap) n)) (same_world w st same)
+fall_proc w m n e tables st same = falls_by (extent_of w.heap) m n Proc e tables st ∙ ap (resume_by flat tables calls.Proc (stack_in (extent_of w.heap) n)) (same_world w st same)
 
 pub fall_scan : (w v : World) (m n : FlatStack) (pair : HeldPair) → held.resume m ≡ Some (Scan pair, n) → world_of v ≡ paired (pair_in (extent_of w.heap) pair) (world_of w) → v.heap ≡ w.heap → (tables : Tables) (st : Store Frames)
     → st.world ≡ world_of w → FallsTo tables (fails flat tables (stack_in (extent_of w.heap) m) st) st v n Dues.Failing
@@ -107,8 +107,8 @@ fall_escan w v m k n e f back heap tables st same =
     let all : Extent = extent_of w.heap in
     let F : HeldHeap → State Frames Frames = λ x. failing (stack_in (extent_of x) n) (with_world (world_of v) st) in
     falls_by all m k Escan e tables st
-    ∙ ap (λ (p : calls.Pair). exchanged (flat.swap_newest p (stack_in all k)) failing st) (present w st same)
-    ∙ ap (λ (o : Option (calls.Pair × Frames)). exchanged o failing st) (swap_newest_read (reading_of all) w.pair k ∙ ap (option_map (swapped_read (reading_of all))) f)
+    ∙ ap (λ (p : calls.Pair). with_exchange (flat.swap_newest p (stack_in all k)) failing st) (present w st same)
+    ∙ ap (λ (o : Option (calls.Pair × Frames)). with_exchange o failing st) (swap_newest_read (reading_of all) w.pair k ∙ ap (option_map (swapped_read (reading_of all))) f)
     ∙ ap (λ (x : StoreWorld). failing (stack_in all n) (with_world (paired (pair_in all v.pair) x) st)) same
     ∙ ap (λ (x : StoreWorld). failing (stack_in all n) (with_world x st)) (sym back)
     ∙ ap F (sym heap)
@@ -116,7 +116,7 @@ fall_escan w v m k n e f back heap tables st same =
 lacking : (all : Extent) (m k : FlatStack) → held.resume m ≡ Some (Escan, k) → (tables : Tables) (st : Store Frames) → k.registers.scan ≡ None → fails flat tables (stack_in all m) st ≡ stuck
 lacking all m k e tables st q =
     falls_by all m k Escan e tables st
-    ∙ ap (λ (scan : Option ℕ). exchanged (swap_at (pair_now st) (stack_in all k) scan) failing st) q
+    ∙ ap (λ (scan : Option ℕ). with_exchange (swap_at (pair_now st) (stack_in all k) scan) failing st) q
 
 -- a scan is open where one that was left is resumed, as else the step lacks it
 pub escan_open : (all : Extent) (m k : FlatStack) → held.resume m ≡ Some (Escan, k) → (tables : Tables) (st : Store Frames) → fails flat tables (stack_in all m) st ≢ stuck → IsSome k.registers.scan

@@ -15,7 +15,7 @@ use Rattle.icn_coexp.specs.Transfers.{Table}
 use Rattle.icn_code.specs.Codes.{Tables}
 use Rattle.icn_run.specs.Rows.{Done}
 use Rattle.icn_run.specs.Stacks.{Frames, flat}
-use Rattle.icn_run.specs.Step.{State, Store, running, failing, over, stuck, all_names, exhausted, is_main, proc_fails, without_mark}
+use Rattle.icn_run.specs.Step.{State, Store, running, failing, over, stuck, all_names, exhaust_active, is_main, proc_fails, without_mark}
 use Rattle.icn_control.specs.Machines.{store_in, running_of, HaltsAt, StandsAt}
 use Rattle.icn_control.specs.declared.machine.Machine.{Machine}
 use Rattle.icn_control.specs.declared.machine.Stage.{Stage}
@@ -74,21 +74,21 @@ above_main : (n : ℕ) → (n ≡ 0 → ⊥) → is_main n ≡ false
 above_main zero d = absurd (d refl)
 above_main (suc n) d = refl
 
-pub ends_body : (all : Extent) (tables : Tables) (m : FlatStack) (st : Store Frames) → (st.active ≡ 0 → ⊥) → held.is_base m ≡ true → without_mark flat tables (stack_in all m) st ≡ exhausted flat tables (stack_in all m) st
+pub ends_body : (all : Extent) (tables : Tables) (m : FlatStack) (st : Store Frames) → (st.active ≡ 0 → ⊥) → held.is_base m ≡ true → without_mark flat tables (stack_in all m) st ≡ exhaust_active flat tables (stack_in all m) st
 ends_body all tables m st d e =
-    let F : Bool → State Frames Frames = λ x. if x then exhausted flat tables (stack_in all m) st else proc_fails flat (stack_in all m) st in
+    let F : Bool → State Frames Frames = λ x. if x then exhaust_active flat tables (stack_in all m) st else proc_fails flat (stack_in all m) st in
     ap (λ (x : Bool). F (x && not (is_main st.active))) (is_base_read (reading_of all) m ∙ e) ∙ ap (λ (x : Bool). F (true && not x)) (above_main st.active d)
 
 pub ends_call : (all : Extent) (tables : Tables) (m : FlatStack) (st : Store Frames) → held.is_base m ≡ false → without_mark flat tables (stack_in all m) st ≡ proc_fails flat (stack_in all m) st
 ends_call all tables m st e =
-    let F : Bool → State Frames Frames = λ x. if x then exhausted flat tables (stack_in all m) st else proc_fails flat (stack_in all m) st in
+    let F : Bool → State Frames Frames = λ x. if x then exhaust_active flat tables (stack_in all m) st else proc_fails flat (stack_in all m) st in
     ap (λ (x : Bool). F (x && not (is_main st.active))) (is_base_read (reading_of all) m ∙ e)
 
 pub ends_main : (all : Extent) (tables : Tables) (m : FlatStack) (st : Store Frames) → st.active ≡ 0 → without_mark flat tables (stack_in all m) st ≡ proc_fails flat (stack_in all m) st
 ends_main all tables m st e = by_base (flat.is_base (stack_in all m)) refl
   where
     F : Bool → State Frames Frames
-    F x = if x then exhausted flat tables (stack_in all m) st else proc_fails flat (stack_in all m) st
+    F x = if x then exhaust_active flat tables (stack_in all m) st else proc_fails flat (stack_in all m) st
 
     by_base : (b : Bool) → flat.is_base (stack_in all m) ≡ b → F (flat.is_base (stack_in all m) && not (is_main st.active)) ≡ proc_fails flat (stack_in all m) st
     by_base true q = ap (λ (x : Bool). F (x && not (is_main st.active))) q ∙ ap (λ (n : ℕ). F (true && not (is_main n))) e

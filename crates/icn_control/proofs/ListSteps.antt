@@ -23,7 +23,7 @@ use Rattle.icn_code.specs.declared.instr.Instr.TheVariants as Instrs
 use Rattle.icn_code.specs.Codes.{Tables}
 use Rattle.icn_run.specs.Rows as rows
 use Rattle.icn_run.specs.Stacks.{Frames, flat}
-use Rattle.icn_run.specs.Step.{State, Store, running, at_bound, turn, turn_if, all_names, instruction, list_made, pushed, with_values, with_world}
+use Rattle.icn_run.specs.Step.{State, Store, running, at_bound, turn, turn_if, all_names, instruction, list_made, push_item, with_values, with_world}
 use Rattle.icn_control.specs.Living.{with_locals, IsLiveStack}
 use Rattle.icn_control.specs.Machines.{store_in, running_of, HaltsAt, AreLiveStacks}
 use Rattle.icn_control.specs.declared.machine.Machine.{Machine}
@@ -76,7 +76,7 @@ pub list_runs : (w v : World) (m k l n : FlatStack) (items : List Item) (vals : 
     → ((st : Store Frames) (next : List Value → State Frames Frames) → st.world ≡ world_of w → with_values_in w m items st next ≡ next (map (value_in (extent_of w.heap)) vals)) → k ≡ m
     → MakesValue (list_row (map (value_in (extent_of w.heap)) vals)) w k v (Ok val) → l ≡ k → n ≡ held.push (HeldVal val) l → (st : Store Frames) → st.world ≡ world_of w → RunsWith (listed w m items st) st v n
 list_runs w v m k l n items vals val f p g q r st same =
-    let pushes : Value → Frames → Store Frames → State Frames Frames = λ list a after. pushed flat (rows.Val list) a after in
+    let pushes : Value → Frames → Store Frames → State Frames Frames = λ list a after. push_item flat (rows.Val list) a after in
     let here : MakesValue (list_row (map (value_in (extent_of w.heap)) vals)) w m v (Ok val) = subst (λ (x : FlatStack). MakesValue (list_row (map (value_in (extent_of w.heap)) vals)) w x v (Ok val)) p g in
     f st (λ values. list_made flat values (stack_in (extent_of w.heap) m) st pushes) same
     ∙ here st pushes same
@@ -88,14 +88,14 @@ pub list_unfound : {A : Type 0} (result : Result A Halt) (w : World) (m n : Flat
     → MatchResult result (λ (x : A). RunsWith (listed w m items st) st w n) (HaltsWith (listed w m items st) st w)
 list_unfound {A} result w m n items stop err f st same =
     at_halt result (halt_of stop) (λ (x : A). RunsWith (listed w m items st) st w n) (HaltsWith (listed w m items st) st w) err
-    (f st (λ values. list_made flat values (stack_in (extent_of w.heap) m) st (λ list a after. pushed flat (rows.Val list) a after)) same)
+    (f st (λ values. list_made flat values (stack_in (extent_of w.heap) m) st (λ list a after. push_item flat (rows.Val list) a after)) same)
 
 pub list_unmade : {A : Type 0} (result : Result A Halt) (w v : World) (m k n : FlatStack) (items : List Item) (vals : List Val) (stop : Stop) → IsErrAnd result (λ h. h ≡ halt_of stop)
     → ((st : Store Frames) (next : List Value → State Frames Frames) → st.world ≡ world_of w → with_values_in w m items st next ≡ next (map (value_in (extent_of w.heap)) vals)) → k ≡ m
     → MakesValue (list_row (map (value_in (extent_of w.heap)) vals)) w k v (Err stop) → (st : Store Frames) → st.world ≡ world_of w
     → MatchResult result (λ (x : A). RunsWith (listed w m items st) st v n) (HaltsWith (listed w m items st) st v)
 list_unmade {A} result w v m k n items vals stop err f p g st same =
-    let pushes : Value → Frames → Store Frames → State Frames Frames = λ list a after. pushed flat (rows.Val list) a after in
+    let pushes : Value → Frames → Store Frames → State Frames Frames = λ list a after. push_item flat (rows.Val list) a after in
     let here : MakesValue (list_row (map (value_in (extent_of w.heap)) vals)) w m v (Err stop) = subst (λ (x : FlatStack). MakesValue (list_row (map (value_in (extent_of w.heap)) vals)) w x v (Err stop)) p g in
     at_halt result (halt_of stop) (λ (x : A). RunsWith (listed w m items st) st v n) (HaltsWith (listed w m items st) st v) err
     (subst (λ (x : State Frames Frames). HaltsWith x st v (halt_of stop)) (sym (f st (λ values. list_made flat values (stack_in (extent_of w.heap) m) st pushes) same)) (here st pushes same))
@@ -108,10 +108,10 @@ list_live t w v m n val e k i l =
 -- what the instruction is once its operands are taken
 pub llist_is : (all : Extent) (tables : Tables) (table : Table) (m k : FlatStack) (items : List Item) (count : ℕ) (st : Store Frames) → table.running ≡ Some m → taken count m ≡ Some (items, k)
     → instruction flat tables (Instrs.Llist count) (stack_in all (running_of table.running)) st
-    ≡ turn tables st (λ s. with_values flat (map (item_in all) items) (stack_in all k) s (λ values. list_made flat values (stack_in all k) s (λ list a after. pushed flat (rows.Val list) a after)))
+    ≡ turn tables st (λ s. with_values flat (map (item_in all) items) (stack_in all k) s (λ values. list_made flat values (stack_in all k) s (λ list a after. push_item flat (rows.Val list) a after)))
 llist_is all tables table m k items count st e p =
     on_running table m (λ x. instruction flat tables (Instrs.Llist count) (stack_in all x) st) e
-    ∙ taken_runs all count m k items (λ xs a. turn tables st (λ s. with_values flat xs a s (λ values. list_made flat values a s (λ list b after. pushed flat (rows.Val list) b after)))) p
+    ∙ taken_runs all count m k items (λ xs a. turn tables st (λ s. with_values flat xs a s (λ values. list_made flat values a s (λ list b after. push_item flat (rows.Val list) b after)))) p
 
 -- the same on a stack and of operands that are the same
 

@@ -22,7 +22,7 @@ use Rattle.icn_code.specs.Codes.{Tables}
 use Rattle.icn_run.specs.Rows as rows
 use Rattle.icn_run.specs.Stacks.{Frames, flat}
 use Rattle.icn_run.specs.Step as code
-use Rattle.icn_run.specs.Step.{State, Store, Status, Active, running, failing, instruction, with_found, pushed, pushed_or_fails}
+use Rattle.icn_run.specs.Step.{State, Store, Status, Active, running, failing, instruction, with_found, push_item, pushed_or_fails}
 use Rattle.icn_control.specs.Living.{IsLiveStack}
 use Rattle.icn_control.specs.Standing.{stack_in, reading_of, GoesOnIn}
 use Rattle.icn_control.specs.Machines.{running_of, AreLiveStacks, IsLiveRunning}
@@ -36,8 +36,8 @@ members_same set = refl
 
 pub cset_runs : (m n : FlatStack) (tables : Tables) (k : ℕ) (set : Cset) → slice_get tables.csets k ≡ Some set → n ≡ held.push (HeldVal (CharsVal set)) m → GoesOnIn tables (Instrs.Cset k) m n
 cset_runs m n tables k set s p all st =
-    ap (λ (o : Option Cset). with_found o (λ x. pushed flat (rows.Val (rows.Chars (code.members_of x))) (stack_in all m) st)) s
-    ∙ ap (λ (w : List ℕ). pushed flat (rows.Val (rows.Chars w)) (stack_in all m) st) (sym (members_same set))
+    ap (λ (o : Option Cset). with_found o (λ x. push_item flat (rows.Val (rows.Chars (code.members_of x))) (stack_in all m) st)) s
+    ∙ ap (λ (w : List ℕ). push_item flat (rows.Val (rows.Chars w)) (stack_in all m) st) (sym (members_same set))
     ∙ ap (λ (y : FlatStack). running (stack_in all y) st) (sym p)
 
 -- what a keyword gives is pushed, or it fails

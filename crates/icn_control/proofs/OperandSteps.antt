@@ -20,7 +20,7 @@ use Rattle.icn_code.specs.Codes.{Tables}
 use Rattle.icn_run.specs.Rows as rows
 use Rattle.icn_run.specs.Stacks as code
 use Rattle.icn_run.specs.Stacks.{Frames, flat}
-use Rattle.icn_run.specs.Step.{State, Store, activation, errs, here, parted, refreshed, with_found, with_popped, with_taken, with_value}
+use Rattle.icn_run.specs.Step.{State, Store, activation, errs, here, on_pair, refresh, with_found, with_popped, with_taken, with_value}
 use Rattle.icn_control.specs.Living.{with_locals, IsLiveStack}
 use Rattle.icn_control.specs.Operands.{TakesTop, TakesTwo, coexp_number, with_two}
 use Rattle.icn_control.specs.Parts.{FindsValue, HaltsWith}
@@ -97,27 +97,27 @@ two_live t reach m l k upper lower e f live =
 -- Operands that are taken together are taken one by one.
 
 one_by : (next : List rows.Item → Frames → State Frames Frames) (o : Option (rows.Item × Frames))
-    → with_found (option_and_then (λ (popped : rows.Item × Frames). code.taken 0 popped.1 popped.1.cells (popped.0 ∷ [])) o) (parted next) ≡ with_found o (parted (λ item n. next (item ∷ []) n))
+    → with_found (option_and_then (λ (popped : rows.Item × Frames). code.take_top 0 popped.1 popped.1.cells (popped.0 ∷ [])) o) (on_pair next) ≡ with_found o (on_pair (λ item n. next (item ∷ []) n))
 one_by next None = refl
 one_by next (Some popped) = refl
 
 pub one_popped : (m : Frames) (next : List rows.Item → Frames → State Frames Frames) → with_taken flat 1 m next ≡ with_popped flat m (λ item n. next (item ∷ []) n)
-one_popped m next = ap (λ (o : Option (List rows.Item × Frames)). with_found o (parted next)) (taken_pop 0 m []) ∙ one_by next (code.pop m)
+one_popped m next = ap (λ (o : Option (List rows.Item × Frames)). with_found o (on_pair next)) (taken_pop 0 m []) ∙ one_by next (code.pop m)
 
 second_by : (next : List rows.Item → Frames → State Frames Frames) (upper : rows.Item) (o : Option (rows.Item × Frames))
-    → with_found (option_and_then (λ (popped : rows.Item × Frames). code.taken 0 popped.1 popped.1.cells (popped.0 ∷ upper ∷ [])) o) (parted next) ≡ with_found o (parted (λ lower n. next (lower ∷ upper ∷ []) n))
+    → with_found (option_and_then (λ (popped : rows.Item × Frames). code.take_top 0 popped.1 popped.1.cells (popped.0 ∷ upper ∷ [])) o) (on_pair next) ≡ with_found o (on_pair (λ lower n. next (lower ∷ upper ∷ []) n))
 second_by next upper None = refl
 second_by next upper (Some popped) = refl
 
 first_by : (next : List rows.Item → Frames → State Frames Frames) (o : Option (rows.Item × Frames))
-    → with_found (option_and_then (λ (popped : rows.Item × Frames). code.taken 1 popped.1 popped.1.cells (popped.0 ∷ [])) o) (parted next)
-    ≡ with_found o (parted (λ upper n. with_popped flat n (λ lower k. next (lower ∷ upper ∷ []) k)))
+    → with_found (option_and_then (λ (popped : rows.Item × Frames). code.take_top 1 popped.1 popped.1.cells (popped.0 ∷ [])) o) (on_pair next)
+    ≡ with_found o (on_pair (λ upper n. with_popped flat n (λ lower k. next (lower ∷ upper ∷ []) k)))
 first_by next None = refl
 first_by next (Some popped) =
-    ap (λ (o : Option (List rows.Item × Frames)). with_found o (parted next)) (taken_pop 0 popped.1 (popped.0 ∷ [])) ∙ second_by next popped.0 (code.pop popped.1)
+    ap (λ (o : Option (List rows.Item × Frames)). with_found o (on_pair next)) (taken_pop 0 popped.1 (popped.0 ∷ [])) ∙ second_by next popped.0 (code.pop popped.1)
 
 pub two_by_one : (m : Frames) (next : List rows.Item → Frames → State Frames Frames) → with_taken flat 2 m next ≡ with_popped flat m (λ upper n. with_popped flat n (λ lower k. next (lower ∷ upper ∷ []) k))
-two_by_one m next = ap (λ (o : Option (List rows.Item × Frames)). with_found o (parted next)) (taken_pop 1 m []) ∙ first_by next (code.pop m)
+two_by_one m next = ap (λ (o : Option (List rows.Item × Frames)). with_found o (on_pair next)) (taken_pop 1 m []) ∙ first_by next (code.pop m)
 
 -- Co-expressions among the values
 
@@ -149,7 +149,7 @@ not_activated all first (Vals.Set number) m st e = refl
 not_activated all first (Vals.Table number) m st e = refl
 
 -- and not made anew
-pub not_refreshed : (all : Extent) (v : Val) (m : Frames) (st : Store Frames) → None ≡ coexp_number v → refreshed flat (value_in all v) m st ≡ errs 118 (Some (value_in all v)) st
+pub not_refreshed : (all : Extent) (v : Val) (m : Frames) (st : Store Frames) → None ≡ coexp_number v → refresh flat (value_in all v) m st ≡ errs 118 (Some (value_in all v)) st
 not_refreshed all (Vals.Coexp number) m st e = cc
 not_refreshed all Vals.Null m st e = refl
 not_refreshed all (Vals.Integer n) m st e = refl
@@ -163,9 +163,9 @@ not_refreshed all (Vals.Set number) m st e = refl
 not_refreshed all (Vals.Table number) m st e = refl
 
 -- nor is `&main`
-pub main_refused : (all : Extent) (v : Val) (m : Frames) (st : Store Frames) → v ≡ Vals.Coexp 0 → refreshed flat (value_in all v) m st ≡ errs 215 (Some (value_in all v)) st
+pub main_refused : (all : Extent) (v : Val) (m : Frames) (st : Store Frames) → v ≡ Vals.Coexp 0 → refresh flat (value_in all v) m st ≡ errs 215 (Some (value_in all v)) st
 main_refused all v m st e =
-    ap (λ (x : Val). refreshed flat (value_in all x) m st) e ∙ ap (λ (x : Val). errs 215 (Some (value_in all x)) st) (sym e)
+    ap (λ (x : Val). refresh flat (value_in all x) m st) e ∙ ap (λ (x : Val). errs 215 (Some (value_in all x)) st) (sym e)
 
 -- a second operand is there
 pub second_there : (m l : FlatStack) (upper : Item) → held.pop m ≡ Some (upper, l) → IfSome (held.pop m) (λ popped. IsSome (held.pop popped.1)) → (both : Item × FlatStack) × (held.pop l ≡ Some both)

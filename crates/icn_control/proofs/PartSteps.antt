@@ -26,7 +26,7 @@ use Rattle.icn_code.specs.declared.instr.Instr.TheVariants as Instrs
 use Rattle.icn_code.specs.Codes.{Tables}
 use Rattle.icn_run.specs.Rows as rows
 use Rattle.icn_run.specs.Stacks.{Frames, flat}
-use Rattle.icn_run.specs.Step.{State, Store, running, failing, errs, with_value, valued, with_world, with_popped, here, scans_left, unmarked, pushed, limited}
+use Rattle.icn_run.specs.Step.{State, Store, running, failing, errs, with_value, with_given, with_world, with_popped, here, scans_left, unmark_then, push_item, limit_results}
 use Rattle.icn_control.specs.Standing.{done, stack_in, reading_of, maybe_pair_in}
 use Rattle.icn_control.specs.Pairs.{maybe_paired}
 use Rattle.icn_control.specs.Parts.{RunsWith, FailsWith, StandsWith, HaltsWith, FindsValue, natural_of}
@@ -40,12 +40,12 @@ same_world w st e = ap (λ (x : StoreWorld). with_world x st) e
 
 pub value_goes : (all : Extent) (item : rows.Item) (m : Frames) (st : Store Frames) (val : Val) (next : rows.Value → State Frames Frames) → FindsValue all item (here flat m st) (Ok val)
     → with_value flat item m st next ≡ next (value_in all val)
-value_goes all item m st val next h = ap (λ (o : Outcome). valued o m st next) h
+value_goes all item m st val next h = ap (λ (o : Outcome). with_given o m st next) h
 
 pub value_halts : (w : World) (item : rows.Item) (m : Frames) (st : Store Frames) (stop : Stop) (next : rows.Value → State Frames Frames) → st.world ≡ world_of w → FindsValue (extent_of w.heap) item (here flat m st) (Err stop)
     → HaltsWith (with_value flat item m st next) st w (halt_of stop)
 value_halts w item m st (StopError number offending) next e h =
-    ap (λ (o : Outcome). valued o m st next) h ∙ ap (errs number (option_map (value_in (extent_of w.heap)) offending)) (same_world w st e)
+    ap (λ (o : Outcome). with_given o m st next) h ∙ ap (errs number (option_map (value_in (extent_of w.heap)) offending)) (same_world w st e)
 value_halts w item m st StopNoMemory next e h = tt
 
 -- a pair that comes back is in the world then
@@ -80,8 +80,8 @@ pub eret_runs : (w v : World) (m k l n : FlatStack) (item : Item) (val : Val) (p
 eret_runs w v m k l n item val pair e h u same back p tables st here_in =
     let all : Extent = extent_of w.heap in
     let F : HeldHeap → State Frames Frames = λ x. running (stack_in (extent_of x) n) (with_world (world_of v) st) in
-    popped_value w m k item val e st (h st here_in) (λ value a. unmarked flat a st (pushed flat (rows.Val value)))
-    ∙ unmarked_by k l pair u all (λ outside back. pushed flat (rows.Val (value_in all val)) outside (scans_left back st))
+    popped_value w m k item val e st (h st here_in) (λ value a. unmark_then flat a st (push_item flat (rows.Val value)))
+    ∙ unmarked_by k l pair u all (λ outside back. push_item flat (rows.Val (value_in all val)) outside (scans_left back st))
     ∙ ap (λ (x : Store Frames). running (stack_in all (held.push (HeldVal val) l)) x) (left_world w v pair st here_in back)
     ∙ ap (λ (x : FlatStack). running (stack_in all x) (with_world (world_of v) st)) (sym p)
     ∙ ap F (sym same)
@@ -89,7 +89,7 @@ eret_runs w v m k l n item val pair e h u same back p tables st here_in =
 pub eret_halts : (w : World) (m k : FlatStack) (item : Item) (stop : Stop) → held.pop m ≡ Some (item, k)
     → ((st : Store Frames) → st.world ≡ world_of w → FindsValue (extent_of w.heap) (item_in (extent_of w.heap) item) (here flat (stack_in (extent_of w.heap) k) st) (Err stop)) → (tables : Tables) (st : Store Frames)
     → st.world ≡ world_of w → HaltsWith (done (extent_of w.heap) tables Instrs.Eret m st) st w (halt_of stop)
-eret_halts w m k item stop e h tables st same = popped_halts w m k item stop e st same (h st same) (λ value a. unmarked flat a st (pushed flat (rows.Val value)))
+eret_halts w m k item stop e h tables st same = popped_halts w m k item stop e st same (h st same) (λ value a. unmark_then flat a st (push_item flat (rows.Val value)))
 
 -- an answer that halts
 pub at_halt : {A : Type 0} (result : Result A Halt) (halt : Halt) (P : A → Type 0) (Q : Halt → Type 0) → IsErrAnd result (λ h. h ≡ halt) → Q halt → MatchResult result P Q
@@ -106,15 +106,15 @@ eret_err {A} result w m k n item stop err e h tables st same =
 
 pub limit_goes : (w : World) (m k : FlatStack) (item : Item) (val : Val) → held.pop m ≡ Some (item, k)
     → ((st : Store Frames) → st.world ≡ world_of w → FindsValue (extent_of w.heap) (item_in (extent_of w.heap) item) (here flat (stack_in (extent_of w.heap) k) st) (Ok val)) → (n : Option ℤ) → n ≡ integer_of (value_in (extent_of w.heap) val)
-    → (tables : Tables) (st : Store Frames) → st.world ≡ world_of w → done (extent_of w.heap) tables Instrs.Limit m st ≡ limited flat (value_in (extent_of w.heap) val) n (stack_in (extent_of w.heap) k) st
+    → (tables : Tables) (st : Store Frames) → st.world ≡ world_of w → done (extent_of w.heap) tables Instrs.Limit m st ≡ limit_results flat (value_in (extent_of w.heap) val) n (stack_in (extent_of w.heap) k) st
 limit_goes w m k item val e h n i tables st same =
-    popped_value w m k item val e st (h st same) (λ value a. limited flat value (integer_of value) a st)
-    ∙ ap (λ (x : Option ℤ). limited flat (value_in (extent_of w.heap) val) x (stack_in (extent_of w.heap) k) st) (sym i)
+    popped_value w m k item val e st (h st same) (λ value a. limit_results flat value (integer_of value) a st)
+    ∙ ap (λ (x : Option ℤ). limit_results flat (value_in (extent_of w.heap) val) x (stack_in (extent_of w.heap) k) st) (sym i)
 
 pub limit_halts : (w : World) (m k : FlatStack) (item : Item) (stop : Stop) → held.pop m ≡ Some (item, k)
     → ((st : Store Frames) → st.world ≡ world_of w → FindsValue (extent_of w.heap) (item_in (extent_of w.heap) item) (here flat (stack_in (extent_of w.heap) k) st) (Err stop)) → (tables : Tables) (st : Store Frames)
     → st.world ≡ world_of w → HaltsWith (done (extent_of w.heap) tables Instrs.Limit m st) st w (halt_of stop)
-limit_halts w m k item stop e h tables st same = popped_halts w m k item stop e st same (h st same) (λ value a. limited flat value (integer_of value) a st)
+limit_halts w m k item stop e h tables st same = popped_halts w m k item stop e st same (h st same) (λ value a. limit_results flat value (integer_of value) a st)
 
 pub limit_err : (result : Result Stage Halt) (w : World) (m k n : FlatStack) (item : Item) (stop : Stop) → IsErrAnd result (λ h. h ≡ halt_of stop) → held.pop m ≡ Some (item, k)
     → ((st : Store Frames) → st.world ≡ world_of w → FindsValue (extent_of w.heap) (item_in (extent_of w.heap) item) (here flat (stack_in (extent_of w.heap) k) st) (Err stop)) → (tables : Tables) (st : Store Frames)
@@ -145,23 +145,23 @@ pub limit_below : (w : World) (m k : FlatStack) (item : Item) (val : Val) → he
 limit_below w m k item val e h n i b tables st same =
     let below = below_is n (sym b) in
     limit_goes w m k item val e h (Some n) i tables st same
-    ∙ ap (λ (x : ℤ). limited flat (value_in (extent_of w.heap) val) (Some x) (stack_in (extent_of w.heap) k) st) below.1
+    ∙ ap (λ (x : ℤ). limit_results flat (value_in (extent_of w.heap) val) (Some x) (stack_in (extent_of w.heap) k) st) below.1
     ∙ ap (errs 205 (Some (value_in (extent_of w.heap) val))) (same_world w st same)
 
 limit_count : (w : World) (m k : FlatStack) (item : Item) (val : Val) → held.pop m ≡ Some (item, k)
     → ((st : Store Frames) → st.world ≡ world_of w → FindsValue (extent_of w.heap) (item_in (extent_of w.heap) item) (here flat (stack_in (extent_of w.heap) k) st) (Ok val)) → (n : ℤ) → Some n ≡ integer_of (value_in (extent_of w.heap) val)
     → (count : ℕ) → Some count ≡ natural_of n → (tables : Tables) (st : Store Frames) → st.world ≡ world_of w
-    → done (extent_of w.heap) tables Instrs.Limit m st ≡ limited flat (value_in (extent_of w.heap) val) (Some (pos count)) (stack_in (extent_of w.heap) k) st
+    → done (extent_of w.heap) tables Instrs.Limit m st ≡ limit_results flat (value_in (extent_of w.heap) val) (Some (pos count)) (stack_in (extent_of w.heap) k) st
 limit_count w m k item val e h n i count b tables st same =
     limit_goes w m k item val e h (Some n) i tables st same
-    ∙ ap (λ (x : ℤ). limited flat (value_in (extent_of w.heap) val) (Some x) (stack_in (extent_of w.heap) k) st) (count_is n count (sym b))
+    ∙ ap (λ (x : ℤ). limit_results flat (value_in (extent_of w.heap) val) (Some x) (stack_in (extent_of w.heap) k) st) (count_is n count (sym b))
 
 pub limit_zero : (w : World) (m k n : FlatStack) (item : Item) (val : Val) → held.pop m ≡ Some (item, k)
     → ((st : Store Frames) → st.world ≡ world_of w → FindsValue (extent_of w.heap) (item_in (extent_of w.heap) item) (here flat (stack_in (extent_of w.heap) k) st) (Ok val)) → (i : ℤ) → Some i ≡ integer_of (value_in (extent_of w.heap) val)
     → (count : ℕ) → Some count ≡ natural_of i → count ≡ 0 → n ≡ k → (tables : Tables) (st : Store Frames) → st.world ≡ world_of w → FailsWith (done (extent_of w.heap) tables Instrs.Limit m st) st w n
 limit_zero w m k n item val e h i is count b z p tables st same =
     limit_count w m k item val e h i is count b tables st same
-    ∙ ap (λ (c : ℕ). limited flat (value_in (extent_of w.heap) val) (Some (pos c)) (stack_in (extent_of w.heap) k) st) z
+    ∙ ap (λ (c : ℕ). limit_results flat (value_in (extent_of w.heap) val) (Some (pos c)) (stack_in (extent_of w.heap) k) st) z
     ∙ ap (failing (stack_in (extent_of w.heap) k)) (same_world w st same)
     ∙ ap (λ (x : FlatStack). failing (stack_in (extent_of w.heap) x) (with_world (world_of w) st)) (sym p)
 
@@ -178,7 +178,7 @@ limit_more w m k l n item val e h i is count b d p q tables st same =
     let more = more_than count d in
     let there : held.open_either None (Some (suc more.0)) k ≡ n = ap (λ (c : ℕ). held.open_either None (Some c) k) (sym more.1) ∙ ap (held.open_either None (Some count)) (sym p) ∙ sym q in
     limit_count w m k item val e h i is count b tables st same
-    ∙ ap (λ (c : ℕ). limited flat (value_in all val) (Some (pos c)) (stack_in all k) st) more.1
+    ∙ ap (λ (c : ℕ). limit_results flat (value_in all val) (Some (pos c)) (stack_in all k) st) more.1
     ∙ ap (λ (x : Frames). running x st) (open_limit_read (reading_of all) None (suc more.0) k)
     ∙ ap (λ (x : FlatStack). running (stack_in all x) st) there
     ∙ ap (running (stack_in all n)) (same_world w st same)

@@ -32,7 +32,7 @@ use Rattle.icn_code.specs.Codes.{Tables}
 use Rattle.icn_run.specs.Rows as rows
 use Rattle.icn_run.specs.Calls as calls
 use Rattle.icn_run.specs.Stacks.{Frames, flat}
-use Rattle.icn_run.specs.Step.{State, Store, running, failing, with_value, with_world, with_result, here, scans_left, pushed, pair_now, maybe_exchanged, swapped_back, all_left, returned, finished, proc_fails}
+use Rattle.icn_run.specs.Step.{State, Store, running, failing, with_value, with_world, with_result, here, scans_left, push_item, pair_now, maybe_exchanged, swapped_back, all_left, return_to, finish_run, proc_fails}
 use Rattle.icn_control.specs.declared.machine.Stage.{Stage}
 use Rattle.icn_control.specs.Living.{with_locals, IsLiveStack}
 use Rattle.icn_control.specs.Standing.{done, stack_in, reading_of, maybe_pair_in, pair_in}
@@ -212,26 +212,26 @@ suspend_none m e =
     let b = base_cell (held.frame m) e in
     ap (held.suspend_proc_from m) (drop_get m.cells (length m.cells - m.registers.base) (Base b.0 b.1.0) b.1.1)
 
-pub leaves_none : (all : Extent) (m : FlatStack) → held.is_base m ≡ true → (next : Frames → Store Frames → State Frames Frames) (st : Store Frames) → returned (flat.leave (stack_in all m)) next st ≡ finished st
+pub leaves_none : (all : Extent) (m : FlatStack) → held.is_base m ≡ true → (next : Frames → Store Frames → State Frames Frames) (st : Store Frames) → return_to (flat.leave (stack_in all m)) next st ≡ finish_run st
 leaves_none all m e next st =
-    ap (λ (o : Option Frames). returned o next st) (leave_read (reading_of all) m ∙ ap (option_map (stack_in all)) (leave_none m e))
+    ap (λ (o : Option Frames). return_to o next st) (leave_read (reading_of all) m ∙ ap (option_map (stack_in all)) (leave_none m e))
 
-pub leaves_some : (all : Extent) (m n : FlatStack) → held.leave m ≡ Some n → (next : Frames → Store Frames → State Frames Frames) (st : Store Frames) → returned (flat.leave (stack_in all m)) next st ≡ next (stack_in all n) st
+pub leaves_some : (all : Extent) (m n : FlatStack) → held.leave m ≡ Some n → (next : Frames → Store Frames → State Frames Frames) (st : Store Frames) → return_to (flat.leave (stack_in all m)) next st ≡ next (stack_in all n) st
 leaves_some all m n e next st =
-    ap (λ (o : Option Frames). returned o next st) (leave_read (reading_of all) m ∙ ap (option_map (stack_in all)) e)
+    ap (λ (o : Option Frames). return_to o next st) (leave_read (reading_of all) m ∙ ap (option_map (stack_in all)) e)
 
 pub fails_over : (w v : World) (m : FlatStack) (pair : Option HeldPair) → pair ≡ held.pair_at m.cells (held.oldest None m) → world_of v ≡ maybe_paired (maybe_pair_in (extent_of w.heap) pair) (world_of w)
-    → held.is_base m ≡ true → (st : Store Frames) → st.world ≡ world_of w → proc_fails flat (stack_in (extent_of w.heap) m) st ≡ finished (with_world (world_of v) st)
+    → held.is_base m ≡ true → (st : Store Frames) → st.world ≡ world_of w → proc_fails flat (stack_in (extent_of w.heap) m) st ≡ finish_run (with_world (world_of v) st)
 fails_over w v m pair e back b st same =
     let all : Extent = extent_of w.heap in
-    ap (λ (x : Store Frames). returned (flat.leave (stack_in all m)) failing x) (all_left_is w v m pair e back st same) ∙ leaves_none all m b failing (with_world (world_of v) st)
+    ap (λ (x : Store Frames). return_to (flat.leave (stack_in all m)) failing x) (all_left_is w v m pair e back st same) ∙ leaves_none all m b failing (with_world (world_of v) st)
 
 pub fails_on : (w v : World) (m n : FlatStack) (pair : Option HeldPair) → pair ≡ held.pair_at m.cells (held.oldest None m) → world_of v ≡ maybe_paired (maybe_pair_in (extent_of w.heap) pair) (world_of w) → v.heap ≡ w.heap
     → held.leave m ≡ Some n → (st : Store Frames) → st.world ≡ world_of w → FailsWith (proc_fails flat (stack_in (extent_of w.heap) m) st) st v n
 fails_on w v m n pair e back heap b st same =
     let all : Extent = extent_of w.heap in
     let F : HeldHeap → State Frames Frames = λ x. failing (stack_in (extent_of x) n) (with_world (world_of v) st) in
-    ap (λ (x : Store Frames). returned (flat.leave (stack_in all m)) failing x) (all_left_is w v m pair e back st same)
+    ap (λ (x : Store Frames). return_to (flat.leave (stack_in all m)) failing x) (all_left_is w v m pair e back st same)
     ∙ leaves_some all m n b failing (with_world (world_of v) st)
     ∙ ap F (sym heap)
 
@@ -246,19 +246,19 @@ Stops w m item stop = (st : Store Frames) (next : rows.Item → State Frames Fra
 
 pret_goes : (w v : World) (m k l : FlatStack) (item x : Item) (pair : Option HeldPair) → held.pop m ≡ Some (item, k) → Finds w k item x → l ≡ k → pair ≡ held.pair_at l.cells (held.oldest None l)
     → world_of v ≡ maybe_paired (maybe_pair_in (extent_of w.heap) pair) (world_of w) → (tables : Tables) (st : Store Frames) → st.world ≡ world_of w
-    → done (extent_of w.heap) tables Instrs.Pret m st ≡ returned (flat.leave (stack_in (extent_of w.heap) l)) (pushed flat (item_in (extent_of w.heap) x)) (with_world (world_of v) st)
+    → done (extent_of w.heap) tables Instrs.Pret m st ≡ return_to (flat.leave (stack_in (extent_of w.heap) l)) (push_item flat (item_in (extent_of w.heap) x)) (with_world (world_of v) st)
 pret_goes w v m k l item x pair e h p q back tables st same =
     let all : Extent = extent_of w.heap in
-    popped_runs m k item e all (λ y n. with_result flat y n st (λ result. returned (flat.leave n) (pushed flat result) (all_left flat n st)))
-    ∙ h st (λ result. returned (flat.leave (stack_in all k)) (pushed flat result) (all_left flat (stack_in all k) st)) same
-    ∙ ap (λ (n : FlatStack). returned (flat.leave (stack_in all n)) (pushed flat (item_in all x)) (all_left flat (stack_in all n) st)) (sym p)
-    ∙ ap (returned (flat.leave (stack_in all l)) (pushed flat (item_in all x))) (all_left_is w v l pair q back st same)
+    popped_runs m k item e all (λ y n. with_result flat y n st (λ result. return_to (flat.leave n) (push_item flat result) (all_left flat n st)))
+    ∙ h st (λ result. return_to (flat.leave (stack_in all k)) (push_item flat result) (all_left flat (stack_in all k) st)) same
+    ∙ ap (λ (n : FlatStack). return_to (flat.leave (stack_in all n)) (push_item flat (item_in all x)) (all_left flat (stack_in all n) st)) (sym p)
+    ∙ ap (return_to (flat.leave (stack_in all l)) (push_item flat (item_in all x))) (all_left_is w v l pair q back st same)
 
 pub pret_over : (w v : World) (m k l : FlatStack) (item x : Item) (pair : Option HeldPair) → held.pop m ≡ Some (item, k) → Finds w k item x → l ≡ k → pair ≡ held.pair_at l.cells (held.oldest None l)
     → world_of v ≡ maybe_paired (maybe_pair_in (extent_of w.heap) pair) (world_of w) → held.is_base l ≡ true → (tables : Tables) (st : Store Frames) → st.world ≡ world_of w
-    → done (extent_of w.heap) tables Instrs.Pret m st ≡ finished (with_world (world_of v) st)
+    → done (extent_of w.heap) tables Instrs.Pret m st ≡ finish_run (with_world (world_of v) st)
 pret_over w v m k l item x pair e h p q back b tables st same =
-    pret_goes w v m k l item x pair e h p q back tables st same ∙ leaves_none (extent_of w.heap) l b (pushed flat (item_in (extent_of w.heap) x)) (with_world (world_of v) st)
+    pret_goes w v m k l item x pair e h p q back tables st same ∙ leaves_none (extent_of w.heap) l b (push_item flat (item_in (extent_of w.heap) x)) (with_world (world_of v) st)
 
 pub pret_runs : (w v : World) (m k l o n : FlatStack) (item x : Item) (pair : Option HeldPair) → held.pop m ≡ Some (item, k) → Finds w k item x → l ≡ k → pair ≡ held.pair_at l.cells (held.oldest None l)
     → world_of v ≡ maybe_paired (maybe_pair_in (extent_of w.heap) pair) (world_of w) → v.heap ≡ w.heap → held.leave l ≡ Some o → n ≡ held.push x o → (tables : Tables) (st : Store Frames) → st.world ≡ world_of w
@@ -267,7 +267,7 @@ pret_runs w v m k l o n item x pair e h p q back heap b r tables st same =
     let all : Extent = extent_of w.heap in
     let F : HeldHeap → State Frames Frames = λ y. running (stack_in (extent_of y) n) (with_world (world_of v) st) in
     pret_goes w v m k l item x pair e h p q back tables st same
-    ∙ leaves_some all l o b (pushed flat (item_in all x)) (with_world (world_of v) st)
+    ∙ leaves_some all l o b (push_item flat (item_in all x)) (with_world (world_of v) st)
     ∙ ap (λ (y : FlatStack). running (stack_in all y) (with_world (world_of v) st)) (sym r)
     ∙ ap F (sym heap)
 
@@ -276,9 +276,9 @@ pub pret_err : (result : Result Stage Halt) (w : World) (m k n : FlatStack) (ite
     → MatchResult result (StandsWith (done (extent_of w.heap) tables Instrs.Pret m st) st w n) (HaltsWith (done (extent_of w.heap) tables Instrs.Pret m st) st w)
 pret_err result w m k n item stop err e h tables st same =
     let all : Extent = extent_of w.heap in
-    let next : rows.Item → State Frames Frames = λ result. returned (flat.leave (stack_in all k)) (pushed flat result) (all_left flat (stack_in all k) st) in
+    let next : rows.Item → State Frames Frames = λ result. return_to (flat.leave (stack_in all k)) (push_item flat result) (all_left flat (stack_in all k) st) in
     at_halt result (halt_of stop) (StandsWith (done all tables Instrs.Pret m st) st w n) (HaltsWith (done all tables Instrs.Pret m st) st w) err
-    (subst (λ (s : State Frames Frames). HaltsWith s st w (halt_of stop)) (sym (popped_runs m k item e all (λ y n. with_result flat y n st (λ result. returned (flat.leave n) (pushed flat result) (all_left flat n st))))) (h st next same))
+    (subst (λ (s : State Frames Frames). HaltsWith s st w (halt_of stop)) (sym (popped_runs m k item e all (λ y n. with_result flat y n st (λ result. return_to (flat.leave n) (push_item flat result) (all_left flat n st))))) (h st next same))
 
 -- Suspending
 
@@ -288,14 +288,14 @@ Swaps w m v n = (st : Store Frames) (next : Frames → Store Frames → State Fr
 
 psusp_goes : (w v : World) (m k a l o : FlatStack) (item x : Item) → held.pop m ≡ Some (item, k) → a ≡ held.push item k → Finds w a item x → l ≡ a → Swaps w l v o → v.heap ≡ w.heap → (tables : Tables) (st : Store Frames)
     → st.world ≡ world_of w
-    → done (extent_of w.heap) tables Instrs.Psusp m st ≡ returned (flat.suspend_proc (stack_in (extent_of v.heap) o)) (pushed flat (item_in (extent_of v.heap) x)) (with_world (world_of v) st)
+    → done (extent_of w.heap) tables Instrs.Psusp m st ≡ return_to (flat.suspend_proc (stack_in (extent_of v.heap) o)) (push_item flat (item_in (extent_of v.heap) x)) (with_world (world_of v) st)
 psusp_goes w v m k a l o item x e b h p s heap tables st same =
     let all : Extent = extent_of w.heap in
     let back : a ≡ m = b ∙ pushed_back m k item e in
-    let next : rows.Item → Frames → Store Frames → State Frames Frames = λ result n. returned (flat.suspend_proc n) (pushed flat result) in
+    let next : rows.Item → Frames → Store Frames → State Frames Frames = λ result n. return_to (flat.suspend_proc n) (push_item flat result) in
     let after : rows.Item → State Frames Frames = λ result. maybe_exchanged (flat.swap_oldest (pair_now st) (stack_in all m)) (stack_in all m) st (next result) in
     let found : Finds w m item x = subst (λ (y : FlatStack). Finds w y item x) back h in
-    let F : HeldHeap → State Frames Frames = λ y. returned (flat.suspend_proc (stack_in (extent_of v.heap) o)) (pushed flat (item_in (extent_of y) x)) (with_world (world_of v) st) in
+    let F : HeldHeap → State Frames Frames = λ y. return_to (flat.suspend_proc (stack_in (extent_of v.heap) o)) (push_item flat (item_in (extent_of y) x)) (with_world (world_of v) st) in
     popped_runs m k item e all (λ y n. with_result flat y (stack_in all m) st after)
     ∙ found st after same
     ∙ ap (λ (n : FlatStack). maybe_exchanged (flat.swap_oldest (pair_now st) (stack_in all n)) (stack_in all n) st (next (item_in all x))) (sym (p ∙ back))
@@ -303,10 +303,10 @@ psusp_goes w v m k a l o item x e b h p s heap tables st same =
     ∙ ap F (sym heap)
 
 pub psusp_over : (w v : World) (m k a l o : FlatStack) (item x : Item) → held.pop m ≡ Some (item, k) → a ≡ held.push item k → Finds w a item x → l ≡ a → Swaps w l v o → v.heap ≡ w.heap → held.is_base o ≡ true → (tables : Tables) (st : Store Frames)
-    → st.world ≡ world_of w → done (extent_of w.heap) tables Instrs.Psusp m st ≡ finished (with_world (world_of v) st)
+    → st.world ≡ world_of w → done (extent_of w.heap) tables Instrs.Psusp m st ≡ finish_run (with_world (world_of v) st)
 psusp_over w v m k a l o item x e c h p s heap b tables st same =
     psusp_goes w v m k a l o item x e c h p s heap tables st same
-    ∙ ap (λ (y : Option Frames). returned y (pushed flat (item_in (extent_of v.heap) x)) (with_world (world_of v) st)) (suspend_proc_read (reading_of (extent_of v.heap)) o ∙ ap (option_map (stack_in (extent_of v.heap))) (suspend_none o b))
+    ∙ ap (λ (y : Option Frames). return_to y (push_item flat (item_in (extent_of v.heap) x)) (with_world (world_of v) st)) (suspend_proc_read (reading_of (extent_of v.heap)) o ∙ ap (option_map (stack_in (extent_of v.heap))) (suspend_none o b))
 
 given_split : (item : Item) (left : Option FlatStack) (n : FlatStack) → held.given_to (Some item) left ≡ Some n → (k : FlatStack) × ((left ≡ Some k) × (held.push item k ≡ n))
 given_split item (Some k) n e = (k, (refl, same_Some _ _ e))
@@ -318,7 +318,7 @@ psusp_runs w v m k a l o n item x e c h p s heap b tables st same =
     let all : Extent = extent_of v.heap in
     let split = given_split x (held.suspend_proc o) n b in
     psusp_goes w v m k a l o item x e c h p s heap tables st same
-    ∙ ap (λ (y : Option Frames). returned y (pushed flat (item_in all x)) (with_world (world_of v) st)) (suspend_proc_read (reading_of all) o ∙ ap (option_map (stack_in all)) split.1.0)
+    ∙ ap (λ (y : Option Frames). return_to y (push_item flat (item_in all x)) (with_world (world_of v) st)) (suspend_proc_read (reading_of all) o ∙ ap (option_map (stack_in all)) split.1.0)
     ∙ ap (λ (y : FlatStack). running (stack_in all y) (with_world (world_of v) st)) split.1.1
 
 pub psusp_err : (result : Result Stage Halt) (w : World) (m k a n : FlatStack) (item : Item) (stop : Stop) → IsErrAnd result (λ h. h ≡ halt_of stop) → held.pop m ≡ Some (item, k) → a ≡ held.push item k → Stops w a item stop
@@ -327,7 +327,7 @@ pub psusp_err : (result : Result Stage Halt) (w : World) (m k a n : FlatStack) (
 psusp_err result w m k a n item stop err e b h tables st same =
     let all : Extent = extent_of w.heap in
     let back : a ≡ m = b ∙ pushed_back m k item e in
-    let next : rows.Item → Frames → Store Frames → State Frames Frames = λ result n. returned (flat.suspend_proc n) (pushed flat result) in
+    let next : rows.Item → Frames → Store Frames → State Frames Frames = λ result n. return_to (flat.suspend_proc n) (push_item flat result) in
     let after : rows.Item → State Frames Frames = λ result. maybe_exchanged (flat.swap_oldest (pair_now st) (stack_in all m)) (stack_in all m) st (next result) in
     let found : Stops w m item stop = subst (λ (y : FlatStack). Stops w y item stop) back h in
     at_halt result (halt_of stop) (StandsWith (done all tables Instrs.Psusp m st) st w n) (HaltsWith (done all tables Instrs.Psusp m st) st w) err

@@ -22,7 +22,7 @@ use Rattle.icn_code.specs.Codes.{Tables}
 use Rattle.icn_run.specs.Rows as rows
 use Rattle.icn_run.specs.Calls as calls
 use Rattle.icn_run.specs.Stacks.{Frames, flat}
-use Rattle.icn_run.specs.Step.{State, Store, running, with_world, pair_now, exchanged, pushed}
+use Rattle.icn_run.specs.Step.{State, Store, running, with_world, pair_now, with_exchange, push_item}
 use Rattle.icn_control.specs.Living.{with_locals, IsLiveStack}
 use Rattle.icn_control.specs.Standing.{done, stack_in, reading_of, pair_in}
 use Rattle.icn_control.specs.Pairs.{paired}
@@ -55,14 +55,14 @@ pub escan_runs : (w v : World) (m k l n : FlatStack) (item : Item) → held.pop 
 escan_runs w v m k l n item e f back heap g tables st same =
     let all : Extent = extent_of w.heap in
     let x : rows.Item = item_in all item in
-    let next : Frames → Store Frames → State Frames Frames = λ a. pushed flat x (flat.suspend calls.Escan a) in
+    let next : Frames → Store Frames → State Frames Frames = λ a. push_item flat x (flat.suspend calls.Escan a) in
     let F : HeldHeap → State Frames Frames = λ y. running (stack_in (extent_of y) n) (with_world (world_of v) st) in
-    popped_runs m k item e all (λ y a. exchanged (flat.swap_newest (pair_now st) a) (λ b. pushed flat y (flat.suspend calls.Escan b)) st)
-    ∙ ap (λ (p : calls.Pair). exchanged (flat.swap_newest p (stack_in all k)) next st) (present w st same)
-    ∙ ap (λ (o : Option (calls.Pair × Frames)). exchanged o next st) (swap_newest_read (reading_of all) w.pair k ∙ ap (option_map (swapped_read (reading_of all))) f)
+    popped_runs m k item e all (λ y a. with_exchange (flat.swap_newest (pair_now st) a) (λ b. push_item flat y (flat.suspend calls.Escan b)) st)
+    ∙ ap (λ (p : calls.Pair). with_exchange (flat.swap_newest p (stack_in all k)) next st) (present w st same)
+    ∙ ap (λ (o : Option (calls.Pair × Frames)). with_exchange o next st) (swap_newest_read (reading_of all) w.pair k ∙ ap (option_map (swapped_read (reading_of all))) f)
     ∙ ap (λ (s : StoreWorld). next (stack_in all l) (with_world (paired (pair_in all v.pair) s) st)) same
     ∙ ap (λ (s : StoreWorld). next (stack_in all l) (with_world s st)) (sym back)
-    ∙ ap (λ (a : Frames). pushed flat x a (with_world (world_of v) st)) (suspend_read (reading_of all) Escan l)
+    ∙ ap (λ (a : Frames). push_item flat x a (with_world (world_of v) st)) (suspend_read (reading_of all) Escan l)
     ∙ ap (λ (y : FlatStack). running (stack_in all y) (with_world (world_of v) st)) (same_Some _ _ g)
     ∙ ap F (sym heap)
 

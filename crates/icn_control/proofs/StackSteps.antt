@@ -19,7 +19,7 @@ use Rattle.icn_code.specs.Codes.{Tables}
 use Rattle.icn_run.specs.Rows as rows
 use Rattle.icn_run.specs.Calls as calls
 use Rattle.icn_run.specs.Stacks.{Frames, flat}
-use Rattle.icn_run.specs.Step.{State, Store, running, with_found, parted, pushed, scans_left, limited_result}
+use Rattle.icn_run.specs.Step.{State, Store, running, with_found, on_pair, push_item, scans_left, limited_result}
 use Rattle.icn_control.proofs.LiveCalls.{given_split}
 use Rattle.icn_control.specs.Standing.{stack_in, reading_of, maybe_pair_in, GoesOn, GoesOnLeaving, mark_of}
 
@@ -35,9 +35,9 @@ null_runs m n e all tables st = ap (on_stack all st) (sym e)
 
 -- what is taken off a stack, with the rest of the instruction
 pub popped_runs : (m n : FlatStack) (item : Item) → held.pop m ≡ Some (item, n) → (all : Extent) (next : rows.Item → Frames → State Frames Frames)
-    → with_found (flat.pop (stack_in all m)) (parted next) ≡ next ((reading_of all).item item) (stack_in all n)
+    → with_found (flat.pop (stack_in all m)) (on_pair next) ≡ next ((reading_of all).item item) (stack_in all n)
 popped_runs m n item e all next =
-    ap (λ (w : Option (rows.Item × Frames)). with_found w (parted next)) (pop_read (reading_of all) m ∙ ap (option_map (popped_read (reading_of all))) e)
+    ap (λ (w : Option (rows.Item × Frames)). with_found w (on_pair next)) (pop_read (reading_of all) m ∙ ap (option_map (popped_read (reading_of all))) e)
 
 pub pop_runs : (m n : FlatStack) (item : Item) → held.pop m ≡ Some (item, n) → GoesOn Instrs.Pop m n
 pop_runs m n item e all tables st = popped_runs m n item e all (λ x. on st)
@@ -59,7 +59,7 @@ pushed_back m n item e = by_cells m.cells e
 pub dup_runs : (m n k l : FlatStack) (item : Item) → held.pop m ≡ Some (item, n) → k ≡ held.push item n → l ≡ held.push item k → GoesOn Instrs.Dup m l
 dup_runs m n k l item e f h all tables st =
     let same : held.push item m ≡ l = ap (held.push item) (sym (pushed_back m n item e) ∙ sym f) ∙ sym h in
-    popped_runs m n item e all (λ x below. pushed flat x (stack_in all m) st) ∙ ap (on_stack all st) same
+    popped_runs m n item e all (λ x below. push_item flat x (stack_in all m) st) ∙ ap (on_stack all st) same
 
 pub mark_runs : (m n : FlatStack) (label : Option ℕ) → n ≡ held.open_either label None m → GoesOn (mark_of label) m n
 mark_runs m n (Some label) e all tables st =
@@ -76,9 +76,9 @@ go_runs m n label e all tables st = ap (on_stack all st) (sym e)
 
 -- what is left where a mark is dropped, with the rest of the instruction
 pub unmarked_by : (m n : FlatStack) (pair : Option Pair) → held.unmark m ≡ Some (n, pair) → (all : Extent) (next : Frames → Option calls.Pair → State Frames Frames)
-    → with_found (flat.unmark (stack_in all m)) (parted next) ≡ next (stack_in all n) (maybe_pair_in all pair)
+    → with_found (flat.unmark (stack_in all m)) (on_pair next) ≡ next (stack_in all n) (maybe_pair_in all pair)
 unmarked_by m n pair e all next =
-    ap (λ (w : Option (Frames × Option calls.Pair)). with_found w (parted next)) (unmark_read (reading_of all) m ∙ ap (option_map (unmarked_read (reading_of all))) e)
+    ap (λ (w : Option (Frames × Option calls.Pair)). with_found w (on_pair next)) (unmark_read (reading_of all) m ∙ ap (option_map (unmarked_read (reading_of all))) e)
 
 pub unmark_runs : (m n : FlatStack) (pair : Option Pair) → held.unmark m ≡ Some (n, pair) → GoesOnLeaving Instrs.Unmark m pair n
 unmark_runs m n pair e all tables st = unmarked_by m n pair e all (λ outside back. running outside (scans_left back st))
@@ -90,20 +90,20 @@ suspended_by m n e all next =
 pub esusp_runs : (m k n : FlatStack) (item : Item) → held.pop m ≡ Some (item, k) → held.given_to (Some item) (held.suspend_mark k) ≡ Some n → GoesOn Instrs.Esusp m n
 esusp_runs m k n item e f all tables st =
     let split = given_split item (held.suspend_mark k) n f in
-    popped_runs m k item e all (λ x w. with_found (flat.suspend_mark w) (λ v. pushed flat x v st))
-    ∙ suspended_by k split.0 split.1.0 all (λ v. pushed flat ((reading_of all).item item) v st)
+    popped_runs m k item e all (λ x w. with_found (flat.suspend_mark w) (λ v. push_item flat x v st))
+    ∙ suspended_by k split.0 split.1.0 all (λ v. push_item flat ((reading_of all).item item) v st)
     ∙ ap (on_stack all st) split.1.1
 
 counted_by : (m n : FlatStack) (count : ℕ) → held.count_down m ≡ Some (count, n) → (all : Extent) (next : ℕ → Frames → State Frames Frames)
-    → with_found (flat.count_down (stack_in all m)) (parted next) ≡ next count (stack_in all n)
+    → with_found (flat.count_down (stack_in all m)) (on_pair next) ≡ next count (stack_in all n)
 counted_by m n count e all next =
     let there : IsSome (held.count_down m) = subst IsSome (sym e) refl in
-    ap (λ (w : Option (ℕ × Frames)). with_found w (parted next)) (count_down_read (reading_of all) m there ∙ ap (option_map (counted_read (reading_of all))) e)
+    ap (λ (w : Option (ℕ × Frames)). with_found w (on_pair next)) (count_down_read (reading_of all) m there ∙ ap (option_map (counted_read (reading_of all))) e)
 
 lsusp_by : (m k l n : FlatStack) (item : Item) (count : ℕ) → held.pop m ≡ Some (item, k) → held.count_down k ≡ Some (count, l) → (all : Extent) (tables : Tables) (st : Store Frames)
-    → with_found (flat.pop (stack_in all m)) (parted (λ x w. with_found (flat.count_down w) (parted (λ c v. limited_result flat x c v st)))) ≡ limited_result flat ((reading_of all).item item) count (stack_in all l) st
+    → with_found (flat.pop (stack_in all m)) (on_pair (λ x w. with_found (flat.count_down w) (on_pair (λ c v. limited_result flat x c v st)))) ≡ limited_result flat ((reading_of all).item item) count (stack_in all l) st
 lsusp_by m k l n item count e f all tables st =
-    popped_runs m k item e all (λ x w. with_found (flat.count_down w) (parted (λ c v. limited_result flat x c v st)))
+    popped_runs m k item e all (λ x w. with_found (flat.count_down w) (on_pair (λ c v. limited_result flat x c v st)))
     ∙ counted_by k l count f all (λ c v. limited_result flat ((reading_of all).item item) c v st)
 
 pub lsusp_last : (m k l o n : FlatStack) (item : Item) (count : ℕ) (pair : Option Pair) → held.pop m ≡ Some (item, k) → held.count_down k ≡ Some (count, l) → count ≡ 0 → held.unmark l ≡ Some (o, pair)
@@ -111,7 +111,7 @@ pub lsusp_last : (m k l o n : FlatStack) (item : Item) (count : ℕ) (pair : Opt
 lsusp_last m k l o n item count pair e f z u p all tables st =
     lsusp_by m k l n item count e f all tables st
     ∙ ap (λ (c : ℕ). limited_result flat ((reading_of all).item item) c (stack_in all l) st) z
-    ∙ unmarked_by l o pair u all (λ outside back. pushed flat ((reading_of all).item item) outside (scans_left back st))
+    ∙ unmarked_by l o pair u all (λ outside back. push_item flat ((reading_of all).item item) outside (scans_left back st))
     ∙ ap (on_stack all (scans_left (maybe_pair_in all pair) st)) (sym p)
 
 above_zero : (n : ℕ) → 0 < n → (k : ℕ) × (n ≡ suc k)
@@ -125,10 +125,10 @@ lsusp_more m k l n item count e f z u all tables st =
     let more = above_zero count z in
     lsusp_by m k l n item count e f all tables st
     ∙ ap (λ (c : ℕ). limited_result flat ((reading_of all).item item) c (stack_in all l) st) more.1
-    ∙ suspended_by l split.0 split.1.0 all (λ v. pushed flat ((reading_of all).item item) v st)
+    ∙ suspended_by l split.0 split.1.0 all (λ v. push_item flat ((reading_of all).item item) v st)
     ∙ ap (on_stack all st) split.1.1
 
 pub below_runs : (m n : FlatStack) (item : Item) → held.below m ≡ Some item → n ≡ held.push item m → GoesOn Instrs.Ccase m n
 below_runs m n item e p all tables st =
-    ap (λ (w : Option rows.Item). with_found w (λ x. pushed flat x (stack_in all m) st)) (below_read (reading_of all) m ∙ ap (option_map (reading_of all).item) e)
+    ap (λ (w : Option rows.Item). with_found w (λ x. push_item flat x (stack_in all m) st)) (below_read (reading_of all) m ∙ ap (option_map (reading_of all).item) e)
     ∙ ap (on_stack all st) (sym p)

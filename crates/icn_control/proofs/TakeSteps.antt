@@ -27,7 +27,7 @@ use Rattle.icn_code.specs.Codes.{Tables}
 use Rattle.icn_run.specs.Rows as rows
 use Rattle.icn_run.specs.Stacks as code
 use Rattle.icn_run.specs.Stacks.{Frames, flat}
-use Rattle.icn_run.specs.Step.{State, Store, errs, here, made, parted, with_found, with_values, with_world}
+use Rattle.icn_run.specs.Step.{State, Store, errs, here, with_made, on_pair, with_found, with_values, with_world}
 use Rattle.icn_control.specs.Living.{with_locals, IsLiveStack}
 use Rattle.icn_control.specs.Parts.{FindsValue, HaltsWith}
 use Rattle.icn_control.specs.Standing.{stack_in, reading_of}
@@ -43,24 +43,24 @@ use Rattle.icn_control.proofs.PartSteps.{value_goes, value_halts}
 abbrev taken_read : Extent → List Item × FlatStack → List rows.Item × Frames
 taken_read all pair = (map (item_in all) pair.0, stack_in all pair.1)
 
-over_pop : (all : Extent) (n : ℕ) (items : List Item) → ((m : FlatStack) (xs : List Item) → code.taken n (stack_in all m) (stack_in all m).cells (map (item_in all) xs) ≡ option_map (taken_read all) (taken_onto n m xs)) → (o : Option (Item × FlatStack))
-    → option_and_then (λ (pair : rows.Item × Frames). code.taken n pair.1 pair.1.cells (pair.0 ∷ map (item_in all) items)) (option_map (popped_read (reading_of all)) o)
+over_pop : (all : Extent) (n : ℕ) (items : List Item) → ((m : FlatStack) (xs : List Item) → code.take_top n (stack_in all m) (stack_in all m).cells (map (item_in all) xs) ≡ option_map (taken_read all) (taken_onto n m xs)) → (o : Option (Item × FlatStack))
+    → option_and_then (λ (pair : rows.Item × Frames). code.take_top n pair.1 pair.1.cells (pair.0 ∷ map (item_in all) items)) (option_map (popped_read (reading_of all)) o)
     ≡ option_map (taken_read all) (option_and_then (λ (popped : Item × FlatStack). taken_onto n popped.1 (popped.0 ∷ items)) o)
 over_pop all n items h None = refl
 over_pop all n items h (Some popped) = h popped.1 (popped.0 ∷ items)
 
-take_onto_read : (all : Extent) (n : ℕ) (m : FlatStack) (items : List Item) → code.taken n (stack_in all m) (stack_in all m).cells (map (item_in all) items) ≡ option_map (taken_read all) (taken_onto n m items)
+take_onto_read : (all : Extent) (n : ℕ) (m : FlatStack) (items : List Item) → code.take_top n (stack_in all m) (stack_in all m).cells (map (item_in all) items) ≡ option_map (taken_read all) (taken_onto n m items)
 take_onto_read all zero m items = refl
 take_onto_read all (suc n) m items =
     taken_pop n (stack_in all m) (map (item_in all) items)
-    ∙ ap (option_and_then (λ (pair : rows.Item × Frames). code.taken n pair.1 pair.1.cells (pair.0 ∷ map (item_in all) items))) (pop_read (reading_of all) m)
+    ∙ ap (option_and_then (λ (pair : rows.Item × Frames). code.take_top n pair.1 pair.1.cells (pair.0 ∷ map (item_in all) items))) (pop_read (reading_of all) m)
     ∙ over_pop all n items (take_onto_read all n) (held.pop m)
 
 -- what is taken off a stack, with the rest of the instruction
 pub taken_runs : (all : Extent) (n : ℕ) (m k : FlatStack) (items : List Item) (next : List rows.Item → Frames → State Frames Frames) → taken n m ≡ Some (items, k)
-    → with_found (flat.take n (stack_in all m)) (parted next) ≡ next (map (item_in all) items) (stack_in all k)
+    → with_found (flat.take n (stack_in all m)) (on_pair next) ≡ next (map (item_in all) items) (stack_in all k)
 taken_runs all n m k items next e =
-    ap (λ (o : Option (List rows.Item × Frames)). with_found o (parted next)) (take_onto_read all n m [] ∙ ap (option_map (taken_read all)) e)
+    ap (λ (o : Option (List rows.Item × Frames)). with_found o (on_pair next)) (take_onto_read all n m [] ∙ ap (option_map (taken_read all)) e)
 
 -- what is taken is of the world
 pub record TakesLive (t : Tables) (reach : Reach) (before : ℕ) (items : List Item) (n : FlatStack) : Type 0 where
@@ -183,15 +183,15 @@ pub made_goes : (t : Tables) (w v : World) (m : FlatStack) (row : Row) (val : Va
     → IsLiveStack t (reach_of w []) m → held.set_locals (held.locals m) m ≡ m → row (setting_of st.outside w (held.locals m)) ≡ Gives (rows.Val (value_in (extent_of v.heap) val)) (setting_of st.outside v (held.locals m))
     → made_in row w m st next ≡ next (value_in (extent_of v.heap) val) (stack_in (extent_of v.heap) m) (with_world (world_of v) st)
 made_goes t w v m row val st next same k l s r =
-    ap (λ (x : Setting). made flat (row x) (stack_in (extent_of w.heap) m) st next) (here_is w m st same)
-    ∙ ap (λ (o : Outcome). made flat o (stack_in (extent_of w.heap) m) st next) r
+    ap (λ (x : Setting). with_made flat (row x) (stack_in (extent_of w.heap) m) st next) (here_is w m st same)
+    ∙ ap (λ (o : Outcome). with_made flat o (stack_in (extent_of w.heap) m) st next) r
     ∙ ap (λ (a : Frames). next (value_in (extent_of v.heap) val) a (with_world (world_of v) st)) (locals_back t w v m k l s)
 
 pub made_halts : (w v : World) (m : FlatStack) (row : Row) (number : ℕ) (offending : Option Val) (st : Store Frames) (next : Value → Frames → Store Frames → State Frames Frames) → st.world ≡ world_of w
     → row (setting_of st.outside w (held.locals m)) ≡ Error number (option_map (value_in (extent_of v.heap)) offending) (setting_of st.outside v (held.locals m))
     → made_in row w m st next ≡ errs number (option_map (value_in (extent_of v.heap)) offending) (with_world (world_of v) st)
 made_halts w v m row number offending st next same r =
-    ap (λ (x : Setting). made flat (row x) (stack_in (extent_of w.heap) m) st next) (here_is w m st same) ∙ ap (λ (o : Outcome). made flat o (stack_in (extent_of w.heap) m) st next) r
+    ap (λ (x : Setting). with_made flat (row x) (stack_in (extent_of w.heap) m) st next) (here_is w m st same) ∙ ap (λ (o : Outcome). with_made flat o (stack_in (extent_of w.heap) m) st next) r
 
 pub made_at : (row : Row) (w v : World) (m k : FlatStack) (result : Result Val Stop) → k ≡ m → MakesValue row w k v result → MakesValue row w m v result
 made_at row w v m k result e f = subst (λ (x : FlatStack). MakesValue row w x v result) e f

@@ -21,7 +21,7 @@ use Rattle.icn_code.specs.declared.instr.Instr.TheVariants as Instrs
 use Rattle.icn_code.specs.Codes.{Tables}
 use Rattle.icn_run.specs.Rows as rows
 use Rattle.icn_run.specs.Stacks.{Frames, flat}
-use Rattle.icn_run.specs.Step.{Store, running, with_found, pushed}
+use Rattle.icn_run.specs.Step.{Store, running, with_found, push_item}
 use Rattle.icn_control.specs.Living.{with_locals, IsLiveStack}
 use Rattle.icn_control.specs.Standing.{done, stack_in}
 use Rattle.icn_control.specs.Parts.{RunsWith}
@@ -39,9 +39,9 @@ pub string_runs : (w v : World) (t tables : Tables) (m n : FlatStack) (k : ℕ) 
     → KeepsItems (reach_of w []) (reach_of v []) → IsLiveStack t (reach_of w []) m → n ≡ held.push (HeldVal (TextVal span)) m → (st : Store Frames) → st.world ≡ world_of w
     → RunsWith (done (extent_of w.heap) tables (Instrs.Str k) m st) st v n
 string_runs w v t tables m n k bytes span s b world keeps live p st same =
-    ap (λ (o : Option (List ℕ)). with_found o (λ text. pushed flat (rows.Val (rows.Text text)) (stack_in (extent_of w.heap) m) st)) s
-    ∙ ap (λ (a : Frames). pushed flat (rows.Val (rows.Text bytes)) a st) (sym (stack_same t (reach_of w []) (reach_of v []) m keeps live))
-    ∙ ap (λ (text : List ℕ). pushed flat (rows.Val (rows.Text text)) (stack_in (extent_of v.heap) m) st) (sym b)
+    ap (λ (o : Option (List ℕ)). with_found o (λ text. push_item flat (rows.Val (rows.Text text)) (stack_in (extent_of w.heap) m) st)) s
+    ∙ ap (λ (a : Frames). push_item flat (rows.Val (rows.Text bytes)) a st) (sym (stack_same t (reach_of w []) (reach_of v []) m keeps live))
+    ∙ ap (λ (text : List ℕ). push_item flat (rows.Val (rows.Text text)) (stack_in (extent_of v.heap) m) st) (sym b)
     ∙ ap (λ (y : FlatStack). running (stack_in (extent_of v.heap) y) st) (sym p)
     ∙ ap (running (stack_in (extent_of v.heap) n)) (same_world v st (same ∙ sym world))
 

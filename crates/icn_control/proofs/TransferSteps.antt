@@ -12,7 +12,7 @@ use Rattle.icn_coexp.specs.Transfers.{Coexp, Table, source, enter_other, exhaust
 use Rattle.icn_run.specs.Rows as rows
 use Rattle.icn_run.specs.Stacks.{Frames, flat}
 use Rattle.icn_run.specs.Step as code
-use Rattle.icn_run.specs.Step.{State, Store, Status, Fresh, Active, Waiting, Exhausted, running, failing, hopping, activator_of, coexp_at, status_of, with_status, with_activator, activated, fail_by, give_by, passed_failure, passed_value, entered_by}
+use Rattle.icn_run.specs.Step.{State, Store, Status, Fresh, Active, Waiting, Exhausted, running, failing, hopping, activator_of, coexp_at, status_of, with_status, with_activator, make_active, fail_by, give_by, passed_failure, passed_value, entered_by}
 use Rattle.icn_control.specs.Machines.{status_in, coexp_in}
 use Rattle.icn_control.specs.Standing.{stack_in, reading_of}
 use Rattle.icn_control.specs.Landing.{Beside, store_with, landed, TransfersAreRead}
@@ -69,7 +69,7 @@ activator_put : (beside : Beside) (t : Table) (n a : ℕ) → with_activator n a
 activator_put beside t n a = ap (with_list (store_with beside t)) (activator_set beside.all t.coexps n a)
 
 -- one becomes the active one
-active_put : (beside : Beside) (t : Table) (n : ℕ) (m : FlatStack) → activated n (store_with beside t) ≡ store_with beside (table.on_stack n m t)
+active_put : (beside : Beside) (t : Table) (n : ℕ) (m : FlatStack) → make_active n (store_with beside t) ≡ store_with beside (table.on_stack n m t)
 active_put beside t n m = status_put beside (record t { active = n }) n Active
 
 -- Entering with failure
@@ -92,8 +92,8 @@ begins_by : (beside : Beside) (t : Table) (n : ℕ) (m : Frames) (u : Table) (o 
 begins_by beside t n m u (Some c) g e d p =
     let all : Extent = beside.all in
     let began : FlatStack = held.begin c.proc c.values c.place in
-    ap (λ (x : code.Coexp Frames). running (flat.begin x.proc x.values x.place m) (activated n (store_with beside t))) (there_at all t.coexps n c g)
-    ∙ ap (λ (x : Frames). running x (activated n (store_with beside t))) (begin_read (reading_of all) c.proc c.values c.place m)
+    ap (λ (x : code.Coexp Frames). running (flat.begin x.proc x.values x.place m) (make_active n (store_with beside t))) (there_at all t.coexps n c g)
+    ∙ ap (λ (x : Frames). running x (make_active n (store_with beside t))) (begin_read (reading_of all) c.proc c.values c.place m)
     ∙ ap (running (stack_in all began)) (active_put beside t n began)
     ∙ ap (λ (w : Table). landed beside running m w w.running) (same_Some _ _ e)
 begins_by beside t n m u None g e d p = cc

@@ -18,7 +18,7 @@ use Rattle.icn_frames.specs.Stacks.{FlatStack}
 use Rattle.icn_coexp.specs.Transfers.{Table, values_of, with_copy, with_new}
 use Rattle.icn_run.specs.Rows.{Val, ACoexp, coexpression_row}
 use Rattle.icn_run.specs.Stacks.{Frames, flat}
-use Rattle.icn_run.specs.Step.{State, Store, coexp_made, here, made, pushed, refreshed}
+use Rattle.icn_run.specs.Step.{State, Store, coexp_made, here, with_made, push_item, refresh}
 use Rattle.icn_control.specs.Landing.{Beside, store_with}
 use Rattle.icn_control.specs.Machines.{coexp_in}
 use Rattle.icn_control.specs.Standing.{stack_in}
@@ -29,8 +29,8 @@ with_coexps beside table st = record st { coexps = map (coexp_in beside.all) tab
 
 -- a co-expression of so many locals is charged; then the store has the co-expressions of another table, and the value of the new one is pushed
 abbrev pub charged_and_made : Beside → ℕ → Table → Table → Frames → State Frames Frames
-charged_and_made beside count before after n = made flat (coexpression_row count (here flat n (store_with beside before))) n (store_with beside before)
-    (λ value n st. pushed flat (Val value) n (with_coexps beside after st))
+charged_and_made beside count before after n = with_made flat (coexpression_row count (here flat n (store_with beside before))) n (store_with beside before)
+    (λ value n st. push_item flat (Val value) n (with_coexps beside after st))
 
 -- What a table adds, read, is what the definitions add: to create, a co-expression with the present values of the locals, for the procedure and the
 -- place that stand there; to refresh, one with what another one was made with.
@@ -39,7 +39,7 @@ pub record CreationsAreRead (beside : Beside) (t : Table) (n : Frames) : Type 0 
       → coexp_made flat (flat.locals (stack_in beside.all m)) (flat.proc (stack_in beside.all m)) (flat.place (stack_in beside.all m)) n (store_with beside t)
       ≡ charged_and_made beside (length (held.locals m)) t (with_new (held.locals m) (held.proc m) m.place t) n
   pub refreshes : (k : ℕ) → suc k < length t.coexps
-      → refreshed flat (ACoexp (suc k)) n (store_with beside t)
+      → refresh flat (ACoexp (suc k)) n (store_with beside t)
       ≡ charged_and_made beside (length (values_of (suc k) t)) t (with_copy t (slice_get t.coexps (suc k))) n
 
 -- The stack that runs makes a co-expression with the present values of its locals, which begins at its place, and goes on at a label with its value.

@@ -11,7 +11,7 @@ use Rattle.icn_frames.specs.Stacks.{FlatStack}
 use Rattle.icn_code.specs.Codes.{Tables}
 use Rattle.icn_run.specs.Calls.{Op, Proc}
 use Rattle.icn_run.specs.Stacks.{Frames, flat}
-use Rattle.icn_run.specs.Step.{State, Store, running, failing, with_world, turn, resumed, without_mark, mark_dropped}
+use Rattle.icn_run.specs.Step.{State, Store, running, failing, with_world, turn, resume_by, without_mark, mark_dropped}
 use Rattle.icn_run_named.specs.StateNames.{StackNamed}
 use Rattle.icn_control.specs.declared.failing.Due.{Due}
 use Rattle.icn_control.specs.declared.failing.Due.TheVariants as Dues
@@ -23,8 +23,8 @@ abbrev pub IsDue : Extent → Tables → State Frames Frames → Store Frames �
 IsDue all tables state st m Dues.Failing = state ≡ failing (stack_in all m) st
 IsDue all tables state st m Dues.Running = state ≡ running (stack_in all m) st
 IsDue all tables state st m Dues.Beginning = state ≡ turn tables st (running (stack_in all m))
-IsDue all tables state st m (Dues.Resuming rest) = state ≡ resumed flat tables (Op (residual_in all rest)) (stack_in all m) st
-IsDue all tables state st m Dues.Reentering = state ≡ resumed flat tables Proc (stack_in all m) st
+IsDue all tables state st m (Dues.Resuming rest) = state ≡ resume_by flat tables (Op (residual_in all rest)) (stack_in all m) st
+IsDue all tables state st m Dues.Reentering = state ≡ resume_by flat tables Proc (stack_in all m) st
 IsDue all tables state st m Dues.Leaving = state ≡ without_mark flat tables (stack_in all m) st
 
 -- the same in this world

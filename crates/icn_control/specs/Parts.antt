@@ -17,7 +17,7 @@ use Rattle.icn_code.specs.Codes.{Tables}
 use Rattle.icn_run.specs.Rows.{Item, Val as ItemVal, Gives, Error, value_row}
 use Rattle.icn_run.specs.Calls.{Pair}
 use Rattle.icn_run.specs.Stacks.{Frames, swap_newest, swap_oldest}
-use Rattle.icn_run.specs.Step.{State, Store, running, failing, finished, errs, with_world}
+use Rattle.icn_run.specs.Step.{State, Store, running, failing, finish_run, errs, with_world}
 use Rattle.icn_control.specs.Standing.{done, stack_in}
 use Rattle.icn_control.specs.declared.machine.Stage.{Stage}
 use Rattle.icn_control.specs.declared.machine.Stage.TheVariants as Stages
@@ -34,7 +34,7 @@ FailsWith state st w m = state ≡ failing (stack_in (extent_of w.heap) m) (with
 abbrev pub StandsWith : State Frames Frames → Store Frames → World → FlatStack → Stage → Type 0
 StandsWith state st w m Stages.Runs = RunsWith state st w m
 StandsWith state st w m Stages.Fails = FailsWith state st w m
-StandsWith state st w m Stages.Over = state ≡ finished (with_world (world_of w) st)
+StandsWith state st w m Stages.Over = state ≡ finish_run (with_world (world_of w) st)
 StandsWith state st w m Stages.HopDue = ⊥
 StandsWith state st w m Stages.AtBound = ⊥
 

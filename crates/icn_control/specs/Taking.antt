@@ -14,7 +14,7 @@ use Rattle.icn_vars.specs.Worlds.{item_in, world_of}
 use Rattle.icn_frames.specs.Stacks.{FlatStack, pop}
 use Rattle.icn_run.specs.Stacks.{Frames, flat}
 use Rattle.icn_run.specs.Rows.{Val as ItemVal}
-use Rattle.icn_run.specs.Step.{State, Store, here, list_made, made, pushed, with_values, with_world}
+use Rattle.icn_run.specs.Step.{State, Store, here, list_made, with_made, push_item, with_values, with_world}
 use Rattle.icn_control.specs.Parts.{HaltsWith}
 use Rattle.icn_control.specs.Standing.{stack_in}
 
@@ -38,7 +38,7 @@ FindsValues w m items vals result = (st : Store Frames) (next : List Value → S
 
 -- what comes of a row that makes a value
 abbrev pub made_in : Row → World → FlatStack → Store Frames → (Value → Frames → Store Frames → State Frames Frames) → State Frames Frames
-made_in row w m st next = made flat (row (here flat (stack_in (extent_of w.heap) m) st)) (stack_in (extent_of w.heap) m) st next
+made_in row w m st next = with_made flat (row (here flat (stack_in (extent_of w.heap) m) st)) (stack_in (extent_of w.heap) m) st next
 
 -- A row gives a value in the world after it, where the stack is the same, or why it gives none.
 abbrev pub MakesValue : Row → World → FlatStack → World → Result Val Stop → Type 0
@@ -52,4 +52,4 @@ pub record KeepsCounts (w v : World) : Type 0 where
 
 -- what comes of a list that is made of the values of items, and pushed
 abbrev pub listed : World → FlatStack → List Item → Store Frames → State Frames Frames
-listed w m items st = with_values_in w m items st (λ values. list_made flat values (stack_in (extent_of w.heap) m) st (λ list a after. pushed flat (ItemVal list) a after))
+listed w m items st = with_values_in w m items st (λ values. list_made flat values (stack_in (extent_of w.heap) m) st (λ list a after. push_item flat (ItemVal list) a after))

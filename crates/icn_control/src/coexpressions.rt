@@ -13,7 +13,7 @@ ghost use Rattle.icn_code.specs.Codes.{Tables};
 ghost use Rattle.icn_code.specs.declared.instr.Instr.TheVariants as Instrs;
 ghost use Rattle.icn_run.specs.Rows.{ACoexp};
 ghost use Rattle.icn_run.specs.Stacks.{flat as calls};
-ghost use Rattle.icn_run.specs.Step.{refreshed};
+ghost use Rattle.icn_run.specs.Step.{refresh};
 ghost use Rattle.icn_control.specs.Creations.{MakesCoexp, copied, created};
 ghost use Rattle.icn_control.specs.Machines.{HasStack, ComesTo, IsSound, does, stack_of, stack_seen, store_seen, world_reach};
 
@@ -88,7 +88,7 @@ fn make_again<K: Stack<Cell> + Drop>(m: &mut Machine<K>, id: u32) -> Result<Stag
     requires other { 0 < id }
     requires there { id < length m.old.stacks.table.coexps }
     requires sound { (tables : Tables) × IsSound tables m.old }
-    ensures step { (tables : Tables) (outside : Outside) → ComesTo tables outside (refreshed calls (ACoexp id) (stack_seen m.old) (store_seen tables outside m.old)) m.new result }
+    ensures step { (tables : Tables) (outside : Outside) → ComesTo tables outside (refresh calls (ACoexp id) (stack_seen m.old) (store_seen tables outside m.old)) m.new result }
     ensures sound { (tables : Tables) → IsSound tables m.old → OnOk result (IsSound tables m.new) }
     ensures halt { IfErr result (IsLiveHalt (world_reach m.new)) }
     ensures limits { m.new.limits ≡ m.old.limits }

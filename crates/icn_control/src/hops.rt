@@ -5,7 +5,7 @@ ghost use Rattle.icn_value.specs.Store.{Outside};
 ghost use Rattle.icn_heap.specs.Heaps.{heap_of};
 ghost use Rattle.icn_code.specs.Codes.{Tables};
 ghost use Rattle.icn_run.specs.Stacks.{Frames as FramesRead, flat as calls};
-ghost use Rattle.icn_run.specs.Step.{exhausted, hop};
+ghost use Rattle.icn_run.specs.Step.{exhaust_active, hop};
 ghost use Rattle.icn_control.specs.Landing.{is_moved};
 ghost use Rattle.icn_control.specs.Machines.{HasStack, IsSound, StandsAt, stack_seen, store_seen};
 
@@ -20,7 +20,7 @@ pub fn exhaust<K: Stack<Cell> + Drop>(m: &mut Machine<K>) -> Stage
     requires runs { IsSome m.old.stacks.table.running }
     requires other { 0 < m.old.stacks.table.active }
     requires bounds { (heap_of m.old.world.heap).bounds ≡ limits_of m.old.limits }
-    ensures step { (tables : Tables) (outside : Outside) → StandsAt tables outside (exhausted calls tables (stack_seen m.old) (store_seen tables outside m.old)) m.new result }
+    ensures step { (tables : Tables) (outside : Outside) → StandsAt tables outside (exhaust_active calls tables (stack_seen m.old) (store_seen tables outside m.old)) m.new result }
     ensures sound { (tables : Tables) → IsSound tables m.old → IsSound tables m.new }
     ensures limits { m.new.limits ≡ m.old.limits }
     ensures stack { HasStack m.new result }
@@ -46,7 +46,7 @@ pub fn hop<K: Stack<Cell> + Drop>(m: &mut Machine<K>) -> Stage
 fn pass_failure<K: Stack<Cell> + Drop>(m: &mut Machine<K>) -> Stage
     requires other { 0 < m.old.stacks.table.active }
     requires bounds { (heap_of m.old.world.heap).bounds ≡ limits_of m.old.limits }
-    ensures step { (tables : Tables) (outside : Outside) (old : FramesRead) → StandsAt tables outside (exhausted calls tables old (store_seen tables outside m.old)) m.new result }
+    ensures step { (tables : Tables) (outside : Outside) (old : FramesRead) → StandsAt tables outside (exhaust_active calls tables old (store_seen tables outside m.old)) m.new result }
     ensures sound { (tables : Tables) → IsSound tables m.old → IsSound tables m.new }
     ensures limits { m.new.limits ≡ m.old.limits }
     ensures stack { HasStack m.new result }

@@ -7,7 +7,7 @@ ghost use Rattle.icn_code.specs.Codes.{Tables};
 ghost use Rattle.icn_code.specs.declared.instr.Instr.TheVariants as Instrs;
 ghost use Rattle.icn_run.specs.Calls.{Proc};
 ghost use Rattle.icn_run.specs.Stacks.{flat as calls};
-ghost use Rattle.icn_run.specs.Step.{resumed, running, turn};
+ghost use Rattle.icn_run.specs.Step.{resume_by, running, turn};
 ghost use Rattle.icn_control.specs.Machines.{HasStack, IsSound, StandsAt, does, stack_seen, store_seen};
 
 use crate::machine::{Machine, Stage};
@@ -52,7 +52,7 @@ pub fn reenter<K: Stack<Cell> + Drop>(m: &mut Machine<K>) -> Stage
     requires runs { IsSome m.old.stacks.table.running }
     requires bounds { (heap_of m.old.world.heap).bounds ≡ limits_of m.old.limits }
     requires sound { (tables : Tables) × IsSound tables m.old }
-    ensures step { (tables : Tables) (outside : Outside) → StandsAt tables outside (resumed calls tables Proc (stack_seen m.old) (store_seen tables outside m.old)) m.new result }
+    ensures step { (tables : Tables) (outside : Outside) → StandsAt tables outside (resume_by calls tables Proc (stack_seen m.old) (store_seen tables outside m.old)) m.new result }
     ensures sound { (tables : Tables) → IsSound tables m.old → IsSound tables m.new }
     ensures limits { m.new.limits ≡ m.old.limits }
     ensures stack { HasStack m.new result }

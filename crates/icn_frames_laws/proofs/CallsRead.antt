@@ -116,7 +116,7 @@ set_locals_read read values m =
 
 -- operands
 
-pop_from_read : (read : Reading) (m : FlatStack) (s : List Cell) → code.popped (stack_read read m) (map (cell_read read) s) ≡ option_map (popped_read read) (flat.pop_from m s)
+pop_from_read : (read : Reading) (m : FlatStack) (s : List Cell) → code.pop_from (stack_read read m) (map (cell_read read) s) ≡ option_map (popped_read read) (flat.pop_from m s)
 pop_from_read read m [] = refl
 pop_from_read read m (Operand item ∷ s) = refl
 pop_from_read read m (Base proc locals ∷ s) = refl
@@ -131,10 +131,10 @@ pop_read read m = pop_from_read read m m.cells
 
 -- to take operands is to pop them
 pub taken_pop : (n : ℕ) (m : code.Frames) (items : List rows.Item)
-    → code.taken (suc n) m m.cells items ≡ option_and_then (λ (pair : rows.Item × code.Frames). code.taken n pair.1 pair.1.cells (pair.0 ∷ items)) (code.pop m)
+    → code.take_top (suc n) m m.cells items ≡ option_and_then (λ (pair : rows.Item × code.Frames). code.take_top n pair.1 pair.1.cells (pair.0 ∷ items)) (code.pop m)
 taken_pop n m items = by_cells m.cells
   where
-    over : (k : ℕ) (s t : List code.Cell) (xs : List rows.Item) → code.taken k m s xs ≡ code.taken k (record m { cells = t }) s xs
+    over : (k : ℕ) (s t : List code.Cell) (xs : List rows.Item) → code.take_top k m s xs ≡ code.take_top k (record m { cells = t }) s xs
     over zero s t xs = refl
     over (suc k) [] t xs = refl
     over (suc k) (code.operand x ∷ s) t xs = over k s t (x ∷ xs)
@@ -145,7 +145,7 @@ taken_pop n m items = by_cells m.cells
     over (suc k) (code.limit count registers ∷ s) t xs = refl
     over (suc k) (code.suspension why registers place ∷ s) t xs = refl
 
-    by_cells : (s : List code.Cell) → code.taken (suc n) m s items ≡ option_and_then (λ (pair : rows.Item × code.Frames). code.taken n pair.1 pair.1.cells (pair.0 ∷ items)) (code.popped m s)
+    by_cells : (s : List code.Cell) → code.take_top (suc n) m s items ≡ option_and_then (λ (pair : rows.Item × code.Frames). code.take_top n pair.1 pair.1.cells (pair.0 ∷ items)) (code.pop_from m s)
     by_cells [] = refl
     by_cells (code.operand x ∷ s) = over n s s (x ∷ items)
     by_cells (code.base proc locals ∷ s) = refl
@@ -171,7 +171,7 @@ below_read read m = ap code.below_in (cut_read read m.registers.mark m.cells) �
 
 -- marks
 
-pub open_read : (read : Reading) (x : Cell) (m : FlatStack) → code.opened (cell_read read x) (stack_read read m) ≡ stack_read read (flat.open_with x m)
+pub open_read : (read : Reading) (x : Cell) (m : FlatStack) → code.push_mark (cell_read read x) (stack_read read m) ≡ stack_read read (flat.open_with x m)
 open_read read x m =
     ap (λ (n : ℕ). let k : code.Frames = record (stack_read read m) { cells = cell_read read x ∷ map (cell_read read) m.cells; registers = record (registers_read m.registers) { mark = suc n; newest = None } } in k)
     (length-map m.cells (cell_read read))
@@ -183,7 +183,7 @@ pub open_limit_read : (read : Reading) (label : Option ℕ) (count : ℕ) (m : F
 open_limit_read read label count m = open_read read (Limit count m.registers) m
 
 relabel_at_read : (read : Reading) (label : ℕ) (m : FlatStack) (cell : Option Cell)
-    → code.relabelled label (stack_read read m) (option_map (cell_read read) cell) ≡ option_map (stack_read read) (flat.relabel_at label m cell)
+    → code.relabel_in label (stack_read read m) (option_map (cell_read read) cell) ≡ option_map (stack_read read) (flat.relabel_at label m cell)
 relabel_at_read read label m (Some (Mark old changed registers)) =
     ap (λ (w : List code.Cell). let k : code.Frames = record (stack_read read m) { cells = w } in Some k) (set_read read m.registers.mark (Mark (Some label) true registers) m.cells)
 relabel_at_read read label m None = refl
@@ -195,10 +195,10 @@ relabel_at_read read label m (Some (Suspension why registers place)) = refl
 relabel_at_read read label m (Some (Operand item)) = refl
 
 pub relabel_read : (read : Reading) (label : ℕ) (m : FlatStack) → code.relabel label (stack_read read m) ≡ option_map (stack_read read) (flat.relabel label m)
-relabel_read read label m = ap (code.relabelled label (stack_read read m)) (at_read read m.registers.mark m.cells) ∙ relabel_at_read read label m (cell_at m.registers.mark m.cells)
+relabel_read read label m = ap (code.relabel_in label (stack_read read m)) (at_read read m.registers.mark m.cells) ∙ relabel_at_read read label m (cell_at m.registers.mark m.cells)
 
 count_at_read : (read : Reading) (m : FlatStack) (cell : Option Cell) → IsSome (flat.count_down_at m cell)
-    → code.counted (stack_read read m) (option_map (cell_read read) cell) ≡ option_map (counted_read read) (flat.count_down_at m cell)
+    → code.count_in (stack_read read m) (option_map (cell_read read) cell) ≡ option_map (counted_read read) (flat.count_down_at m cell)
 count_at_read read m (Some (Limit (suc count) registers)) k =
     ap (λ (w : List code.Cell). let k : code.Frames = record (stack_read read m) { cells = w } in let pair : ℕ × code.Frames = (count, k) in Some pair) (set_read read m.registers.mark (Limit count registers) m.cells)
 count_at_read read m (Some (Limit zero registers)) k = cc
@@ -212,4 +212,4 @@ count_at_read read m (Some (Operand item)) k = cc
 
 -- above 0
 pub count_down_read : (read : Reading) (m : FlatStack) → IsSome (flat.count_down m) → code.count_down (stack_read read m) ≡ option_map (counted_read read) (flat.count_down m)
-count_down_read read m k = ap (code.counted (stack_read read m)) (at_read read m.registers.mark m.cells) ∙ count_at_read read m (cell_at m.registers.mark m.cells) k
+count_down_read read m k = ap (code.count_in (stack_read read m)) (at_read read m.registers.mark m.cells) ∙ count_at_read read m (cell_at m.registers.mark m.cells) k

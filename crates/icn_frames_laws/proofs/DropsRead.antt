@@ -22,7 +22,7 @@ unfolding outside
 outside_is m n k p q e = ap (λ (w : Option (FlatStack × Option Pair)). outside w k) e
 
 by_head : (read : Reading) (m n : FlatStack) (s : List Cell) (pair : Option Pair) → flat.unmark_from m s ≡ Some (n, pair)
-    → code.dropped (stack_read read m) (map (cell_read read) s) ≡ drop_by read (flat.label_in (slice_get s 0)) (flat.is_relabelled_in (slice_get s 0)) n
+    → code.drop_from (stack_read read m) (map (cell_read read) s) ≡ drop_by read (flat.label_in (slice_get s 0)) (flat.is_relabelled_in (slice_get s 0)) n
 by_head read m n (Mark (Some place) true r ∷ s) pair e = ap (λ (w : FlatStack). calls.Repeats (stack_read read (flat.go place w))) (outside_is _ n m _ pair e)
 by_head read m n (Mark (Some place) false r ∷ s) pair e = ap (λ (w : FlatStack). calls.Goes (stack_read read (flat.go place w))) (outside_is _ n m _ pair e)
 by_head read m n (Mark None again r ∷ s) pair e = ap (λ (w : FlatStack). calls.Outside (stack_read read w)) (outside_is _ n m _ pair e)
@@ -34,7 +34,7 @@ by_head read m n (Local value ∷ s) pair e = cc
 by_head read m n (Suspension why registers place ∷ s) pair e = cc
 by_head read m n (Operand item ∷ s) pair e = cc
 
-by_none : (read : Reading) (m : FlatStack) (s : List Cell) → flat.unmark_from m s ≡ None → code.dropped (stack_read read m) (map (cell_read read) s) ≡ calls.NoMark
+by_none : (read : Reading) (m : FlatStack) (s : List Cell) → flat.unmark_from m s ≡ None → code.drop_from (stack_read read m) (map (cell_read read) s) ≡ calls.NoMark
 by_none read m (Mark label again r ∷ s) e = cc
 by_none read m (Limit count r ∷ s) e = cc
 by_none read m [] e = refl
@@ -51,9 +51,9 @@ first_drop (suc n) (x ∷ s) = first_drop n s
 
 pub drop_read : (read : Reading) (m n : FlatStack) (pair : Option Pair) → flat.unmark m ≡ Some (n, pair) → code.drop_mark (stack_read read m) ≡ drop_by read (flat.label m) (flat.is_relabelled m) n
 drop_read read m n pair e =
-    ap (code.dropped (stack_read read m)) (cut_read read m.registers.mark m.cells)
+    ap (code.drop_from (stack_read read m)) (cut_read read m.registers.mark m.cells)
     ∙ by_head read m n (cut m.registers.mark m.cells) pair e
     ∙ ap (λ (w : Option Cell). drop_by read (flat.label_in w) (flat.is_relabelled_in w) n) (first_drop (length m.cells - m.registers.mark) m.cells)
 
 pub drop_none_read : (read : Reading) (m : FlatStack) → flat.unmark m ≡ None → code.drop_mark (stack_read read m) ≡ calls.NoMark
-drop_none_read read m e = ap (code.dropped (stack_read read m)) (cut_read read m.registers.mark m.cells) ∙ by_none read m (cut m.registers.mark m.cells) e
+drop_none_read read m e = ap (code.drop_from (stack_read read m)) (cut_read read m.registers.mark m.cells) ∙ by_none read m (cut m.registers.mark m.cells) e

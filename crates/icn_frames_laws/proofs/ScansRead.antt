@@ -112,7 +112,7 @@ outside_read read m s r =
     ap (λ (w : Option calls.Pair). let u : code.Frames × Option calls.Pair = (record (stack_read read m) { cells = map (cell_read read) s; registers = registers_read r }, w) in Some u)
     (ap (code.pair_at (map (cell_read read) m.cells)) (oldest_read read r.scan m) ∙ pair_at_read read m.cells (flat.oldest r.scan m))
 
-unmark_from_read : (read : Reading) (m : FlatStack) (s : List Cell) → code.unmarked (stack_read read m) (map (cell_read read) s) ≡ option_map (unmarked_read read) (flat.unmark_from m s)
+unmark_from_read : (read : Reading) (m : FlatStack) (s : List Cell) → code.unmark_in (stack_read read m) (map (cell_read read) s) ≡ option_map (unmarked_read read) (flat.unmark_from m s)
 unmark_from_read read m (Mark label changed registers ∷ s) = outside_read read m s registers
 unmark_from_read read m (Limit count registers ∷ s) = outside_read read m s registers
 unmark_from_read read m [] = refl
@@ -123,7 +123,7 @@ unmark_from_read read m (Suspension why registers place ∷ s) = refl
 unmark_from_read read m (Operand item ∷ s) = refl
 
 pub unmark_read : (read : Reading) (m : FlatStack) → code.unmark (stack_read read m) ≡ option_map (unmarked_read read) (flat.unmark m)
-unmark_read read m = ap (code.unmarked (stack_read read m)) (cut_read read m.registers.mark m.cells) ∙ unmark_from_read read m (cut m.registers.mark m.cells)
+unmark_read read m = ap (code.unmark_in (stack_read read m)) (cut_read read m.registers.mark m.cells) ∙ unmark_from_read read m (cut m.registers.mark m.cells)
 
 -- suspensions
 
@@ -176,7 +176,7 @@ proc_from_read read m (Operand item ∷ s) = refl
 pub suspend_proc_read : (read : Reading) (m : FlatStack) → code.suspend_proc (stack_read read m) ≡ option_map (stack_read read) (flat.suspend_proc m)
 suspend_proc_read read m = ap (code.proc_suspended (stack_read read m)) (cut_read read m.registers.base m.cells) ∙ proc_from_read read m (cut m.registers.base m.cells)
 
-resume_from_read : (read : Reading) (s : List Cell) → code.resumed (map (cell_read read) s) ≡ option_map (resumed_read read) (flat.resume_from s)
+resume_from_read : (read : Reading) (s : List Cell) → code.resume_from (map (cell_read read) s) ≡ option_map (resumed_read read) (flat.resume_from s)
 resume_from_read read (Suspension why registers place ∷ s) = refl
 resume_from_read read [] = refl
 resume_from_read read (Base proc locals ∷ s) = refl
@@ -187,9 +187,9 @@ resume_from_read read (Limit count registers ∷ s) = refl
 resume_from_read read (Operand item ∷ s) = refl
 
 newest_read : (read : Reading) (s : List Cell) (newest : Option ℕ)
-    → option_and_then (λ h. code.resumed (code.cut h (map (cell_read read) s))) newest ≡ option_map (resumed_read read) (option_and_then (λ h. flat.resume_from (cut h s)) newest)
+    → option_and_then (λ h. code.resume_from (code.cut h (map (cell_read read) s))) newest ≡ option_map (resumed_read read) (option_and_then (λ h. flat.resume_from (cut h s)) newest)
 newest_read read s None = refl
-newest_read read s (Some h) = ap code.resumed (cut_read read h s) ∙ resume_from_read read (cut h s)
+newest_read read s (Some h) = ap code.resume_from (cut_read read h s) ∙ resume_from_read read (cut h s)
 
 pub resume_read : (read : Reading) (m : FlatStack) → code.resume (stack_read read m) ≡ option_map (resumed_read read) (flat.resume m)
 resume_read read m = newest_read read m.cells m.registers.newest
@@ -206,7 +206,7 @@ enter_read read proc values m =
     ∙ ap (F (A (length values) (flat.level m))) (length-map m.cells (cell_read read))
     ∙ ap (λ (w : List code.Cell). F w (length m.cells)) (above_read read values (Call proc (length values) (suc (flat.level m)) m.registers m.place ∷ m.cells))
 
-leave_from_read : (read : Reading) (s : List Cell) → code.left (map (cell_read read) s) ≡ option_map (stack_read read) (flat.leave_from s)
+leave_from_read : (read : Reading) (s : List Cell) → code.leave_from (map (cell_read read) s) ≡ option_map (stack_read read) (flat.leave_from s)
 leave_from_read read (Call proc locals level registers place ∷ s) = refl
 leave_from_read read [] = refl
 leave_from_read read (Base proc locals ∷ s) = refl
@@ -217,4 +217,4 @@ leave_from_read read (Suspension why registers place ∷ s) = refl
 leave_from_read read (Operand item ∷ s) = refl
 
 pub leave_read : (read : Reading) (m : FlatStack) → code.leave (stack_read read m) ≡ option_map (stack_read read) (flat.leave m)
-leave_read read m = ap code.left (cut_read read m.registers.base m.cells) ∙ leave_from_read read (cut m.registers.base m.cells)
+leave_read read m = ap code.leave_from (cut_read read m.registers.base m.cells) ∙ leave_from_read read (cut m.registers.base m.cells)

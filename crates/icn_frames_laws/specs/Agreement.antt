@@ -13,7 +13,7 @@ use Rattle.icn_run.specs.Stacks as code
 use Rattle.icn_frames_laws.specs.Readings.{Reading, why_read, stack_read, popped_read, resumed_read, swapped_read, unmarked_read, counted_read}
 
 -- what is left where the innermost mark is dropped, by its label and by whether that was set anew
-abbrev pub drop_by : Reading → Option ℕ → Bool → FlatStack → calls.Dropped code.Frames
+abbrev pub drop_by : Reading → Option ℕ → Bool → FlatStack → calls.MarkDrop code.Frames
 drop_by read (Some place) true m = calls.Repeats (stack_read read (flat.go place m))
 drop_by read (Some place) false m = calls.Goes (stack_read read (flat.go place m))
 drop_by read None again m = calls.Outside (stack_read read m)
@@ -55,4 +55,4 @@ SameToBegin read = (proc : ℕ) (values : List Val) (place : ℕ) (m : code.Fram
 -- To take operands is to pop them one by one, the last one first.
 abbrev pub TakesByPops : Type 0
 TakesByPops = (n : ℕ) (m : code.Frames) (items : List rows.Item)
-    → code.taken (suc n) m m.cells items ≡ option_and_then (λ (popped : rows.Item × code.Frames). code.taken n popped.1 popped.1.cells (popped.0 ∷ items)) (code.pop m)
+    → code.take_top (suc n) m m.cells items ≡ option_and_then (λ (popped : rows.Item × code.Frames). code.take_top n popped.1 popped.1.cells (popped.0 ∷ items)) (code.pop m)

@@ -23,7 +23,7 @@ use Rattle.icn_code.specs.Codes.{Tables}
 use Rattle.icn_run.specs.Rows as rows
 use Rattle.icn_run.specs.Stacks as code
 use Rattle.icn_run.specs.Stacks.{Frames, flat}
-use Rattle.icn_run.specs.Step.{State, Store, stuck, parted, with_found, with_popped, with_taken, exchanged, exhausted, here, is_main, pair_now, pushed, unmarked}
+use Rattle.icn_run.specs.Step.{State, Store, stuck, on_pair, with_found, with_popped, with_taken, with_exchange, exhaust_active, here, is_main, pair_now, push_item, unmark_then}
 use Rattle.icn_control.specs.Living.{IsFrame, IsRooted, IsLiveStack}
 use Rattle.icn_control.specs.Parts.{FindsValue}
 use Rattle.icn_control.specs.Standing.{done, reading_of, stack_in}
@@ -59,7 +59,7 @@ not_as s t e d = λ q. d (e ∙ q)
 pub pop_there : (all : Extent) (m : FlatStack) (next : rows.Item → Frames → State Frames Frames) → with_popped flat (stack_in all m) next ≢ stuck
     → IsSome (held.pop m)
 pop_there all m next d = read_there (popped_read (reading_of all)) (held.pop m)
-    (there_as _ _ (pop_read (reading_of all) m) (found_there (flat.pop (stack_in all m)) (parted next) d))
+    (there_as _ _ (pop_read (reading_of all) m) (found_there (flat.pop (stack_in all m)) (on_pair next) d))
 
 pop_on : (all : Extent) (m k : FlatStack) (item : Item) (next : rows.Item → Frames → State Frames Frames) → held.pop m ≡ Some (item, k)
     → with_popped flat (stack_in all m) next ≢ stuck → next (item_in all item) (stack_in all k) ≢ stuck
@@ -67,26 +67,26 @@ pop_on all m k item next e d = not_as _ _ (popped_runs m k item e all next) d
 
 -- what is taken from the top down, once it was done for one operand less
 take_next : (all : Extent) (n : ℕ) (items : List Item)
-    → ((m : FlatStack) (xs : List Item) → IsSome (code.taken n (stack_in all m) (stack_in all m).cells (map (item_in all) xs)) → IsSome (taken_onto n m xs))
+    → ((m : FlatStack) (xs : List Item) → IsSome (code.take_top n (stack_in all m) (stack_in all m).cells (map (item_in all) xs)) → IsSome (taken_onto n m xs))
     → (o : Option (Item × FlatStack))
-    → IsSome (option_and_then (λ (pair : rows.Item × Frames). code.taken n pair.1 pair.1.cells (pair.0 ∷ map (item_in all) items))
+    → IsSome (option_and_then (λ (pair : rows.Item × Frames). code.take_top n pair.1 pair.1.cells (pair.0 ∷ map (item_in all) items))
     (option_map (popped_read (reading_of all)) o))
     → IsSome (option_and_then (λ (popped : Item × FlatStack). taken_onto n popped.1 (popped.0 ∷ items)) o)
 take_next all n items h (Some popped) q = h popped.1 (popped.0 ∷ items) q
 take_next all n items h None q = q
 
 take_onto_there : (all : Extent) (n : ℕ) (m : FlatStack) (items : List Item)
-    → IsSome (code.taken n (stack_in all m) (stack_in all m).cells (map (item_in all) items)) → IsSome (taken_onto n m items)
+    → IsSome (code.take_top n (stack_in all m) (stack_in all m).cells (map (item_in all) items)) → IsSome (taken_onto n m items)
 take_onto_there all zero m items h = refl
 take_onto_there all (suc n) m items h =
     take_next all n items (take_onto_there all n) (held.pop m)
     (there_as _ _ (taken_pop n (stack_in all m) (map (item_in all) items) ∙ ap
-    (option_and_then (λ (pair : rows.Item × Frames). code.taken n pair.1 pair.1.cells (pair.0 ∷ map (item_in all) items)))
+    (option_and_then (λ (pair : rows.Item × Frames). code.take_top n pair.1 pair.1.cells (pair.0 ∷ map (item_in all) items)))
     (pop_read (reading_of all) m)) h)
 
 pub take_there : (all : Extent) (n : ℕ) (m : FlatStack) (next : List rows.Item → Frames → State Frames Frames)
     → with_taken flat n (stack_in all m) next ≢ stuck → IsSome (taken n m)
-take_there all n m next d = take_onto_there all n m [] (found_there (flat.take n (stack_in all m)) (parted next) d)
+take_there all n m next d = take_onto_there all n m [] (found_there (flat.take n (stack_in all m)) (on_pair next) d)
 
 pub one_there : (m : FlatStack) → IsSome (taken 1 m) → IsSome (held.pop m)
 one_there m h = by_pop (held.pop m) h
@@ -178,7 +178,7 @@ drop_get (y ∷ s) (suc i) x e = drop_get s i x e
 counts_there : (t : Tables) (reach : Reach) (all : Extent) (m : FlatStack) → IsLiveStack t reach m → IsSome (flat.count_down (stack_in all m))
     → IsSome (held.count_down m)
 counts_there t reach all m k h = by_cell (cell_at m.registers.mark m.cells) refl
-    (there_as _ _ (ap (code.counted (stack_in all m)) (at_read (reading_of all) m.registers.mark m.cells)) h)
+    (there_as _ _ (ap (code.count_in (stack_in all m)) (at_read (reading_of all) m.registers.mark m.cells)) h)
   where
     none_left : (r : Registers) → cell_at m.registers.mark m.cells ≡ Some (Limit 0 r) → ⊥
     none_left r c =
@@ -187,7 +187,7 @@ counts_there t reach all m k h = by_cell (cell_at m.registers.mark m.cells) refl
         absurd (omega (arith, there.1.0))
 
     by_cell : (o : Option Cell) → cell_at m.registers.mark m.cells ≡ o
-        → IsSome (code.counted (stack_in all m) (option_map (cell_read (reading_of all)) o)) → IsSome (held.count_down_at m o)
+        → IsSome (code.count_in (stack_in all m) (option_map (cell_read (reading_of all)) o)) → IsSome (held.count_down_at m o)
     by_cell (Some (Limit (suc count) r)) c q = refl
     by_cell (Some (Limit zero r)) c q = absurd (none_left r c)
     by_cell (Some (Mark label changed r)) c q = cc
@@ -269,14 +269,14 @@ pub eret_mark : (w : World) (tables t : Tables) (reach : Reach) (m k : FlatStack
     → done (extent_of w.heap) tables Instrs.Eret m st ≢ stuck → held.at_base k ≡ false
 eret_mark w tables t reach m k item val st e l h d =
     let all : Extent = extent_of w.heap in
-    let found = not_as _ _ (popped_value w m k item val e st h (λ value a. unmarked flat a st (pushed flat (rows.Val value)))) d in
+    let found = not_as _ _ (popped_value w m k item val e st h (λ value a. unmark_then flat a st (push_item flat (rows.Val value)))) d in
     unmarks_off k (live_pop t reach m k item e l).rest.root
     (read_there (unmarked_read (reading_of all)) (held.unmark k) (there_as _ _ (unmark_read (reading_of all) k)
     (found_there (flat.unmark (stack_in all k)) _ found)))
 
 exchanged_lacks : (all : Extent) (k : FlatStack) (next : Frames → Store Frames → State Frames Frames) (st : Store Frames) → k.registers.scan ≡ None
-    → exchanged (flat.swap_newest (pair_now st) (stack_in all k)) next st ≡ stuck
-exchanged_lacks all k next st q = ap (λ (scan : Option ℕ). exchanged (code.swap_at (pair_now st) (stack_in all k) scan) next st) q
+    → with_exchange (flat.swap_newest (pair_now st) (stack_in all k)) next st ≡ stuck
+exchanged_lacks all k next st q = ap (λ (scan : Option ℕ). with_exchange (code.swap_at (pair_now st) (stack_in all k) scan) next st) q
 
 pub escan_scan : (all : Extent) (tables : Tables) (m : FlatStack) (st : Store Frames) → done all tables Instrs.Escan m st ≢ stuck → IsSome m.registers.scan
 escan_scan all tables m st d = by_pop (held.pop m) refl (pop_there all m _ d)
@@ -322,9 +322,9 @@ cofail_body all tables m st d = let is = (body_is (flat.is_base (stack_in all m)
 
 -- a create body that fails is exhausted
 pub cofail_is : (all : Extent) (tables : Tables) (m : FlatStack) (st : Store Frames) → held.is_base m ≡ true → 0 < st.active
-    → done all tables Instrs.Cofail m st ≡ exhausted flat tables (stack_in all m) st
+    → done all tables Instrs.Cofail m st ≡ exhaust_active flat tables (stack_in all m) st
 cofail_is all tables m st e p =
-    let F : Bool → State Frames Frames = λ x. if x then exhausted flat tables (stack_in all m) st else stuck in
+    let F : Bool → State Frames Frames = λ x. if x then exhaust_active flat tables (stack_in all m) st else stuck in
     ap (λ (x : Bool). F (x && not (is_main st.active))) (is_base_read (reading_of all) m ∙ e) ∙ ap F (not_main st.active p)
   where
     not_main : (n : ℕ) → 0 < n → (true && not (is_main n)) ≡ true

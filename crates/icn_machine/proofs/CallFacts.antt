@@ -19,7 +19,7 @@ use Rattle.icn_frames.specs.Stacks.{FlatStack}
 use Rattle.icn_code.specs.Codes.{Tables}
 use Rattle.icn_run.specs.Rows as rows
 use Rattle.icn_run.specs.Stacks.{Frames, flat}
-use Rattle.icn_run.specs.Step.{State, Store, Coexp, IsFunc, all_names, callee_of, invoked}
+use Rattle.icn_run.specs.Step.{State, Store, Coexp, IsFunc, all_names, callee_of, invoke_value}
 use Rattle.icn_run_named.specs.KeepingNames.{StepsKeepNames}
 use Rattle.icn_run_named.specs.KeepingSizes.{StateFits, StepsKeepSizes, field_count}
 use Rattle.icn_run_named.specs.StateNames.{CoexpNamed, StackNamed, StateNamed, StoreNamed}
@@ -58,8 +58,8 @@ no_function tables all (Vals.Coexp id) n func none is found = cc
 -- what a call on a stack in a world comes to
 abbrev CallsWith : Tables → World → FlatStack → Val → List rows.Item → World → FlatStack → Result Stage Halt → Type 0
 CallsWith tables w m callee items v n result = (st : Store Frames) → st.world ≡ world_of w
-    → MatchResult result (StandsWith (invoked flat tables (value_in (extent_of w.heap) callee) items (stack_in (extent_of w.heap) m) st) st v n)
-    (HaltsWith (invoked flat tables (value_in (extent_of w.heap) callee) items (stack_in (extent_of w.heap) m) st) st v)
+    → MatchResult result (StandsWith (invoke_value flat tables (value_in (extent_of w.heap) callee) items (stack_in (extent_of w.heap) m) st) st v n)
+    (HaltsWith (invoke_value flat tables (value_in (extent_of w.heap) callee) items (stack_in (extent_of w.heap) m) st) st v)
 
 -- Names
 
@@ -81,7 +81,7 @@ call_named law tables names w v m n callee items result known none are stack wor
     st = bare_store ns w
 
     after : All (ItemNamed ns) items → StackNamed ns (stack_in (extent_of w.heap) m) → WorldNamed ns (world_of w)
-        → StateNamed ns (invoked flat tables (value_in (extent_of w.heap) callee) items (stack_in (extent_of w.heap) m) st)
+        → StateNamed ns (invoke_value flat tables (value_in (extent_of w.heap) callee) items (stack_in (extent_of w.heap) m) st)
     after are stack world =
         law.called tables (value_in (extent_of w.heap) callee) items (stack_in (extent_of w.heap) m) st
         (λ k func is found. absurd (no_function tables (extent_of w.heap) callee k func none is found)) are stack (bare_named ns w world)
@@ -113,7 +113,7 @@ call_sized law tables w v m n callee items result none h g fits = by_result resu
     st : Store Frames
     st = bare_store (all_names tables) w
 
-    after : StateFits tables (invoked flat tables (value_in (extent_of w.heap) callee) items (stack_in (extent_of w.heap) m) st)
+    after : StateFits tables (invoke_value flat tables (value_in (extent_of w.heap) callee) items (stack_in (extent_of w.heap) m) st)
     after =
         law.called tables (value_in (extent_of w.heap) callee) items (stack_in (extent_of w.heap) m) st
         (λ k func is found. absurd (no_function tables (extent_of w.heap) callee k func none is found)) fits

@@ -27,7 +27,7 @@ use Rattle.icn_frames.specs.Stacks.{FlatStack}
 use Rattle.icn_code.specs.Codes.{Tables}
 use Rattle.icn_run.specs.Rows as rows
 use Rattle.icn_run.specs.Stacks.{Frames, flat}
-use Rattle.icn_run.specs.Step.{State, Store, applied_to_elements, elements_called, errs, invoked, plain, with_value}
+use Rattle.icn_run.specs.Step.{State, Store, applied_to_elements, elements_called, errs, invoke_value, plain, with_value}
 use Rattle.icn_run_named.proofs.CallsNamed.{Maybe, each_get, each_of}
 use Rattle.icn_streams.specs.Handed.{CallStreams}
 use Rattle.icn_control.specs.Parts.{HaltsWith, StandsWith}
@@ -107,7 +107,7 @@ pub list_elements : (w : World) (from : Val) (id : ℕ) (vals : List Val) (items
     → FindsElements {A = Unit} w from items (Ok tt)
 list_elements w from id vals items f e p tables callee m st same =
     let all : Extent = extent_of w.heap in
-    let F : List rows.Item → State Frames Frames = λ xs. invoked flat tables callee xs m st in
+    let F : List rows.Item → State Frames Frames = λ xs. invoke_value flat tables callee xs m st in
     ap (λ (x : Val). elements_called flat tables callee (value_in all x) m st) f
     ∙ ap (λ (x : StoreWorld). F (map plain (list_at x.heap id).items)) same
     ∙ ap F (elements_are all vals items (list_at (heap_of w.heap) id).items e p)
@@ -117,7 +117,7 @@ pub record_elements : (w : World) (from : Val) (id : ℕ) (vals : List Val) (ite
     → FindsElements {A = Unit} w from items (Ok tt)
 record_elements w from id vals items f e p tables callee m st same =
     let all : Extent = extent_of w.heap in
-    let F : List rows.Item → State Frames Frames = λ xs. invoked flat tables callee xs m st in
+    let F : List rows.Item → State Frames Frames = λ xs. invoke_value flat tables callee xs m st in
     ap (λ (x : Val). elements_called flat tables callee (value_in all x) m st) f
     ∙ ap (λ (x : StoreWorld). F (map plain (record_at x.heap id).fields)) same
     ∙ ap F (elements_are all vals items (record_at (heap_of w.heap) id).fields e p)
@@ -174,17 +174,17 @@ both_go tables w m callee from value other st same f k =
 pub elements_event : (tables : Tables) (names : Names) (w v : World) (m k n : FlatStack) (callee from : Item) (value other : Val)
     (items xs : List Item) (before after : CallStreams) (result : Result Stage Halt)
     → FindsItem w m callee (Ok value) → FindsItem w m from (Ok other) → FindsElements {A = Unit} w other items (Ok tt) → k ≡ m → xs ≡ items
-    → PerformsEvent names (λ st. invoked flat tables (value_in (extent_of w.heap) value) (map (item_in (extent_of w.heap)) xs)
+    → PerformsEvent names (λ st. invoke_value flat tables (value_in (extent_of w.heap) value) (map (item_in (extent_of w.heap)) xs)
     (stack_in (extent_of w.heap) k) st) w before v n after result
     → PerformsEvent names (applied_on tables w m callee from) w before v n after result
 elements_event tables names w v m k n callee from value other items xs before after result f g h e d p =
     let all : Extent = extent_of w.heap in
-    event_as names (applied_on tables w m callee from) (λ st. invoked flat tables (value_in all value) (map (item_in all) xs) (stack_in all k) st) w v
+    event_as names (applied_on tables w m callee from) (λ st. invoke_value flat tables (value_in all value) (map (item_in all) xs) (stack_in all k) st) w v
     n before after result
     (λ st same names_same. both_go tables w m callee from value other st same f g
     ∙ h tables (value_in all value) (stack_in all m) st same
-    ∙ ap (λ (x : FlatStack). invoked flat tables (value_in all value) (map (item_in all) items) (stack_in all x) st) (sym e)
-    ∙ ap (λ (ys : List Item). invoked flat tables (value_in all value) (map (item_in all) ys) (stack_in all k) st) (sym d))
+    ∙ ap (λ (x : FlatStack). invoke_value flat tables (value_in all value) (map (item_in all) items) (stack_in all x) st) (sym e)
+    ∙ ap (λ (ys : List Item). invoke_value flat tables (value_in all value) (map (item_in all) ys) (stack_in all k) st) (sym d))
     p
 
 stops_event : (tables : Tables) (names : Names) (w : World) (m n : FlatStack) (callee from : Item) (halt : Halt) (before : CallStreams) (result : Result Stage Halt)

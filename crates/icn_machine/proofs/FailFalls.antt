@@ -8,8 +8,8 @@ use Rattle.std.proofs.lemmas.Bool.{ltb-true}
 use Rattle.icn_code.specs.Codes.{Tables}
 use Rattle.icn_run.specs.Rows.{Outcome, Fails, Gives, Suspends, Error, Ends, Done, again}
 use Rattle.icn_run.specs.Calls.{Pair, Why, Alt, Op, Scan, Escan, Proc}
-use Rattle.icn_run.specs.Stacks.{Cell, base, call, local, mark, limit, suspension, operand, Frames, cut, cell_at, dropped, flat, left, resumed as resumed_from, swap_at, with_pair as with_pair_at}
-use Rattle.icn_run.specs.Step.{State, Store, Status, Fresh, Active, Waiting, Exhausted as IsExhausted, running, failing, hopping, over, stuck, activator_of, all_left, exchanged, exhausted, fail_by, fails, here, hop, is_create_body, is_main, mark_dropped, maybe_exchanged, outcome, pair_now, passed_failure, proc_fails, resumed, resumed_or_dropped, returned, status_of, swapped_back, turn, turn_if, with_status}
+use Rattle.icn_run.specs.Stacks.{Cell, base, call, local, mark, limit, suspension, operand, Frames, cut, cell_at, drop_from, flat, leave_from, resume_from as resumed_from, swap_at, with_pair as with_pair_at}
+use Rattle.icn_run.specs.Step.{State, Store, Status, Fresh, Active, Waiting, Exhausted as IsExhausted, running, failing, hopping, over, stuck, activator_of, all_left, with_exchange, exhaust_active, fail_by, fails, here, hop, is_create_body, is_main, mark_dropped, maybe_exchanged, outcome, pair_now, passed_failure, proc_fails, resume_by, resumed_or_dropped, return_to, status_of, swapped_back, turn, turn_if, with_status}
 
 -- a state after a turn more than so many
 abbrev After : ℕ → State Frames Frames → Type 0
@@ -78,7 +78,7 @@ cut_short h cells x below e =
     let b = length-drop (length cells - h) cells in
     omega (arith, a, b)
 
-left_fewer : (h : ℕ) (cells : List Cell) (s : List Cell) → cut h cells ≡ s → (n : Frames) → left s ≡ Some n → length n.cells < length cells
+left_fewer : (h : ℕ) (cells : List Cell) (s : List Cell) → cut h cells ≡ s → (n : Frames) → leave_from s ≡ Some n → length n.cells < length cells
 left_fewer h cells (call proc locals level r place ∷ below) c n e =
     let same : length below ≡ length n.cells = ap (λ (w : Frames). length w.cells) (same_Some _ _ e) in
     let short = cut_short h cells (call proc locals level r place) below c in omega (arith, same, short)
@@ -146,16 +146,16 @@ module _ (tables : Tables) (m : Frames) (st : Store Frames) where
   finishes true s = tt
   finishes false s = tt
 
-  returns : (o : Option Frames) → flat.leave m ≡ o → (s : Store Frames) → s.turns ≡ st.turns → Goal (returned o failing s)
+  returns : (o : Option Frames) → flat.leave m ≡ o → (s : Store Frames) → s.turns ≡ st.turns → Goal (return_to o failing s)
   returns None e s q = finishes (is_main s.active) s
   returns (Some caller) e s q = inr (q, left_fewer m.registers.base m.cells (cut m.registers.base m.cells) refl caller e)
 
-  without : (b : Bool) → Goal (if b then exhausted flat tables m st else proc_fails flat m st)
+  without : (b : Bool) → Goal (if b then exhaust_active flat tables m st else proc_fails flat m st)
   without true = turned tables st (λ st. passed_failure flat (activator_of st.active st) m (with_status st.active IsExhausted st)) (length m.cells)
       (after_failure st.turns (activator_of st.active (TurnOf st)) m (with_status st.active IsExhausted (TurnOf st)) refl)
   without false = returns (flat.leave m) refl (all_left flat m st) (back_turns (flat.swap_oldest (pair_now st) m))
 
-  drops : (s : List Cell) → cut m.registers.mark m.cells ≡ s → Goal (mark_dropped flat tables m st (dropped m s))
+  drops : (s : List Cell) → cut m.registers.mark m.cells ≡ s → Goal (mark_dropped flat tables m st (drop_from m s))
   drops (mark (Some label) false r ∷ below) c = tt
   drops (mark (Some label) true r ∷ below) c = turned tables st (running (record { cells = below; registers = r; place = label })) (length m.cells) tt
   drops (mark None changed r ∷ below) c = inr (refl, cut_short m.registers.mark m.cells (mark None changed r) below c)
@@ -168,13 +168,13 @@ module _ (tables : Tables) (m : Frames) (st : Store Frames) where
   drops (operand item ∷ below) c = without (is_create_body flat m st)
 
   exchanges : (n : Frames) → length n.cells < length m.cells → (o : Option (Pair × Frames)) → flat.swap_newest (pair_now st) n ≡ o
-      → Goal (exchanged o failing st)
+      → Goal (with_exchange o failing st)
   exchanges n l None e = tt
   exchanges n l (Some swap) e =
       let same : length swap.1.cells ≡ length n.cells = swap_cells (pair_now st) n n.registers.scan swap.0 swap.1 e in
       inr (refl, omega (arith, l, same))
 
-  resumes : (why : Why) (n : Frames) → length n.cells < length m.cells → Goal (resumed flat tables why n st)
+  resumes : (why : Why) (n : Frames) → length n.cells < length m.cells → Goal (resume_by flat tables why n st)
   resumes Alt n l = inr (refl, l)
   resumes (Op rest) n l =
       turned tables st (λ st. outcome flat (again rest (here flat n st)) n st) (length m.cells)

@@ -17,7 +17,7 @@ use Rattle.icn_frames.specs.Stacks.{FlatStack}
 use Rattle.icn_code.specs.Codes.{Tables}
 use Rattle.icn_run.specs.Rows as rows
 use Rattle.icn_run.specs.Stacks.{Frames, flat}
-use Rattle.icn_run.specs.Step.{State, Store, all_names, here, invoked, invoked_with, outcome}
+use Rattle.icn_run.specs.Step.{State, Store, all_names, here, invoke_value, invoked_with, outcome}
 use Rattle.icn_streams.specs.Handed.{CallStreams}
 use Rattle.icn_control.specs.Parts.{FindsValue, HaltsWith, StandsWith}
 use Rattle.icn_control.specs.Standing.{stack_in}
@@ -32,14 +32,14 @@ pub function_event : (tables : Tables) (names : Names) (func : Func) (callee : V
     (before after : CallStreams) (result : Result Stage Halt)
     → names ≡ all_names tables
     → ((all : Extent) (xs : List rows.Item) (a : Frames) (st : Store Frames)
-    → invoked flat tables (value_in all callee) xs a st ≡ outcome flat (step_rows.apply st.names (step_rows.Function func) xs (here flat a st)) a st)
+    → invoke_value flat tables (value_in all callee) xs a st ≡ outcome flat (step_rows.apply st.names (step_rows.Function func) xs (here flat a st)) a st)
     → PerformsRow (step_rows.apply names (step_rows.Function func) items) w m before v n after result
-    → PerformsEvent (all_names tables) (λ st. invoked flat tables (value_in (extent_of w.heap) callee) items (stack_in (extent_of w.heap) m)
+    → PerformsEvent (all_names tables) (λ st. invoke_value flat tables (value_in (extent_of w.heap) callee) items (stack_in (extent_of w.heap) m)
     st) w before v n after result
 function_event tables names func callee w v m n items before after result known is p =
     let M : Frames = stack_in (extent_of w.heap) m in
     let row = step_rows.apply names (step_rows.Function func) items in
-    event_as (all_names tables) (λ st. invoked flat tables (value_in (extent_of w.heap) callee) items M st) (λ st. row_on row w m st st.outside) w v n
+    event_as (all_names tables) (λ st. invoke_value flat tables (value_in (extent_of w.heap) callee) items M st) (λ st. row_on row w m st st.outside) w v n
     before after result
     (λ st same names_same.
     is (extent_of w.heap) items M st
@@ -52,19 +52,19 @@ pub first_event : (tables : Tables) (names : Names) (w v : World) (m k n : FlatS
     → items ≡ first ∷ others → k ≡ m
     → ((st : Store Frames) → st.world ≡ world_of w
     → FindsValue (extent_of w.heap) (item_in (extent_of w.heap) first) (here flat (stack_in (extent_of w.heap) m) st) (Ok callee))
-    → PerformsEvent names (λ st. invoked flat tables (value_in (extent_of w.heap) callee) (map (item_in (extent_of w.heap)) others)
+    → PerformsEvent names (λ st. invoke_value flat tables (value_in (extent_of w.heap) callee) (map (item_in (extent_of w.heap)) others)
     (stack_in (extent_of w.heap) k) st) w before v n after result
     → PerformsEvent names (λ st. invoked_with flat tables (map (item_in (extent_of w.heap)) items) (stack_in (extent_of w.heap) m) st) w before v n after result
 first_event tables names w v m k n items others first callee before after result is e found p =
     let all : Extent = extent_of w.heap in
     event_as names (λ st. invoked_with flat tables (map (item_in all) items) (stack_in all m) st)
-    (λ st. invoked flat tables (value_in all callee) (map (item_in all) others) (stack_in all k) st)
+    (λ st. invoke_value flat tables (value_in all callee) (map (item_in all) others) (stack_in all k) st)
     w v n before after result
     (λ st same names_same.
     ap (λ (xs : List Item). invoked_with flat tables (map (item_in all) xs) (stack_in all m) st) is
-    ∙ value_goes all (item_in all first) (stack_in all m) st callee (λ value. invoked flat tables value (map (item_in all) others) (stack_in all m) st)
+    ∙ value_goes all (item_in all first) (stack_in all m) st callee (λ value. invoke_value flat tables value (map (item_in all) others) (stack_in all m) st)
     (found st same)
-    ∙ ap (λ (x : FlatStack). invoked flat tables (value_in all callee) (map (item_in all) others) (stack_in all x) st) (sym e))
+    ∙ ap (λ (x : FlatStack). invoke_value flat tables (value_in all callee) (map (item_in all) others) (stack_in all x) st) (sym e))
     p
 
 -- the first item has no value
@@ -84,5 +84,5 @@ first_stops tables names w m n items first others stop before result is err foun
     at_halt result (halt_of stop) (StandsWith (event st) st w n) (HaltsWith (event st) st w) err
     (subst (λ (s : State Frames Frames). HaltsWith s st w (halt_of stop))
     (sym (ap (λ (xs : List Item). invoked_with flat tables (map (item_in all) xs) (stack_in all m) st) is))
-    (value_halts w (item_in all first) (stack_in all m) st stop (λ value. invoked flat tables value (map (item_in all) others) (stack_in all m) st)
+    (value_halts w (item_in all first) (stack_in all m) st stop (λ value. invoke_value flat tables value (map (item_in all) others) (stack_in all m) st)
     same (found st same))))

@@ -24,7 +24,7 @@ use Rattle.icn_code.specs.Codes.{Tables}
 use Rattle.icn_code.specs.declared.instr.Instr.{Instr}
 use Rattle.icn_run.specs.Rows as rows
 use Rattle.icn_run.specs.Stacks.{Frames, flat}
-use Rattle.icn_run.specs.Step.{State, Store, all_names, at_bound, instruction, parted, turn, turn_if, with_found}
+use Rattle.icn_run.specs.Step.{State, Store, all_names, at_bound, instruction, on_pair, turn, turn_if, with_found}
 use Rattle.icn_run_named.specs.StateNames.{StackNamed, StoreNamed}
 use Rattle.icn_run_named.proofs.CallsNamed as C
 use Rattle.icn_run_named.proofs.CallsNamed.{Maybe}
@@ -101,7 +101,7 @@ taken_named names all n m k items e h = onto_named names all n m k [] items e (A
 
 abbrev pub TakesTurn : Tables → Instr → ℕ → (List rows.Item → Frames → Store Frames → State Frames Frames) → Type 0
 TakesTurn tables instr n next =
-    (m : Frames) (st : Store Frames) → instruction flat tables instr m st ≡ with_found (flat.take n m) (parted (λ xs a. turn tables st (next xs a)))
+    (m : Frames) (st : Store Frames) → instruction flat tables instr m st ≡ with_found (flat.take n m) (on_pair (λ xs a. turn tables st (next xs a)))
 
 -- what it comes to, once its operands are taken
 pub takes_turn : (all : Extent) (tables : Tables) (instr : Instr) (n : ℕ) (next : List rows.Item → Frames → Store Frames → State Frames Frames)

@@ -34,7 +34,7 @@ use Rattle.icn_streams.specs.Handed.{CallStreams, Follows, KeepsAllCounts, Puts,
 use Rattle.icn_run.specs.Calls as calls
 use Rattle.icn_run.specs.Rows as run_rows
 use Rattle.icn_run.specs.Stacks.{Frames, flat}
-use Rattle.icn_run.specs.Step.{State, Store, running, failing, over, stuck, all_names, finished, here, instruction, is_main, operated, outcome, resumed, turn, turn_if, with_world}
+use Rattle.icn_run.specs.Step.{State, Store, running, failing, over, stuck, all_names, finish_run, here, instruction, is_main, operate, outcome, resume_by, turn, turn_if, with_world}
 use Rattle.icn_run_named.specs.StateNames.{StackNamed}
 use Rattle.icn_run_named.proofs.CallsNamed as named
 use Rattle.icn_control.specs.Machines.{AreLiveStacks, ComesTo, HasStack, IsSound, running_of, store_in}
@@ -100,7 +100,7 @@ is_finished (over run_rows.Done outside) = true
 is_finished stuck = true
 is_finished state = false
 
-finished_is : (st : Store Frames) → is_finished (finished st) ≡ true
+finished_is : (st : Store Frames) → is_finished (finish_run st) ≡ true
 finished_is st = by_main (is_main st.active)
   where
     by_main : (b : Bool) → is_finished (if b then over run_rows.Done st.outside else stuck) ≡ true
@@ -115,7 +115,7 @@ goes_on (Error n value seen) m st = refl
 goes_on (Ends n seen) m st = refl
 
 -- no row is the end of the starting call
-unfinished : (oc : Outcome) (m : Frames) (st other : Store Frames) → outcome flat oc m st ≡ finished other → ⊥
+unfinished : (oc : Outcome) (m : Frames) (st other : Store Frames) → outcome flat oc m st ≡ finish_run other → ⊥
 unfinished oc m st other e = by_test (sym (goes_on oc m st) ∙ ap is_finished e ∙ finished_is other)
   where
     by_test : false ≡ true → ⊥
@@ -191,7 +191,7 @@ has_stack m w k n row b a (Err halt) e p = tt
 
 -- but for one all operations are rows
 operated_is : (op : Op) (xs : List run_rows.Item) (m : Frames) (st : Store Frames) → (op ≡ Ops.Refresh → ⊥)
-    → operated flat op xs m st ≡ outcome flat (step_rows.apply st.names (Operation op) xs (here flat m st)) m st
+    → operate flat op xs m st ≡ outcome flat (step_rows.apply st.names (Operation op) xs (here flat m st)) m st
 operated_is Ops.Refresh xs m st d = absurd (d refl)
 operated_is op xs m st d = refl
 
@@ -204,10 +204,10 @@ in_turn tables st event b = ap (λ (x : Bool). turn_if x st event) b
 pub op_is : (all : Extent) (tables : Tables) (table : Table) (m k : FlatStack) (items : List Item) (op : Op) (st : Store Frames)
     → table.running ≡ Some m → taken (arity op) m ≡ Some (items, k)
     → instruction flat tables (Instrs.Op op) (stack_in all (running_of table.running)) st
-    ≡ turn tables st (operated flat op (map (item_in all) items) (stack_in all k))
+    ≡ turn tables st (operate flat op (map (item_in all) items) (stack_in all k))
 op_is all tables table m k items op st e p =
     on_running table m (λ x. instruction flat tables (Instrs.Op op) (stack_in all x) st) e ∙ taken_runs all (arity op) m k items
-    (λ xs a. turn tables st (operated flat op xs a)) p
+    (λ xs a. turn tables st (operate flat op xs a)) p
 
 pub operates : {K : Type 0} (tables : Tables) (names : Names) (w : World) (table : Table) (m k : FlatStack) (items : List Item) (op : Op)
     (after : Machine K) (turns : ℕ) (was : Outside)
@@ -220,7 +220,7 @@ operates tables names w table m k items op after turns was d e p b n =
     let all : Extent = extent_of w.heap in
     let st : Store Frames = store_in (all_names tables) was (world_of w) turns after.begun.items all table in
     let xs = map (item_in all) items in
-    op_is all tables table m k items op st e p ∙ in_turn tables st (operated flat op xs (stack_in all k)) b ∙ operated_is op xs (stack_in all k)
+    op_is all tables table m k items op st e p ∙ in_turn tables st (operate flat op xs (stack_in all k)) b ∙ operated_is op xs (stack_in all k)
     (store_in_turn tables w turns table after was) d
     ∙ ap (λ (ns : Names). row_on (step_rows.apply ns (Operation op) xs) w k (store_in_turn tables w turns table after was) was) n
 
@@ -228,13 +228,13 @@ pub resumes : {K : Type 0} (tables : Tables) (w : World) (table : Table) (m : Fl
     (was : Outside)
     → table.running ≡ Some m
     → nat_lt turns (heap_of w.heap).bounds.turns ≡ true
-    → resumed flat tables (calls.Op rest) (stack_in (extent_of w.heap) (running_of table.running)) (store_in (all_names tables) was (world_of w) turns
+    → resume_by flat tables (calls.Op rest) (stack_in (extent_of w.heap) (running_of table.running)) (store_in (all_names tables) was (world_of w) turns
     after.begun.items (extent_of w.heap) table)
     ≡ row_on (rows.again rest) w m (store_in_turn tables w turns table after was) was
 resumes tables w table m rest after turns was e b =
     let all : Extent = extent_of w.heap in
     let st : Store Frames = store_in (all_names tables) was (world_of w) turns after.begun.items all table in
-    on_running table m (λ x. resumed flat tables (calls.Op rest) (stack_in all x) st) e
+    on_running table m (λ x. resume_by flat tables (calls.Op rest) (stack_in all x) st) e
     ∙ in_turn tables st (λ s. outcome flat (run_rows.again rest (here flat (stack_in all m) s)) (stack_in all m) s) b
 
 -- Operands

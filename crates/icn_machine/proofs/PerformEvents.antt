@@ -13,7 +13,7 @@ use Rattle.icn_coexp.specs.Transfers.{Table}
 use Rattle.icn_code.specs.Codes.{Tables}
 use Rattle.icn_run.specs.Rows.{Done}
 use Rattle.icn_run.specs.Stacks.{Frames, flat}
-use Rattle.icn_run.specs.Step.{State, Store, running, failing, over, all_names, finished, is_main, outcome, stuck, with_world, turn, turn_if}
+use Rattle.icn_run.specs.Step.{State, Store, running, failing, over, all_names, finish_run, is_main, outcome, stuck, with_world, turn, turn_if}
 use Rattle.icn_streams.specs.Handed.{CallStreams, uncounted}
 use Rattle.icn_streams.proofs.Following.{follows_all}
 use Rattle.icn_control.specs.Machines.{AreLiveStacks, ComesTo, running_of, stack_seen, store_in, store_seen}
@@ -164,7 +164,7 @@ row_event names row w v m n before after result p st same names_same = p st same
 
 -- Rows go on
 
-never_finished : (o : Outcome) (m : Frames) (st other : Store Frames) → outcome flat o m st ≡ finished other → ⊥
+never_finished : (o : Outcome) (m : Frames) (st other : Store Frames) → outcome flat o m st ≡ finish_run other → ⊥
 never_finished o m st other e = by_main (is_main other.active) o e
   where
     by_main : (b : Bool) (o : Outcome) → outcome flat o m st ≡ (if b then over Done other.outside else stuck) → ⊥

@@ -35,7 +35,7 @@ use Rattle.icn_code.specs.Rules.{is_global, is_start, keeps_rules, name_of}
 use Rattle.icn_run.specs.FlatStep.{start}
 use Rattle.icn_run.specs.Rows as rows
 use Rattle.icn_run.specs.Stacks.{Frames, empty, flat}
-use Rattle.icn_run.specs.Step.{State, Store, all_names, begun_if, collected, errs, first_store, here, made, main_of, procedure_at, running, start_of, stuck, with_at, with_found, with_world}
+use Rattle.icn_run.specs.Step.{State, Store, all_names, begun_if, collect_rest, errs, first_store, here, with_made, main_of, procedure_at, running, start_of, stuck, with_at, with_found, with_world}
 use Rattle.icn_control.specs.Counting.{EnterOthers, FitTurns}
 use Rattle.icn_control.specs.Living.{IsLiveStack, variable_count}
 use Rattle.icn_control.specs.Machines.{AreLiveStacks, IsLiveCoexp, IsSound, running_of, store_in}
@@ -112,8 +112,8 @@ main_there tables main rules e f = global_there tables main (find (is_called_mai
 -- what follows a check
 check_made : (t : Bool) (number : ℕ) (offending : Option Value) (next : Row) (at : Setting) (a b : Frames) (st su : Store Frames)
     (N : Value → Frames → Store Frames → State Frames Frames)
-    → with_at at st ≡ with_at at su → made flat (next at) a st N ≡ made flat (next at) b su N
-    → made flat (check t number offending next at) a st N ≡ made flat (check t number offending next at) b su N
+    → with_at at st ≡ with_at at su → with_made flat (next at) a st N ≡ with_made flat (next at) b su N
+    → with_made flat (check t number offending next at) a st N ≡ with_made flat (check t number offending next at) b su N
 check_made true number offending next at a b st su N e h = h
 check_made false number offending next at a b st su N e h = ap (errs number offending) e
 
@@ -129,7 +129,7 @@ listed_in values at =
 pub list_as : (values : List Value) (at : Setting) (a b : Frames) (st su : Store Frames) (N : Value → Frames → Store Frames → State Frames Frames)
     → ((seen : Setting) → with_at seen st ≡ with_at seen su)
     → ((value : Value) (s : Store Frames) → N value (flat.set_locals at.locals a) s ≡ N value (flat.set_locals at.locals b) s)
-    → made flat (list_row values at) a st N ≡ made flat (list_row values at) b su N
+    → with_made flat (list_row values at) a st N ≡ with_made flat (list_row values at) b su N
 list_as values at a b st su N e h =
     let value : Value = rows.AList (length at.world.heap.lists) in
     let seen : Setting = listed_in values at in
@@ -141,11 +141,11 @@ stays_stuck value a st = stuck
 
 -- a list is made, or there are too many cells
 pub data OutcomeSo (o : Outcome) (at : Setting) : Type 0 where
-  fits : ((a : Frames) (st : Store Frames) → made flat o a st stays_stuck ≡ stuck) → OutcomeSo o at
-  is_full : ((a : Frames) (st : Store Frames) (N : Value → Frames → Store Frames → State Frames Frames) → made flat o a st N ≡ errs 307 None (with_at at st))
+  fits : ((a : Frames) (st : Store Frames) → with_made flat o a st stays_stuck ≡ stuck) → OutcomeSo o at
+  is_full : ((a : Frames) (st : Store Frames) (N : Value → Frames → Store Frames → State Frames Frames) → with_made flat o a st N ≡ errs 307 None (with_at at st))
       → OutcomeSo o at
 
-check_so : (t : Bool) (next : Row) (at : Setting) → ((a : Frames) (st : Store Frames) → made flat (next at) a st stays_stuck ≡ stuck)
+check_so : (t : Bool) (next : Row) (at : Setting) → ((a : Frames) (st : Store Frames) → with_made flat (next at) a st stays_stuck ≡ stuck)
     → OutcomeSo (check t 307 None next at) at
 check_so true next at h = fits h
 check_so false next at h = is_full (λ a st N. refl)
@@ -165,7 +165,7 @@ pub words_paid : (words : List (List ℕ)) (at : Setting) → nat_le (at.world.h
 words_paid words at e = check_passes (nat_le (at.world.heap.strings + sum_by length words) at.world.heap.bounds.strings) e _ at
 
 words_refused : (t : Bool) → t ≡ false → (next : Row) (at : Setting) (a : Frames) (st : Store Frames) (N : Value → Frames → Store Frames → State Frames Frames)
-    → made flat (check t 306 None next at) a st N ≡ errs 306 None (with_at at st)
+    → with_made flat (check t 306 None next at) a st N ≡ errs 306 None (with_at at st)
 words_refused false q next at a st N = refl
 words_refused true q next at a st N = cc
 
@@ -178,11 +178,11 @@ pub start_none : (tables : Tables) (launch : Launch) → main_of tables ≡ None
 start_none tables launch e = ap (start_of flat tables launch.words empty (first tables launch)) e
 
 pub start_is : (tables : Tables) (launch : Launch) (main : ℕ) (entry : Proc) → main_of tables ≡ Some main → slice_get tables.procs main ≡ Some entry
-    → start tables launch ≡ made flat (words_row launch.words (here flat empty (first tables launch))) empty (first tables launch) (begun_with main entry)
+    → start tables launch ≡ with_made flat (words_row launch.words (here flat empty (first tables launch))) empty (first tables launch) (begun_with main entry)
 start_is tables launch main entry e f =
     let st : Store Frames = first tables launch in
     ap (start_of flat tables launch.words empty st) e
-    ∙ ap (λ (o : Option Proc). with_found o (λ (proc : Proc). made flat (words_row launch.words (here flat empty st)) empty st (begun_with main proc))) f
+    ∙ ap (λ (o : Option Proc). with_found o (λ (proc : Proc). with_made flat (words_row launch.words (here flat empty st)) empty st (begun_with main proc))) f
 
 pub start_full : (tables : Tables) (launch : Launch) (main : ℕ) (entry : Proc) → main_of tables ≡ Some main → slice_get tables.procs main ≡ Some entry
     → nat_le (0 + sum_by length launch.words) launch.bounds.strings ≡ false → start tables launch ≡ errs 306 None (first tables launch)
@@ -195,7 +195,7 @@ start_full tables launch main entry e f w =
 begun_collected : (collects : Bool) (count : ℕ) (arguments : List Value) (all : Extent) (st : Store Frames)
     (K : List Value → Frames → Store Frames → State Frames Frames)
     → ((ps : List Value) (s : Store Frames) → K ps empty s ≡ K ps (stack_in all bare) s)
-    → collected flat collects count arguments empty st K ≡ collected flat collects count arguments (stack_in all bare) st K
+    → collect_rest flat collects count arguments empty st K ≡ collect_rest flat collects count arguments (stack_in all bare) st K
 begun_collected false count arguments all st K h = h _ st
 begun_collected true count arguments all st K h =
     list_as _ (here flat empty st) empty (stack_in all bare) st st _ (λ seen. refl) (λ value s. h _ s)
@@ -219,9 +219,9 @@ start_in tables launch main entry w vals e f paid world values =
     let all : Extent = extent_of w.heap in
     let at : StoreWorld → Setting = λ x. record { world = x; locals = []; outside = launch.outside } in
     start_is tables launch main entry e f
-    ∙ ap (λ o. made flat o empty st (begun_with main entry)) (words_paid launch.words (here flat empty st) paid)
-    ∙ ap (λ (x : StoreWorld). made flat (list_row (text_values launch.words) (at x)) empty st (begun_with main entry)) (sym world)
-    ∙ ap (λ (vs : List Value). made flat (list_row vs (at (world_of w))) empty st (begun_with main entry)) (sym values)
+    ∙ ap (λ o. with_made flat o empty st (begun_with main entry)) (words_paid launch.words (here flat empty st) paid)
+    ∙ ap (λ (x : StoreWorld). with_made flat (list_row (text_values launch.words) (at x)) empty st (begun_with main entry)) (sym world)
+    ∙ ap (λ (vs : List Value). with_made flat (list_row vs (at (world_of w))) empty st (begun_with main entry)) (sym values)
     ∙ list_as (map (value_in all) vals) (at (world_of w)) empty (stack_in all bare) st (with_world (world_of w) st) (begun_with main entry) (λ seen. refl)
     (λ value s. begun_as (nat_le 1 s.world.heap.bounds.levels) main entry (value ∷ []) all s)
 
@@ -239,8 +239,8 @@ levels_pass levels p = le-leb 1 levels p
 
 -- arguments become parameters, or there are too many cells
 pub data CollectedSo (collects : Bool) (count : ℕ) (arguments : List Value) (m : Frames) (st : Store Frames) : Type 0 where
-  collects_fit : collected flat collects count arguments m st (λ ps a s. stuck) ≡ stuck → CollectedSo collects count arguments m st
-  collects_full : ((K : List Value → Frames → Store Frames → State Frames Frames) → collected flat collects count arguments m st K ≡ errs 307 None st)
+  collects_fit : collect_rest flat collects count arguments m st (λ ps a s. stuck) ≡ stuck → CollectedSo collects count arguments m st
+  collects_full : ((K : List Value → Frames → Store Frames → State Frames Frames) → collect_rest flat collects count arguments m st K ≡ errs 307 None st)
       → CollectedSo collects count arguments m st
 
 collected_by : (count : ℕ) (arguments : List Value) (m : Frames) (st : Store Frames)
@@ -275,7 +275,7 @@ begins_runs entry w v u f k vals one params locals list p q o made_one found mor
     = subst (λ (x : FlatStack). FindsParameters {A = Unit} entry.collects entry.parameters v x one u params (Ok tt)) (q ∙ p) found in
     here_made st (begun_with main entry) same
     ∙ ap (λ (t : Bool). begun_if flat t main entry (value_in all list ∷ []) M s) (levels_pass (heap_of v.heap).bounds.levels levels)
-    ∙ ap (λ (xs : List Val). collected flat entry.collects entry.parameters (map (value_in all) xs) M s K) (sym o)
+    ∙ ap (λ (xs : List Val). collect_rest flat entry.collects entry.parameters (map (value_in all) xs) M s K) (sym o)
     ∙ here_found s K refl
     ∙ ap (λ (xs : List Value). running (flat.begin main xs 0 (stack_in late bare)) (with_world (world_of u) st))
     (sym (ap (map (value_in late)) more ∙ map_with_nulls late entry.locals params))
@@ -315,10 +315,10 @@ all_stuck ps a s = stuck
 
 collected_error : (entry : Proc) (arguments : List Value) (m : Frames) (s su : Store Frames) (n : ℕ) (offending : Option Value) (main : ℕ)
     → CollectedSo entry.collects entry.parameters arguments m s
-    → collected flat entry.collects entry.parameters arguments m s all_stuck ≡ errs n offending su
-    → collected flat entry.collects entry.parameters arguments m s (begin_with_them main entry) ≡ errs n None s
+    → collect_rest flat entry.collects entry.parameters arguments m s all_stuck ≡ errs n offending su
+    → collect_rest flat entry.collects entry.parameters arguments m s (begin_with_them main entry) ≡ errs n None s
 collected_error entry arguments m s su n offending main (collects_fit g) e =
-    absurd (never_error (collected flat entry.collects entry.parameters arguments m s all_stuck) n offending su g e)
+    absurd (never_error (collect_rest flat entry.collects entry.parameters arguments m s all_stuck) n offending su g e)
 collected_error entry arguments m s su n offending main (collects_full g) e =
     let number : n ≡ 307 = same_error n offending s su (sym (g all_stuck) ∙ e) in
     g (begin_with_them main entry) ∙ ap (λ (k : ℕ). errs k None s) (sym number)
@@ -339,7 +339,7 @@ parameters_stop entry w v u f k vals one params locals list (Stops.Error n offen
     λ main st same.
     here_made st (begun_with main entry) same
     ∙ ap (λ (t : Bool). begun_if flat t main entry (value_in all list ∷ []) M (with_world (world_of v) st)) (levels_pass (heap_of v.heap).bounds.levels levels)
-    ∙ ap (λ (xs : List Val). collected flat entry.collects entry.parameters (map (value_in all) xs) M (with_world (world_of v) st) (begin_with_them main entry))
+    ∙ ap (λ (xs : List Val). collect_rest flat entry.collects entry.parameters (map (value_in all) xs) M (with_world (world_of v) st) (begin_with_them main entry))
     (sym o)
     ∙ collected_error entry (map (value_in all) one) M (with_world (world_of v) st) (with_world (world_of u) (with_world (world_of v) st)) n
     (option_map (value_in (extent_of u.heap)) offending) main

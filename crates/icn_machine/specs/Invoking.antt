@@ -12,7 +12,7 @@ use Rattle.icn_vars.specs.Worlds.{item_in, world_of}
 use Rattle.icn_frames.specs.Stacks.{FlatStack}
 use Rattle.icn_code.specs.Codes.{Tables}
 use Rattle.icn_run.specs.Stacks.{Frames, flat}
-use Rattle.icn_run.specs.Step.{State, Store, elements_called, invoked}
+use Rattle.icn_run.specs.Step.{State, Store, elements_called, invoke_value}
 use Rattle.icn_streams.specs.Handed.{CallStreams}
 use Rattle.icn_control.specs.Parts.{HaltsWith}
 use Rattle.icn_control.specs.declared.machine.Stage.{Stage}
@@ -27,5 +27,5 @@ PerformsEvent names event w before v n after result = (st : Store Frames) → st
 -- The elements of a value are these items, or why it has none: what it is called with is called with them.
 abbrev pub FindsElements : {A : Type 0} → World → Val → List HeldItem → Result A Halt → Type 0
 FindsElements w from items result = (tables : Tables) (callee : Value) (m : Frames) (st : Store Frames) → st.world ≡ world_of w
-    → MatchResult result (λ _. elements_called flat tables callee (value_in (extent_of w.heap) from) m st ≡ invoked flat tables callee (map (item_in (extent_of w.heap)) items) m st)
+    → MatchResult result (λ _. elements_called flat tables callee (value_in (extent_of w.heap) from) m st ≡ invoke_value flat tables callee (map (item_in (extent_of w.heap)) items) m st)
     (HaltsWith (elements_called flat tables callee (value_in (extent_of w.heap) from) m st) st w)

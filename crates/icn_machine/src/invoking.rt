@@ -14,7 +14,7 @@ ghost use Rattle.icn_code.specs.Codes.{Tables};
 ghost use Rattle.icn_code.specs.Seen.{tables_of};
 ghost use Rattle.icn_code.specs.declared.instr.Instr.TheVariants as Instrs;
 ghost use Rattle.icn_run.specs.Stacks.{flat as calls};
-ghost use Rattle.icn_run.specs.Step.{all_names, applied_to_elements, invoked, invoked_with};
+ghost use Rattle.icn_run.specs.Step.{all_names, applied_to_elements, invoke_value, invoked_with};
 ghost use Rattle.icn_run_named.specs.KeepingSizes.{field_count};
 ghost use Rattle.icn_run_named.specs.StateNames.{StackNamed, StoreNamed};
 ghost use Rattle.icn_streams.specs.Handed.{call_streams};
@@ -69,7 +69,7 @@ pub fn call_value<K: Stack<Cell> + Drop, N: Names, I: Source, O: Sink, E: Sink>(
     requires stack_named { StackNamed (N.known names.now) (stack_in (extent_of world.old.heap) frames.old.flat) }
     requires world_named { WorldNamed (N.known names.now) (world_of world.old) }
     requires items_named { All (ItemNamed (N.known names.now)) (map (item_in (extent_of world.old.heap)) items.now) }
-    ensures step { PerformsEvent (all_names (tables_of code.now)) (λ st. invoked calls (tables_of code.now) (value_in (extent_of world.old.heap) callee) (map (item_in (extent_of world.old.heap)) items.now) (stack_in (extent_of world.old.heap) frames.old.flat) st) world.old (call_streams (I.left input.old) (I.faults input.old) (O.state out.old) (E.state err.old)) world.new frames.new.flat (call_streams (I.left input.new) (I.faults input.new) (O.state out.new) (E.state err.new)) result }
+    ensures step { PerformsEvent (all_names (tables_of code.now)) (λ st. invoke_value calls (tables_of code.now) (value_in (extent_of world.old.heap) callee) (map (item_in (extent_of world.old.heap)) items.now) (stack_in (extent_of world.old.heap) frames.old.flat) st) world.old (call_streams (I.left input.old) (I.faults input.old) (O.state out.old) (E.state err.old)) world.new frames.new.flat (call_streams (I.left input.new) (I.faults input.new) (O.state out.new) (E.state err.new)) result }
     ensures live { IsLiveStack (tables_of code.now) (reach_of world.old []) frames.old.flat → OnOk result (IsLiveStack (tables_of code.now) (reach_of world.new []) frames.new.flat) }
     ensures halt { IfErr result (IsLiveHalt (reach_of world.new [])) }
     ensures kept { KeepsItems (reach_of world.old []) (reach_of world.new []) }

@@ -11,7 +11,7 @@ ghost use Rattle.icn_code.specs.declared.instr.Instr.TheVariants as Instrs;
 ghost use Rattle.icn_named.specs.Named.{ResidualNamed, WorldNamed};
 ghost use Rattle.icn_run.specs.Calls.{Op as Operation};
 ghost use Rattle.icn_run.specs.Stacks.{flat as calls};
-ghost use Rattle.icn_run.specs.Step.{all_names, resumed};
+ghost use Rattle.icn_run.specs.Step.{all_names, resume_by};
 ghost use Rattle.icn_streams.specs.Handed.{call_streams};
 ghost use Rattle.icn_control.specs.Living.{with_locals};
 ghost use Rattle.icn_control.specs.Machines.{HasStack, IsSound, does, extent, stack_of, stack_seen, store_seen, world_reach};
@@ -92,7 +92,7 @@ pub fn resume<K: Stack<Cell> + Drop, N: Names, I: Source, O: Sink, E: Sink>(
     requires stack_named { StackNamed (N.known names.now) (stack_seen m.old) }
     requires world_named { WorldNamed (N.known names.now) (world_of m.old.world) }
     requires rest_named { ResidualNamed (N.known names.now) (residual_in (extent m.old) rest) }
-    ensures step { (tables : Tables) → PerformsOn tables (λ outside. resumed calls tables (Operation (residual_in (extent m.old) rest)) (stack_seen m.old) (store_seen tables outside m.old)) m.new (call_streams (I.left input.old) (I.faults input.old) (O.state out.old) (E.state err.old)) (call_streams (I.left input.new) (I.faults input.new) (O.state out.new) (E.state err.new)) result }
+    ensures step { (tables : Tables) → PerformsOn tables (λ outside. resume_by calls tables (Operation (residual_in (extent m.old) rest)) (stack_seen m.old) (store_seen tables outside m.old)) m.new (call_streams (I.left input.old) (I.faults input.old) (O.state out.old) (E.state err.old)) (call_streams (I.left input.new) (I.faults input.new) (O.state out.new) (E.state err.new)) result }
     ensures sound { (tables : Tables) → IsSound tables m.old → OnOk result (IsSound tables m.new) }
     ensures halt { IfErr result (IsLiveHalt (world_reach m.new)) }
     ensures limits { m.new.limits ≡ m.old.limits }

@@ -5,12 +5,12 @@ use Rattle.std.specs.Prelude.{[], ◌∷◌}
 use Rattle.icn_value.specs.Values.{Value, Val}
 use Rattle.icn_meaning.specs.Contexts.{Operating, Works, Nothing, ◌and_then◌, Choices, ◌or_else◌, Args, Cut, Do, Action, Go, Give, Fails, Pass, Body, Try, Rest, Off, Surroundings, InCall, InScan, InLoop, Store, State, eval, succeed, fail, lost}
 use Rattle.icn_meaning.specs.Turns.{turn}
-use Rattle.icn_meaning.specs.Scanning.{restored}
+use Rattle.icn_meaning.specs.Scanning.{restore_pair}
 
 -- the call fails: all its scans are left
 abbrev pub off : Surroundings → Store → State
 off (InCall frame k r) st = fail r st
-off (InScan p s) st = off s (restored p st)
+off (InScan p s) st = off s (restore_pair p st)
 off (InLoop s k r a rn) st = off s st
 
 -- the expressions of a body that are left; an empty one is passed over
@@ -45,11 +45,11 @@ act (Off s) r st = off s st
 -- `break`: the scans since the loop are left, and the expression stands in the loop's place
 abbrev pub break : Tree → Surroundings → Store → State
 break e (InCall frame k r) st = lost
-break e (InScan p s) st = break e s (restored p st)
+break e (InScan p s) st = break e s (restore_pair p st)
 break e (InLoop s k r a rn) st = eval e s k r st
 
 -- `next`: the scans since the loop are left
 abbrev pub next : Surroundings → Store → State
 next (InCall frame k r) st = lost
-next (InScan p s) st = next s (restored p st)
+next (InScan p s) st = next s (restore_pair p st)
 next (InLoop s k r a rn) st = act a rn st

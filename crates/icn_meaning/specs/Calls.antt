@@ -9,16 +9,16 @@ use Rattle.icn_defs.specs.Running.{number_of}
 use Rattle.icn_defs.specs.StepRows.{Operation, Function, apply, list_row, record_row}
 use Rattle.icn_meaning.specs.Program.{Program, Routine, Kind, Callee, IsRoutine, IsKind, IsFunction, IsNothing, callee_of, place_of}
 use Rattle.icn_meaning.specs.Contexts.{Form, Operating, Calling, Spreading, Collecting, Taking, Activating, frame_of, activation_of, Works, ◌and_then◌, Choices, ◌or_else◌, Args, Back, Surroundings, InCall, InScan, InLoop, Store, State, eval, succeed, fail, lost}
-use Rattle.icn_meaning.specs.Turns.{turn, errs, within, answer, made, value, values, outgoing}
-use Rattle.icn_meaning.specs.Scanning.{restored, exchanged_oldest}
+use Rattle.icn_meaning.specs.Turns.{turn, errs, setting_in, answer, with_made, value, values, outgoing}
+use Rattle.icn_meaning.specs.Scanning.{restore_pair, exchanged_oldest}
 use Rattle.icn_meaning.specs.Actions.{rest}
-use Rattle.icn_meaning.specs.Coexpressions.{refreshed, activate}
+use Rattle.icn_meaning.specs.Coexpressions.{refresh, activate}
 
 -- so many values: surplus ones are left out, and missing ones are null
-abbrev pub fitted : ℕ → List Value → List Value
-fitted zero vs = []
-fitted (suc n) [] = Null ∷ fitted n []
-fitted (suc n) (v ∷ vs) = v ∷ fitted n vs
+abbrev pub fit_count : ℕ → List Value → List Value
+fit_count zero vs = []
+fit_count (suc n) [] = Null ∷ fit_count n []
+fit_count (suc n) (v ∷ vs) = v ∷ fit_count n vs
 
 -- Where `initial` is due it is the first expression of the body.
 abbrev pub begun_if : Bool → ℕ → Initial → Trees → Surroundings → Choices → Store → State
@@ -36,9 +36,9 @@ enter n routine parameters level k r st =
 
 -- A last parameter that collects gets a list of the arguments that are left. It is made in the caller's activation, a.
 abbrev pub collect : Bool → ℕ → Routine → List Value → ℕ → ℕ → Works → Choices → Store → State
-collect false n routine vs level a k r st = enter n routine (fitted routine.parameters vs) level k r st
-collect true n routine vs level a k r st = let plain = routine.parameters - 1 in made (list_row (drop plain vs) (within a st)) a r st (λ list st.
-    enter n routine (fitted plain vs ++ list ∷ []) level k r st)
+collect false n routine vs level a k r st = enter n routine (fit_count routine.parameters vs) level k r st
+collect true n routine vs level a k r st = let plain = routine.parameters - 1 in with_made (list_row (drop plain vs) (setting_in a st)) a r st (λ list st.
+    enter n routine (fit_count plain vs ++ list ∷ []) level k r st)
 
 abbrev pub call_if : Bool → ℕ → Routine → List Value → ℕ → ℕ → Works → Choices → Store → State
 call_if true n routine vs level a k r st = collect routine.collects n routine vs level a k r st
@@ -50,17 +50,17 @@ call n routine vs level a k r st = call_if (nat_le level st.world.heap.bounds.le
 
 -- a constructor makes a record of its fields
 abbrev pub construct : ℕ → Kind → List Value → ℕ → Works → Choices → Store → State
-construct number kind vs a k r st = made (record_row number (fitted (length kind.fields) vs) (within a st)) a r st (λ v st. succeed (Val v) k r st)
+construct number kind vs a k r st = with_made (record_row number (fit_count (length kind.fields) vs) (setting_in a st)) a r st (λ v st. succeed (Val v) k r st)
 
 abbrev pub invoke_callee : Callee → ℕ → List Item → Surroundings → Works → Choices → Store → State
 invoke_callee (IsRoutine routine) n xs s k r st = values xs (activation_of s) r st (λ vs. call n routine vs (suc (frame_of s).level) (activation_of s) k r st)
 invoke_callee (IsKind number kind) n xs s k r st = values xs (activation_of s) r st (λ vs. construct number kind vs (activation_of s) k r st)
-invoke_callee (IsFunction f) n xs s k r st = answer (apply st.names (Function f) xs (within (activation_of s) st)) (activation_of s) k r st
+invoke_callee (IsFunction f) n xs s k r st = answer (apply st.names (Function f) xs (setting_in (activation_of s) st)) (activation_of s) k r st
 invoke_callee IsNothing n xs s k r st = errs 106 (Some (Procedure n)) r st
 
-abbrev pub chosen : Option Item → Works → Choices → Store → State
-chosen (Some x) k r st = succeed x k r st
-chosen None k r st = fail r st
+abbrev pub choose_item : Option Item → Works → Choices → Store → State
+choose_item (Some x) k r st = succeed x k r st
+choose_item None k r st = fail r st
 
 abbrev pub argument_at : Option ℕ → List Item → Option Item
 argument_at (Some (suc p)) xs = slice_get xs p
@@ -68,7 +68,7 @@ argument_at _ xs = None
 
 -- an integer gives the argument of that number, undereferenced
 abbrev pub choose : Option ℤ → Value → List Item → Works → Choices → Store → State
-choose (Some i) v xs k r st = chosen (argument_at (position_of i (length xs)) xs) k r st
+choose (Some i) v xs k r st = choose_item (argument_at (position_of i (length xs)) xs) k r st
 choose None v xs k r st = errs 106 (Some v) r st
 
 -- A value is called with arguments. One that is called by number gives the argument of that number.
@@ -81,10 +81,10 @@ items [] = []
 items (v ∷ vs) = Val v ∷ items vs
 
 -- `p ! L`
-abbrev pub spread : Program → Value → Value → Surroundings → Works → Choices → Store → State
-spread program p (AList l) s k r st = invoke program p (items (list_at st.world.heap l).items) s k r st
-spread program p (ARecord n) s k r st = invoke program p (items (record_at st.world.heap n).fields) s k r st
-spread program p v s k r st = errs 126 (Some v) r st
+abbrev pub apply_to_list : Program → Value → Value → Surroundings → Works → Choices → Store → State
+apply_to_list program p (AList l) s k r st = invoke program p (items (list_at st.world.heap l).items) s k r st
+apply_to_list program p (ARecord n) s k r st = invoke program p (items (record_at st.world.heap n).fields) s k r st
+apply_to_list program p v s k r st = errs 126 (Some v) r st
 
 abbrev pub field_at : Option ℕ → ℕ → Works → Choices → Store → State
 field_at (Some n) x k r st = succeed (Var (Whole (Field x n))) k r st
@@ -100,44 +100,44 @@ take_field program name (ARecord x) k r st = field_at (place_of name (fields_in 
 take_field program name v k r st = errs 107 (Some v) r st
 
 -- `[ ]`
-abbrev pub listed : List Value → ℕ → Works → Choices → Store → State
-listed vs a k r st = made (list_row vs (within a st)) a r st (λ v st. succeed (Val v) k r st)
+abbrev pub make_list : List Value → ℕ → Works → Choices → Store → State
+make_list vs a k r st = with_made (list_row vs (setting_in a st)) a r st (λ v st. succeed (Val v) k r st)
 
 -- What is applied, to these items, in its turn. No form has fewer operands than it is applied to.
-abbrev pub applied : Program → Form → List Item → Surroundings → Works → Choices → Store → State
-applied program (Operating Refresh) (x ∷ xs) s k r st = value x (activation_of s) r st (λ v. refreshed v (activation_of s) k r st)
-applied program (Operating o) xs s k r st = answer (apply st.names (Operation o) xs (within (activation_of s) st)) (activation_of s) k r st
-applied program Calling [] s k r st = lost
-applied program Calling (x ∷ xs) s k r st = value x (activation_of s) r st (λ v. invoke program v xs s k r st)
-applied program Spreading [] s k r st = lost
-applied program Spreading (x ∷ []) s k r st = lost
-applied program Spreading (x ∷ y ∷ xs) s k r st = value x (activation_of s) r st (λ p. value y (activation_of s) r st (λ v. spread program p v s k r st))
-applied program Collecting xs s k r st = values xs (activation_of s) r st (λ vs. listed vs (activation_of s) k r st)
-applied program (Taking name) [] s k r st = lost
-applied program (Taking name) (x ∷ xs) s k r st = value x (activation_of s) r st (λ v. take_field program name v k r st)
-applied program Activating [] s k r st = lost
-applied program Activating (x ∷ []) s k r st = lost
-applied program Activating (x ∷ y ∷ xs) s k r st = value x (activation_of s) r st (λ v. value y (activation_of s) r st (λ c. activate v c k r st))
+abbrev pub apply_form : Program → Form → List Item → Surroundings → Works → Choices → Store → State
+apply_form program (Operating Refresh) (x ∷ xs) s k r st = value x (activation_of s) r st (λ v. refresh v (activation_of s) k r st)
+apply_form program (Operating o) xs s k r st = answer (apply st.names (Operation o) xs (setting_in (activation_of s) st)) (activation_of s) k r st
+apply_form program Calling [] s k r st = lost
+apply_form program Calling (x ∷ xs) s k r st = value x (activation_of s) r st (λ v. invoke program v xs s k r st)
+apply_form program Spreading [] s k r st = lost
+apply_form program Spreading (x ∷ []) s k r st = lost
+apply_form program Spreading (x ∷ y ∷ xs) s k r st = value x (activation_of s) r st (λ p. value y (activation_of s) r st (λ v. apply_to_list program p v s k r st))
+apply_form program Collecting xs s k r st = values xs (activation_of s) r st (λ vs. make_list vs (activation_of s) k r st)
+apply_form program (Taking name) [] s k r st = lost
+apply_form program (Taking name) (x ∷ xs) s k r st = value x (activation_of s) r st (λ v. take_field program name v k r st)
+apply_form program Activating [] s k r st = lost
+apply_form program Activating (x ∷ []) s k r st = lost
+apply_form program Activating (x ∷ y ∷ xs) s k r st = value x (activation_of s) r st (λ v. value y (activation_of s) r st (λ c. activate v c k r st))
 
 -- the next operand; or, where none is left, what is applied is applied to the items, which stand with the newest first
 abbrev pub operands : Program → Form → List Item → Trees → Surroundings → Works → Choices → Store → State
 operands program form xs (More e es) s k r st = eval e s (Args form xs es s and_then k) r st
-operands program form xs NoTrees s k r st = turn st (λ st. applied program form (reverse xs) s k r st)
+operands program form xs NoTrees s k r st = turn st (λ st. apply_form program form (reverse xs) s k r st)
 
 -- the call gives this result and is over: all its scans are left
-abbrev pub returned : Item → Surroundings → Store → State
-returned x (InCall frame k r) st = succeed x k r st
-returned x (InScan p s) st = returned x s (restored p st)
-returned x (InLoop s k r a rn) st = returned x s st
+abbrev pub return_item : Item → Surroundings → Store → State
+return_item x (InCall frame k r) st = succeed x k r st
+return_item x (InScan p s) st = return_item x s (restore_pair p st)
+return_item x (InLoop s k r a rn) st = return_item x s st
 
 abbrev pub return : Item → Surroundings → Choices → Store → State
-return x s r st = outgoing x (activation_of s) r st (λ x. returned x s st)
+return x s r st = outgoing x (activation_of s) r st (λ x. return_item x s st)
 
 -- the call gives this result, and goes on where that is resumed
-abbrev pub suspended : Item → MaybeTree → Surroundings → Surroundings → Choices → Store → State
-suspended x b s (InCall frame k r0) r st = succeed x k (Back b s or_else r) st
-suspended x b s (InScan p around) r st = suspended x b s around r st
-suspended x b s (InLoop around k r0 a rn) r st = suspended x b s around r st
+abbrev pub suspend_call : Item → MaybeTree → Surroundings → Surroundings → Choices → Store → State
+suspend_call x b s (InCall frame k r0) r st = succeed x k (Back b s or_else r) st
+suspend_call x b s (InScan p around) r st = suspend_call x b s around r st
+suspend_call x b s (InLoop around k r0 a rn) r st = suspend_call x b s around r st
 
 abbrev pub suspend : Item → MaybeTree → Surroundings → Choices → Store → State
-suspend x b s r st = outgoing x (activation_of s) r st (λ x. suspended x b s s r (exchanged_oldest s st))
+suspend x b s r st = outgoing x (activation_of s) r st (λ x. suspend_call x b s s r (exchanged_oldest s st))

@@ -4,7 +4,7 @@ use Rattle.icn_tree.specs.Trees.{Tree, Empty}
 use Rattle.icn_value.specs.Values.{Value, ACoexp, Item, Val}
 use Rattle.icn_defs.specs.StepRows.{coexpression_row}
 use Rattle.icn_meaning.specs.Contexts.{frame_of, activation_of, Works, Nothing, ◌and_then◌, Choices, NoChoice, ◌or_else◌, Result, Exhaust, Surroundings, InCall, Status, Fresh, Active, Waiting, AfterResult, Exhausted, Coexpression, Store, State, eval, succeed, fail, hop, lost}
-use Rattle.icn_meaning.specs.Turns.{turn, errs, locals_of, within, made, value}
+use Rattle.icn_meaning.specs.Turns.{turn, errs, locals_of, setting_in, with_made, value}
 
 abbrev pub coexpression_of : ℕ → Store → Coexpression
 coexpression_of c st = slice_index_or st.coexpressions c (record { status = Exhausted; activator = zero; body = Empty; procedure = zero; values = [] })
@@ -25,12 +25,12 @@ abbrev pub with_activator : ℕ → ℕ → Store → Store
 with_activator c activator st = let co = coexpression_of c st in with_coexpression c (record co { activator = activator }) st
 
 -- this one becomes the active one
-abbrev pub activated : ℕ → Store → Store
-activated c st = with_status c Active (record st { active = c })
+abbrev pub make_active : ℕ → Store → Store
+make_active c st = with_status c Active (record st { active = c })
 
 -- one more result of a co-expression is counted
-abbrev pub counted : ℕ → Store → Store
-counted c st = let counts = st.world.heap.coexps in
+abbrev pub count_result : ℕ → Store → Store
+count_result c st = let counts = st.world.heap.coexps in
     record st { world = record st.world { heap = record st.world.heap { coexps = slice_set counts c (suc (slice_index_or counts c zero)) } } }
 
 abbrev pub with_fresh : Tree → ℕ → List Value → Store → Store
@@ -39,7 +39,7 @@ with_fresh e procedure locals st = let co : Coexpression = record { status = Fre
 
 -- a fresh one is made in an activation: its expression, the procedure that it stands in, and the values of the locals
 abbrev pub fresh : Tree → ℕ → List Value → ℕ → Works → Choices → Store → State
-fresh e procedure locals a k r st = made (coexpression_row (length locals) (within a st)) a r st (λ v st. succeed (Val v) k r (with_fresh e procedure locals st))
+fresh e procedure locals a k r st = with_made (coexpression_row (length locals) (setting_in a st)) a r st (λ v st. succeed (Val v) k r (with_fresh e procedure locals st))
 
 -- `create e`, with the present values of the locals
 abbrev pub create : Tree → Surroundings → Works → Choices → Store → State
@@ -50,10 +50,10 @@ refreshed_from (Some co) a k r st = fresh co.body co.procedure co.values a k r s
 refreshed_from None a k r st = lost
 
 -- `^C`, with the values of its creation
-abbrev pub refreshed : Value → ℕ → Works → Choices → Store → State
-refreshed (ACoexp zero) a k r st = errs 215 (Some (ACoexp zero)) r st
-refreshed (ACoexp (suc n)) a k r st = refreshed_from (slice_get st.coexpressions (suc n)) a k r st
-refreshed v a k r st = errs 118 (Some v) r st
+abbrev pub refresh : Value → ℕ → Works → Choices → Store → State
+refresh (ACoexp zero) a k r st = errs 215 (Some (ACoexp zero)) r st
+refresh (ACoexp (suc n)) a k r st = refreshed_from (slice_get st.coexpressions (suc n)) a k r st
+refresh v a k r st = errs 118 (Some v) r st
 
 -- a fresh one begins in an activation of its own, where so many activations were made
 abbrev pub begins : Coexpression → ℕ → Store → State
@@ -63,34 +63,34 @@ begins co a st = eval co.body
 
 -- one that was in this status is entered with a value
 abbrev pub entered_in : Status → ℕ → Value → Store → State
-entered_in Fresh c v st = begins (coexpression_of c st) (length st.activations) (activated c st)
-entered_in (Waiting k r) c v st = succeed (Val v) k r (activated c st)
-entered_in (AfterResult r) c v st = fail r (activated c st)
+entered_in Fresh c v st = begins (coexpression_of c st) (length st.activations) (make_active c st)
+entered_in (Waiting k r) c v st = succeed (Val v) k r (make_active c st)
+entered_in (AfterResult r) c v st = fail r (make_active c st)
 entered_in Exhausted c v st = hop c (record st { active = c })
 entered_in Active c v st = lost
 
-abbrev pub entered : ℕ → Value → Store → State
-entered c v st = entered_in (status_of c st) c v st
+abbrev pub enter_coexp : ℕ → Value → Store → State
+enter_coexp c v st = entered_in (status_of c st) c v st
 
 -- one that was in this status is entered with failure
 abbrev pub failed_in : Status → ℕ → Store → State
-failed_in (Waiting k r) c st = fail r (activated c st)
-failed_in (AfterResult r) c st = fail r (activated c st)
+failed_in (Waiting k r) c st = fail r (make_active c st)
+failed_in (AfterResult r) c st = fail r (make_active c st)
 failed_in Exhausted c st = hop c (record st { active = c })
 failed_in Fresh c st = lost
 failed_in Active c st = lost
 
-abbrev pub failed : ℕ → Store → State
-failed c st = failed_in (status_of c st) c st
+abbrev pub fail_coexp : ℕ → Store → State
+fail_coexp c st = failed_in (status_of c st) c st
 
 -- the active one waits, and is the activator of the one that is entered
-abbrev pub sent : Value → ℕ → Works → Choices → Store → State
-sent v c k r st = entered c v (with_activator c st.active (with_status st.active (Waiting k r) st))
+abbrev pub transmit : Value → ℕ → Works → Choices → Store → State
+transmit v c k r st = enter_coexp c v (with_activator c st.active (with_status st.active (Waiting k r) st))
 
 abbrev pub sent_if : Bool → Status → Value → ℕ → Works → Choices → Store → State
 sent_if is_active Exhausted v c k r st = fail r st
 sent_if true status v c k r st = succeed (Val v) k r st
-sent_if false status v c k r st = sent v c k r st
+sent_if false status v c k r st = transmit v c k r st
 
 -- `v @ C`
 abbrev pub activate : Value → Value → Works → Choices → Store → State
@@ -99,15 +99,15 @@ activate v other k r st = errs 118 (Some other) r st
 
 -- the active one gives a result to its activator
 abbrev pub gives : Value → Choices → Store → State
-gives v r st = entered (activator_of st.active st) v (counted st.active (with_status st.active (AfterResult r) st))
+gives v r st = enter_coexp (activator_of st.active st) v (count_result st.active (with_status st.active (AfterResult r) st))
 
 abbrev pub result : Item → ℕ → Choices → Store → State
 result x a r st = turn st (λ st. value x a r st (λ v. gives v r st))
 
 -- the active one is exhausted, and its activator is entered with failure
 abbrev pub exhaust : Store → State
-exhaust st = turn st (λ st. failed (activator_of st.active st) (with_status st.active Exhausted st))
+exhaust st = turn st (λ st. fail_coexp (activator_of st.active st) (with_status st.active Exhausted st))
 
 -- an exhausted one passes failure on to its activator
-abbrev pub hopped : ℕ → Store → State
-hopped c st = turn st (λ st. failed (activator_of c st) st)
+abbrev pub pass_failure : ℕ → Store → State
+pass_failure c st = turn st (λ st. fail_coexp (activator_of c st) st)

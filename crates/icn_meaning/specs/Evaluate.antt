@@ -31,23 +31,23 @@ abbrev pub keyword_among : List ℕ → List KeywordName → Option KeywordName
 keyword_among name [] = None
 keyword_among name (keyword ∷ others) = if bytes_eq name (keyword_name keyword) then Some keyword else keyword_among name others
 
-abbrev pub given : Value → Works → Choices → Store → State
-given v k r st = succeed (Val v) k r st
+abbrev pub give_value : Value → Works → Choices → Store → State
+give_value v k r st = succeed (Val v) k r st
 
-abbrev pub standing : Surroundings → Store → Standing
-standing s st = record { level = (frame_of s).level; current = st.active; source = activator_of st.active st }
+abbrev pub standing_of : Surroundings → Store → Standing
+standing_of s st = record { level = (frame_of s).level; current = st.active; source = activator_of st.active st }
 
 abbrev pub item_or_failure : Option Item → Works → Choices → Store → State
 item_or_failure (Some x) k r st = succeed x k r st
 item_or_failure None k r st = fail r st
 
 abbrev pub keyword : Option KeywordName → Surroundings → Works → Choices → Store → State
-keyword (Some word) s k r st = item_or_failure (keyword_item (standing s st) word) k r st
+keyword (Some word) s k r st = item_or_failure (keyword_item (standing_of s st) word) k r st
 keyword None s k r st = lost
 
 -- `{e1; e2; ..}`: the first, bounded, and then the rest; an empty one before the last is passed over
 abbrev pub compound : Place → Trees → Surroundings → Works → Choices → Store → State
-compound place NoTrees s k r st = given Null k r st
+compound place NoTrees s k r st = give_value Null k r st
 compound place (More e NoTrees) s k r st = eval e s k r st
 compound place (More Empty (More e es)) s k r st = compound place (More e es) s k r st
 compound place (More d (More e es)) s k r st =
@@ -55,7 +55,7 @@ compound place (More d (More e es)) s k r st =
 
 -- `(e1, e2, ..)`: the first and then the rest
 abbrev pub conjunction : Place → Trees → Surroundings → Works → Choices → Store → State
-conjunction place NoTrees s k r st = given Null k r st
+conjunction place NoTrees s k r st = give_value Null k r st
 conjunction place (More e NoTrees) s k r st = eval e s k r st
 conjunction place (More d (More e es)) s k r st = eval d s (Then (Parentheses place (More e es)) s and_then k) r st
 
@@ -78,8 +78,8 @@ otherwise Absent s k r = r
 otherwise (Present b) s k r = Do (Go b s k) or_else r
 
 -- `|e`, with the flag that tells whether a round gave a result
-abbrev pub repeated : Tree → Surroundings → ℕ → Works → Choices → Store → State
-repeated e s flag k r st = eval e s (Raise flag and_then k) (Again e s flag k or_else r) (record st { flags = st.flags ++ false ∷ [] })
+abbrev pub repeat_alternation : Tree → Surroundings → ℕ → Works → Choices → Store → State
+repeat_alternation e s flag k r st = eval e s (Raise flag and_then k) (Again e s flag k or_else r) (record st { flags = st.flags ++ false ∷ [] })
 
 -- the surroundings in a loop whose next pass is also what `next` does
 abbrev pub inside : Tree → Surroundings → Works → Choices → Surroundings
@@ -91,7 +91,7 @@ loops Loops.Until loop c b s k r st = eval c (inside loop s k r) (Cut r Fails an
 loops Loops.Every loop e b s k r st = eval e (InLoop s k r Fails r) (Each b s k r and_then Nothing) r st
 
 abbrev pub before : Program → Operator → Tree → Surroundings → Works → Choices → Store → State
-before program Bar e s k r st = repeated e s (length st.flags) k r st
+before program Bar e s k r st = repeat_alternation e s (length st.flags) k r st
 before program At e s k r st = operands program Activating [] (More Empty (More e NoTrees)) s k r st
 before program o e s k r st = operands program (Operating (prefix_op o)) [] (More e NoTrees) s k r st
 
@@ -105,8 +105,8 @@ between program Bang a b s k r st = operands program Spreading [] (More a (More 
 between program o a b s k r st = operands program (Operating (infix_op o)) [] (More a (More b NoTrees)) s k r st
 
 abbrev pub on_eval : Program → Tree → Surroundings → Works → Choices → Store → State
-on_eval program Empty s k r st = given Null k r st
-on_eval program (Constant place value) s k r st = given (literal value) k r st
+on_eval program Empty s k r st = give_value Null k r st
+on_eval program (Constant place value) s k r st = give_value (literal value) k r st
 on_eval program (Identifier name) s k r st = succeed (Var (Whole (meaning_of program (frame_of s).procedure name.text))) k r st
 on_eval program (Keyword place name) s k r st = keyword (keyword_among name.text keywords) s k r st
 on_eval program (Parentheses place es) s k r st = conjunction place es s k r st

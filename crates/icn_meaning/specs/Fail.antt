@@ -3,8 +3,8 @@ use Rattle.std.specs.Prelude.{ℕ, Bool, true, false, slice_index_or, slice_set}
 use Rattle.icn_tree.specs.Trees.{Tree, MaybeTree, Absent, Present}
 use Rattle.icn_defs.specs.Applying.{again}
 use Rattle.icn_meaning.specs.Contexts.{Works, Nothing, ◌and_then◌, Choices, NoChoice, ◌or_else◌, Cut, Raise, Do, Again, Resume, Restore, Reenter, Back, Exhaust, Fails, Surroundings, Store, State, eval, fail, over, Done}
-use Rattle.icn_meaning.specs.Turns.{turn, within, answer}
-use Rattle.icn_meaning.specs.Scanning.{restored, exchanged, exchanged_oldest}
+use Rattle.icn_meaning.specs.Turns.{turn, setting_in, answer}
+use Rattle.icn_meaning.specs.Scanning.{restore_pair, exchange_pairs, exchanged_oldest}
 use Rattle.icn_meaning.specs.Actions.{act}
 use Rattle.icn_meaning.specs.Coexpressions.{exhaust}
 
@@ -22,8 +22,8 @@ abbrev pub on_fail : Choices → Store → State
 on_fail NoChoice st = over Done st
 on_fail (Do a or_else r) st = act a r st
 on_fail (Again e s flag k or_else r) st = again_if (slice_index_or st.flags flag false) e s flag k r st
-on_fail (Resume a m k or_else r) st = turn st (λ st. answer (again m (within a st)) a k r st)
-on_fail (Restore p or_else r) st = fail r (restored p st)
-on_fail (Reenter p or_else r) st = fail r (exchanged p st)
+on_fail (Resume a m k or_else r) st = turn st (λ st. answer (again m (setting_in a st)) a k r st)
+on_fail (Restore p or_else r) st = fail r (restore_pair p st)
+on_fail (Reenter p or_else r) st = fail r (exchange_pairs p st)
 on_fail (Back b s or_else r) st = turn st (λ st. back b s r (exchanged_oldest s st))
 on_fail (Exhaust or_else r) st = exhaust st

@@ -5,8 +5,8 @@ pub use Rattle.icn_defs.specs.Running.{Observed}
 use Rattle.icn_defs.specs.Running.{Launch, first_world, words_row, after_steps, Observes}
 use Rattle.icn_meaning.specs.Program.{Program, Routine, routine_names, place_of, names_of}
 use Rattle.icn_meaning.specs.Contexts.{Nothing, NoChoice, Active, Store, State, eval, succeed, fail, hop, over, lost, Ending}
-use Rattle.icn_meaning.specs.Turns.{errs, within, made}
-use Rattle.icn_meaning.specs.Coexpressions.{hopped}
+use Rattle.icn_meaning.specs.Turns.{errs, setting_in, with_made}
+use Rattle.icn_meaning.specs.Coexpressions.{pass_failure}
 use Rattle.icn_meaning.specs.Calls.{call}
 use Rattle.icn_meaning.specs.Evaluate.{on_eval}
 use Rattle.icn_meaning.specs.Succeed.{on_succeed}
@@ -17,7 +17,7 @@ abbrev pub step : Program → State → State
 step program (eval e s k r st) = on_eval program e s k r st
 step program (succeed x k r st) = on_succeed program x k r st
 step program (fail r st) = on_fail r st
-step program (hop c st) = hopped c st
+step program (hop c st) = pass_failure c st
 step program (over ending st) = over ending st
 step program lost = lost
 
@@ -42,7 +42,7 @@ first_store program launch = record {
 
 -- `main` is called with that list; there is no activation yet
 abbrev pub main_called : ℕ → Routine → List (List ℕ) → Store → State
-main_called n routine words st = made (words_row words (within zero st)) zero NoChoice st (λ list st. call n routine (list ∷ []) 1 zero Nothing NoChoice st)
+main_called n routine words st = with_made (words_row words (setting_in zero st)) zero NoChoice st (λ list st. call n routine (list ∷ []) 1 zero Nothing NoChoice st)
 
 abbrev pub main_in : Option Routine → ℕ → List (List ℕ) → Store → State
 main_in (Some routine) n words st = main_called n routine words st

@@ -56,14 +56,14 @@ with_name true name names = name ∷ names
 with_name false name names = names
 
 -- each name once, where it stands first, behind these
-abbrev pub added : List (List ℕ) → List (List ℕ) → List (List ℕ)
-added known [] = known
-added known (name ∷ names) = added (known ++ with_name (not (has_name name known)) name []) names
+abbrev pub with_more_names : List (List ℕ) → List (List ℕ) → List (List ℕ)
+with_more_names known [] = known
+with_more_names known (name ∷ names) = with_more_names (known ++ with_name (not (has_name name known)) name []) names
 
 -- the names that are not among some names, and those that pass a test
-abbrev pub without : List (List ℕ) → List (List ℕ) → List (List ℕ)
-without known [] = []
-without known (name ∷ names) = with_name (not (has_name name known)) name (without known names)
+abbrev pub without_names : List (List ℕ) → List (List ℕ) → List (List ℕ)
+without_names known [] = []
+without_names known (name ∷ names) = with_name (not (has_name name known)) name (without_names known names)
 
 abbrev pub only : (List ℕ → Bool) → List (List ℕ) → List (List ℕ)
 only test [] = []
@@ -147,11 +147,11 @@ abbrev pub own_names : ProcedureTree → List (List ℕ)
 own_names procedure = texts procedure.parameters ++ locals_among procedure.locals
 
 abbrev pub undeclared_names : ProcedureTree → List (List ℕ)
-undeclared_names procedure = added [] (without (own_names procedure ++ statics_among procedure.locals) (names_in_initial procedure.initial ++ names_in_all procedure.body))
+undeclared_names procedure = with_more_names [] (without_names (own_names procedure ++ statics_among procedure.locals) (names_in_initial procedure.initial ++ names_in_all procedure.body))
 
-abbrev pub joined : List (List Declaration) → List Declaration
-joined [] = []
-joined (file ∷ files) = file ++ joined files
+abbrev pub joined_declarations : List (List Declaration) → List Declaration
+joined_declarations [] = []
+joined_declarations (file ∷ files) = file ++ joined_declarations files
 
 abbrev pub global_names : List Declaration → List (List ℕ)
 global_names [] = []
@@ -193,8 +193,8 @@ used_names (procedure ∷ others) = undeclared_names procedure ++ used_names oth
 
 -- the names of the globals: what a file declares global, procedure or record, and then the functions that are used without a declaration
 abbrev pub globals_of : List Declaration → List (List ℕ)
-globals_of declarations = let declared = added [] (global_names declarations) in
-    declared ++ without declared (added [] (only names_function (used_names (procedures_of declarations))))
+globals_of declarations = let declared = with_more_names [] (global_names declarations) in
+    declared ++ without_names declared (with_more_names [] (only names_function (used_names (procedures_of declarations))))
 
 -- a procedure, where these are the globals and so many statics were numbered before
 abbrev pub routine_of : List (List ℕ) → ℕ → ProcedureTree → Routine
@@ -202,7 +202,7 @@ routine_of globals first procedure = record {
   name = procedure.name.text;
   parameters = length procedure.parameters;
   collects = procedure.is_variadic;
-  locals = own_names procedure ++ without globals (undeclared_names procedure);
+  locals = own_names procedure ++ without_names globals (undeclared_names procedure);
   statics = statics_among procedure.locals;
   first_static = first;
   initial = procedure.initial;
@@ -254,7 +254,7 @@ program_of declarations = let globals = globals_of declarations in let routines 
 
 -- the program of several files, each the list of its declarations
 abbrev pub program : List (List Declaration) → Program
-program files = program_of (joined files)
+program files = program_of (joined_declarations files)
 
 abbrev pub names_of : Program → Names
 names_of program = record { procedures = routine_names program.routines; records = kind_names program.kinds }

@@ -2,8 +2,8 @@
 use Rattle.std.specs.Prelude.{ℕ, List, [], ◌∷◌, ◌++◌, length, slice_index_or, slice_set}
 use Rattle.icn_meaning.specs.Contexts.{Surroundings, InCall, InScan, InLoop, Pair, Store}
 
-abbrev pub present : Store → Pair
-present st = record { subject = st.world.subject; position = st.world.position }
+abbrev pub pair_now : Store → Pair
+pair_now st = record { subject = st.world.subject; position = st.world.position }
 
 abbrev pub saved_in : ℕ → Store → Pair
 saved_in p st = slice_index_or st.saved p (record { subject = []; position = 1 })
@@ -16,20 +16,20 @@ abbrev pub new_cell : Store → ℕ
 new_cell st = length st.saved
 
 -- the present pair is saved in a new cell, and the text is scanned from its start on
-abbrev pub entered : List ℕ → Store → Store
-entered text st = with_pair (record { subject = text; position = 1 }) (record st { saved = st.saved ++ present st ∷ [] })
+abbrev pub enter_scan : List ℕ → Store → Store
+enter_scan text st = with_pair (record { subject = text; position = 1 }) (record st { saved = st.saved ++ pair_now st ∷ [] })
 
 -- the pair of the cell becomes the present one
-abbrev pub restored : ℕ → Store → Store
-restored p st = with_pair (saved_in p st) st
+abbrev pub restore_pair : ℕ → Store → Store
+restore_pair p st = with_pair (saved_in p st) st
 
 -- the present pair and that of the cell change places
-abbrev pub exchanged : ℕ → Store → Store
-exchanged p st = with_pair (saved_in p st) (record st { saved = slice_set st.saved p (present st) })
+abbrev pub exchange_pairs : ℕ → Store → Store
+exchange_pairs p st = with_pair (saved_in p st) (record st { saved = slice_set st.saved p (pair_now st) })
 
 abbrev pub exchanged_if : List ℕ → Store → Store
 exchanged_if [] st = st
-exchanged_if (p ∷ []) st = exchanged p st
+exchanged_if (p ∷ []) st = exchange_pairs p st
 exchanged_if (p ∷ q ∷ cells) st = exchanged_if (q ∷ cells) st
 
 -- the open scans, the newest first

@@ -10,14 +10,14 @@ use Rattle.icn_defs.specs.StepRows.{text_row}
 use Rattle.icn_meaning.specs.Operators.{infix_op}
 use Rattle.icn_meaning.specs.Program.{Program}
 use Rattle.icn_meaning.specs.Contexts.{Operating, Activating, activation_of, Works, Nothing, ◌and_then◌, Choices, ◌or_else◌, Args, Then, Cut, Raise, Limit, Count, Scan, Leave, Update, Each, Select, Returning, Suspending, Result, Restore, Reenter, Fails, Try, Surroundings, InScan, InLoop, Store, State, eval, succeed, fail, over, Done}
-use Rattle.icn_meaning.specs.Turns.{errs, within, made, value}
-use Rattle.icn_meaning.specs.Scanning.{new_cell, entered, exchanged}
+use Rattle.icn_meaning.specs.Turns.{errs, setting_in, with_made, value}
+use Rattle.icn_meaning.specs.Scanning.{new_cell, enter_scan, exchange_pairs}
 use Rattle.icn_meaning.specs.Actions.{act}
 use Rattle.icn_meaning.specs.Coexpressions.{result}
 use Rattle.icn_meaning.specs.Calls.{operands, return, suspend}
 
-abbrev pub raised : ℕ → Store → Store
-raised flag st = record st { flags = slice_set st.flags flag true }
+abbrev pub raise_flag : ℕ → Store → Store
+raise_flag flag st = record st { flags = slice_set st.flags flag true }
 
 -- a limit: so many results are allowed, in a new count
 abbrev pub limit : Option ℤ → Value → Tree → Surroundings → Works → Choices → Store → State
@@ -34,16 +34,16 @@ abbrev pub count_by : ℕ → Item → Works → Choices → Choices → Store �
 count_by zero x k r0 r st = succeed x k r0 st
 count_by (suc n) x k r0 r st = succeed x k r st
 
-abbrev pub count : ℕ → Item → Works → Choices → Choices → Store → State
-count c x k r0 r st = count_by (remaining c st) x k r0 r (record st { limits = slice_set st.limits c (remaining c st) })
+abbrev pub count_down : ℕ → Item → Works → Choices → Choices → Store → State
+count_down c x k r0 r st = count_by (remaining c st) x k r0 r (record st { limits = slice_set st.limits c (remaining c st) })
 
 -- a scan of this text, which saves the pair in the cell p
 abbrev pub scan_in : ℕ → Value → Tree → Surroundings → Works → Choices → Store → State
-scan_in p (Text text) e s k r st = eval e (InScan p s) (Leave p and_then k) (Restore p or_else r) (entered text st)
+scan_in p (Text text) e s k r st = eval e (InScan p s) (Leave p and_then k) (Restore p or_else r) (enter_scan text st)
 scan_in p v e s k r st = fail r st
 
 abbrev pub scan : Item → Tree → Surroundings → Works → Choices → Store → State
-scan x e s k r st = value x (activation_of s) r st (λ v. made (text_row v (within (activation_of s) st)) (activation_of s) r st (λ text st. scan_in (new_cell st) text e s k r st))
+scan x e s k r st = value x (activation_of s) r st (λ v. with_made (text_row v (setting_in (activation_of s) st)) (activation_of s) r st (λ text st. scan_in (new_cell st) text e s k r st))
 
 -- `x op:= y`, with x there
 abbrev pub update : Operator → Item → Tree → Surroundings → Works → Choices → Store → State
@@ -67,11 +67,11 @@ on_succeed program x Nothing r st = over Done st
 on_succeed program x (Args form xs es s and_then k) r st = operands program form (x ∷ xs) es s k r st
 on_succeed program x (Then e s and_then k) r st = eval e s k r st
 on_succeed program x (Cut r0 a and_then k) r st = act a r0 st
-on_succeed program x (Raise flag and_then k) r st = succeed x k r (raised flag st)
+on_succeed program x (Raise flag and_then k) r st = succeed x k r (raise_flag flag st)
 on_succeed program x (Limit e s and_then k) r st = value x (activation_of s) r st (λ v. limit (integer_of v) v e s k r st)
-on_succeed program x (Count c r0 and_then k) r st = count c x k r0 r st
+on_succeed program x (Count c r0 and_then k) r st = count_down c x k r0 r st
 on_succeed program x (Scan e s and_then k) r st = scan x e s k r st
-on_succeed program x (Leave p and_then k) r st = succeed x k (Reenter p or_else r) (exchanged p st)
+on_succeed program x (Leave p and_then k) r st = succeed x k (Reenter p or_else r) (exchange_pairs p st)
 on_succeed program x (Update o y s and_then k) r st = update o x y s k r st
 on_succeed program x (Each b s k0 r0 and_then k) r st = each b s k0 r0 r st
 on_succeed program x (Select cases s k0 r0 and_then k) r st = value x (activation_of s) r st (λ v. act (Try v cases (default_of cases) s k0) r0 st)

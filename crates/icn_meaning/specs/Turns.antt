@@ -9,16 +9,16 @@ use Rattle.icn_defs.specs.Running.{bound_report, with_errors}
 use Rattle.icn_meaning.specs.Contexts.{Works, Choices, ◌or_else◌, Resume, Store, State, succeed, fail, over, Ending, Exit, Errored, AtBound}
 
 -- the run ends, and this is put on the error output
-abbrev pub ended : Ending → List ℕ → Store → State
-ended ending text st = over ending (record st { outside = with_errors text st.outside })
+abbrev pub end_run : Ending → List ℕ → Store → State
+end_run ending text st = over ending (record st { outside = with_errors text st.outside })
 
 -- An error ends the run. This is the one place where errors come to, with the choices that stand there, so that an error can become failure here.
 abbrev pub errs : ℕ → Option Value → Choices → Store → State
-errs n offending r st = ended (Errored n) (error_report st.names st.world.heap n offending) st
+errs n offending r st = end_run (Errored n) (error_report st.names st.world.heap n offending) st
 
 abbrev pub turn_if : Bool → Store → (Store → State) → State
 turn_if true st go = go (record st { turns = suc st.turns })
-turn_if false st go = ended AtBound bound_report st
+turn_if false st go = end_run AtBound bound_report st
 
 -- A turn is counted before anything of it is done; where as many as the bound were made, the run stands there.
 abbrev pub turn : Store → (Store → State) → State
@@ -28,8 +28,8 @@ abbrev pub locals_of : ℕ → Store → List Value
 locals_of a st = slice_index_or st.activations a []
 
 -- what a row sees in an activation
-abbrev pub within : ℕ → Store → Setting
-within a st = record { world = st.world; locals = locals_of a st; outside = st.outside }
+abbrev pub setting_in : ℕ → Store → Setting
+setting_in a st = record { world = st.world; locals = locals_of a st; outside = st.outside }
 
 -- the store after it
 abbrev pub after : ℕ → Setting → Store → Store
@@ -44,20 +44,20 @@ answer (Error n v setting) a k r st = errs n v r (after a setting st)
 answer (Ends n setting) a k r st = over (Exit n) (after a setting st)
 
 -- A row gives a value, and it goes on with that; or it is an error. What such a row never answers counts as failure.
-abbrev pub valued : Outcome → Choices → Store → (Value → State) → State
-valued (Gives (Val v) setting) r st go = go v
-valued (Error n v setting) r st go = errs n v r st
-valued _ r st go = fail r st
+abbrev pub with_given : Outcome → Choices → Store → (Value → State) → State
+with_given (Gives (Val v) setting) r st go = go v
+with_given (Error n v setting) r st go = errs n v r st
+with_given _ r st go = fail r st
 
 -- the same where the row changes the store
-abbrev pub made : Outcome → ℕ → Choices → Store → (Value → Store → State) → State
-made (Gives (Val v) setting) a r st go = go v (after a setting st)
-made (Error n v setting) a r st go = errs n v r (after a setting st)
-made _ a r st go = fail r st
+abbrev pub with_made : Outcome → ℕ → Choices → Store → (Value → Store → State) → State
+with_made (Gives (Val v) setting) a r st go = go v (after a setting st)
+with_made (Error n v setting) a r st go = errs n v r (after a setting st)
+with_made _ a r st go = fail r st
 
 -- the value of an item, dereferenced in an activation
 abbrev pub value : Item → ℕ → Choices → Store → (Value → State) → State
-value x a r st go = valued (value_row x (within a st)) r st go
+value x a r st go = with_given (value_row x (setting_in a st)) r st go
 
 -- the values of items, dereferenced from left to right
 abbrev pub values : List Item → ℕ → Choices → Store → (List Value → State) → State

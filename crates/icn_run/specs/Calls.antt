@@ -13,11 +13,11 @@ pub data Why : Type 0 where
   Proc : Why
 
 -- what is left where the innermost mark is dropped: there was none; its label is gone to; one that was changed is gone to; or it had none
-pub data Dropped (M : Type 0) : Type 0 where
-  NoMark : Dropped M
-  Goes : M → Dropped M
-  Repeats : M → Dropped M
-  Outside : M → Dropped M
+pub data MarkDrop (M : Type 0) : Type 0 where
+  NoMark : MarkDrop M
+  Goes : M → MarkDrop M
+  Repeats : M → MarkDrop M
+  Outside : M → MarkDrop M
 
 -- M is the stack that runs, with its place in the code and with what its calls change; K is a stack that waits.
 pub record Calls (K M : Type 0) : Type 0 where
@@ -47,7 +47,7 @@ pub record Calls (K M : Type 0) : Type 0 where
   pub count_down : M → Option (ℕ × M)
   -- the innermost mark is dropped; and the pair that the oldest scan saved that was opened in it and is still open
   pub unmark : M → Option (M × Option Pair)
-  pub drop_mark : M → Dropped M
+  pub drop_mark : M → MarkDrop M
   -- suspends in the innermost mark; leaves the innermost mark suspended; suspends the procedure; and each time the mark that goes on has its operands
   pub suspend : Why → M → M
   pub suspend_mark : M → Option M

@@ -3,7 +3,7 @@
 use Rattle.std.specs.Prelude.{ℕ, zero, suc, pred, ◌==◌, Bool, true, false, List, [], ◌∷◌, ◌++◌, length, slice_get, slice_index_or, slice_set, Option, Some, None, if◌then◌else◌}
 use Rattle.std.specs.Option.{option_map}
 use Rattle.icn_run.specs.Rows.{Value, Item}
-use Rattle.icn_run.specs.Calls.{Pair, Why, Alt, Scan, Escan, Proc, Dropped, NoMark, Goes, Repeats, Outside, Calls}
+use Rattle.icn_run.specs.Calls.{Pair, Why, Alt, Scan, Escan, Proc, MarkDrop, NoMark, Goes, Repeats, Outside, Calls}
 
 -- a label, if there is one; or one with the cell that says whether it was changed, and the place of the mark, so that a repeated alternation begins again
 -- with its cell
@@ -99,26 +99,26 @@ locals m = slice_index_or m.activations (activation_of (frame m)) []
 abbrev pub set_locals : List Value → Linked → Linked
 set_locals values m = record m { activations = slice_set m.activations (activation_of (frame m)) values }
 
-abbrev pub pushed : Item → Chain → Chain
-pushed item (chain items s scans outer) = chain (item ∷ items) s scans outer
+abbrev pub push_on : Item → Chain → Chain
+push_on item (chain items s scans outer) = chain (item ∷ items) s scans outer
 
 abbrev pub push : Item → Linked → Linked
-push item m = with_chain (pushed item m.chain) m
+push item m = with_chain (push_on item m.chain) m
 
-abbrev pub popped : Linked → Chain → Option (Item × Linked)
-popped m (chain [] s scans outer) = None
-popped m (chain (item ∷ items) s scans outer) = Some (item, with_chain (chain items s scans outer) m)
+abbrev pub pop_from : Linked → Chain → Option (Item × Linked)
+pop_from m (chain [] s scans outer) = None
+pop_from m (chain (item ∷ items) s scans outer) = Some (item, with_chain (chain items s scans outer) m)
 
 abbrev pub pop : Linked → Option (Item × Linked)
-pop m = popped m m.chain
+pop m = pop_from m m.chain
 
-abbrev pub taken : ℕ → List Item → List Item → Option (List Item × List Item)
-taken zero items found = Some (found, items)
-taken (suc n) [] found = None
-taken (suc n) (item ∷ items) found = taken n items (item ∷ found)
+abbrev pub take_top : ℕ → List Item → List Item → Option (List Item × List Item)
+take_top zero items found = Some (found, items)
+take_top (suc n) [] found = None
+take_top (suc n) (item ∷ items) found = take_top n items (item ∷ found)
 
 abbrev pub take_from : ℕ → Linked → Chain → Option (List Item × Linked)
-take_from n m (chain items s scans outer) = option_map (λ parts. (parts.0, with_chain (chain parts.1 s scans outer) m)) (taken n items [])
+take_from n m (chain items s scans outer) = option_map (λ parts. (parts.0, with_chain (chain parts.1 s scans outer) m)) (take_top n items [])
 
 abbrev pub take_items : ℕ → Linked → Option (List Item × Linked)
 take_items n m = take_from n m m.chain
@@ -138,21 +138,21 @@ below m = below_outer (outer_of m.chain)
 
 -- Marks. One whose label may change, which the place of its instruction tells, has a cell.
 
-abbrev pub opened : Label → Linked → Linked
-opened label m = with_chain (chain [] none (scans_of m.chain) (mark label m.chain)) m
+abbrev pub push_mark : Label → Linked → Linked
+push_mark label m = with_chain (chain [] none (scans_of m.chain) (mark label m.chain)) m
 
 abbrev pub open_mark : (ℕ → ℕ → Bool) → Option ℕ → Linked → Linked
 open_mark repeats label m = if repeats (proc_of (frame m)) (pred m.place)
-    then record (opened (flagged label (length m.flags) (pred m.place)) m) { flags = m.flags ++ false ∷ [] }
-    else opened (fixed label) m
+    then record (push_mark (flagged label (length m.flags) (pred m.place)) m) { flags = m.flags ++ false ∷ [] }
+    else push_mark (fixed label) m
 
 abbrev pub open_limit : ℕ → Linked → Linked
 open_limit count m = record m { chain = chain [] none (scans_of m.chain) (limit (length m.limits) m.chain); limits = m.limits ++ count ∷ [] }
 
 -- the other labels but that of this cell; and that of a cell
-abbrev pub forgotten : ℕ → List (ℕ × ℕ) → List (ℕ × ℕ)
-forgotten flag [] = []
-forgotten flag (entry ∷ others) = if entry.0 == flag then forgotten flag others else (entry ∷ forgotten flag others)
+abbrev pub forget_label : ℕ → List (ℕ × ℕ) → List (ℕ × ℕ)
+forget_label flag [] = []
+forget_label flag (entry ∷ others) = if entry.0 == flag then forget_label flag others else (entry ∷ forget_label flag others)
 
 abbrev pub label_of : ℕ → List (ℕ × ℕ) → Option ℕ
 label_of flag [] = None
@@ -160,15 +160,15 @@ label_of flag (entry ∷ others) = if entry.0 == flag then Some entry.1 else lab
 
 -- the place of the mark itself raises its flag; another label is kept apart
 abbrev pub relabelled_if : Bool → ℕ → ℕ → Linked → Linked
-relabelled_if true label flag m = record m { flags = slice_set m.flags flag true; relabels = forgotten flag m.relabels }
-relabelled_if false label flag m = record m { flags = slice_set m.flags flag false; relabels = (flag, label) ∷ forgotten flag m.relabels }
+relabelled_if true label flag m = record m { flags = slice_set m.flags flag true; relabels = forget_label flag m.relabels }
+relabelled_if false label flag m = record m { flags = slice_set m.flags flag false; relabels = (flag, label) ∷ forget_label flag m.relabels }
 
-abbrev pub relabelled : ℕ → Linked → Outer → Option Linked
-relabelled label m (mark (flagged old flag place) outside) = Some (relabelled_if (label == place) label flag m)
-relabelled label m outer = None
+abbrev pub relabel_in : ℕ → Linked → Outer → Option Linked
+relabel_in label m (mark (flagged old flag place) outside) = Some (relabelled_if (label == place) label flag m)
+relabel_in label m outer = None
 
 abbrev pub relabel : ℕ → Linked → Option Linked
-relabel label m = relabelled label m (outer_of m.chain)
+relabel label m = relabel_in label m (outer_of m.chain)
 
 abbrev pub remaining : ℕ → Linked → ℕ
 remaining n m = pred (slice_index_or m.limits n 0)
@@ -218,46 +218,46 @@ swap_oldest pair m = swap_at pair m (oldest None (scans_of m.chain))
 
 -- Dropping a mark
 
-abbrev pub unmarked : Linked → Chain → Option (Linked × Option Pair)
-unmarked m outside = Some (with_chain outside m, pair_at m (oldest (first_scan (scans_of outside)) (scans_of m.chain)))
+abbrev pub unmark_in : Linked → Chain → Option (Linked × Option Pair)
+unmark_in m outside = Some (with_chain outside m, pair_at m (oldest (first_scan (scans_of outside)) (scans_of m.chain)))
 
 abbrev pub unmark_from : Linked → Outer → Option (Linked × Option Pair)
-unmark_from m (mark label outside) = unmarked m outside
-unmark_from m (limit n outside) = unmarked m outside
+unmark_from m (mark label outside) = unmark_in m outside
+unmark_from m (limit n outside) = unmark_in m outside
 unmark_from m outer = None
 
 abbrev pub unmark : Linked → Option (Linked × Option Pair)
 unmark m = unmark_from m (outer_of m.chain)
 
 -- to the label, or to what fails next outside
-abbrev pub dropped_to : Linked → Chain → Option ℕ → Dropped Linked
+abbrev pub dropped_to : Linked → Chain → Option ℕ → MarkDrop Linked
 dropped_to m outside (Some label) = Goes (record m { chain = outside; place = label })
 dropped_to m outside None = Outside (with_chain outside m)
 
 -- one that got another label is gone to it
-abbrev pub dropped_by : Linked → Chain → Option ℕ → Option ℕ → Dropped Linked
+abbrev pub dropped_by : Linked → Chain → Option ℕ → Option ℕ → MarkDrop Linked
 dropped_by m outside label (Some other) = Repeats (record m { chain = outside; place = other })
 dropped_by m outside label None = dropped_to m outside label
 
 -- where the flag is up it is put down, and the repeated alternation begins again behind its mark
-abbrev pub repeated : Option ℕ → ℕ → ℕ → Chain → Linked → Bool → Dropped Linked
-repeated label flag place outside m true =
+abbrev pub repeat_mark : Option ℕ → ℕ → ℕ → Chain → Linked → Bool → MarkDrop Linked
+repeat_mark label flag place outside m true =
     Repeats (record m { chain = chain [] none (scans_of outside) (mark (flagged label flag place) outside); place = suc place; flags = slice_set m.flags flag false })
-repeated label flag place outside m false = dropped_by m outside label (label_of flag m.relabels)
+repeat_mark label flag place outside m false = dropped_by m outside label (label_of flag m.relabels)
 
-abbrev pub dropped : Linked → Outer → Dropped Linked
-dropped m (mark (fixed label) outside) = dropped_to m outside label
-dropped m (mark (flagged label flag place) outside) = repeated label flag place outside m (slice_index_or m.flags flag false)
-dropped m (limit n outside) = Outside (with_chain outside m)
-dropped m outer = NoMark
+abbrev pub drop_from : Linked → Outer → MarkDrop Linked
+drop_from m (mark (fixed label) outside) = dropped_to m outside label
+drop_from m (mark (flagged label flag place) outside) = repeat_mark label flag place outside m (slice_index_or m.flags flag false)
+drop_from m (limit n outside) = Outside (with_chain outside m)
+drop_from m outer = NoMark
 
-abbrev pub drop_mark : Linked → Dropped Linked
-drop_mark m = dropped m (outer_of m.chain)
+abbrev pub drop_mark : Linked → MarkDrop Linked
+drop_mark m = drop_from m (outer_of m.chain)
 
 -- Suspending
 
-abbrev pub suspended : Suspensions → Chain → Chain
-suspended s (chain items old scans outer) = chain items s scans outer
+abbrev pub suspend_in : Suspensions → Chain → Chain
+suspend_in s (chain items old scans outer) = chain items s scans outer
 
 -- the newest open scan is left
 abbrev pub without_scan : Chain → Chain
@@ -269,13 +269,13 @@ with_scan n (chain items s scans outer) = chain items s (n ∷ scans) outer
 
 abbrev pub suspend : Why → Linked → Linked
 suspend (Scan pair) m = let n = length m.saved in
-    record m { chain = with_scan n (suspended (suspension (scanning n) m.place m.chain) m.chain); saved = m.saved ++ pair ∷ [] }
-suspend Escan m = with_chain (without_scan (suspended (suspension (because Escan) m.place m.chain) m.chain)) m
-suspend why m = with_chain (suspended (suspension (because why) m.place m.chain) m.chain) m
+    record m { chain = with_scan n (suspend_in (suspension (scanning n) m.place m.chain) m.chain); saved = m.saved ++ pair ∷ [] }
+suspend Escan m = with_chain (without_scan (suspend_in (suspension (because Escan) m.place m.chain) m.chain)) m
+suspend why m = with_chain (suspend_in (suspension (because why) m.place m.chain) m.chain) m
 
 abbrev pub suspend_outer : Linked → Outer → Option Linked
-suspend_outer m (mark label outside) = Some (with_chain (suspended (suspension (because Alt) m.place m.chain) outside) m)
-suspend_outer m (limit n outside) = Some (with_chain (suspended (suspension (because Alt) m.place m.chain) outside) m)
+suspend_outer m (mark label outside) = Some (with_chain (suspend_in (suspension (because Alt) m.place m.chain) outside) m)
+suspend_outer m (limit n outside) = Some (with_chain (suspend_in (suspension (because Alt) m.place m.chain) outside) m)
 suspend_outer m outer = None
 
 abbrev pub suspend_mark : Linked → Option Linked
@@ -283,7 +283,7 @@ suspend_mark m = suspend_outer m (outer_of m.chain)
 
 abbrev pub suspend_frame : Linked → Frame → Option Linked
 suspend_frame m (at_base proc activation) = None
-suspend_frame m (in_call proc activation level place caller) = Some (record m { chain = suspended (suspension (because Proc) m.place m.chain) caller; place = place })
+suspend_frame m (in_call proc activation level place caller) = Some (record m { chain = suspend_in (suspension (because Proc) m.place m.chain) caller; place = place })
 
 abbrev pub suspend_proc : Linked → Option Linked
 suspend_proc m = suspend_frame m (frame m)

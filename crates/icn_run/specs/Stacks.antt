@@ -2,7 +2,7 @@
 use Rattle.std.specs.Prelude.{ℕ, zero, suc, pred, ◌+◌, ◌-◌, ◌==◌, Bool, true, false, List, [], ◌∷◌, length, drop, slice_get, slice_set, Option, Some, None}
 use Rattle.std.specs.Option.{option_and_then}
 use Rattle.icn_run.specs.Rows.{Value, Item}
-use Rattle.icn_run.specs.Calls.{Pair, Why, Alt, Scan, Escan, Proc, Dropped, NoMark, Goes, Repeats, Outside, Calls}
+use Rattle.icn_run.specs.Calls.{Pair, Why, Alt, Scan, Escan, Proc, MarkDrop, NoMark, Goes, Repeats, Outside, Calls}
 
 -- A height counts the cells up to one, which stands there: the lowest has the height 1. The procedure's frame counts as its outermost mark.
 pub record Registers : Type 0 where
@@ -112,21 +112,21 @@ go place m = record m { place = place }
 abbrev pub push : Item → Frames → Frames
 push item m = record m { cells = operand item ∷ m.cells }
 
-abbrev pub popped : Frames → List Cell → Option (Item × Frames)
-popped m (operand item ∷ cells) = Some (item, record m { cells = cells })
-popped m cells = None
+abbrev pub pop_from : Frames → List Cell → Option (Item × Frames)
+pop_from m (operand item ∷ cells) = Some (item, record m { cells = cells })
+pop_from m cells = None
 
 abbrev pub pop : Frames → Option (Item × Frames)
-pop m = popped m m.cells
+pop m = pop_from m m.cells
 
 -- so many operands from the top down, in front of others
-abbrev pub taken : ℕ → Frames → List Cell → List Item → Option (List Item × Frames)
-taken zero m cells items = Some (items, record m { cells = cells })
-taken (suc n) m (operand item ∷ cells) items = taken n m cells (item ∷ items)
-taken (suc n) m cells items = None
+abbrev pub take_top : ℕ → Frames → List Cell → List Item → Option (List Item × Frames)
+take_top zero m cells items = Some (items, record m { cells = cells })
+take_top (suc n) m (operand item ∷ cells) items = take_top n m cells (item ∷ items)
+take_top (suc n) m cells items = None
 
 abbrev pub take : ℕ → Frames → Option (List Item × Frames)
-take n m = taken n m m.cells []
+take n m = take_top n m m.cells []
 
 -- the operands on top of some cells are copied onto others
 abbrev pub copy_up : List Cell → List Cell → List Cell
@@ -135,14 +135,14 @@ copy_up cells onto = onto
 
 -- marks
 
-abbrev pub opened : Cell → Frames → Frames
-opened cell m = record m { cells = cell ∷ m.cells; registers = record m.registers { mark = suc (length m.cells); newest = None } }
+abbrev pub push_mark : Cell → Frames → Frames
+push_mark cell m = record m { cells = cell ∷ m.cells; registers = record m.registers { mark = suc (length m.cells); newest = None } }
 
 abbrev pub open_mark : Option ℕ → Frames → Frames
-open_mark label m = opened (mark label false m.registers) m
+open_mark label m = push_mark (mark label false m.registers) m
 
 abbrev pub open_limit : ℕ → Frames → Frames
-open_limit count m = opened (limit count m.registers) m
+open_limit count m = push_mark (limit count m.registers) m
 
 abbrev pub below_in : List Cell → Option Item
 below_in (cell ∷ operand item ∷ cells) = Some item
@@ -151,19 +151,19 @@ below_in cells = None
 abbrev pub below : Frames → Option Item
 below m = below_in (cut m.registers.mark m.cells)
 
-abbrev pub relabelled : ℕ → Frames → Option Cell → Option Frames
-relabelled label m (Some (mark old changed registers)) = Some (record m { cells = set_cell m.registers.mark (mark (Some label) true registers) m.cells })
-relabelled label m cell = None
+abbrev pub relabel_in : ℕ → Frames → Option Cell → Option Frames
+relabel_in label m (Some (mark old changed registers)) = Some (record m { cells = set_cell m.registers.mark (mark (Some label) true registers) m.cells })
+relabel_in label m cell = None
 
 abbrev pub relabel : ℕ → Frames → Option Frames
-relabel label m = relabelled label m (cell_at m.registers.mark m.cells)
+relabel label m = relabel_in label m (cell_at m.registers.mark m.cells)
 
-abbrev pub counted : Frames → Option Cell → Option (ℕ × Frames)
-counted m (Some (limit count registers)) = Some (pred count, record m { cells = set_cell m.registers.mark (limit (pred count) registers) m.cells })
-counted m cell = None
+abbrev pub count_in : Frames → Option Cell → Option (ℕ × Frames)
+count_in m (Some (limit count registers)) = Some (pred count, record m { cells = set_cell m.registers.mark (limit (pred count) registers) m.cells })
+count_in m cell = None
 
 abbrev pub count_down : Frames → Option (ℕ × Frames)
-count_down m = counted m (cell_at m.registers.mark m.cells)
+count_down m = count_in m (cell_at m.registers.mark m.cells)
 
 -- open scans
 
@@ -214,23 +214,23 @@ swap_oldest pair m = swap_at pair m (oldest None m)
 -- dropping a mark
 
 -- from the mark's cell downward
-abbrev pub unmarked : Frames → List Cell → Option (Frames × Option Pair)
-unmarked m (mark label changed registers ∷ cells) = Some (record m { cells = cells; registers = registers }, pair_at m.cells (oldest registers.scan m))
-unmarked m (limit count registers ∷ cells) = Some (record m { cells = cells; registers = registers }, pair_at m.cells (oldest registers.scan m))
-unmarked m cells = None
+abbrev pub unmark_in : Frames → List Cell → Option (Frames × Option Pair)
+unmark_in m (mark label changed registers ∷ cells) = Some (record m { cells = cells; registers = registers }, pair_at m.cells (oldest registers.scan m))
+unmark_in m (limit count registers ∷ cells) = Some (record m { cells = cells; registers = registers }, pair_at m.cells (oldest registers.scan m))
+unmark_in m cells = None
 
 abbrev pub unmark : Frames → Option (Frames × Option Pair)
-unmark m = unmarked m (cut m.registers.mark m.cells)
+unmark m = unmark_in m (cut m.registers.mark m.cells)
 
-abbrev pub dropped : Frames → List Cell → Dropped Frames
-dropped m (mark (Some label) false registers ∷ cells) = Goes (record { cells = cells; registers = registers; place = label })
-dropped m (mark (Some label) true registers ∷ cells) = Repeats (record { cells = cells; registers = registers; place = label })
-dropped m (mark None changed registers ∷ cells) = Outside (record m { cells = cells; registers = registers })
-dropped m (limit count registers ∷ cells) = Outside (record m { cells = cells; registers = registers })
-dropped m cells = NoMark
+abbrev pub drop_from : Frames → List Cell → MarkDrop Frames
+drop_from m (mark (Some label) false registers ∷ cells) = Goes (record { cells = cells; registers = registers; place = label })
+drop_from m (mark (Some label) true registers ∷ cells) = Repeats (record { cells = cells; registers = registers; place = label })
+drop_from m (mark None changed registers ∷ cells) = Outside (record m { cells = cells; registers = registers })
+drop_from m (limit count registers ∷ cells) = Outside (record m { cells = cells; registers = registers })
+drop_from m cells = NoMark
 
-abbrev pub drop_mark : Frames → Dropped Frames
-drop_mark m = dropped m (cut m.registers.mark m.cells)
+abbrev pub drop_mark : Frames → MarkDrop Frames
+drop_mark m = drop_from m (cut m.registers.mark m.cells)
 
 -- suspending
 
@@ -269,12 +269,12 @@ abbrev pub suspend_proc : Frames → Option Frames
 suspend_proc m = proc_suspended m (cut m.registers.base m.cells)
 
 -- from the suspension frame downward
-abbrev pub resumed : List Cell → Option (Why × Frames)
-resumed (suspension why registers place ∷ cells) = Some (why, record { cells = cells; registers = registers; place = place })
-resumed cells = None
+abbrev pub resume_from : List Cell → Option (Why × Frames)
+resume_from (suspension why registers place ∷ cells) = Some (why, record { cells = cells; registers = registers; place = place })
+resume_from cells = None
 
 abbrev pub resume : Frames → Option (Why × Frames)
-resume m = option_and_then (λ height. resumed (cut height m.cells)) m.registers.newest
+resume m = option_and_then (λ height. resume_from (cut height m.cells)) m.registers.newest
 
 -- calls
 
@@ -286,12 +286,12 @@ enter proc values m = let height = suc (length m.cells) in record {
 }
 
 -- from the procedure's frame downward
-abbrev pub left : List Cell → Option Frames
-left (call proc locals level registers place ∷ cells) = Some (record { cells = cells; registers = registers; place = place })
-left cells = None
+abbrev pub leave_from : List Cell → Option Frames
+leave_from (call proc locals level registers place ∷ cells) = Some (record { cells = cells; registers = registers; place = place })
+leave_from cells = None
 
 abbrev pub leave : Frames → Option Frames
-leave m = left (cut m.registers.base m.cells)
+leave m = leave_from (cut m.registers.base m.cells)
 
 -- no stack yet
 abbrev pub empty : Frames

@@ -21,7 +21,7 @@ use Rattle.icn_code.specs.Rules.{name_of}
 use Rattle.icn_run.specs.Rows.{Value, Null, Integer, Text, Chars, Procedure as ProcedureValue, ARecord, AList, ACoexp, Global, Static, Local, Field, Whole, Part, Item, Val, Var, World, Outside, Setting, Names, list_at, record_at, Outcome, Fails, Gives, Suspends, Error, Ends, error_report, integer_of, place_of, again, Standing, keyword_item, Operation, Function, apply, value_row, list_row, text_row, record_row, coexpression_row, first_world, words_row, Ending, Done, Exit, Errored, AtBound, number_of}
 pub use Rattle.icn_defs.specs.Running.{Observed, Launch}
 use Rattle.icn_defs.specs.Running.{after_steps, bound_report, with_errors}
-use Rattle.icn_run.specs.Calls.{Pair, Why, Alt, Op as Operation, Scan, Escan, Proc, Dropped, NoMark, Goes, Repeats, Outside as WithoutLabel, Calls}
+use Rattle.icn_run.specs.Calls.{Pair, Why, Alt, Op as Operation, Scan, Escan, Proc, MarkDrop, NoMark, Goes, Repeats, Outside as WithoutLabel, Calls}
 
 -- The states
 
@@ -68,8 +68,8 @@ abbrev pub with_found : {A K M : Type 0} → Option A → (A → State K M) → 
 with_found None next = stuck
 with_found (Some found) next = next found
 
-abbrev pub parted : {A B C : Type 0} → (A → B → C) → A × B → C
-parted next pair = next pair.0 pair.1
+abbrev pub on_pair : {A B C : Type 0} → (A → B → C) → A × B → C
+on_pair next pair = next pair.0 pair.1
 
 -- Ends and turns
 
@@ -100,40 +100,40 @@ abbrev pub with_at : {K : Type 0} → Setting → Store K → Store K
 with_at seen st = record st { world = seen.world; outside = seen.outside }
 
 -- A row gives a value, and it goes on with that; or it is an error. What such a row never answers counts as failure.
-abbrev pub valued : {K M : Type 0} → Outcome → M → Store K → (Value → State K M) → State K M
-valued (Gives (Val value) seen) m st next = next value
-valued (Error n value seen) m st next = errs n value st
-valued _ m st next = failing m st
+abbrev pub with_given : {K M : Type 0} → Outcome → M → Store K → (Value → State K M) → State K M
+with_given (Gives (Val value) seen) m st next = next value
+with_given (Error n value seen) m st next = errs n value st
+with_given _ m st next = failing m st
 
 -- the same where the row changes the store
-abbrev pub made : {K M : Type 0} → Calls K M → Outcome → M → Store K → (Value → M → Store K → State K M) → State K M
-made C (Gives (Val value) seen) m st next = next value (C.set_locals seen.locals m) (with_at seen st)
-made C (Error n value seen) m st next = errs n value (with_at seen st)
-made C _ m st next = failing m st
+abbrev pub with_made : {K M : Type 0} → Calls K M → Outcome → M → Store K → (Value → M → Store K → State K M) → State K M
+with_made C (Gives (Val value) seen) m st next = next value (C.set_locals seen.locals m) (with_at seen st)
+with_made C (Error n value seen) m st next = errs n value (with_at seen st)
+with_made C _ m st next = failing m st
 
 -- the value of an item, or its error
 abbrev pub with_value : {K M : Type 0} → Calls K M → Item → M → Store K → (Value → State K M) → State K M
-with_value C item m st next = valued (value_row item (here C m st)) m st next
+with_value C item m st next = with_given (value_row item (here C m st)) m st next
 
 -- the values of items from left to right, or the first error
 abbrev pub with_values : {K M : Type 0} → Calls K M → List Item → M → Store K → (List Value → State K M) → State K M
 with_values C [] m st next = next []
 with_values C (item ∷ items) m st next = with_value C item m st (λ value. with_values C items m st (λ values. next (value ∷ values)))
 
-abbrev pub pushed : {K M : Type 0} → Calls K M → Item → M → Store K → State K M
-pushed C item m st = running (C.push item m) st
+abbrev pub push_item : {K M : Type 0} → Calls K M → Item → M → Store K → State K M
+push_item C item m st = running (C.push item m) st
 
 -- what an operation or a function comes to
 abbrev pub outcome : {K M : Type 0} → Calls K M → Outcome → M → Store K → State K M
 outcome C (Fails seen) m st = failing (C.set_locals seen.locals m) (with_at seen st)
-outcome C (Gives item seen) m st = pushed C item (C.set_locals seen.locals m) (with_at seen st)
-outcome C (Suspends item residual seen) m st = pushed C item (C.suspend (Operation residual) (C.set_locals seen.locals m)) (with_at seen st)
+outcome C (Gives item seen) m st = push_item C item (C.set_locals seen.locals m) (with_at seen st)
+outcome C (Suspends item residual seen) m st = push_item C item (C.suspend (Operation residual) (C.set_locals seen.locals m)) (with_at seen st)
 outcome C (Error n value seen) m st = errs n value (with_at seen st)
 outcome C (Ends n seen) m st = over (Exit n) seen.outside
 
 -- a list of values is charged and made
 abbrev pub list_made : {K M : Type 0} → Calls K M → List Value → M → Store K → (Value → M → Store K → State K M) → State K M
-list_made C values m st next = made C (list_row values (here C m st)) m st next
+list_made C values m st next = with_made C (list_row values (here C m st)) m st next
 
 -- The code
 
@@ -161,9 +161,9 @@ scans_left None st = st
 scans_left (Some pair) st = with_pair pair st
 
 -- the present pair was exchanged with a saved one
-abbrev pub exchanged : {K M : Type 0} → Option (Pair × M) → (M → Store K → State K M) → Store K → State K M
-exchanged None next st = stuck
-exchanged (Some swap) next st = next swap.1 (with_pair swap.0 st)
+abbrev pub with_exchange : {K M : Type 0} → Option (Pair × M) → (M → Store K → State K M) → Store K → State K M
+with_exchange None next st = stuck
+with_exchange (Some swap) next st = next swap.1 (with_pair swap.0 st)
 
 -- the present pair was exchanged with a saved one, where there is one
 abbrev pub maybe_exchanged : {K M : Type 0} → Option (Pair × M) → M → Store K → (M → Store K → State K M) → State K M
@@ -199,13 +199,13 @@ abbrev pub with_activator : {K : Type 0} → ℕ → ℕ → Store K → Store K
 with_activator n activator st = let coexp = coexp_at n st in with_coexp n (record coexp { activator = activator }) st
 
 -- this one becomes the active one
-abbrev pub activated : {K : Type 0} → ℕ → Store K → Store K
-activated n st = with_status n Active (record st { active = n })
+abbrev pub make_active : {K : Type 0} → ℕ → Store K → Store K
+make_active n st = with_status n Active (record st { active = n })
 
 abbrev pub fail_by : {K M : Type 0} → Calls K M → Status K → ℕ → M → Store K → State K M
 fail_by C Fresh n m st = stuck
 fail_by C Active n m st = stuck
-fail_by C (Waiting k) n m st = failing (C.taken_up k m) (activated n st)
+fail_by C (Waiting k) n m st = failing (C.taken_up k m) (make_active n st)
 fail_by C Exhausted n m st = hopping m (record st { active = n })
 
 -- a co-expression is entered with failure
@@ -216,9 +216,9 @@ abbrev pub begun_by : {K M : Type 0} → Calls K M → Coexp K → M → Store K
 begun_by C coexp m st = running (C.begin coexp.proc coexp.values coexp.place m) st
 
 abbrev pub give_by : {K M : Type 0} → Calls K M → Status K → ℕ → Value → M → Store K → State K M
-give_by C Fresh n value m st = begun_by C (coexp_at n st) m (activated n st)
+give_by C Fresh n value m st = begun_by C (coexp_at n st) m (make_active n st)
 give_by C Active n value m st = stuck
-give_by C (Waiting k) n value m st = pushed C (Val value) (C.taken_up k m) (activated n st)
+give_by C (Waiting k) n value m st = push_item C (Val value) (C.taken_up k m) (make_active n st)
 give_by C Exhausted n value m st = hopping m (record st { active = n })
 
 -- a co-expression is entered with a value
@@ -230,8 +230,8 @@ abbrev pub hop : {K M : Type 0} → Calls K M → Program → M → Store K → 
 hop C P m st = turn P st (λ st. passed_failure C (activator_of st.active st) m st)
 
 -- the expression of the active one fails
-abbrev pub exhausted : {K M : Type 0} → Calls K M → Program → M → Store K → State K M
-exhausted C P m st = turn P st (λ st. passed_failure C (activator_of st.active st) m (with_status st.active Exhausted st))
+abbrev pub exhaust_active : {K M : Type 0} → Calls K M → Program → M → Store K → State K M
+exhaust_active C P m st = turn P st (λ st. passed_failure C (activator_of st.active st) m (with_status st.active Exhausted st))
 
 -- one more result of a co-expression is counted
 abbrev pub counted_result : {K : Type 0} → ℕ → Store K → Store K
@@ -255,16 +255,16 @@ with_new values proc place st = record st { coexps = st.coexps ++ record { statu
 
 -- a new one is charged and made
 abbrev pub coexp_made : {K M : Type 0} → Calls K M → List Value → ℕ → ℕ → M → Store K → State K M
-coexp_made C values proc place m st = made C (coexpression_row (length values) (here C m st)) m st (λ value m st. pushed C (Val value) m (with_new values proc place st))
+coexp_made C values proc place m st = with_made C (coexpression_row (length values) (here C m st)) m st (λ value m st. push_item C (Val value) m (with_new values proc place st))
 
 abbrev pub refreshed_from : {K M : Type 0} → Calls K M → Option (Coexp K) → M → Store K → State K M
 refreshed_from C (Some coexp) m st = coexp_made C coexp.values coexp.proc coexp.place m st
 refreshed_from C None m st = stuck
 
-abbrev pub refreshed : {K M : Type 0} → Calls K M → Value → M → Store K → State K M
-refreshed C (ACoexp zero) m st = errs 215 (Some (ACoexp zero)) st
-refreshed C (ACoexp (suc n)) m st = refreshed_from C (slice_get st.coexps (suc n)) m st
-refreshed C value m st = errs 118 (Some value) st
+abbrev pub refresh : {K M : Type 0} → Calls K M → Value → M → Store K → State K M
+refresh C (ACoexp zero) m st = errs 215 (Some (ACoexp zero)) st
+refresh C (ACoexp (suc n)) m st = refreshed_from C (slice_get st.coexps (suc n)) m st
+refresh C value m st = errs 118 (Some value) st
 
 -- another one is entered: the active one waits, and becomes its activator
 abbrev pub entered_by : {K M : Type 0} → Calls K M → ℕ → Value → M → Store K → State K M
@@ -272,7 +272,7 @@ entered_by C n value m st = passed_value C n value m (with_activator n st.active
 
 abbrev pub entered_if : {K M : Type 0} → Calls K M → Bool → Status K → ℕ → Value → M → Store K → State K M
 entered_if C is_active Exhausted n value m st = failing m st
-entered_if C true status n value m st = pushed C (Val value) m st
+entered_if C true status n value m st = push_item C (Val value) m st
 entered_if C false status n value m st = entered_by C n value m st
 
 abbrev pub activation : {K M : Type 0} → Calls K M → Value → Value → M → Store K → State K M
@@ -282,45 +282,45 @@ activation C value other m st = errs 118 (Some other) st
 -- Procedures
 
 -- values for so many places, with nulls behind them
-abbrev pub filled : ℕ → List Value → List Value
-filled n values = take n (values ++ replicate n Null)
+abbrev pub fill_nulls : ℕ → List Value → List Value
+fill_nulls n values = take n (values ++ replicate n Null)
 
 -- the procedure is entered with these parameters
-abbrev pub entered : {K M : Type 0} → Calls K M → ℕ → Procedure → List Value → M → Store K → State K M
-entered C n entry parameters m st = running (C.enter n (parameters ++ replicate entry.locals Null) m) st
+abbrev pub enter_procedure : {K M : Type 0} → Calls K M → ℕ → Procedure → List Value → M → Store K → State K M
+enter_procedure C n entry parameters m st = running (C.enter n (parameters ++ replicate entry.locals Null) m) st
 
-abbrev pub collected : {K M : Type 0} → Calls K M → Bool → ℕ → List Value → M → Store K → (List Value → M → Store K → State K M) → State K M
-collected C false n arguments m st next = next (filled n arguments) m st
-collected C true n arguments m st next = list_made C (drop (n - 1) arguments) m st (λ rest m st. next (filled (n - 1) arguments ++ rest ∷ []) m st)
+abbrev pub collect_rest : {K M : Type 0} → Calls K M → Bool → ℕ → List Value → M → Store K → (List Value → M → Store K → State K M) → State K M
+collect_rest C false n arguments m st next = next (fill_nulls n arguments) m st
+collect_rest C true n arguments m st next = list_made C (drop (n - 1) arguments) m st (λ rest m st. next (fill_nulls (n - 1) arguments ++ rest ∷ []) m st)
 
 -- the arguments are the parameters, and where the last one collects it gets a list of those that are left
 abbrev pub with_parameters : {K M : Type 0} → Calls K M → Procedure → List Value → M → Store K → (List Value → M → Store K → State K M) → State K M
-with_parameters C entry arguments m st next = collected C entry.collects entry.parameters arguments m st next
+with_parameters C entry arguments m st next = collect_rest C entry.collects entry.parameters arguments m st next
 
 abbrev pub called_if : {K M : Type 0} → Calls K M → Bool → ℕ → Procedure → List Value → M → Store K → State K M
-called_if C true n entry arguments m st = with_parameters C entry arguments m st (λ parameters m st. entered C n entry parameters m st)
+called_if C true n entry arguments m st = with_parameters C entry arguments m st (λ parameters m st. enter_procedure C n entry parameters m st)
 called_if C false n entry arguments m st = errs 301 None st
 
-abbrev pub called : {K M : Type 0} → Calls K M → ℕ → Procedure → List Value → M → Store K → State K M
-called C n entry arguments m st = called_if C (nat_le (suc (C.level m)) st.world.heap.bounds.levels) n entry arguments m st
+abbrev pub call_procedure : {K M : Type 0} → Calls K M → ℕ → Procedure → List Value → M → Store K → State K M
+call_procedure C n entry arguments m st = called_if C (nat_le (suc (C.level m)) st.world.heap.bounds.levels) n entry arguments m st
 
-abbrev pub constructed : {K M : Type 0} → Calls K M → ℕ → RecordType → List Value → M → Store K → State K M
-constructed C kind entry arguments m st = made C (record_row kind (filled (length entry.fields) arguments) (here C m st)) m st (λ value m st. pushed C (Val value) m st)
+abbrev pub construct_record : {K M : Type 0} → Calls K M → ℕ → RecordType → List Value → M → Store K → State K M
+construct_record C kind entry arguments m st = with_made C (record_row kind (fill_nulls (length entry.fields) arguments) (here C m st)) m st (λ value m st. push_item C (Val value) m st)
 
 -- the argument of this number, from the left from 1 on or from the right from -1 on
 abbrev pub argument_at : Option ℕ → List Item → Option Item
 argument_at (Some (suc n)) items = slice_get items n
 argument_at place items = None
 
-abbrev pub chosen : ℤ → List Item → Option Item
-chosen n items = argument_at (place_of n (length items)) items
+abbrev pub choose_item : ℤ → List Item → Option Item
+choose_item n items = argument_at (place_of n (length items)) items
 
 abbrev pub pushed_or_fails : {K M : Type 0} → Calls K M → Option Item → M → Store K → State K M
-pushed_or_fails C (Some item) m st = pushed C item m st
+pushed_or_fails C (Some item) m st = push_item C item m st
 pushed_or_fails C None m st = failing m st
 
 abbrev pub integer_called : {K M : Type 0} → Calls K M → Value → Option ℤ → List Item → M → Store K → State K M
-integer_called C callee (Some n) items m st = pushed_or_fails C (chosen n items) m st
+integer_called C callee (Some n) items m st = pushed_or_fails C (choose_item n items) m st
 integer_called C callee None items m st = errs 106 (Some callee) st
 
 -- What is called by a number: procedures are numbered before constructors, and these before functions.
@@ -348,26 +348,26 @@ abbrev pub callee_of : Tables → ℕ → Callee
 callee_of tables n = callee_among n tables.procs tables.records
 
 abbrev pub callee_called : {K M : Type 0} → Calls K M → Callee → ℕ → List Item → M → Store K → State K M
-callee_called C (IsProc entry) n items m st = with_values C items m st (λ arguments. called C n entry arguments m st)
-callee_called C (IsRecord kind entry) n items m st = with_values C items m st (λ arguments. constructed C kind entry arguments m st)
+callee_called C (IsProc entry) n items m st = with_values C items m st (λ arguments. call_procedure C n entry arguments m st)
+callee_called C (IsRecord kind entry) n items m st = with_values C items m st (λ arguments. construct_record C kind entry arguments m st)
 callee_called C (IsFunc func) n items m st = outcome C (apply st.names (Function func) items (here C m st)) m st
 callee_called C IsNothing n items m st = errs 106 (Some (ProcedureValue n)) st
 
-abbrev pub invoked : {K M : Type 0} → Calls K M → Program → Value → List Item → M → Store K → State K M
-invoked C P (ProcedureValue n) items m st = callee_called C (callee_of P n) n items m st
-invoked C P callee items m st = integer_called C callee (number_of callee) items m st
+abbrev pub invoke_value : {K M : Type 0} → Calls K M → Program → Value → List Item → M → Store K → State K M
+invoke_value C P (ProcedureValue n) items m st = callee_called C (callee_of P n) n items m st
+invoke_value C P callee items m st = integer_called C callee (number_of callee) items m st
 
 -- what is called stands below its arguments
 abbrev pub invoked_with : {K M : Type 0} → Calls K M → Program → List Item → M → Store K → State K M
 invoked_with C P [] m st = stuck
-invoked_with C P (callee ∷ items) m st = with_value C callee m st (λ value. invoked C P value items m st)
+invoked_with C P (callee ∷ items) m st = with_value C callee m st (λ value. invoke_value C P value items m st)
 
 abbrev pub plain : Value → Item
 plain value = Val value
 
 abbrev pub elements_called : {K M : Type 0} → Calls K M → Program → Value → Value → M → Store K → State K M
-elements_called C P callee (AList n) m st = invoked C P callee (map plain (list_at st.world.heap n).items) m st
-elements_called C P callee (ARecord n) m st = invoked C P callee (map plain (record_at st.world.heap n).fields) m st
+elements_called C P callee (AList n) m st = invoke_value C P callee (map plain (list_at st.world.heap n).items) m st
+elements_called C P callee (ARecord n) m st = invoke_value C P callee (map plain (record_at st.world.heap n).fields) m st
 elements_called C P callee from m st = errs 126 (Some from) st
 
 abbrev pub applied_to_elements : {K M : Type 0} → Calls K M → Program → List Item → M → Store K → State K M
@@ -379,7 +379,7 @@ abbrev pub field_place : Tables → ℕ → ℕ → Option ℕ
 field_place tables field kind = option_and_then (λ (entry : RecordType). position (λ other. other == field) entry.fields) (slice_get tables.records kind)
 
 abbrev pub field_taken : {K M : Type 0} → Calls K M → Option ℕ → ℕ → M → Store K → State K M
-field_taken C (Some place) n m st = pushed C (Var (Whole (Field n place))) m st
+field_taken C (Some place) n m st = push_item C (Var (Whole (Field n place))) m st
 field_taken C None n m st = errs 207 (Some (ARecord n)) st
 
 abbrev pub field_of : {K M : Type 0} → Calls K M → Program → ℕ → Value → M → Store K → State K M
@@ -393,38 +393,38 @@ with_result C (Var (Part (Local n) place size)) m st next = with_value C (Var (P
 with_result C item m st next = next item
 
 -- the starting call ends, and with it the run; a create body has no end of its own here
-abbrev pub finished : {K M : Type 0} → Store K → State K M
-finished st = if is_main st.active then over Done st.outside else stuck
+abbrev pub finish_run : {K M : Type 0} → Store K → State K M
+finish_run st = if is_main st.active then over Done st.outside else stuck
 
-abbrev pub returned : {K M : Type 0} → Option M → (M → Store K → State K M) → Store K → State K M
-returned None next st = finished st
-returned (Some caller) next st = next caller st
+abbrev pub return_to : {K M : Type 0} → Option M → (M → Store K → State K M) → Store K → State K M
+return_to None next st = finish_run st
+return_to (Some caller) next st = next caller st
 
 -- the procedure ends, and the code fails in its caller
 abbrev pub proc_fails : {K M : Type 0} → Calls K M → M → Store K → State K M
-proc_fails C m st = returned (C.leave m) failing (all_left C m st)
+proc_fails C m st = return_to (C.leave m) failing (all_left C m st)
 
 -- Failing
 
 abbrev pub without_mark : {K M : Type 0} → Calls K M → Program → M → Store K → State K M
-without_mark C P m st = if is_create_body C m st then exhausted C P m st else proc_fails C m st
+without_mark C P m st = if is_create_body C m st then exhaust_active C P m st else proc_fails C m st
 
-abbrev pub mark_dropped : {K M : Type 0} → Calls K M → Program → M → Store K → Dropped M → State K M
+abbrev pub mark_dropped : {K M : Type 0} → Calls K M → Program → M → Store K → MarkDrop M → State K M
 mark_dropped C P m st NoMark = without_mark C P m st
 mark_dropped C P m st (Goes after) = running after st
 mark_dropped C P m st (Repeats after) = turn P st (running after)
 mark_dropped C P m st (WithoutLabel after) = failing after st
 
-abbrev pub resumed : {K M : Type 0} → Calls K M → Program → Why → M → Store K → State K M
-resumed C P Alt m st = failing m st
-resumed C P (Operation residual) m st = turn P st (λ st. outcome C (again residual (here C m st)) m st)
-resumed C P (Scan pair) m st = failing m (with_pair pair st)
-resumed C P Escan m st = exchanged (C.swap_newest (pair_now st) m) failing st
-resumed C P Proc m st = turn P st (λ st. maybe_exchanged (C.swap_oldest (pair_now st) m) m st running)
+abbrev pub resume_by : {K M : Type 0} → Calls K M → Program → Why → M → Store K → State K M
+resume_by C P Alt m st = failing m st
+resume_by C P (Operation residual) m st = turn P st (λ st. outcome C (again residual (here C m st)) m st)
+resume_by C P (Scan pair) m st = failing m (with_pair pair st)
+resume_by C P Escan m st = with_exchange (C.swap_newest (pair_now st) m) failing st
+resume_by C P Proc m st = turn P st (λ st. maybe_exchanged (C.swap_oldest (pair_now st) m) m st running)
 
 abbrev pub resumed_or_dropped : {K M : Type 0} → Calls K M → Program → M → Store K → Option (Why × M) → State K M
 resumed_or_dropped C P m st None = mark_dropped C P m st (C.drop_mark m)
-resumed_or_dropped C P m st (Some back) = resumed C P back.0 back.1 st
+resumed_or_dropped C P m st (Some back) = resume_by C P back.0 back.1 st
 
 -- the newest suspension of the innermost mark is resumed; without one the mark is dropped
 abbrev pub fails : {K M : Type 0} → Calls K M → Program → M → Store K → State K M
@@ -436,29 +436,29 @@ fails C P m st = resumed_or_dropped C P m st (C.resume m)
 abbrev pub members_of : Cset → List ℕ
 members_of set = filter (has set) (range_with_len 0 256)
 
-abbrev pub standing : {K M : Type 0} → Calls K M → M → Store K → Standing
-standing C m st = record { level = C.level m; current = st.active; source = activator_of st.active st }
+abbrev pub standing_of : {K M : Type 0} → Calls K M → M → Store K → Standing
+standing_of C m st = record { level = C.level m; current = st.active; source = activator_of st.active st }
 
 abbrev pub with_popped : {K M : Type 0} → Calls K M → M → (Item → M → State K M) → State K M
-with_popped C m next = with_found (C.pop m) (parted next)
+with_popped C m next = with_found (C.pop m) (on_pair next)
 
 abbrev pub with_taken : {K M : Type 0} → Calls K M → ℕ → M → (List Item → M → State K M) → State K M
-with_taken C n m next = with_found (C.take n m) (parted next)
+with_taken C n m next = with_found (C.take n m) (on_pair next)
 
-abbrev pub unmarked : {K M : Type 0} → Calls K M → M → Store K → (M → Store K → State K M) → State K M
-unmarked C m st next = with_found (C.unmark m) (parted (λ outside pair. next outside (scans_left pair st)))
+abbrev pub unmark_then : {K M : Type 0} → Calls K M → M → Store K → (M → Store K → State K M) → State K M
+unmark_then C m st next = with_found (C.unmark m) (on_pair (λ outside pair. next outside (scans_left pair st)))
 
 -- the limit of a limitation
-abbrev pub limited : {K M : Type 0} → Calls K M → Value → Option ℤ → M → Store K → State K M
-limited C value None m st = errs 101 (Some value) st
-limited C value (Some (negsuc n)) m st = errs 205 (Some value) st
-limited C value (Some (pos zero)) m st = failing m st
-limited C value (Some (pos (suc n))) m st = running (C.limit (suc n) m) st
+abbrev pub limit_results : {K M : Type 0} → Calls K M → Value → Option ℤ → M → Store K → State K M
+limit_results C value None m st = errs 101 (Some value) st
+limit_results C value (Some (negsuc n)) m st = errs 205 (Some value) st
+limit_results C value (Some (pos zero)) m st = failing m st
+limit_results C value (Some (pos (suc n))) m st = running (C.limit (suc n) m) st
 
 -- a result of a limited expression, of which so many more may come
 abbrev pub limited_result : {K M : Type 0} → Calls K M → Item → ℕ → M → Store K → State K M
-limited_result C item zero m st = unmarked C m st (pushed C item)
-limited_result C item (suc n) m st = with_found (C.suspend_mark m) (λ after. pushed C item after st)
+limited_result C item zero m st = unmark_then C m st (push_item C item)
+limited_result C item (suc n) m st = with_found (C.suspend_mark m) (λ after. push_item C item after st)
 
 abbrev pub scan_opened : {K M : Type 0} → Calls K M → Value → M → Store K → State K M
 scan_opened C (Text text) m st = running (C.suspend (Scan (pair_now st)) m) (with_pair (record { subject = text; position = 1 }) st)
@@ -476,9 +476,9 @@ activation_of C (value ∷ other ∷ []) m st = with_value C value m st (λ valu
 activation_of C items m st = stuck
 
 -- an operation; that which refreshes a co-expression is no row
-abbrev pub operated : {K M : Type 0} → Calls K M → Op → List Item → M → Store K → State K M
-operated C Ops.Refresh (item ∷ items) m st = with_value C item m st (λ value. refreshed C value m st)
-operated C op items m st = outcome C (apply st.names (Operation op) items (here C m st)) m st
+abbrev pub operate : {K M : Type 0} → Calls K M → Op → List Item → M → Store K → State K M
+operate C Ops.Refresh (item ∷ items) m st = with_value C item m st (λ value. refresh C value m st)
+operate C op items m st = outcome C (apply st.names (Operation op) items (here C m st)) m st
 
 abbrev pub field_applied : {K M : Type 0} → Calls K M → Program → ℕ → List Item → M → Store K → State K M
 field_applied C P k (item ∷ items) m st = with_value C item m st (λ value. field_of C P k value m st)
@@ -491,44 +491,44 @@ coexp_result C P m st = if is_create_body C m st
 
 -- the place is that of the next instruction
 abbrev pub instruction : {K M : Type 0} → Calls K M → Program → Instr → M → Store K → State K M
-instruction C P Instrs.Pnull m st = pushed C (Val Null) m st
-instruction C P (Instrs.Int k) m st = with_found (slice_get P.integers k) (λ n. pushed C (Val (Integer n)) m st)
-instruction C P (Instrs.Str k) m st = with_found (slice_get P.strings k) (λ bytes. pushed C (Val (Text bytes)) m st)
-instruction C P (Instrs.Cset k) m st = with_found (slice_get P.csets k) (λ set. pushed C (Val (Chars (members_of set))) m st)
-instruction C P (Instrs.Local k) m st = pushed C (Var (Whole (Local k))) m st
-instruction C P (Instrs.Static k) m st = pushed C (Var (Whole (Static (statics_before P (C.proc m) + k)))) m st
-instruction C P (Instrs.Global k) m st = pushed C (Var (Whole (Global k))) m st
-instruction C P (Instrs.Keywd keyword) m st = pushed_or_fails C (keyword_item (standing C m st) keyword) m st
+instruction C P Instrs.Pnull m st = push_item C (Val Null) m st
+instruction C P (Instrs.Int k) m st = with_found (slice_get P.integers k) (λ n. push_item C (Val (Integer n)) m st)
+instruction C P (Instrs.Str k) m st = with_found (slice_get P.strings k) (λ bytes. push_item C (Val (Text bytes)) m st)
+instruction C P (Instrs.Cset k) m st = with_found (slice_get P.csets k) (λ set. push_item C (Val (Chars (members_of set))) m st)
+instruction C P (Instrs.Local k) m st = push_item C (Var (Whole (Local k))) m st
+instruction C P (Instrs.Static k) m st = push_item C (Var (Whole (Static (statics_before P (C.proc m) + k)))) m st
+instruction C P (Instrs.Global k) m st = push_item C (Var (Whole (Global k))) m st
+instruction C P (Instrs.Keywd keyword) m st = pushed_or_fails C (keyword_item (standing_of C m st) keyword) m st
 instruction C P Instrs.Pop m st = with_popped C m (λ item m. running m st)
-instruction C P Instrs.Dup m st = with_popped C m (λ item below. pushed C item m st)
-instruction C P (Instrs.Op op) m st = with_taken C (arity op) m (λ items m. turn P st (operated C op items m))
-instruction C P (Instrs.Llist n) m st = with_taken C n m (λ items m. turn P st (λ st. with_values C items m st (λ values. list_made C values m st (λ list m st. pushed C (Val list) m st))))
+instruction C P Instrs.Dup m st = with_popped C m (λ item below. push_item C item m st)
+instruction C P (Instrs.Op op) m st = with_taken C (arity op) m (λ items m. turn P st (operate C op items m))
+instruction C P (Instrs.Llist n) m st = with_taken C n m (λ items m. turn P st (λ st. with_values C items m st (λ values. list_made C values m st (λ list m st. push_item C (Val list) m st))))
 instruction C P (Instrs.Field k) m st = with_taken C 1 m (λ items m. turn P st (field_applied C P k items m))
 instruction C P (Instrs.Invoke n) m st = with_taken C (suc n) m (λ items m. turn P st (invoked_with C P items m))
 instruction C P Instrs.Appl m st = with_taken C 2 m (λ items m. turn P st (applied_to_elements C P items m))
 instruction C P (Instrs.Mark l) m st = running (C.mark (Some l) m) st
 instruction C P Instrs.Mark0 m st = running (C.mark None m) st
-instruction C P Instrs.Unmark m st = unmarked C m st running
-instruction C P Instrs.Eret m st = with_popped C m (λ item m. with_value C item m st (λ value. unmarked C m st (pushed C (Val value))))
-instruction C P Instrs.Esusp m st = with_popped C m (λ item m. with_found (C.suspend_mark m) (λ m. pushed C item m st))
-instruction C P Instrs.Limit m st = with_popped C m (λ item m. with_value C item m st (λ value. limited C value (integer_of value) m st))
-instruction C P Instrs.Lsusp m st = with_popped C m (λ item m. with_found (C.count_down m) (parted (λ count m. limited_result C item count m st)))
+instruction C P Instrs.Unmark m st = unmark_then C m st running
+instruction C P Instrs.Eret m st = with_popped C m (λ item m. with_value C item m st (λ value. unmark_then C m st (push_item C (Val value))))
+instruction C P Instrs.Esusp m st = with_popped C m (λ item m. with_found (C.suspend_mark m) (λ m. push_item C item m st))
+instruction C P Instrs.Limit m st = with_popped C m (λ item m. with_value C item m st (λ value. limit_results C value (integer_of value) m st))
+instruction C P Instrs.Lsusp m st = with_popped C m (λ item m. with_found (C.count_down m) (on_pair (λ count m. limited_result C item count m st)))
 instruction C P Instrs.Efail m st = failing m st
 instruction C P (Instrs.Chfail l) m st = with_found (C.relabel l m) (λ m. running m st)
 instruction C P (Instrs.Goto l) m st = running (C.go l m) st
 instruction C P (Instrs.Loop l) m st = turn P st (running (C.go l m))
-instruction C P Instrs.Bscan m st = with_popped C m (λ item m. with_value C item m st (λ value. made C (text_row value (here C m st)) m st (scan_opened C)))
-instruction C P Instrs.Escan m st = with_popped C m (λ item m. exchanged (C.swap_newest (pair_now st) m) (λ m. pushed C item (C.suspend Escan m)) st)
-instruction C P Instrs.Ccase m st = with_found (C.below m) (λ item. pushed C item m st)
+instruction C P Instrs.Bscan m st = with_popped C m (λ item m. with_value C item m st (λ value. with_made C (text_row value (here C m st)) m st (scan_opened C)))
+instruction C P Instrs.Escan m st = with_popped C m (λ item m. with_exchange (C.swap_newest (pair_now st) m) (λ m. push_item C item (C.suspend Escan m)) st)
+instruction C P Instrs.Ccase m st = with_found (C.below m) (λ item. push_item C item m st)
 instruction C P (Instrs.Init l) m st = initial_done C l m st
 instruction C P Instrs.Psusp m st = with_popped C m (λ item below. with_result C item m st (λ result.
-    maybe_exchanged (C.swap_oldest (pair_now st) m) m st (λ m. returned (C.suspend_proc m) (pushed C result))))
-instruction C P Instrs.Pret m st = with_popped C m (λ item m. with_result C item m st (λ result. returned (C.leave m) (pushed C result) (all_left C m st)))
+    maybe_exchanged (C.swap_oldest (pair_now st) m) m st (λ m. return_to (C.suspend_proc m) (push_item C result))))
+instruction C P Instrs.Pret m st = with_popped C m (λ item m. with_result C item m st (λ result. return_to (C.leave m) (push_item C result) (all_left C m st)))
 instruction C P Instrs.Pfail m st = if is_create_body C m st then stuck else proc_fails C m st
 instruction C P (Instrs.Create l) m st = turn P st (coexp_made C (C.locals m) (C.proc m) (C.place m) (C.go l m))
 instruction C P Instrs.Coact m st = with_taken C 2 m (λ items m. turn P st (activation_of C items m))
 instruction C P Instrs.Coret m st = coexp_result C P m st
-instruction C P Instrs.Cofail m st = if is_create_body C m st then exhausted C P m st else stuck
+instruction C P Instrs.Cofail m st = if is_create_body C m st then exhaust_active C P m st else stuck
 
 abbrev pub instruction_at : {K M : Type 0} → Calls K M → Program → M → Option Instr
 instruction_at C P m = slice_get (instrs_of P (C.proc m)) (C.place m)
@@ -605,7 +605,7 @@ begun_if C false n entry arguments m st = errs 301 None st
 abbrev pub start_of : {K M : Type 0} → Calls K M → Program → List (List ℕ) → M → Store K → Option ℕ → State K M
 start_of C P words m st None = errs 117 None st
 start_of C P words m st (Some main) = with_found (slice_get P.procs main) (λ (entry : Procedure).
-    made C (words_row words (here C m st)) m st (λ list m st. begun_if C (nat_le 1 st.world.heap.bounds.levels) main entry (list ∷ []) m st))
+    with_made C (words_row words (here C m st)) m st (λ list m st. begun_if C (nat_le 1 st.world.heap.bounds.levels) main entry (list ∷ []) m st))
 
 abbrev pub start : {K M : Type 0} → Calls K M → M → Program → Launch → State K M
 start C m P launch = start_of C P launch.words m (first_store P launch) (main_of P)

@@ -30,7 +30,7 @@ use Rattle.icn_run_safe.specs.Facts.{shapes_of, IsFlatShapedAt}
 use Rattle.icn_run_safe.specs.NoStuck.{TablesOk}
 use Rattle.icn_run_safe.specs.Within.{RowsStayWithin}
 use Rattle.icn_run_safe.proofs.AnyOutside.{follows_over, opens_mark}
-use Rattle.icn_run_safe.proofs.Ended.{goes_forward}
+use Rattle.icn_run_safe.proofs.Observations.{goes_forward}
 use Rattle.icn_run_safe.proofs.Entries.{within}
 use Rattle.icn_run_safe.proofs.Facts.{Follows, IsDue, Near, follows_next, given, shaped_in}
 use Rattle.icn_run_safe.proofs.NoStuck.{start_safe, step_ok}

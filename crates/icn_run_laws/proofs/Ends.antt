@@ -8,7 +8,7 @@ use Rattle.icn_run.specs.Rows.{Value, Outcome, Fails, Gives, Suspends, Error, En
 use Rattle.icn_code.specs.Codes.{Proc as Procedure}
 use Rattle.icn_run.specs.Calls.{Calls}
 use Rattle.icn_run_laws.specs.SameStates.{IsMade}
-use Rattle.icn_run.specs.Step.{Program, Launch, Store, State, running, failing, hopping, over, stuck, with_found, passed_failure, activator_of, instruction, instruction_at, instrs_of, step, start, start_of, first_store, main_of, made, here, with_at, begun_if, collected, filled}
+use Rattle.icn_run.specs.Step.{Program, Launch, Store, State, running, failing, hopping, over, stuck, with_found, passed_failure, activator_of, instruction, instruction_at, instrs_of, step, start, start_of, first_store, main_of, with_made, here, with_at, begun_if, collect_rest, fill_nulls}
 use Rattle.icn_run_laws.specs.Measure.{worth, Weighs, Fits, Held, IsForward, Forward, Falls, Later, Sound, EndsFrom}
 use Rattle.icn_run_laws.proofs.RowsKeep.{rows_keep}
 use Rattle.icn_run_laws.proofs.Falls.{IsForward', worth_next, when_found, Allows, there, turned, TurnOf, l_instruction, f_fails, a_to_activator}
@@ -109,7 +109,7 @@ module _ {K M : Type 0} (C : Calls K M) (N : ℕ) (W : Weighs C N) (P : Program)
   abbrev Starts : Store K → Type 0
   Starts st = Held C N B W st × (st.turns ≤ B)
 
-  s_made : (o : Outcome) (m : M) (st : Store K) (next : Value → M → Store K → State K M) → IsMade o → KeepsIn (here C m st) o → Starts st → ((v : Value) (a : M) (st' : Store K) → Starts st' → Sound C N B W (next v a st')) → Sound C N B W (made C o m st next)
+  s_made : (o : Outcome) (m : M) (st : Store K) (next : Value → M → Store K → State K M) → IsMade o → KeepsIn (here C m st) o → Starts st → ((v : Value) (a : M) (st' : Store K) → Starts st' → Sound C N B W (next v a st')) → Sound C N B W (with_made C o m st next)
   s_made (Gives (Val v) seen) m st next i k h f = f v (C.set_locals seen.locals m) (with_at seen st) ((h.0.0, ap (λ b. b.turns) k.bounds ∙ h.0.1), h.1)
   s_made (Gives (Var v) seen) m st next i k h f = absurd i
   s_made (Error j v seen) m st next i k h f = tt
@@ -117,9 +117,9 @@ module _ {K M : Type 0} (C : Calls K M) (N : ℕ) (W : Weighs C N) (P : Program)
   s_made (Suspends item r seen) m st next i k h f = absurd i
   s_made (Ended j seen) m st next i k h f = absurd i
 
-  s_collected : (b : Bool) (k : ℕ) (vs : List Value) (m : M) (st : Store K) (next : List Value → M → Store K → State K M) → Starts st → ((ps : List Value) (a : M) (st' : Store K) → Starts st' → Sound C N B W (next ps a st')) → Sound C N B W (collected C b k vs m st next)
-  s_collected false k vs m st next h f = f (filled k vs) m st h
-  s_collected true k vs m st next h f = s_made (list_row (drop (k - 1) vs) (here C m st)) m st (λ rest m st. next (filled (k - 1) vs ++ rest ∷ []) m st) (rows_keep.list_made (drop (k - 1) vs) (here C m st)) (rows_keep.listed (drop (k - 1) vs) (here C m st)) h (λ rest a st' h'. f (filled (k - 1) vs ++ rest ∷ []) a st' h')
+  s_collected : (b : Bool) (k : ℕ) (vs : List Value) (m : M) (st : Store K) (next : List Value → M → Store K → State K M) → Starts st → ((ps : List Value) (a : M) (st' : Store K) → Starts st' → Sound C N B W (next ps a st')) → Sound C N B W (collect_rest C b k vs m st next)
+  s_collected false k vs m st next h f = f (fill_nulls k vs) m st h
+  s_collected true k vs m st next h f = s_made (list_row (drop (k - 1) vs) (here C m st)) m st (λ rest m st. next (fill_nulls (k - 1) vs ++ rest ∷ []) m st) (rows_keep.list_made (drop (k - 1) vs) (here C m st)) (rows_keep.listed (drop (k - 1) vs) (here C m st)) h (λ rest a st' h'. f (fill_nulls (k - 1) vs ++ rest ∷ []) a st' h')
 
   s_begun : (b : Bool) (main : ℕ) (entry : Procedure) (vs : List Value) (m : M) (st : Store K) → Starts st → Sound C N B W (begun_if C b main entry vs m st)
   s_begun false main entry vs m st h = tt

@@ -9,8 +9,8 @@ use Rattle.icn_code.specs.declared.instr.Instr.TheVariants as I
 use Rattle.icn_code.specs.Codes.{Proc as Procedure}
 use Rattle.icn_text.specs.declared.op.Op.{Op}
 use Rattle.icn_run.specs.Rows.{Value, Null, Integer, Text, Chars, Procedure as ProcedureValue, ARecord, AList, ACoexp, Local, Whole, Part, Item, Val, Var, Setting, Outside, Outcome, Fails, Gives, Suspends, Error, Ends, Operation, Function, Ending, apply, again, keyword_item, value_row, list_row, text_row, record_row, coexpression_row, integer_of, number_of, record_at}
-use Rattle.icn_run.specs.Calls.{Pair, Why, Alt, Op as Operating, Scan, Escan, Proc, Dropped, NoMark, Goes, Repeats, Outside as WithoutLabel, Calls}
-use Rattle.icn_run.specs.Step.{Program, Status, Fresh, Active, Waiting, Exhausted, Coexp, Store, State, running, failing, hopping, over, stuck, with_found, turn_if, turn, here, with_at, valued, made, with_value, with_values, pushed, outcome, list_made, with_pair, pair_now, scans_left, exchanged, maybe_exchanged, swapped_back, all_left, coexp_at, status_of, activator_of, with_status, with_activator, fail_by, passed_failure, give_by, passed_value, exhausted, counted_result, result_given, is_main, is_create_body, with_new, coexp_made, refreshed_from, refreshed, entered_by, entered_if, activation, filled, collected, called_if, chosen, pushed_or_fails, integer_called, Callee, IsProc, IsRecord, IsFunc, IsNothing, callee_of, callee_called, invoked, invoked_with, elements_called, applied_to_elements, field_place, field_taken, field_of, with_result, returned, without_mark, mark_dropped, resumed, resumed_or_dropped, fails, members_of, standing, with_popped, with_taken, unmarked, limited, limited_result, scan_opened, initial_if, activation_of, operated, field_applied, instruction}
+use Rattle.icn_run.specs.Calls.{Pair, Why, Alt, Op as Operating, Scan, Escan, Proc, MarkDrop, NoMark, Goes, Repeats, Outside as WithoutLabel, Calls}
+use Rattle.icn_run.specs.Step.{Program, Status, Fresh, Active, Waiting, Exhausted, Coexp, Store, State, running, failing, hopping, over, stuck, with_found, turn_if, turn, here, with_at, with_given, with_made, with_value, with_values, push_item, outcome, list_made, with_pair, pair_now, scans_left, with_exchange, maybe_exchanged, swapped_back, all_left, coexp_at, status_of, activator_of, with_status, with_activator, fail_by, passed_failure, give_by, passed_value, exhaust_active, counted_result, result_given, is_main, is_create_body, with_new, coexp_made, refreshed_from, refresh, entered_by, entered_if, activation, fill_nulls, collect_rest, called_if, choose_item, pushed_or_fails, integer_called, Callee, IsProc, IsRecord, IsFunc, IsNothing, callee_of, callee_called, invoke_value, invoked_with, elements_called, applied_to_elements, field_place, field_taken, field_of, with_result, return_to, without_mark, mark_dropped, resume_by, resumed_or_dropped, fails, members_of, standing_of, with_popped, with_taken, unmark_then, limit_results, limited_result, scan_opened, initial_if, activation_of, operate, field_applied, instruction}
 use Rattle.icn_defs.specs.Keeping.{Keeps, KeepsIn}
 use Rattle.icn_run_laws.proofs.RowsKeep.{rows_keep}
 use Rattle.icn_run_laws.specs.Measure.{Held, cost, worth, IfThere, Stays, Pays, Lightens, DropsWell, ResumesWell, Weighs, FitsStatus, FitAll, Fits, After, Later}
@@ -99,7 +99,7 @@ module _ {K M : Type 0} (C : Calls K M) (N : ℕ) (W : Weighs C N) (P : Program)
   after_row : (m : M) (st : Store K) (seen : Setting) → Keeps (here C m st) seen → Holds st → Holds (with_at seen st)
   after_row m st seen k h = (h.0, ap (λ b. b.turns) k.bounds ∙ h.1)
 
-  a_push : (item : Item) (m : M) (st : Store K) → Ready m st → A (pushed C item m st)
+  a_push : (item : Item) (m : M) (st : Store K) → Ready m st → A (push_item C item m st)
   a_push item m st h = ((W.push item m h.0).fits, h.1, h.2)
 
   a_outcome : (o : Outcome) (m : M) (st : Store K) → KeepsIn (here C m st) o → Ready m st → A (outcome C o m st)
@@ -109,7 +109,7 @@ module _ {K M : Type 0} (C : Calls K M) (N : ℕ) (W : Weighs C N) (P : Program)
   a_outcome (Error j v seen) m st k h = tt
   a_outcome (Ends j seen) m st k h = tt
 
-  a_valued : (o : Outcome) (m : M) (st : Store K) (next : Value → State K M) → Ready m st → ((v : Value) → A (next v)) → A (valued o m st next)
+  a_valued : (o : Outcome) (m : M) (st : Store K) (next : Value → State K M) → Ready m st → ((v : Value) → A (next v)) → A (with_given o m st next)
   a_valued (Gives (Val v) seen) m st next h f = f v
   a_valued (Gives (Var v) seen) m st next h f = h
   a_valued (Error j v seen) m st next h f = tt
@@ -125,7 +125,7 @@ module _ {K M : Type 0} (C : Calls K M) (N : ℕ) (W : Weighs C N) (P : Program)
   a_values (item ∷ items) m st next h f = a_value item m st (λ value. with_values C items m st (λ values. next (value ∷ values))) h (λ v. a_values items m st (λ values. next (v ∷ values)) h (λ vs. f (v ∷ vs)))
 
   -- what is made changes the store
-  a_made : (o : Outcome) (m : M) (st : Store K) (next : Value → M → Store K → State K M) → KeepsIn (here C m st) o → Ready m st → ((v : Value) (a : M) (st' : Store K) → Ready a st' → A (next v a st')) → A (made C o m st next)
+  a_made : (o : Outcome) (m : M) (st : Store K) (next : Value → M → Store K → State K M) → KeepsIn (here C m st) o → Ready m st → ((v : Value) (a : M) (st' : Store K) → Ready a st' → A (next v a st')) → A (with_made C o m st next)
   a_made (Gives (Val v) seen) m st next k h f = f v (C.set_locals seen.locals m) (with_at seen st) ((W.set_locals seen.locals m h.0).fits, after_row m st seen k h.1, h.2)
   a_made (Gives (Var v) seen) m st next k h f = h
   a_made (Error j v seen) m st next k h f = tt
@@ -173,14 +173,14 @@ module _ {K M : Type 0} (C : Calls K M) (N : ℕ) (W : Weighs C N) (P : Program)
   a_result v m st h = a_pass_value (activator_of st.active st) v m (counted_result st.active (with_status st.active (Waiting (C.kept m)) st)) ((fit_set W.FitsAway st.coexps st.active _ (W.kept m h.0) h.1.0, h.1.1), h.2)
 
   a_new : (values : List Value) (proc place : ℕ) (m : M) (st : Store K) → Ready m st → A (coexp_made C values proc place m st)
-  a_new values proc place m st h = a_made (coexpression_row (length values) (here C m st)) m st (λ value m st. pushed C (Val value) m (with_new values proc place st)) (rows_keep.created (length values) (here C m st)) h
+  a_new values proc place m st h = a_made (coexpression_row (length values) (here C m st)) m st (λ value m st. push_item C (Val value) m (with_new values proc place st)) (rows_keep.created (length values) (here C m st)) h
       (λ v a st' h'. ((W.push (Val v) a h'.0).fits, (fit_more W.FitsAway st'.coexps (record { status = Fresh; activator = 0; values = values; proc = proc; place = place }) tt h'.1.0, h'.1.1), h'.2))
 
   a_refreshed_from : (o : Option (Coexp K)) (m : M) (st : Store K) → Ready m st → A (refreshed_from C o m st)
   a_refreshed_from None m st h = tt
   a_refreshed_from (Some c) m st h = a_new c.values c.proc c.place m st h
 
-  a_refresh : (v : Value) (m : M) (st : Store K) → Ready m st → A (refreshed C v m st)
+  a_refresh : (v : Value) (m : M) (st : Store K) → Ready m st → A (refresh C v m st)
   a_refresh (ACoexp zero) m st h = tt
   a_refresh (ACoexp (suc k)) m st h = a_refreshed_from (slice_get st.coexps (suc k)) m st h
   a_refresh _ m st h = tt
@@ -210,9 +210,9 @@ module _ {K M : Type 0} (C : Calls K M) (N : ℕ) (W : Weighs C N) (P : Program)
 
   -- calls
 
-  a_collected : (b : Bool) (k : ℕ) (vs : List Value) (m : M) (st : Store K) (next : List Value → M → Store K → State K M) → Ready m st → ((ps : List Value) (a : M) (st' : Store K) → Ready a st' → A (next ps a st')) → A (collected C b k vs m st next)
-  a_collected false k vs m st next h f = f (filled k vs) m st h
-  a_collected true k vs m st next h f = a_list (drop (k - 1) vs) m st (λ rest m st. next (filled (k - 1) vs ++ rest ∷ []) m st) h (λ rest a st' h'. f (filled (k - 1) vs ++ rest ∷ []) a st' h')
+  a_collected : (b : Bool) (k : ℕ) (vs : List Value) (m : M) (st : Store K) (next : List Value → M → Store K → State K M) → Ready m st → ((ps : List Value) (a : M) (st' : Store K) → Ready a st' → A (next ps a st')) → A (collect_rest C b k vs m st next)
+  a_collected false k vs m st next h f = f (fill_nulls k vs) m st h
+  a_collected true k vs m st next h f = a_list (drop (k - 1) vs) m st (λ rest m st. next (fill_nulls (k - 1) vs ++ rest ∷ []) m st) h (λ rest a st' h'. f (fill_nulls (k - 1) vs ++ rest ∷ []) a st' h')
 
   a_called_if : (b : Bool) (k : ℕ) (entry : Procedure) (vs : List Value) (m : M) (st : Store K) → Ready m st → A (called_if C b k entry vs m st)
   a_called_if false k entry vs m st h = tt
@@ -220,7 +220,7 @@ module _ {K M : Type 0} (C : Calls K M) (N : ℕ) (W : Weighs C N) (P : Program)
 
   a_callee : (c : Callee) (k : ℕ) (items : List Item) (m : M) (st : Store K) → Ready m st → A (callee_called C c k items m st)
   a_callee (IsProc entry) k items m st h = a_values items m st _ h (λ vs. a_called_if (nat_le (suc (C.level m)) st.world.heap.bounds.levels) k entry vs m st h)
-  a_callee (IsRecord kind entry) k items m st h = a_values items m st _ h (λ vs. a_made (record_row kind (filled (length entry.fields) vs) (here C m st)) m st (λ value m st. pushed C (Val value) m st) (rows_keep.recorded kind (filled (length entry.fields) vs) (here C m st)) h (λ v a st' h'. a_push (Val v) a st' h'))
+  a_callee (IsRecord kind entry) k items m st h = a_values items m st _ h (λ vs. a_made (record_row kind (fill_nulls (length entry.fields) vs) (here C m st)) m st (λ value m st. push_item C (Val value) m st) (rows_keep.recorded kind (fill_nulls (length entry.fields) vs) (here C m st)) h (λ v a st' h'. a_push (Val v) a st' h'))
   a_callee (IsFunc func) k items m st h = a_outcome (apply st.names (Function func) items (here C m st)) m st (rows_keep.applied st.names (Function func) items (here C m st)) h
   a_callee IsNothing k items m st h = tt
 
@@ -229,10 +229,10 @@ module _ {K M : Type 0} (C : Calls K M) (N : ℕ) (W : Weighs C N) (P : Program)
   a_or_fails None m st h = h
 
   a_integer : (v : Value) (o : Option ℤ) (items : List Item) (m : M) (st : Store K) → Ready m st → A (integer_called C v o items m st)
-  a_integer v (Some k) items m st h = a_or_fails (chosen k items) m st h
+  a_integer v (Some k) items m st h = a_or_fails (choose_item k items) m st h
   a_integer v None items m st h = tt
 
-  a_invoked : (v : Value) (items : List Item) (m : M) (st : Store K) → Ready m st → A (invoked C P v items m st)
+  a_invoked : (v : Value) (items : List Item) (m : M) (st : Store K) → Ready m st → A (invoke_value C P v items m st)
   a_invoked (ProcedureValue k) items m st h = a_callee (callee_of P k) k items m st h
   a_invoked v items m st h = a_integer v (number_of v) items m st h
 
@@ -261,11 +261,11 @@ module _ {K M : Type 0} (C : Calls K M) (N : ℕ) (W : Weighs C N) (P : Program)
   a_field_applied field [] m st h = tt
   a_field_applied field (item ∷ items) m st h = a_value item m st _ h (λ v. a_field field v m st h)
 
-  a_refreshing : (items : List Item) (m : M) (st : Store K) → Ready m st → A (operated C Ops.Refresh items m st)
+  a_refreshing : (items : List Item) (m : M) (st : Store K) → Ready m st → A (operate C Ops.Refresh items m st)
   a_refreshing [] m st h = a_outcome (apply st.names (Operation Ops.Refresh) [] (here C m st)) m st (rows_keep.applied st.names (Operation Ops.Refresh) [] (here C m st)) h
   a_refreshing (item ∷ items) m st h = a_value item m st _ h (λ v. a_refresh v m st h)
 
-  a_operated : (op : Op) (items : List Item) (m : M) (st : Store K) → Ready m st → A (operated C op items m st)
+  a_operated : (op : Op) (items : List Item) (m : M) (st : Store K) → Ready m st → A (operate C op items m st)
   a_operated Ops.Refresh items m st h = a_refreshing items m st h
   a_operated op items m st h = a_outcome (apply st.names (Operation op) items (here C m st)) m st (rows_keep.applied st.names (Operation op) items (here C m st)) h
 
@@ -334,7 +334,7 @@ module _ {K M : Type 0} (C : Calls K M) (N : ℕ) (W : Weighs C N) (P : Program)
     paid_on : (k : ℕ) (a after : M) (st : Store K) → (s : Stays W.Bounded C.place k fits.0 m a) → k ≤ suc (worth N (C.place m)) → Pays W.Bounded C.place N s.fits.0 after → Same st → Lt (running after st)
     paid_on k a after st s le p g = let x = s.weighs in let y = p.weighs in let one = cost_some (N - C.place m) in (p.fits, g.fit, inr (g.turns, omega arith))
 
-    paid_push : (k : ℕ) (a after : M) (item : Item) (st : Store K) → (s : Stays W.Bounded C.place k fits.0 m a) → k ≤ suc (worth N (C.place m)) → Pays W.Bounded C.place N s.fits.0 after → Same st → Lt (pushed C item after st)
+    paid_push : (k : ℕ) (a after : M) (item : Item) (st : Store K) → (s : Stays W.Bounded C.place k fits.0 m a) → k ≤ suc (worth N (C.place m)) → Pays W.Bounded C.place N s.fits.0 after → Same st → Lt (push_item C item after st)
     paid_push k a after item st s le p g = let t = W.push item after p.fits in let x = s.weighs in let y = p.weighs in let z = t.weighs in let one = cost_some (N - C.place m) in
         let e : worth N (C.place (C.push item after)) ≡ worth N (C.place after) = ap (worth N) t.stands in
         (t.fits, g.fit, inr (g.turns, omega arith))
@@ -346,10 +346,10 @@ module _ {K M : Type 0} (C : Calls K M) (N : ℕ) (W : Weighs C N) (P : Program)
     jump : (label : ℕ) (st : Store K) → C.place m ≤ label → Same st → Lt (running (C.go label m) st)
     jump label st le g = let e : worth N (C.place (C.go label m)) ≡ worth N label = ap (worth N) (W.go_stands label m) in let y = worth_less N (C.place m) label le in let one = cost_some (N - C.place m) in ((fits.0, W.go label m fits.0 fits.1), g.fit, inr (g.turns, omega arith))
 
-    push_on : (k : ℕ) (a : M) (item : Item) (st : Store K) → Stays W.Bounded C.place k fits.0 m a → k ≤ suc (worth N (C.place m)) → Same st → Lt (pushed C item a st)
+    push_on : (k : ℕ) (a : M) (item : Item) (st : Store K) → Stays W.Bounded C.place k fits.0 m a → k ≤ suc (worth N (C.place m)) → Same st → Lt (push_item C item a st)
     push_on k a item st s le g = go_on (0 + k) (C.push item a) st (andthen k 0 a (C.push item a) s (W.push item a s.fits)) (omega arith) g
 
-    lt_valued : (o : Outcome) (a : M) (st : Store K) (next : Value → State K M) → Stays W.Bounded C.place 0 fits.0 m a → Same st → ((v : Value) → Lt (next v)) → Lt (valued o a st next)
+    lt_valued : (o : Outcome) (a : M) (st : Store K) (next : Value → State K M) → Stays W.Bounded C.place 0 fits.0 m a → Same st → ((v : Value) → Lt (next v)) → Lt (with_given o a st next)
     lt_valued (Gives (Val v) seen) a st next s g f = f v
     lt_valued (Gives (Var v) seen) a st next s g f = fail_on 0 a st s (omega arith) g
     lt_valued (Error j v seen) a st next s g f = tt
@@ -360,7 +360,7 @@ module _ {K M : Type 0} (C : Calls K M) (N : ℕ) (W : Weighs C N) (P : Program)
     lt_value : (item : Item) (a : M) (st : Store K) (next : Value → State K M) → Stays W.Bounded C.place 0 fits.0 m a → Same st → ((v : Value) → Lt (next v)) → Lt (with_value C item a st next)
     lt_value item a st next s g f = lt_valued (value_row item (here C a st)) a st next s g f
 
-    lt_made : (o : Outcome) (a : M) (st : Store K) (next : Value → M → Store K → State K M) → KeepsIn (here C a st) o → Stays W.Bounded C.place 0 fits.0 m a → Same st → ((v : Value) (b : M) (st' : Store K) → Stays W.Bounded C.place 0 fits.0 m b → Same st' → Lt (next v b st')) → Lt (made C o a st next)
+    lt_made : (o : Outcome) (a : M) (st : Store K) (next : Value → M → Store K → State K M) → KeepsIn (here C a st) o → Stays W.Bounded C.place 0 fits.0 m a → Same st → ((v : Value) (b : M) (st' : Store K) → Stays W.Bounded C.place 0 fits.0 m b → Same st' → Lt (next v b st')) → Lt (with_made C o a st next)
     lt_made (Gives (Val v) seen) a st next k s g f = f v (C.set_locals seen.locals a) (with_at seen st) (then_same 0 a (C.set_locals seen.locals a) s (W.set_locals seen.locals a s.fits)) (record { fit = (g.fit.0, ap (λ b. b.turns) k.bounds ∙ g.fit.1); turns = g.turns })
     lt_made (Gives (Var v) seen) a st next k s g f = fail_on 0 a st s (omega arith) g
     lt_made (Error j v seen) a st next k s g f = tt
@@ -375,17 +375,17 @@ module _ {K M : Type 0} (C : Calls K M) (N : ℕ) (W : Weighs C N) (P : Program)
     taking k next f = when_found Lt lt_allowed (λ tops. Stays W.Bounded C.place 0 fits.0 m tops.1) (C.take k m) _ (W.take k m fits) (λ tops s. f tops.0 tops.1 s)
 
     unmarking : (k : ℕ) (a : M) (st : Store K) (next : M → Store K → State K M) → Stays W.Bounded C.place k fits.0 m a → Same st
-        → ((b : M) (st' : Store K) → Stays W.Bounded C.place k fits.0 m b → Same st' → Lt (next b st')) → Lt (unmarked C a st next)
+        → ((b : M) (st' : Store K) → Stays W.Bounded C.place k fits.0 m b → Same st' → Lt (next b st')) → Lt (unmark_then C a st next)
     unmarking k a st next s g f = when_found Lt lt_allowed (λ outside. Stays W.Bounded C.place 0 s.fits.0 a outside.0) (C.unmark a) _ (W.unmark a s.fits)
         (λ outside t. f outside.0 (scans_left outside.1 st) (then_same k a outside.0 s t) (same_left outside.1 st g))
 
     exchanging_at : (a : M) → (s : Stays W.Bounded C.place 0 fits.0 m a) → (o : Option (Pair × M)) (next : M → Store K → State K M) (st : Store K) → IfThere o (λ swap. Stays W.Bounded C.place 0 s.fits.0 a swap.1) → Same st
-        → ((b : M) (st' : Store K) → Stays W.Bounded C.place 0 fits.0 m b → Same st' → Lt (next b st')) → Lt (exchanged o next st)
+        → ((b : M) (st' : Store K) → Stays W.Bounded C.place 0 fits.0 m b → Same st' → Lt (next b st')) → Lt (with_exchange o next st)
     exchanging_at a s None next st i g f = tt
     exchanging_at a s (Some swap) next st i g f = f swap.1 (with_pair swap.0 st) (then_same 0 a swap.1 s i) (record { fit = g.fit; turns = g.turns })
 
     exchanging : (o : Option (Pair × M)) (next : M → Store K → State K M) (st : Store K) → IfThere o (λ swap. Stays W.Bounded C.place 0 fits.0 m swap.1) → Same st
-        → ((b : M) (st' : Store K) → Stays W.Bounded C.place 0 fits.0 m b → Same st' → Lt (next b st')) → Lt (exchanged o next st)
+        → ((b : M) (st' : Store K) → Stays W.Bounded C.place 0 fits.0 m b → Same st' → Lt (next b st')) → Lt (with_exchange o next st)
     exchanging None next st i g f = tt
     exchanging (Some swap) next st i g f = f swap.1 (with_pair swap.0 st) i (record { fit = g.fit; turns = g.turns })
 
@@ -396,7 +396,7 @@ module _ {K M : Type 0} (C : Calls K M) (N : ℕ) (W : Weighs C N) (P : Program)
 
     -- back in the caller, or at the end of the run
     returning : (k : ℕ) (a : M) (o : Option M) (next : M → Store K → State K M) (st : Store K) → (s : Stays W.Bounded C.place k fits.0 m a) → k ≤ suc (worth N (C.place m))
-        → IfThere o (λ caller. Pays W.Bounded C.place N s.fits.0 caller) → Same st → ((caller : M) → Pays W.Bounded C.place N s.fits.0 caller → Lt (next caller st)) → Lt (returned o next st)
+        → IfThere o (λ caller. Pays W.Bounded C.place N s.fits.0 caller) → Same st → ((caller : M) → Pays W.Bounded C.place N s.fits.0 caller → Lt (next caller st)) → Lt (return_to o next st)
     returning k a None next st s le i g f = either_way Lt (is_main st.active) _ _ tt tt
     returning k a (Some caller) next st s le i g f = f caller i
 
@@ -405,14 +405,14 @@ module _ {K M : Type 0} (C : Calls K M) (N : ℕ) (W : Weighs C N) (P : Program)
     resulting_at a (Var (Part (Local k) place size)) st next s g f = lt_value (Var (Part (Local k) place size)) a st (λ value. next (Val value)) s g (λ v. f (Val v))
     resulting_at a item st next s g f = f item
 
-    l_limited : (a : M) (v : Value) (o : Option ℤ) (st : Store K) → Stays W.Bounded C.place 0 fits.0 m a → Same st → Lt (limited C v o a st)
+    l_limited : (a : M) (v : Value) (o : Option ℤ) (st : Store K) → Stays W.Bounded C.place 0 fits.0 m a → Same st → Lt (limit_results C v o a st)
     l_limited a v None st s g = tt
     l_limited a v (Some (negsuc k)) st s g = tt
     l_limited a v (Some (pos zero)) st s g = fail_on 0 a st s (omega arith) g
     l_limited a v (Some (pos (suc k))) st s g = go_on (1 + 0) (C.limit (suc k) a) st (andthen 0 1 a (C.limit (suc k) a) s (W.limit (suc k) a s.fits)) (omega arith) g
 
     l_limited_result : (item : Item) (k : ℕ) (a : M) (st : Store K) → Stays W.Bounded C.place 0 fits.0 m a → Same st → Lt (limited_result C item k a st)
-    l_limited_result item zero a st s g = unmarking 0 a st (pushed C item) s g (λ b st' t g'. push_on 0 b item st' t (omega arith) g')
+    l_limited_result item zero a st s g = unmarking 0 a st (push_item C item) s g (λ b st' t g'. push_on 0 b item st' t (omega arith) g')
     l_limited_result item (suc k) a st s g = when_found Lt lt_allowed (λ b. Stays W.Bounded C.place 1 s.fits.0 a b) (C.suspend_mark a) _ (W.suspend_mark a s.fits)
         (λ b t. push_on (1 + 0) b item st (andthen 0 1 a b s t) (omega arith) g)
 
@@ -437,18 +437,18 @@ module _ {K M : Type 0} (C : Calls K M) (N : ℕ) (W : Weighs C N) (P : Program)
     l_instruction (I.Local k) st le g = push_on 0 m _ st stay (omega arith) g
     l_instruction (I.Static k) st le g = push_on 0 m _ st stay (omega arith) g
     l_instruction (I.Global k) st le g = push_on 0 m _ st stay (omega arith) g
-    l_instruction (I.Keywd keyword) st le g = l_or_fails (keyword_item (standing C m st) keyword) st g
+    l_instruction (I.Keywd keyword) st le g = l_or_fails (keyword_item (standing_of C m st) keyword) st g
     l_instruction I.Pop st le g = popping _ (λ item a s. go_on 0 a st s (omega arith) g)
     l_instruction I.Dup st le g = popping _ (λ item a s. push_on 0 m item st stay (omega arith) g)
-    l_instruction (I.Op op) st le g = taking (arity op) _ (λ items a s. turned st (operated C op items a) g (a_operated C N W P B n op items a (TurnOf st) (ready a st s.fits g)))
-    l_instruction (I.Llist k) st le g = taking k _ (λ items a s. turned st (λ st. with_values C items a st (λ values. list_made C values a st (λ list m st. pushed C (Val list) m st))) g (a_values C N W P B n items a (TurnOf st) _ (ready a st s.fits g) (λ vs. a_list C N W P B n vs a (TurnOf st) (λ list m st. pushed C (Val list) m st) (ready a st s.fits g) (λ v b st' h'. a_push C N W P B n (Val v) b st' h'))))
+    l_instruction (I.Op op) st le g = taking (arity op) _ (λ items a s. turned st (operate C op items a) g (a_operated C N W P B n op items a (TurnOf st) (ready a st s.fits g)))
+    l_instruction (I.Llist k) st le g = taking k _ (λ items a s. turned st (λ st. with_values C items a st (λ values. list_made C values a st (λ list m st. push_item C (Val list) m st))) g (a_values C N W P B n items a (TurnOf st) _ (ready a st s.fits g) (λ vs. a_list C N W P B n vs a (TurnOf st) (λ list m st. push_item C (Val list) m st) (ready a st s.fits g) (λ v b st' h'. a_push C N W P B n (Val v) b st' h'))))
     l_instruction (I.Field k) st le g = taking 1 _ (λ items a s. turned st (field_applied C P k items a) g (a_field_applied C N W P B n k items a (TurnOf st) (ready a st s.fits g)))
     l_instruction (I.Invoke k) st le g = taking (suc k) _ (λ items a s. turned st (invoked_with C P items a) g (a_invoked_with C N W P B n items a (TurnOf st) (ready a st s.fits g)))
     l_instruction I.Appl st le g = taking 2 _ (λ items a s. turned st (applied_to_elements C P items a) g (a_applied C N W P B n items a (TurnOf st) (ready a st s.fits g)))
     l_instruction (I.Mark l) st le g = let y = worth_less N (C.place m) l le in go_on (suc (worth N l)) (C.mark (Some l) m) st (W.mark (Some l) m fits) (omega arith) g
     l_instruction I.Mark0 st le g = go_on 1 (C.mark None m) st (W.mark None m fits) (omega arith) g
     l_instruction I.Unmark st le g = unmarking 0 m st running stay g (λ b st' s g'. go_on 0 b st' s (omega arith) g')
-    l_instruction I.Eret st le g = popping _ (λ item a s. lt_value item a st _ s g (λ v. unmarking 0 a st (pushed C (Val v)) s g (λ b st' t g'. push_on 0 b (Val v) st' t (omega arith) g')))
+    l_instruction I.Eret st le g = popping _ (λ item a s. lt_value item a st _ s g (λ v. unmarking 0 a st (push_item C (Val v)) s g (λ b st' t g'. push_on 0 b (Val v) st' t (omega arith) g')))
     l_instruction I.Esusp st le g = popping _ (λ item a s. when_found Lt lt_allowed (λ b. Stays W.Bounded C.place 1 s.fits.0 a b) (C.suspend_mark a) _ (W.suspend_mark a s.fits) (λ b t. push_on (1 + 0) b item st (andthen 0 1 a b s t) (omega arith) g))
     l_instruction I.Limit st le g = popping _ (λ item a s. lt_value item a st _ s g (λ v. l_limited a v (integer_of v) st s g))
     l_instruction I.Lsusp st le g = popping _ (λ item a s. when_found Lt lt_allowed (λ count. Stays W.Bounded C.place 0 s.fits.0 a count.1) (C.count_down a) _ (W.count_down a s.fits) (λ count t. l_limited_result item count.0 count.1 st (then_same 0 a count.1 s t) g))
@@ -461,8 +461,8 @@ module _ {K M : Type 0} (C : Calls K M) (N : ℕ) (W : Weighs C N) (P : Program)
     l_instruction I.Ccase st le g = when_found Lt lt_allowed (λ x. Unit {0}) (C.below m) _ (there _) (λ item _. push_on 0 m item st stay (omega arith) g)
     l_instruction (I.Init l) st le g = l_init_if (slice_index_or st.begun (C.proc m) true) l st le g
     l_instruction I.Psusp st le g = popping _ (λ item a s. resulting_at m item st _ stay g (λ result. maybe (C.swap_oldest (pair_now st) m) _ st (W.swap_oldest (pair_now st) m fits) g
-        (λ b st' t g'. returning 0 b (C.suspend_proc b) (pushed C result) st' t (omega arith) (W.suspend_proc b t.fits) g' (λ caller p. paid_push 0 b caller result st' t (omega arith) p g'))))
-    l_instruction I.Pret st le g = popping _ (λ item a s. resulting_at a item st _ s g (λ result. returning 0 a (C.leave a) (pushed C result) (all_left C a st) s (omega arith) (W.leave a s.fits) (same_back _ st g)
+        (λ b st' t g'. returning 0 b (C.suspend_proc b) (push_item C result) st' t (omega arith) (W.suspend_proc b t.fits) g' (λ caller p. paid_push 0 b caller result st' t (omega arith) p g'))))
+    l_instruction I.Pret st le g = popping _ (λ item a s. resulting_at a item st _ s g (λ result. returning 0 a (C.leave a) (push_item C result) (all_left C a st) s (omega arith) (W.leave a s.fits) (same_back _ st g)
         (λ caller p. paid_push 0 a caller result (all_left C a st) s (omega arith) p (same_back _ st g))))
     l_instruction I.Pfail st le g = either_way Lt (is_create_body C m st) _ _ tt (returning 0 m (C.leave m) failing (all_left C m st) stay (omega arith) (W.leave m fits) (same_back _ st g)
         (λ caller p. paid_fail 0 m caller (all_left C m st) stay (omega arith) p (same_back _ st g)))
@@ -479,28 +479,28 @@ module _ {K M : Type 0} (C : Calls K M) (N : ℕ) (W : Weighs C N) (P : Program)
   lighter : (after : M) (st : Store K) → Lightens W.Bounded fits.0 after → Same C N W P B n w few st → L (failing after st)
   lighter after st l g = let x = l.weighs in (l.fits, g.fit, inr (g.turns, omega arith))
 
-  f_returned : (o : Option M) (st : Store K) → IfThere o (λ caller. Pays W.Bounded C.place N fits.0 caller) → Same C N W P B n w few st → L (returned o failing st)
+  f_returned : (o : Option M) (st : Store K) → IfThere o (λ caller. Pays W.Bounded C.place N fits.0 caller) → Same C N W P B n w few st → L (return_to o failing st)
   f_returned None st i g = either_way L (is_main st.active) _ _ tt tt
   f_returned (Some caller) st i g = let x = i.weighs in (i.fits, g.fit, inr (g.turns, omega arith))
 
-  f_exhausted : (st : Store K) → Same C N W P B n w few st → L (exhausted C P m st)
+  f_exhausted : (st : Store K) → Same C N W P B n w few st → L (exhaust_active C P m st)
   f_exhausted st g = turned C N W P B n w few st (λ st. passed_failure C (activator_of st.active st) m (with_status st.active Exhausted st)) g
       (a_exhausted C N W P B n m (TurnOf C N W P B n w few st) ((ready C N W P B n w few m st fits g).1, (ready C N W P B n w few m st fits g).2))
 
   f_without : (st : Store K) → Same C N W P B n w few st → L (without_mark C P m st)
   f_without st g = either_way L (is_create_body C m st) _ _ (f_exhausted st g) (f_returned (C.leave m) (all_left C m st) (W.leave m fits) (same_back C N W P B n w few _ st g))
 
-  f_dropped : (d : Dropped M) (st : Store K) → DropsWell W.Bounded C.place N fits.0 d → Same C N W P B n w few st → L (mark_dropped C P m st d)
+  f_dropped : (d : MarkDrop M) (st : Store K) → DropsWell W.Bounded C.place N fits.0 d → Same C N W P B n w few st → L (mark_dropped C P m st d)
   f_dropped NoMark st i g = f_without st g
   f_dropped (Goes after) st i g = let x = i.weighs in (i.fits, g.fit, inr (g.turns, omega arith))
   f_dropped (Repeats after) st i g = turned C N W P B n w few st (running after) g (ready C N W P B n w few after st i g)
   f_dropped (WithoutLabel after) st i g = lighter after st i g
 
-  f_escan : (after : M) (o : Option (Pair × M)) (st : Store K) → (l : Lightens W.Bounded fits.0 after) → IfThere o (λ swap. Stays W.Bounded C.place 0 l.fits.0 after swap.1) → Same C N W P B n w few st → L (exchanged o failing st)
+  f_escan : (after : M) (o : Option (Pair × M)) (st : Store K) → (l : Lightens W.Bounded fits.0 after) → IfThere o (λ swap. Stays W.Bounded C.place 0 l.fits.0 after swap.1) → Same C N W P B n w few st → L (with_exchange o failing st)
   f_escan after None st l i g = tt
   f_escan after (Some swap) st l i g = let x = l.weighs in let y = i.weighs in (i.fits, g.fit, inr (g.turns, omega arith))
 
-  f_resumed : (why : Why) (after : M) (st : Store K) → ResumesWell W.Bounded fits.0 why after → Same C N W P B n w few st → L (resumed C P why after st)
+  f_resumed : (why : Why) (after : M) (st : Store K) → ResumesWell W.Bounded fits.0 why after → Same C N W P B n w few st → L (resume_by C P why after st)
   f_resumed Alt after st i g = lighter after st i g
   f_resumed (Operating r) after st i g = turned C N W P B n w few st (λ st. outcome C (again r (here C after st)) after st) g
       (a_outcome C N W P B n (again r (here C after (TurnOf C N W P B n w few st))) after (TurnOf C N W P B n w few st) (rows_keep.resumed r (here C after (TurnOf C N W P B n w few st))) (ready C N W P B n w few after st i g))

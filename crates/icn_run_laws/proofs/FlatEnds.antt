@@ -6,7 +6,7 @@ use Rattle.std.proofs.lemmas.List.{length-drop}
 use Rattle.std.proofs.lemmas.Bool.{eqb-true, eqb-false}
 use Rattle.icn_run.specs.Rows.{Value, Item}
 use Rattle.icn_run.specs.Calls.{Pair, Why, Alt, Op, Scan, Escan, Proc}
-use Rattle.icn_run.specs.Stacks.{Cell, base, call, local, mark, limit, suspension, operand, Registers, Frames, cut, cell_at, set_cell, put_above, begin, set_local, set_from, set_locals, push, popped, taken, copy_up, open_mark, open_limit, relabelled, counted, with_pair, swap_at, oldest, unmarked, dropped, suspend, suspended_onto, mark_suspended, proc_suspended, resumed, enter, left, flat, level}
+use Rattle.icn_run.specs.Stacks.{Cell, base, call, local, mark, limit, suspension, operand, Registers, Frames, cut, cell_at, set_cell, put_above, begin, set_local, set_from, set_locals, push, pop_from, take_top, copy_up, open_mark, open_limit, relabel_in, count_in, with_pair, swap_at, oldest, unmark_in, drop_from, suspend, suspended_onto, mark_suspended, proc_suspended, resume_from, enter, leave_from, flat, level}
 use Rattle.icn_run_laws.specs.Measure.{worth, worth_of, IfThere, Stays, Pays, DropsWell, ResumesWell, Weighs, IsInside}
 use Rattle.icn_run_laws.specs.StackWeights.{label_weight, Back, Fit, fit, Newest, nothing, newest_at, Outer, at_mark, at_limit, at_call, at_base, Like, same, relabelled as l_relabelled, counted as l_counted, exchanged as l_exchanged, assigned as l_assigned}
 
@@ -258,12 +258,12 @@ module _ (N : ℕ) where
   set_like : (m : Frames) (h : ℕ) (x y : Cell) → cell_at h m.cells ≡ Some x → Like x y → (f : Fits m) → F (set_cell h y m.cells) m.registers f.1.0 f.1.1
   set_like m h x y e l f = fit_like m.cells _ m.registers f.1.0 f.1.1 (likes_set m.cells (length m.cells - h) x y e l) f.1.2
 
-  relabel_law : (label : ℕ) (m : Frames) (o : Option Cell) → cell_at m.registers.mark m.cells ≡ o → (f : Fits m) → IfThere (relabelled label m o) (λ after. Stays Bounded place 0 f.0 m after)
+  relabel_law : (label : ℕ) (m : Frames) (o : Option Cell) → cell_at m.registers.mark m.cells ≡ o → (f : Fits m) → IfThere (relabel_in label m o) (λ after. Stays Bounded place 0 f.0 m after)
   relabel_law label m (Some (mark old ch r)) e f = keeps m _ f (set_like m m.registers.mark (mark old ch r) (mark (Some label) true r) e (l_relabelled old (Some label) ch r) f) refl
   relabel_law label m (Some _) e f = tt
   relabel_law label m None e f = tt
 
-  count_law : (m : Frames) (o : Option Cell) → cell_at m.registers.mark m.cells ≡ o → (f : Fits m) → IfThere (counted m o) (λ count. Stays Bounded place 0 f.0 m count.1)
+  count_law : (m : Frames) (o : Option Cell) → cell_at m.registers.mark m.cells ≡ o → (f : Fits m) → IfThere (count_in m o) (λ count. Stays Bounded place 0 f.0 m count.1)
   count_law m (Some (limit k r)) e f = keeps m _ f (set_like m m.registers.mark (limit k r) (limit (pred k) r) e (l_counted k (pred k) r) f) refl
   count_law m (Some _) e f = tt
   count_law m None e f = tt
@@ -290,12 +290,12 @@ module _ (N : ℕ) where
   locals_law [] h cells r s o f = f
   locals_law (v ∷ values) h cells r s o f = locals_law values (suc h) _ r s o (local_law (suc h) v cells r s o (cell_at (suc h) cells) refl f)
 
-  pop_law : (m : Frames) (cells : List Cell) (f : Fits m) → F cells m.registers f.1.0 f.1.1 → IfThere (popped m cells) (λ top. Stays Bounded place 0 f.0 m top.1)
+  pop_law : (m : Frames) (cells : List Cell) (f : Fits m) → F cells m.registers f.1.0 f.1.1 → IfThere (pop_from m cells) (λ top. Stays Bounded place 0 f.0 m top.1)
   pop_law m (operand x ∷ cells) f g = keeps m _ f (fit_pop x cells m.registers f.1.0 f.1.1 g) refl
   pop_law m [] f g = tt
   pop_law m (_ ∷ cells) f g = tt
 
-  take_law : (n : ℕ) (m : Frames) (cells : List Cell) (items : List Item) (f : Fits m) → F cells m.registers f.1.0 f.1.1 → IfThere (taken n m cells items) (λ tops. Stays Bounded place 0 f.0 m tops.1)
+  take_law : (n : ℕ) (m : Frames) (cells : List Cell) (items : List Item) (f : Fits m) → F cells m.registers f.1.0 f.1.1 → IfThere (take_top n m cells items) (λ tops. Stays Bounded place 0 f.0 m tops.1)
   take_law zero m cells items f g = keeps m _ f g refl
   take_law (suc n) m (operand x ∷ cells) items f g = take_law n m cells (x ∷ items) f (fit_pop x cells m.registers f.1.0 f.1.1 g)
   take_law (suc n) m [] items f g = tt
@@ -304,7 +304,7 @@ module _ (N : ℕ) where
   -- from the mark's cell downward
 
   abbrev Unmarks : (m : Frames) → ℕ → List Cell → Type 0
-  Unmarks m v xs = IfThere (unmarked m xs) (λ outside. Stays Bounded place 0 v m outside.0)
+  Unmarks m v xs = IfThere (unmark_in m xs) (λ outside. Stays Bounded place 0 v m outside.0)
 
   unmark_law : (m : Frames) (f : Fits m) → Outer N m.cells m.registers.mark m.registers.base f.1.1 → Unmarks m f.0 (cut m.registers.mark m.cells)
   unmark_law m f (at_mark label ch r below l s' o' c n w g e z) = let x = f.1.3 in
@@ -315,7 +315,7 @@ module _ (N : ℕ) where
   unmark_law m f (at_base p k below c n z) = subst (Unmarks m f.0) (sym c) tt
 
   abbrev Drops : (m : Frames) → ℕ → List Cell → Type 0
-  Drops m v xs = DropsWell Bounded place N v (dropped m xs)
+  Drops m v xs = DropsWell Bounded place N v (drop_from m xs)
 
   drop_label : (m : Frames) (v : ℕ) (label : Option ℕ) (ch : Bool) (r : Registers) (below : List Cell) (l s' o' : ℕ) → label_weight N label ch ≤ l → F below r s' o' → suc l + (s' + o') ≤ v → Drops m v (mark label ch r ∷ below)
   drop_label m v (Some q) false r below l s' o' w g le = record { fits = (s' + o', (s', o', g, omega arith)); weighs = omega arith }
@@ -390,7 +390,7 @@ module _ (N : ℕ) where
   suspend_proc_law m f (frame_base p k below c n) = subst (Yields m f.0) (sym c) tt
 
   abbrev Returns : ℕ → List Cell → Type 0
-  Returns v xs = IfThere (left xs) (λ caller. Pays Bounded place N v caller)
+  Returns v xs = IfThere (leave_from xs) (λ caller. Pays Bounded place N v caller)
 
   leave_law : (m : Frames) (f : Fits m) → AtFrame m.cells m.registers.base f.1.1 → Returns f.0 (cut m.registers.base m.cells)
   leave_law m f (frame_call p k lv r q below s' o' c n g w) = let x = f.1.3 in
@@ -408,10 +408,10 @@ module _ (N : ℕ) where
   back_law Proc v below r q s' o' here f b le = (s' + o', (s', o', f, omega arith))
 
   abbrev Resumes : ℕ → List Cell → Type 0
-  Resumes v xs = IfThere (resumed xs) (λ back. ResumesWell Bounded v back.0 back.1)
+  Resumes v xs = IfThere (resume_from xs) (λ back. ResumesWell Bounded v back.0 back.1)
 
   abbrev ResumesAt : (m : Frames) → ℕ → Option ℕ → Type 0
-  ResumesAt m v newest = IfThere (option_and_then (λ h. resumed (cut h m.cells)) newest) (λ back. ResumesWell Bounded v back.0 back.1)
+  ResumesAt m v newest = IfThere (option_and_then (λ h. resume_from (cut h m.cells)) newest) (λ back. ResumesWell Bounded v back.0 back.1)
 
   resume_law : (m : Frames) (f : Fits m) (newest : Option ℕ) → Newest N m.cells newest f.1.0 f.1.1 → ResumesAt m f.0 newest
   resume_law m f newest (nothing e) = subst (ResumesAt m f.0) (sym e) tt

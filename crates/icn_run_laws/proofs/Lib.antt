@@ -3,7 +3,7 @@ pub mod OnSteps
 pub mod RowsKeep
 pub mod Lists
 pub mod Worlds
-pub mod Flatten
+pub mod Flattening
 pub mod OnScans
 pub mod OnCalls
 pub mod OnMarks

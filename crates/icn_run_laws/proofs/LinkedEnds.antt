@@ -3,8 +3,8 @@ use Rattle.std.proofs.Common.{◌≡◌, ℕ, suc, pred, ◌+◌, ◌<◌, ◌�
 use Rattle.std.specs.Prelude.{slice_get, slice_index_or, ◌==◌}
 use Rattle.std.specs.Option.{option_map}
 use Rattle.icn_run.specs.Rows.{Item, Residual}
-use Rattle.icn_run.specs.Calls.{Pair, Why, Alt, Op, Scan, Escan, Proc, Dropped, NoMark, Goes, Repeats, Outside}
-use Rattle.icn_run.specs.Chains.{Label, fixed, flagged, because, scanning, Chain, chain, Suspensions, none, suspension, Outer, base, call, mark, limit, Linked, Frame, at_base, in_call, frame_of, outer_of, scans_of, frame, with_chain, pushed, popped, taken, take_from, open_mark, relabelled_if, relabelled, count_in, label_of, oldest, swap_at, unmark_from, dropped_to, dropped_by, repeated, dropped, suspended, without_scan, with_scan, suspend, suspend_outer, suspend_frame, resume_from, enter, leave_frame, linked, proc_of}
+use Rattle.icn_run.specs.Calls.{Pair, Why, Alt, Op, Scan, Escan, Proc, MarkDrop, NoMark, Goes, Repeats, Outside}
+use Rattle.icn_run.specs.Chains.{Label, fixed, flagged, because, scanning, Chain, chain, Suspensions, none, suspension, Outer, base, call, mark, limit, Linked, Frame, at_base, in_call, frame_of, outer_of, scans_of, frame, with_chain, push_on, pop_from, take_top, take_from, open_mark, relabelled_if, relabel_in, count_in, label_of, oldest, swap_at, unmark_from, dropped_to, dropped_by, repeat_mark, drop_from, suspend_in, without_scan, with_scan, suspend, suspend_outer, suspend_frame, resume_from, enter, leave_frame, linked, proc_of}
 use Rattle.icn_run_laws.specs.Measure.{worth, worth_of, IfThere, Stays, Pays, Lightens, DropsWell, ResumesWell, Weighs, IsInside}
 use Rattle.icn_run_laws.specs.ChainWeights.{label_weight, weight_of, outer_weight, Fit, FitOuter}
 use Rattle.icn_run_laws.proofs.Falls.{either_way}
@@ -25,7 +25,7 @@ record Lightening {M : Type 0} (Fits : M → Type 0) (weight : M → ℕ) (m aft
   pub fits : Fits after
   pub weighs : weight after < weight m
 
-abbrev Dropping : {M : Type 0} → (M → Type 0) → (M → ℕ) → (M → ℕ) → ℕ → M → Dropped M → Type 0
+abbrev Dropping : {M : Type 0} → (M → Type 0) → (M → ℕ) → (M → ℕ) → ℕ → M → MarkDrop M → Type 0
 Dropping Fits weight place N m NoMark = Unit {0}
 Dropping Fits weight place N m (Goes after) = Paying Fits weight place N m after
 Dropping Fits weight place N m (Repeats after) = Fits after
@@ -65,10 +65,10 @@ module _ (repeats : ℕ → ℕ → Bool) (N : ℕ) where
   ResumesOver k Escan after = F after × (weight after < k)
   ResumesOver k Proc after = F after
 
-  push_fit : (item : Item) (c : Chain) → Fit N c → Fit N (pushed item c)
+  push_fit : (item : Item) (c : Chain) → Fit N c → Fit N (push_on item c)
   push_fit item (chain items s scans o) f = f
 
-  push_weight : (item : Item) (c : Chain) → weight_of N (pushed item c) ≡ weight_of N c
+  push_weight : (item : Item) (c : Chain) → weight_of N (push_on item c) ≡ weight_of N c
   push_weight item (chain items s scans o) = refl
 
   -- after a call that leaves the place: it is well formed, and weighs so much more than a chain at most
@@ -82,7 +82,7 @@ module _ (repeats : ℕ → ℕ → Bool) (N : ℕ) where
   if_there None h f = tt
   if_there (Some x) h f = f x h
 
-  pop_over : (m : Linked) (c : Chain) → Fit N c → IfThere (popped m c) (λ top. Over 0 c m top.1)
+  pop_over : (m : Linked) (c : Chain) → Fit N c → IfThere (pop_from m c) (λ top. Over 0 c m top.1)
   pop_over m (chain [] s scans o) f = tt
   pop_over m (chain (item ∷ items) s scans o) f = (f, omega arith, refl)
 
@@ -92,13 +92,13 @@ module _ (repeats : ℕ → ℕ → Bool) (N : ℕ) where
   take_over m items s scans o (Some parts) f = (f, omega arith, refl)
 
   take_from_over : (n : ℕ) (m : Linked) (c : Chain) → Fit N c → IfThere (take_from n m c) (λ tops. Over 0 c m tops.1)
-  take_from_over n m (chain items s scans o) f = take_over m items s scans o (taken n items []) f
+  take_from_over n m (chain items s scans o) f = take_over m items s scans o (take_top n items []) f
 
   relabelled_over : (b : Bool) (label flag : ℕ) (m : Linked) → F m → St 0 m (relabelled_if b label flag m)
   relabelled_over true label flag m f = same m _ f refl refl
   relabelled_over false label flag m f = same m _ f refl refl
 
-  relabel_over : (label : ℕ) (m : Linked) (o : Outer) → F m → IfThere (relabelled label m o) (λ after. St 0 m after)
+  relabel_over : (label : ℕ) (m : Linked) (o : Outer) → F m → IfThere (relabel_in label m o) (λ after. St 0 m after)
   relabel_over label m (mark (flagged old flag p) outside) f = relabelled_over (label == p) label flag m f
   relabel_over label m (mark (fixed l) outside) f = tt
   relabel_over label m (base p a) f = tt
@@ -144,11 +144,11 @@ module _ (repeats : ℕ → ℕ → Bool) (N : ℕ) where
   dropped_by_well m c l (Some other) f g le = f
   dropped_by_well m c l None f g le = dropped_to_well m c l (mark (fixed l) c) f g le
 
-  repeated_well : (l : Option ℕ) (flag p : ℕ) (c : Chain) (m : Linked) (b : Bool) → Fit N c → F m → suc (worth_of N l) + weight_of N c ≤ weight m → Dropping F weight place N m (repeated l flag p c m b)
+  repeated_well : (l : Option ℕ) (flag p : ℕ) (c : Chain) (m : Linked) (b : Bool) → Fit N c → F m → suc (worth_of N l) + weight_of N c ≤ weight m → Dropping F weight place N m (repeat_mark l flag p c m b)
   repeated_well l flag p c m true f g le = (tt, f)
   repeated_well l flag p c m false f g le = dropped_by_well m c l (label_of flag m.relabels) f g le
 
-  dropped_well : (m : Linked) (o : Outer) → FitOuter N o → F m → outer_weight N o ≤ weight m → Dropping F weight place N m (dropped m o)
+  dropped_well : (m : Linked) (o : Outer) → FitOuter N o → F m → outer_weight N o ≤ weight m → Dropping F weight place N m (drop_from m o)
   dropped_well m (mark (fixed l) c) f g le = dropped_to_well m c l (mark (fixed l) c) f g le
   dropped_well m (mark (flagged l flag p) c) f g le = repeated_well l flag p c m (slice_index_or m.flags flag false) f g le
   dropped_well m (limit n c) f g le = record { fits = f; weighs = omega arith }
@@ -161,14 +161,14 @@ module _ (repeats : ℕ → ℕ → Bool) (N : ℕ) where
   abbrev Grows : ℕ → Chain → Chain → Type 0
   Grows k c after = Fit N after × (weight_of N after ≤ k + weight_of N c)
 
-  scan_grows : (n p : ℕ) (c : Chain) → Fit N c → Grows 1 c (with_scan n (suspended (suspension (scanning n) p c) c))
+  scan_grows : (n p : ℕ) (c : Chain) → Fit N c → Grows 1 c (with_scan n (suspend_in (suspension (scanning n) p c) c))
   scan_grows n p (chain items s scans o) f = (((f, omega arith), f.1), omega arith)
 
-  escan_grows : (p : ℕ) (c : Chain) → Fit N c → Grows 1 c (without_scan (suspended (suspension (because Escan) p c) c))
+  escan_grows : (p : ℕ) (c : Chain) → Fit N c → Grows 1 c (without_scan (suspend_in (suspension (because Escan) p c) c))
   escan_grows p (chain items s [] o) f = (((f, omega arith), f.1), omega arith)
   escan_grows p (chain items s (n ∷ scans) o) f = (((f, omega arith), f.1), omega arith)
 
-  op_grows : (r : Residual) (p : ℕ) (c : Chain) → Fit N c → Grows 1 c (suspended (suspension (because (Op r)) p c) c)
+  op_grows : (r : Residual) (p : ℕ) (c : Chain) → Fit N c → Grows 1 c (suspend_in (suspension (because (Op r)) p c) c)
   op_grows r p (chain items s scans o) f = (((f, tt), f.1), omega arith)
 
   suspend_stays : (why : Why) (m : Linked) → IsInside why → F m → St 1 m (suspend why m)
@@ -180,11 +180,11 @@ module _ (repeats : ℕ → ℕ → Bool) (N : ℕ) where
 
   -- the mark outside goes on, with all that stands inside as its suspension
   alt_grows : (p : ℕ) (items : List Item) (s : Suspensions) (scans : List ℕ) (label : Label) (c : Chain) → Fit N (chain items s scans (mark label c))
-      → Grows 1 (chain items s scans (mark label c)) (suspended (suspension (because Alt) p (chain items s scans (mark label c))) c)
+      → Grows 1 (chain items s scans (mark label c)) (suspend_in (suspension (because Alt) p (chain items s scans (mark label c))) c)
   alt_grows p items s scans label (chain items' s' scans' o) f = (((f, omega arith), f.1.1), omega arith)
 
   limit_grows : (p : ℕ) (items : List Item) (s : Suspensions) (scans : List ℕ) (n : ℕ) (c : Chain) → Fit N (chain items s scans (limit n c))
-      → Grows 1 (chain items s scans (limit n c)) (suspended (suspension (because Alt) p (chain items s scans (limit n c))) c)
+      → Grows 1 (chain items s scans (limit n c)) (suspend_in (suspension (because Alt) p (chain items s scans (limit n c))) c)
   limit_grows p items s scans n (chain items' s' scans' o) f = (((f, omega arith), f.1.1), omega arith)
 
   suspend_outer_over : (m : Linked) (c : Chain) → m.chain ≡ c → Fit N c → IfThere (suspend_outer (record m { chain = c }) (outer_of c)) (λ after. Over 1 c m after)
@@ -216,7 +216,7 @@ module _ (repeats : ℕ → ℕ → Bool) (N : ℕ) where
   leave_pays m (at_base p a) h = tt
   leave_pays m (in_call p a l q c) h = let x = h.1 in record { fits = h.0; weighs = omega arith }
 
-  proc_lighter : (p : ℕ) (inside c : Chain) → Fit N inside → Fit N c → Fit N (suspended (suspension (because Proc) p inside) c) × (weight_of N (suspended (suspension (because Proc) p inside) c) ≤ weight_of N c)
+  proc_lighter : (p : ℕ) (inside c : Chain) → Fit N inside → Fit N c → Fit N (suspend_in (suspension (because Proc) p inside) c) × (weight_of N (suspend_in (suspension (because Proc) p inside) c) ≤ weight_of N c)
   proc_lighter p inside (chain items s scans o) f g = (((f, tt), g.1), omega arith)
 
   suspend_pays : (m : Linked) (fr : Frame) → F m → FramePays fr (weight m) → IfThere (suspend_frame m fr) (λ after. Paying F weight place N m after)
@@ -258,7 +258,7 @@ module _ (repeats : ℕ → ℕ → Bool) (N : ℕ) where
   lightens : (m after : Linked) (f : (v : ℕ) × Bounded m v) → Lightening F weight m after → Lightens Bounded f.0 after
   lightens m after f s = let x = s.weighs in let y = f.1.1 in record { fits = (weight after, (s.fits, omega arith)); weighs = omega arith }
 
-  drops : (m : Linked) (d : Dropped Linked) (f : (v : ℕ) × Bounded m v) → Dropping F weight place N m d → DropsWell Bounded place N f.0 d
+  drops : (m : Linked) (d : MarkDrop Linked) (f : (v : ℕ) × Bounded m v) → Dropping F weight place N m d → DropsWell Bounded place N f.0 d
   drops m NoMark f h = tt
   drops m (Goes after) f h = pays m after f h
   drops m (Repeats after) f h = exact after h
@@ -282,15 +282,15 @@ module _ (repeats : ℕ → ℕ → Bool) (N : ℕ) where
     go = λ p m v f. f;
     go_stands = λ p m. refl;
     push = λ item m f. stays 0 m _ f (record { fits = push_fit item m.chain f.1.0; weighs = let e = push_weight item m.chain in omega arith; stands = refl });
-    pop = λ m f. if_there (popped m m.chain) (pop_over m m.chain f.1.0) (λ top h. stays 0 m top.1 f (to_stays 0 m top.1 h));
+    pop = λ m f. if_there (pop_from m m.chain) (pop_over m m.chain f.1.0) (λ top h. stays 0 m top.1 f (to_stays 0 m top.1 h));
     take = λ n m f. if_there (take_from n m m.chain) (take_from_over n m m.chain f.1.0) (λ tops h. stays 0 m tops.1 f (to_stays 0 m tops.1 h));
     mark = λ label m f. stays _ m _ f (mark_stays label m f.1.0);
     limit = λ count m f. stays 1 m _ f (record { fits = (tt, f.1.0); weighs = omega arith; stands = refl });
-    relabel = λ label m f. if_there (relabelled label m (outer_of m.chain)) (relabel_over label m (outer_of m.chain) f.1.0) (λ after h. stays 0 m after f h);
+    relabel = λ label m f. if_there (relabel_in label m (outer_of m.chain)) (relabel_over label m (outer_of m.chain) f.1.0) (λ after h. stays 0 m after f h);
     count_down = λ m f. if_there (count_in m (outer_of m.chain)) (count_over m (outer_of m.chain) f.1.0) (λ count h. stays 0 m count.1 f h);
     unmark = λ m f. let less = outer_less m.chain in if_there (unmark_from m (outer_of m.chain)) (unmark_over m (outer_of m.chain) (outer_fit m.chain f.1.0))
         (λ outside h. let x = h.1 in stays 0 m outside.0 f (record { fits = h.0; weighs = omega arith; stands = h.2 }));
-    drop_mark = λ m f. drops m (dropped m (outer_of m.chain)) f (dropped_well m (outer_of m.chain) (outer_fit m.chain f.1.0) f.1.0 (outer_less m.chain));
+    drop_mark = λ m f. drops m (drop_from m (outer_of m.chain)) f (dropped_well m (outer_of m.chain) (outer_fit m.chain f.1.0) f.1.0 (outer_less m.chain));
     suspend = λ why m i f. stays 1 m _ f (suspend_stays why m i f.1.0);
     suspend_mark = λ m f. if_there (suspend_outer m (outer_of m.chain)) (suspend_outer_over m m.chain refl f.1.0) (λ after h. stays 1 m after f (to_stays 1 m after h));
     suspend_proc = λ m f. if_there (suspend_frame m (frame m)) (suspend_pays m (frame m) f.1.0 (frame_of_m m f.1.0)) (λ after h. pays m after f h);

@@ -11,7 +11,7 @@ use Rattle.icn_run_laws.specs.Rendered.{Flag, memory_of, linked_with, NCell, n_b
 use Rattle.icn_run_laws.specs.Laws.{Both, Then, With}
 use Rattle.icn_run_laws.proofs.Lists.{length_map}
 use Rattle.icn_run_laws.proofs.Worlds.{Moves, made_moves, made_next, made_flag, flag_made, made_limit, limit_made, all_moves, render_moves, use_all}
-use Rattle.icn_run_laws.proofs.Flatten.{blank, popped_blank, taken_blank, locs_split, under, raise_scans, found, same_proc, same_level, same_base, same_below}
+use Rattle.icn_run_laws.proofs.Flattening.{blank, popped_blank, taken_blank, locs_split, under, raise_scans, found, same_proc, same_level, same_base, same_below}
 
 abbrev pub Li : World → Chain → ℕ → Linked
 Li w c q = linked_with w.kept c q
@@ -79,33 +79,33 @@ module _ (repeats : ℕ → ℕ → Bool) (Opens : ℕ → ℕ → Option ℕ �
 
   module _ (w : World) (s q : ℕ) (r : Registers) (su : Suspensions) (scans : List ℕ) (outer : Outer) (z : List NCell) (b : Bare z) (out : FlatOuter repeats Opens outer z r.mark r.base) (fs : FlatSusps repeats Opens su z r.newest) (sc : FlatScans scans z r.scan) where
     pop_items : (m' : Linked) (m : Frames) → m'.place ≡ q → memory_of m' ≡ w.kept → m.registers ≡ r → m.place ≡ q → (items : List Item) → AllOk w s (map n_operand items ++ z)
-        → Both ⊥ (WithT w s) (L.popped (Li w (chain items su scans outer) q) (chain items su scans outer)) (S.popped (Fr w (map n_operand items ++ z) r q) (render w.kept (map n_operand items ++ z)))
+        → Both ⊥ (WithT w s) (L.pop_from (Li w (chain items su scans outer) q) (chain items su scans outer)) (S.pop_from (Fr w (map n_operand items ++ z) r q) (render w.kept (map n_operand items ++ z)))
     pop_items m' m p1 p2 p3 p4 [] o = subst (λ x. Both ⊥ (WithT {A = Item} w s) None x) (sym (popped_blank (Fr w z r q) (render w.kept z) (blank w.kept z b))) tt
     pop_items m' m p1 p2 p3 p4 (x ∷ items) o = (refl, (w, idle s w, now (map n_operand items ++ z) (f_chain z refl b out fs sc) o.1))
 
     take_items : (m' : Linked) (m : Frames) → ((items : List Item) → AllOk w s (map n_operand items ++ z) → T w s (L.with_chain (chain items su scans outer) m') (record m { cells = render w.kept (map n_operand items ++ z) }))
         → (n : ℕ) (items found : List Item) → AllOk w s (map n_operand items ++ z)
-        → Both ⊥ (WithT {A = List Item} w s) (option_map (λ (parts : List Item × List Item). (parts.0, L.with_chain (chain parts.1 su scans outer) m')) (L.taken n items found)) (S.taken n m (render w.kept (map n_operand items ++ z)) found)
+        → Both ⊥ (WithT {A = List Item} w s) (option_map (λ (parts : List Item × List Item). (parts.0, L.with_chain (chain parts.1 su scans outer) m')) (L.take_top n items found)) (S.take_top n m (render w.kept (map n_operand items ++ z)) found)
     take_items m' m f zero items found o = (refl, f items o)
     take_items m' m f (suc n) [] found o = subst (λ x. Both ⊥ (WithT {A = List Item} w s) None x) (sym (taken_blank n m (render w.kept z) found (blank w.kept z b))) tt
     take_items m' m f (suc n) (x ∷ items) found o = take_items m' m f n items (x ∷ found) o.1
 
   pub on_pop : (w : World) (s : ℕ) (m' : Linked) (m : Frames) → N w s m' m → Both ⊥ (WithT w s) (L.pop m') (S.pop m)
   on_pop w s m' m (now {q = q} {r = r} cells (f_chain {items = items} {s = su} {scans = scans} {outer = outer} z e b out fs sc) o) =
-      subst (λ l. Both ⊥ (WithT w s) (L.popped (Li w (chain items su scans outer) q) (chain items su scans outer)) (S.popped (Fr w l r q) (render w.kept l))) (sym e)
+      subst (λ l. Both ⊥ (WithT w s) (L.pop_from (Li w (chain items su scans outer) q) (chain items su scans outer)) (S.pop_from (Fr w l r q) (render w.kept l))) (sym e)
       (pop_items w s q r su scans outer z b out fs sc (Li w (chain items su scans outer) q) (Fr w cells r q) refl refl refl refl items (subst (AllOk w s) e o))
 
   pub on_take : (n : ℕ) (w : World) (s : ℕ) (m' : Linked) (m : Frames) → N w s m' m → Both ⊥ (WithT w s) (L.take_items n m') (S.take n m)
   on_take n w s m' m (now {q = q} {r = r} cells (f_chain {items = items} {s = su} {scans = scans} {outer = outer} z e b out fs sc) o) =
       let m2 = Fr w cells r q in let m1 = Li w (chain items su scans outer) q in
-      subst (λ l. Both ⊥ (WithT {A = List Item} w s) (L.take_from n m1 (chain items su scans outer)) (S.taken n m2 (render w.kept l) [])) (sym e)
+      subst (λ l. Both ⊥ (WithT {A = List Item} w s) (L.take_from n m1 (chain items su scans outer)) (S.take_top n m2 (render w.kept l) [])) (sym e)
       (take_items w s q r su scans outer z b out fs sc m1 m2 (λ items o. (w, idle s w, now (map n_operand items ++ z) (f_chain z refl b out fs sc) o)) n items [] (subst (AllOk w s) e o))
 
   -- Marks
 
   mark_if : (label : Option ℕ) (w : World) (s q : ℕ) (r : Registers) (c : Chain) (cells : List NCell) → IsFlat repeats Opens c cells r → FlatScans (L.scans_of c) cells r.scan → AllOk w s cells → Opens (L.proc_of (frame_of (outer_of c))) (pred q) label
       → (t : Bool) → repeats (L.proc_of (frame_of (outer_of c))) (pred q) ≡ t
-      → T w s (if t then record (L.opened (flagged label (length w.kept.flags) (pred q)) (Li w c q)) { flags = w.kept.flags ++ false ∷ [] } else L.opened (fixed label) (Li w c q)) (S.open_mark label (Fr w cells r q))
+      → T w s (if t then record (L.push_mark (flagged label (length w.kept.flags) (pred q)) (Li w c q)) { flags = w.kept.flags ++ false ∷ [] } else L.push_mark (fixed label) (Li w c q)) (S.open_mark label (Fr w cells r q))
   mark_if label w s q r c cells f sc o opens false e =
       (w, idle s w, now (n_mark (fixed label) r ∷ cells) (f_chain {items = []} (n_mark (fixed label) r ∷ cells) refl tt (f_mark r [] cells refl (ap suc (length_map (shown w.kept) cells)) refl (pred q, e, opens) f) f_none (raise_scans (n_mark (fixed label) r ∷ []) refl sc)) (tt, o))
   mark_if label w s q r c cells f sc o opens true e =

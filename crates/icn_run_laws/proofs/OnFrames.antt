@@ -12,13 +12,13 @@ use Rattle.icn_run_laws.specs.Rendered.{Name, activation_name, flag_name, limit_
 use Rattle.icn_run_laws.specs.Laws.{Both, With}
 use Rattle.icn_run_laws.proofs.Lists.{length_map, r_cut, r_get}
 use Rattle.icn_run_laws.proofs.Worlds.{Moves, made_moves, made_next, change_moves, change_next, made_saved, saved_made, made_locals, locals_made, put_saved, saved_put, put_locals, locals_put, got_values, got_pair, index_got, all_moves, render_moves, use_all}
-use Rattle.icn_run_laws.proofs.Flatten.{copied, as_mark, locs_split, locs_bare, locs_length, under, raise_scans, raise_outer, Found, found_base, found_call, found, same_level}
+use Rattle.icn_run_laws.proofs.Flattening.{copied, as_mark, locs_split, locs_bare, locs_length, under, raise_scans, raise_outer, Found, found_base, found_call, found, same_level}
 use Rattle.icn_run_laws.proofs.OnScans.{ScanAt, no_scan, scan_at, ok_sub, older_is}
 use Rattle.icn_run_laws.proofs.OnCalls.{Li, Fr, idle, N, T, now_as, View, v_base, v_call, v_mark, v_limit, scans_all}
 use Rattle.icn_run_laws.proofs.OnMarks.{changed_at}
 use Rattle.icn_run_laws.proofs.Worlds.{Uses, UsesAll, ok_moves, shown_moves, one_height}
 use Rattle.icn_run_laws.proofs.Lists.{index_seam, cut_off, get_at, set_at}
-use Rattle.icn_run_laws.proofs.Flatten.{frame_at}
+use Rattle.icn_run_laws.proofs.Flattening.{frame_at}
 use Rattle.std.proofs.lemmas.List.{map-append}
 
 -- Locals
@@ -214,7 +214,7 @@ module _ (repeats : ℕ → ℕ → Bool) (Opens : ℕ → ℕ → Option ℕ �
 
     -- onto a chain outside
     suspend_onto : (why : Why) (outside : Chain) (r' : Registers) (q' : ℕ) (xs below : List NCell) → cells ≡ xs ++ below → IsFlat repeats Opens outside below r'
-        → Tn w s (Li w (L.suspended (L.suspension (because why) q c) outside) q') (S.suspended_onto why (Fr w cells r q) (render w.kept below) r' q')
+        → Tn w s (Li w (L.suspend_in (L.suspension (because why) q c) outside) q') (S.suspended_onto why (Fr w cells r q) (render w.kept below) r' q')
     suspend_onto why outside r' q' xs below e (f_chain {items = items'} {s = su'} {scans = scans'} {outer = outer'} z' e' bare' out' fs' sc') =
         let top = n_suspension (because why) r q in
         let i : IsFlat repeats Opens (chain items' su' scans' outer') below r' = f_chain z' e' bare' out' fs' sc' in (
@@ -229,10 +229,10 @@ module _ (repeats : ℕ → ℕ → Bool) (Opens : ℕ → ℕ → Option ℕ �
     mark_view (v_base {p} {a} n above e g) = subst (λ x. Both ⊥ (Tn w s) None (S.mark_suspended (Fr w cells r q) x)) (sym (r_cut w.kept above (n_base p a n) [] r.mark e g)) tt
     mark_view (v_call {p} {a} {level} {q = q'} n r' above below e g i) = subst (λ x. Both ⊥ (Tn w s) None (S.mark_suspended (Fr w cells r q) x)) (sym (r_cut w.kept above (n_call p a n level r' q') below r.mark e g)) tt
     mark_view (v_mark {label} {outside} r' above below e g b ok i) = let m = as_mark w.kept label r' in
-        subst (λ x. Both ⊥ (Tn w s) (Some (L.with_chain (L.suspended (L.suspension (because Alt) q c) outside) (Li w c q))) (S.mark_suspended (Fr w cells r q) x)) (sym (r_cut w.kept above (n_mark label r') below r.mark e g ∙ ap (λ x. x ∷ render w.kept below) m.2))
+        subst (λ x. Both ⊥ (Tn w s) (Some (L.with_chain (L.suspend_in (L.suspension (because Alt) q c) outside) (Li w c q))) (S.mark_suspended (Fr w cells r q) x)) (sym (r_cut w.kept above (n_mark label r') below r.mark e g ∙ ap (λ x. x ∷ render w.kept below) m.2))
         (suspend_onto Alt outside r' q (above ++ n_mark label r' ∷ []) below (under above (n_mark label r' ∷ []) below e refl) i)
     mark_view (v_limit {n} {outside} r' above below e g b i) =
-        subst (λ x. Both ⊥ (Tn w s) (Some (L.with_chain (L.suspended (L.suspension (because Alt) q c) outside) (Li w c q))) (S.mark_suspended (Fr w cells r q) x)) (sym (r_cut w.kept above (n_limit n r') below r.mark e g))
+        subst (λ x. Both ⊥ (Tn w s) (Some (L.with_chain (L.suspend_in (L.suspension (because Alt) q c) outside) (Li w c q))) (S.mark_suspended (Fr w cells r q) x)) (sym (r_cut w.kept above (n_limit n r') below r.mark e g))
         (suspend_onto Alt outside r' q (above ++ n_limit n r' ∷ []) below (under above (n_limit n r' ∷ []) below e refl) i)
 
     -- at the frame
@@ -241,30 +241,30 @@ module _ (repeats : ℕ → ℕ → Bool) (Opens : ℕ → ℕ → Option ℕ �
         subst (λ x. Both ⊥ (Tn w s) None (S.proc_suspended (Fr w cells r q) x)) (sym (r_cut w.kept (above ++ locs a 0 n []) (n_base p a n) [] r.base (under above (locs a 0 n []) _ e (locs_split a 0 n _)) g)) tt
     proc_found (found_call {p} {a} {level} {q = q'} {caller} n r' above below e g i) =
         let e2 = under above (locs a 0 n []) _ e (locs_split a 0 n (n_call p a n level r' q' ∷ below)) in let up = above ++ locs a 0 n [] in
-        subst (λ x. Both ⊥ (Tn w s) (Some (Li w (L.suspended (L.suspension (because Proc) q c) caller) q')) (S.proc_suspended (Fr w cells r q) x)) (sym (r_cut w.kept up (n_call p a n level r' q') below r.base e2 g))
+        subst (λ x. Both ⊥ (Tn w s) (Some (Li w (L.suspend_in (L.suspension (because Proc) q c) caller) q')) (S.proc_suspended (Fr w cells r q) x)) (sym (r_cut w.kept up (n_call p a n level r' q') below r.base e2 g))
         (suspend_onto Proc caller r' q' (up ++ n_call p a n level r' q' ∷ []) below (under up (n_call p a n level r' q' ∷ []) below e2 refl) i)
 
     pub leave_found : {t : Frame} → Found repeats Opens t cells r.base → Both ⊥ (Tn w s) (L.leave_frame (Li w c q) t) (S.leave (Fr w cells r q))
     leave_found (found_base {p} {a} n above e g) =
-        subst (λ x. Both ⊥ (Tn w s) None (S.left x)) (sym (r_cut w.kept (above ++ locs a 0 n []) (n_base p a n) [] r.base (under above (locs a 0 n []) _ e (locs_split a 0 n _)) g)) tt
+        subst (λ x. Both ⊥ (Tn w s) None (S.leave_from x)) (sym (r_cut w.kept (above ++ locs a 0 n []) (n_base p a n) [] r.base (under above (locs a 0 n []) _ e (locs_split a 0 n _)) g)) tt
     leave_found (found_call {p} {a} {level} {q = q'} {caller} n r' above below e g i) =
         let e2 = under above (locs a 0 n []) _ e (locs_split a 0 n (n_call p a n level r' q' ∷ below)) in let up = above ++ locs a 0 n [] in
-        subst (λ x. Both ⊥ (Tn w s) (Some (Li w caller q')) (S.left x)) (sym (r_cut w.kept up (n_call p a n level r' q') below r.base e2 g))
+        subst (λ x. Both ⊥ (Tn w s) (Some (Li w caller q')) (S.leave_from x)) (sym (r_cut w.kept up (n_call p a n level r' q') below r.base e2 g))
         (w, idle s w, now below i (ok_sub w s up (n_call p a n level r' q' ∷ below) e2 o).1)
 
     -- Resuming
     pub resume_at : (h : Option ℕ) {su' : Suspensions} {z : List NCell} (xs : List NCell) → r.newest ≡ h → cells ≡ xs ++ z → FlatSusps repeats Opens su' z h
         → Both ⊥ (Wt w s) (L.resume_from (Li w c q) (chain items su' scans outer)) (S.resume (Fr w cells r q))
-    resume_at h xs n e f_none = subst (λ x. Both ⊥ (Wt {A = Why} w s) None (option_and_then (λ (height : ℕ). S.resumed (S.cut height (render w.kept cells))) x)) (sym n) tt
+    resume_at h xs n e f_none = subst (λ x. Both ⊥ (Wt {A = Why} w s) None (option_and_then (λ (height : ℕ). S.resume_from (S.cut height (render w.kept cells))) x)) (sym n) tt
     resume_at h xs n e (f_susp {reason = because why} {q = q'} {inside} {r = r'} {z = z'} g i) =
-        subst (λ x. Both ⊥ (Wt {A = Why} w s) (Some (why, Li w inside q')) (option_and_then (λ (height : ℕ). S.resumed (S.cut height (render w.kept cells))) x)) (sym n)
-        (subst (λ x. Both ⊥ (Wt {A = Why} w s) (Some (why, Li w inside q')) (S.resumed x)) (sym (r_cut w.kept xs (n_suspension (because why) r' q') z' _ e g))
+        subst (λ x. Both ⊥ (Wt {A = Why} w s) (Some (why, Li w inside q')) (option_and_then (λ (height : ℕ). S.resume_from (S.cut height (render w.kept cells))) x)) (sym n)
+        (subst (λ x. Both ⊥ (Wt {A = Why} w s) (Some (why, Li w inside q')) (S.resume_from x)) (sym (r_cut w.kept xs (n_suspension (because why) r' q') z' _ e g))
         (refl, (w, idle s w, now z' i (ok_sub w s xs (n_suspension (because why) r' q' ∷ z') e o).1)))
     resume_at h xs n e (f_susp {reason = scanning k} {q = q'} {inside} {r = r'} {z = z'} g i) =
         let here = ok_sub w s xs (n_suspension (scanning k) r' q' ∷ z') e o in
         let d : Pair = record { subject = []; position = 1 } in
-        subst (λ x. Both ⊥ (Wt {A = Why} w s) (Some (Scan (slice_index_or w.kept.saved k d), Li w inside q')) (option_and_then (λ (height : ℕ). S.resumed (S.cut height (render w.kept cells))) x)) (sym n)
-        (subst (λ x. Both ⊥ (Wt {A = Why} w s) (Some (Scan (slice_index_or w.kept.saved k d), Li w inside q')) (S.resumed x)) (sym (r_cut w.kept xs (n_suspension (scanning k) r' q') z' _ e g))
+        subst (λ x. Both ⊥ (Wt {A = Why} w s) (Some (Scan (slice_index_or w.kept.saved k d), Li w inside q')) (option_and_then (λ (height : ℕ). S.resume_from (S.cut height (render w.kept cells))) x)) (sym n)
+        (subst (λ x. Both ⊥ (Wt {A = Why} w s) (Some (Scan (slice_index_or w.kept.saved k d), Li w inside q')) (S.resume_from x)) (sym (r_cut w.kept xs (n_suspension (scanning k) r' q') z' _ e g))
         (ap (λ p. Scan p) (index_got w.kept.saved k here.0.0 d (got_pair w.kept k here.0.0 here.0.1.holds)) ∙ sym (ap (λ x. Scan (saved_in x)) here.0.1.holds), (w, idle s w, now z' i here.1)))
 
     -- Saved pairs

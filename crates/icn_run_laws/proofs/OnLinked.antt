@@ -9,7 +9,7 @@ use Rattle.icn_run.specs.Chains.{Label, fixed, flagged, Reason, because, scannin
 use Rattle.icn_run_laws.specs.Rendered.{Name, Kept, Memory, memory_of, linked_with, n_base, n_operand, World, Owned, locs, f_no_scan, IsFlat, f_chain, f_none, f_base, now, Away, away, Next}
 use Rattle.icn_run_laws.specs.Laws.{Both, With}
 use Rattle.icn_run_laws.proofs.Worlds.{Moves, made_next, made_locals, locals_made, all_moves, render_moves, use_all}
-use Rattle.icn_run_laws.proofs.Flatten.{locs_bare, raise_scans, found}
+use Rattle.icn_run_laws.proofs.Flattening.{locs_bare, raise_scans, found}
 use Rattle.icn_run_laws.proofs.OnScans.{no_scan, first_at, oldest_at}
 use Rattle.icn_run_laws.proofs.OnCalls.{Li, Fr, N, T, now_as, view, on_proc}
 use Rattle.icn_run_laws.proofs.ScansApart.{ScansApart, scans_apart}

@@ -2,7 +2,7 @@
 use Rattle.std.proofs.Common.{◌≡◌, ℕ, suc, inl, inr, List, [], ◌∷◌, ◌++◌, length, map, Bool, true, false, Option, Some, None, refl, sym, ap, ◌∙◌, subst, if◌then◌else◌}
 use Rattle.std.specs.Prelude.{slice_set, slice_index_or, pred, ◌==◌}
 use Rattle.std.proofs.lemmas.Bool.{eqb-true}
-use Rattle.icn_run.specs.Calls.{Pair, Dropped, NoMark, Outside}
+use Rattle.icn_run.specs.Calls.{Pair, MarkDrop, NoMark, Outside}
 use Rattle.icn_run.specs.Stacks as S
 use Rattle.icn_run.specs.Stacks.{Registers, Cell, Frames}
 use Rattle.icn_run.specs.Chains as L
@@ -12,7 +12,7 @@ use Rattle.icn_run_laws.specs.Laws.{Both, With, SameDropped}
 use Rattle.icn_run_laws.specs.SecondLaw.{LacksCell}
 use Rattle.icn_run_laws.proofs.Lists.{some_inj, get_set_same, length_map, r_cut, r_get, r_set}
 use Rattle.icn_run_laws.proofs.Worlds.{IsLocals, Change, change_next, put_shown, put_ok, FlagAt, is_up, is_down, is_labelled, flag_at, flag_there, index_got, got_count, put_count, count_put, put_flag, flag_put, label_up, own_up, label_set, own_set}
-use Rattle.icn_run_laws.proofs.Flatten.{as_mark, under, raise_scans, found, same_proc}
+use Rattle.icn_run_laws.proofs.Flattening.{as_mark, under, raise_scans, found, same_proc}
 use Rattle.icn_run_laws.proofs.OnScans.{first_at, ok_sub, oldest_at, same_pair}
 use Rattle.icn_run_laws.proofs.OnCalls.{on_proc, Li, Fr, idle, N, T, now_as, View, v_base, v_call, v_mark, v_limit, view, scans_all}
 
@@ -75,29 +75,29 @@ module _ (repeats : ℕ → ℕ → Bool) (Opens : ℕ → ℕ → Option ℕ �
     relabel_flagged label l flag p r' above below e g true te =
         let x = (ok_sub w s above (n_mark (flagged l flag p) r' ∷ below) e o).0 in
         let b = flag_there w.kept flag x.0 (flag_at w.kept flag x.0 x.1.holds) in
-        let d = flag_put w flag true (L.forgotten flag w.kept.relabels) (label_up w flag) (λ f. own_up w flag) x.0 (Flag true) b.0 b.1 refl in
+        let d = flag_put w flag true (L.forget_label flag w.kept.relabels) (label_up w flag) (λ f. own_up w flag) x.0 (Flag true) b.0 b.1 refl in
         relabel_to label l flag p r' above below e g x.0 (Flag true) x.2 tt (subst (λ h. Owned w (flag_name flag) s h x.0) (sym g) x.1) d (changed_shows true label p l r' te)
     relabel_flagged label l flag p r' above below e g false te =
         let x = (ok_sub w s above (n_mark (flagged l flag p) r' ∷ below) e o).0 in
         let b = flag_there w.kept flag x.0 (flag_at w.kept flag x.0 x.1.holds) in
-        let d = flag_put w flag false ((flag, label) ∷ L.forgotten flag w.kept.relabels) (label_set w flag label) (λ f. absurd (f (get_set_same w.kept.flags flag b.0 false b.1))) x.0 (Changed label) b.0 b.1 (ap (λ l. flag_kept l false) (own_set w flag label)) in
+        let d = flag_put w flag false ((flag, label) ∷ L.forget_label flag w.kept.relabels) (label_set w flag label) (λ f. absurd (f (get_set_same w.kept.flags flag b.0 false b.1))) x.0 (Changed label) b.0 b.1 (ap (λ l. flag_kept l false) (own_set w flag label)) in
         relabel_to label l flag p r' above below e g x.0 (Changed label) x.2 tt (subst (λ h. Owned w (flag_name flag) s h x.0) (sym g) x.1) d (changed_shows false label p l r' te)
 
-    relabel_view : (label : ℕ) {outer : Outer} → View repeats Opens cells r.mark r.base outer → Both (LacksCell repeats Opens outer (L.proc_of (frame_of outer))) (Tn w s) (L.relabelled label (Li w c q) outer) (S.relabel label (Fr w cells r q))
-    relabel_view label (v_base {p} {a} n above e g) = subst (λ x. Both ⊥ (Tn w s) None (S.relabelled label (Fr w cells r q) x)) (sym (r_get w.kept above (n_base p a n) [] r.mark e g)) tt
-    relabel_view label (v_call {p} {a} {level} {q = q'} n r' above below e g i) = subst (λ x. Both ⊥ (Tn w s) None (S.relabelled label (Fr w cells r q) x)) (sym (r_get w.kept above (n_call p a n level r' q') below r.mark e g)) tt
-    relabel_view label (v_limit {n} r' above below e g b i) = subst (λ x. Both ⊥ (Tn w s) None (S.relabelled label (Fr w cells r q) x)) (sym (r_get w.kept above (n_limit n r') below r.mark e g)) tt
+    relabel_view : (label : ℕ) {outer : Outer} → View repeats Opens cells r.mark r.base outer → Both (LacksCell repeats Opens outer (L.proc_of (frame_of outer))) (Tn w s) (L.relabel_in label (Li w c q) outer) (S.relabel label (Fr w cells r q))
+    relabel_view label (v_base {p} {a} n above e g) = subst (λ x. Both ⊥ (Tn w s) None (S.relabel_in label (Fr w cells r q) x)) (sym (r_get w.kept above (n_base p a n) [] r.mark e g)) tt
+    relabel_view label (v_call {p} {a} {level} {q = q'} n r' above below e g i) = subst (λ x. Both ⊥ (Tn w s) None (S.relabel_in label (Fr w cells r q) x)) (sym (r_get w.kept above (n_call p a n level r' q') below r.mark e g)) tt
+    relabel_view label (v_limit {n} r' above below e g b i) = subst (λ x. Both ⊥ (Tn w s) None (S.relabel_in label (Fr w cells r q) x)) (sym (r_get w.kept above (n_limit n r') below r.mark e g)) tt
     relabel_view label (v_mark {label = fixed l} {outside = chain items' su' scans' outer'} r' above below e g b ok i) =
-        subst (λ x. Both (LacksCell repeats Opens (L.mark (fixed l) (chain items' su' scans' outer')) (L.proc_of (frame_of (L.mark (fixed l) (chain items' su' scans' outer'))))) (Tn w s) None (S.relabelled label (Fr w cells r q) x)) (sym (r_get w.kept above (n_mark (fixed l) r') below r.mark e g)) (ok.0, l, ok.1, ok.2)
+        subst (λ x. Both (LacksCell repeats Opens (L.mark (fixed l) (chain items' su' scans' outer')) (L.proc_of (frame_of (L.mark (fixed l) (chain items' su' scans' outer'))))) (Tn w s) None (S.relabel_in label (Fr w cells r q) x)) (sym (r_get w.kept above (n_mark (fixed l) r') below r.mark e g)) (ok.0, l, ok.1, ok.2)
     relabel_view label (v_mark {label = flagged l flag p} r' above below e g b ok i) =
         let m = as_mark w.kept (flagged l flag p) r' in
-        subst (λ x. Both ⊥ (Tn w s) (Some (L.relabelled_if (label == p) label flag (Li w c q))) (S.relabelled label (Fr w cells r q) x)) (sym (r_get w.kept above (n_mark (flagged l flag p) r') below r.mark e g ∙ ap Some m.2))
+        subst (λ x. Both ⊥ (Tn w s) (Some (L.relabelled_if (label == p) label flag (Li w c q))) (S.relabel_in label (Fr w cells r q) x)) (sym (r_get w.kept above (n_mark (flagged l flag p) r') below r.mark e g ∙ ap Some m.2))
         (relabel_flagged label l flag p r' above below e g (label == p) refl)
 
     -- Limits
 
     count_of_limit : (n count : ℕ) (r' : Registers) (above below : List NCell) → cells ≡ above ++ n_limit n r' ∷ below → r.mark ≡ suc (length below) → Owned w (limit_name n) s r.mark (Count count)
-        → Both ⊥ (Wt {A = ℕ} w s) (Some (pred count, record (Li w c q) { limits = slice_set w.kept.limits n (pred count) })) (S.counted (Fr w cells r q) (Some (S.limit count r')))
+        → Both ⊥ (Wt {A = ℕ} w s) (Some (pred count, record (Li w c q) { limits = slice_set w.kept.limits n (pred count) })) (S.count_in (Fr w cells r q) (Some (S.limit count r')))
     count_of_limit n count r' above below e g owned =
         let d = count_put w n count (pred count) in
         let there = d.itself s r.mark owned in
@@ -105,14 +105,14 @@ module _ (repeats : ℕ → ℕ → Bool) (Opens : ℕ → ℕ → Option ℕ �
         (refl, (put_count w n (pred count), change_next s r.mark owned d, now_as repeats Opens (put_count w n (pred count)) s c q r (S.set_cell r.mark (S.limit (pred count) r') (render w.kept cells)) cells a.0 f a.1))
 
     count_view : {outer : Outer} → View repeats Opens cells r.mark r.base outer → Both ⊥ (Wt w s) (L.count_in (Li w c q) outer) (S.count_down (Fr w cells r q))
-    count_view (v_base {p} {a} n above e g) = subst (λ x. Both ⊥ (Wt {A = ℕ} w s) None (S.counted (Fr w cells r q) x)) (sym (r_get w.kept above (n_base p a n) [] r.mark e g)) tt
-    count_view (v_call {p} {a} {level} {q = q'} n r' above below e g i) = subst (λ x. Both ⊥ (Wt {A = ℕ} w s) None (S.counted (Fr w cells r q) x)) (sym (r_get w.kept above (n_call p a n level r' q') below r.mark e g)) tt
+    count_view (v_base {p} {a} n above e g) = subst (λ x. Both ⊥ (Wt {A = ℕ} w s) None (S.count_in (Fr w cells r q) x)) (sym (r_get w.kept above (n_base p a n) [] r.mark e g)) tt
+    count_view (v_call {p} {a} {level} {q = q'} n r' above below e g i) = subst (λ x. Both ⊥ (Wt {A = ℕ} w s) None (S.count_in (Fr w cells r q) x)) (sym (r_get w.kept above (n_call p a n level r' q') below r.mark e g)) tt
     count_view (v_mark {label} r' above below e g b ok i) = let m = as_mark w.kept label r' in
-        subst (λ x. Both ⊥ (Wt {A = ℕ} w s) None (S.counted (Fr w cells r q) x)) (sym (r_get w.kept above (n_mark label r') below r.mark e g ∙ ap Some m.2)) tt
+        subst (λ x. Both ⊥ (Wt {A = ℕ} w s) None (S.count_in (Fr w cells r q) x)) (sym (r_get w.kept above (n_mark label r') below r.mark e g ∙ ap Some m.2)) tt
     count_view (v_limit {n} {outside} r' above below e g b i) =
         let x = (ok_sub w s above (n_limit n r' ∷ below) e o).0 in
-        subst (λ y. Both ⊥ (Wt {A = ℕ} w s) (L.count_in (Li w c q) (L.limit n outside)) (S.counted (Fr w cells r q) y)) (sym (r_get w.kept above (n_limit n r') below r.mark e g ∙ ap (λ k. Some (S.limit (count_of k) r')) x.1.holds))
-        (subst (λ k. Both ⊥ (Wt {A = ℕ} w s) (Some (k, record (Li w c q) { limits = slice_set w.kept.limits n k })) (S.counted (Fr w cells r q) (Some (S.limit x.0 r')))) (sym (ap pred (index_got w.kept.limits n x.0 0 (got_count w.kept n x.0 x.1.holds))))
+        subst (λ y. Both ⊥ (Wt {A = ℕ} w s) (L.count_in (Li w c q) (L.limit n outside)) (S.count_in (Fr w cells r q) y)) (sym (r_get w.kept above (n_limit n r') below r.mark e g ∙ ap (λ k. Some (S.limit (count_of k) r')) x.1.holds))
+        (subst (λ k. Both ⊥ (Wt {A = ℕ} w s) (Some (k, record (Li w c q) { limits = slice_set w.kept.limits n k })) (S.count_in (Fr w cells r q) (Some (S.limit x.0 r')))) (sym (ap pred (index_got w.kept.limits n x.0 0 (got_count w.kept n x.0 x.1.holds))))
         (count_of_limit n x.0 r' above below e g (subst (λ h. Owned w (limit_name n) s h (Count x.0)) (sym g) x.1)))
 
     -- Marks that are dropped
@@ -130,32 +130,32 @@ module _ (repeats : ℕ → ℕ → Bool) (Opens : ℕ → ℕ → Option ℕ �
       )
 
       unmark_view : {outer : Outer} → View repeats Opens cells r.mark r.base outer → Both ⊥ Left (L.unmark_from (Li w c q) outer) (S.unmark (Fr w cells r q))
-      unmark_view (v_base {p} {a} n above e g) = subst (λ x. Both ⊥ Left None (S.unmarked (Fr w cells r q) x)) (sym (r_cut w.kept above (n_base p a n) [] r.mark e g)) tt
-      unmark_view (v_call {p} {a} {level} {q = q'} n r' above below e g i) = subst (λ x. Both ⊥ Left None (S.unmarked (Fr w cells r q) x)) (sym (r_cut w.kept above (n_call p a n level r' q') below r.mark e g)) tt
+      unmark_view (v_base {p} {a} n above e g) = subst (λ x. Both ⊥ Left None (S.unmark_in (Fr w cells r q) x)) (sym (r_cut w.kept above (n_base p a n) [] r.mark e g)) tt
+      unmark_view (v_call {p} {a} {level} {q = q'} n r' above below e g i) = subst (λ x. Both ⊥ Left None (S.unmark_in (Fr w cells r q) x)) (sym (r_cut w.kept above (n_call p a n level r' q') below r.mark e g)) tt
       unmark_view (v_mark {label} {outside} r' above below e g b ok i) = let m = as_mark w.kept label r' in
-          subst (λ x. Both ⊥ Left (L.unmarked (Li w c q) outside) (S.unmarked (Fr w cells r q) x)) (sym (r_cut w.kept above (n_mark label r') below r.mark e g ∙ ap (λ x. x ∷ render w.kept below) m.2))
+          subst (λ x. Both ⊥ Left (L.unmark_in (Li w c q) outside) (S.unmark_in (Fr w cells r q) x)) (sym (r_cut w.kept above (n_mark label r') below r.mark e g ∙ ap (λ x. x ∷ render w.kept below) m.2))
           (unmark_to outside r' (above ++ n_mark label r' ∷ []) below (under above (n_mark label r' ∷ []) below e refl) i)
       unmark_view (v_limit {n} {outside} r' above below e g b i) =
-          subst (λ x. Both ⊥ Left (L.unmarked (Li w c q) outside) (S.unmarked (Fr w cells r q) x)) (sym (r_cut w.kept above (n_limit n r') below r.mark e g))
+          subst (λ x. Both ⊥ Left (L.unmark_in (Li w c q) outside) (S.unmark_in (Fr w cells r q) x)) (sym (r_cut w.kept above (n_limit n r') below r.mark e g))
           (unmark_to outside r' (above ++ n_limit n r' ∷ []) below (under above (n_limit n r' ∷ []) below e refl) i)
 
-    abbrev Sd : Dropped Linked → Dropped Frames → Type 0
+    abbrev Sd : MarkDrop Linked → MarkDrop Frames → Type 0
     Sd d' d = SameDropped S.flat Opens Next Nw w s d' d
 
     dropped_label : (l : Option ℕ) (outside : Chain) (r' : Registers) (below : List NCell) → IsFlat repeats Opens outside below r' → AllOk w s below
-        → Sd (L.dropped_to (Li w c q) outside l) (S.dropped (Fr w cells r q) (S.mark l false r' ∷ render w.kept below))
+        → Sd (L.dropped_to (Li w c q) outside l) (S.drop_from (Fr w cells r q) (S.mark l false r' ∷ render w.kept below))
     dropped_label None outside r' below i ob = (w, idle s w, now below i ob)
     dropped_label (Some l) outside r' below i ob = (w, idle s w, now below i ob)
 
     dropped_flagged : (l : Option ℕ) (flag p : ℕ) (outside : Chain) (r' : Registers) (below : List NCell) → IsFlat repeats Opens outside below r' → Opens (L.proc_of (frame_of (outer_of outside))) p l → AllOk w s (n_mark (flagged l flag p) r' ∷ below)
         → (k : Kept) → Owned w (flag_name flag) s (suc (length below)) k → FlagAt w.kept flag k
-        → Sd (L.repeated l flag p outside (Li w c q) (slice_index_or w.kept.flags flag false)) (S.dropped (Fr w cells r q) (shown_label (Some k) l p r' ∷ render w.kept below))
+        → Sd (L.repeat_mark l flag p outside (Li w c q) (slice_index_or w.kept.flags flag false)) (S.drop_from (Fr w cells r q) (shown_label (Some k) l p r' ∷ render w.kept below))
     dropped_flagged l flag p outside r' below i opens ob k owned (is_down e u) =
-        subst (λ b. Sd (L.repeated l flag p outside (Li w c q) b) (S.dropped (Fr w cells r q) (S.mark l false r' ∷ render w.kept below))) (sym (index_got w.kept.flags flag false false e))
-        (subst (λ o. Sd (L.dropped_by (Li w c q) outside l o) (S.dropped (Fr w cells r q) (S.mark l false r' ∷ render w.kept below))) (sym u) (dropped_label l outside r' below i ob.1))
+        subst (λ b. Sd (L.repeat_mark l flag p outside (Li w c q) b) (S.drop_from (Fr w cells r q) (S.mark l false r' ∷ render w.kept below))) (sym (index_got w.kept.flags flag false false e))
+        (subst (λ o. Sd (L.dropped_by (Li w c q) outside l o) (S.drop_from (Fr w cells r q) (S.mark l false r' ∷ render w.kept below))) (sym u) (dropped_label l outside r' below i ob.1))
     dropped_flagged l flag p outside r' below i opens ob k owned (is_labelled other e u) =
-        subst (λ b. Sd (L.repeated l flag p outside (Li w c q) b) (S.dropped (Fr w cells r q) (S.mark (Some other) true r' ∷ render w.kept below))) (sym (index_got w.kept.flags flag false false e))
-        (subst (λ o. Sd (L.dropped_by (Li w c q) outside l o) (S.dropped (Fr w cells r q) (S.mark (Some other) true r' ∷ render w.kept below))) (sym u) (inl (w, idle s w, now below i ob.1)))
+        subst (λ b. Sd (L.repeat_mark l flag p outside (Li w c q) b) (S.drop_from (Fr w cells r q) (S.mark (Some other) true r' ∷ render w.kept below))) (sym (index_got w.kept.flags flag false false e))
+        (subst (λ o. Sd (L.dropped_by (Li w c q) outside l o) (S.drop_from (Fr w cells r q) (S.mark (Some other) true r' ∷ render w.kept below))) (sym u) (inl (w, idle s w, now below i ob.1)))
     dropped_flagged l flag p outside r' below i opens ob k owned (is_up e) =
         let top = n_mark (flagged l flag p) r' in let h = suc (length below) in
         let none_left : L.label_of flag w.kept.relabels ≡ None = w.unlabelled flag (λ u. true_not_false (some_inj (sym e ∙ u))) in
@@ -164,7 +164,7 @@ module _ (repeats : ℕ → ℕ → Bool) (Opens : ℕ → ℕ → Option ℕ �
         let there = d.itself s h owned in
         let shows = put_shown s h d owned (λ l. l) top (S.mark l false r') (ap (λ y. shown_label y l p r') there.holds) [] below refl ob in
         let ok = put_ok s h d owned (λ l. l) top (Flag false, there, tt) [] below refl ob in
-        subst (λ b. Sd (L.repeated l flag p outside (Li w c q) b) (S.dropped (Fr w cells r q) (S.mark (Some p) true r' ∷ render w.kept below))) (sym (index_got w.kept.flags flag true false e))
+        subst (λ b. Sd (L.repeat_mark l flag p outside (Li w c q) b) (S.drop_from (Fr w cells r q) (S.mark (Some p) true r' ∷ render w.kept below))) (sym (index_got w.kept.flags flag true false e))
         (inr (
           l,
           subst (λ proc. Opens proc p l) (same_proc repeats Opens w.kept (found repeats Opens i)) opens,
@@ -176,16 +176,16 @@ module _ (repeats : ℕ → ℕ → Bool) (Opens : ℕ → ℕ → Option ℕ �
           ),
         ))
 
-    drop_view : {outer : Outer} → View repeats Opens cells r.mark r.base outer → Sd (L.dropped (Li w c q) outer) (S.drop_mark (Fr w cells r q))
-    drop_view (v_base {p} {a} n above e g) = subst (λ x. Sd NoMark (S.dropped (Fr w cells r q) x)) (sym (r_cut w.kept above (n_base p a n) [] r.mark e g)) tt
-    drop_view (v_call {p} {a} {level} {q = q'} n r' above below e g i) = subst (λ x. Sd NoMark (S.dropped (Fr w cells r q) x)) (sym (r_cut w.kept above (n_call p a n level r' q') below r.mark e g)) tt
-    drop_view (v_limit {n} {outside} r' above below e g b i) = subst (λ x. Sd (Outside (L.with_chain outside (Li w c q))) (S.dropped (Fr w cells r q) x)) (sym (r_cut w.kept above (n_limit n r') below r.mark e g))
+    drop_view : {outer : Outer} → View repeats Opens cells r.mark r.base outer → Sd (L.drop_from (Li w c q) outer) (S.drop_mark (Fr w cells r q))
+    drop_view (v_base {p} {a} n above e g) = subst (λ x. Sd NoMark (S.drop_from (Fr w cells r q) x)) (sym (r_cut w.kept above (n_base p a n) [] r.mark e g)) tt
+    drop_view (v_call {p} {a} {level} {q = q'} n r' above below e g i) = subst (λ x. Sd NoMark (S.drop_from (Fr w cells r q) x)) (sym (r_cut w.kept above (n_call p a n level r' q') below r.mark e g)) tt
+    drop_view (v_limit {n} {outside} r' above below e g b i) = subst (λ x. Sd (Outside (L.with_chain outside (Li w c q))) (S.drop_from (Fr w cells r q) x)) (sym (r_cut w.kept above (n_limit n r') below r.mark e g))
         (w, idle s w, now below i (ok_sub w s above (n_limit n r' ∷ below) e o).1)
-    drop_view (v_mark {label = fixed l} {outside} r' above below e g b ok i) = subst (λ x. Sd (L.dropped_to (Li w c q) outside l) (S.dropped (Fr w cells r q) x)) (sym (r_cut w.kept above (n_mark (fixed l) r') below r.mark e g))
+    drop_view (v_mark {label = fixed l} {outside} r' above below e g b ok i) = subst (λ x. Sd (L.dropped_to (Li w c q) outside l) (S.drop_from (Fr w cells r q) x)) (sym (r_cut w.kept above (n_mark (fixed l) r') below r.mark e g))
         (dropped_label l outside r' below i (ok_sub w s above (n_mark (fixed l) r' ∷ below) e o).1)
     drop_view (v_mark {label = flagged l flag p} {outside} r' above below e g b ok i) =
         let ob = ok_sub w s above (n_mark (flagged l flag p) r' ∷ below) e o in let x = ob.0 in
-        subst (λ y. Sd (L.repeated l flag p outside (Li w c q) (slice_index_or w.kept.flags flag false)) (S.dropped (Fr w cells r q) y)) (sym (r_cut w.kept above (n_mark (flagged l flag p) r') below r.mark e g ∙ ap (λ y. shown_label y l p r' ∷ render w.kept below) x.1.holds))
+        subst (λ y. Sd (L.repeat_mark l flag p outside (Li w c q) (slice_index_or w.kept.flags flag false)) (S.drop_from (Fr w cells r q) y)) (sym (r_cut w.kept above (n_mark (flagged l flag p) r') below r.mark e g ∙ ap (λ y. shown_label y l p r' ∷ render w.kept below) x.1.holds))
         (dropped_flagged l flag p outside r' below i ok ob x.0 x.1 (flag_at w.kept flag x.0 x.1.holds))
 
   pub on_relabel : (label : ℕ) (w : World) (s : ℕ) (m' : Linked) (m : Frames) → Nw w s m' m → Both (Lacks m') (Tn w s) (L.relabel label m') (S.relabel label m)

@@ -10,7 +10,7 @@ use Rattle.icn_run.specs.Chains.{Reason, scanning, Chain, Linked, Parked}
 use Rattle.icn_run_laws.specs.Rendered.{Saved, Memory, saved_name, memory_of, NCell, n_suspension, World, Owned, saved_in, shown, render, AllOk, FlatScans, f_no_scan, f_scan}
 use Rattle.icn_run_laws.proofs.Lists.{get_seam, above_all, length_map, r_get}
 use Rattle.icn_run_laws.proofs.Worlds.{ok_part, one_height, got_pair, index_got}
-use Rattle.icn_run_laws.proofs.Flatten.{raise_scans, under}
+use Rattle.icn_run_laws.proofs.Flattening.{raise_scans, under}
 
 -- the frame of a scan
 pub data ScanAt (cells : List NCell) : Option ℕ → Option ℕ → Type 0 where

@@ -9,8 +9,8 @@ use Rattle.icn_code.specs.declared.instr.Instr.{Instr}
 use Rattle.icn_code.specs.declared.instr.Instr.TheVariants as I
 use Rattle.icn_code.specs.Codes.{Proc as Procedure, RecordType}
 use Rattle.icn_run.specs.Rows.{Value, Null, Integer, Text, Chars, Procedure as ProcedureValue, ARecord, AList, ACoexp, Static, Local, Whole, Part, Item, Val, Var, Setting, World, Outside, Outcome, Fails, Gives, Suspends, Error, Ends, integer_of, number_of, again, apply, keyword_item, value_row, list_row, text_row, record_row, coexpression_row, words_row, record_at, Operation, Function, Ending}
-use Rattle.icn_run.specs.Calls.{Pair, Why, Alt, Op as Operating, Scan, Escan, Proc, Dropped, NoMark, Goes, Repeats, Outside as WithoutLabel, Calls}
-use Rattle.icn_run.specs.Step.{Program, Launch, Status, Fresh, Active, Waiting, Exhausted, Coexp, Store, State, running, failing, hopping, over, stuck, with_found, parted, turn_if, turn, steps, step, here, with_world, with_at, valued, made, with_value, with_values, pushed, outcome, list_made, instrs_of, statics_before, with_pair, pair_now, scans_left, exchanged, maybe_exchanged, swapped_back, all_left, coexp_at, status_of, activator_of, with_status, with_activator, activated, fail_by, passed_failure, begun_by, give_by, passed_value, hop, exhausted, counted_result, result_given, is_main, is_create_body, with_new, coexp_made, refreshed_from, refreshed, entered_by, entered_if, activation, entered, filled, collected, with_parameters, called_if, called, constructed, chosen, pushed_or_fails, integer_called, Callee, IsProc, IsRecord, IsFunc, IsNothing, callee_of, callee_called, invoked, invoked_with, elements_called, applied_to_elements, field_place, field_taken, field_of, with_result, returned, proc_fails, without_mark, mark_dropped, resumed, resumed_or_dropped, fails, members_of, standing, with_popped, with_taken, unmarked, limited, limited_result, scan_opened, initial_if, initial_done, activation_of, operated, field_applied, instruction, instruction_at, begun_if, start_of, start, first_store, main_of}
+use Rattle.icn_run.specs.Calls.{Pair, Why, Alt, Op as Operating, Scan, Escan, Proc, MarkDrop, NoMark, Goes, Repeats, Outside as WithoutLabel, Calls}
+use Rattle.icn_run.specs.Step.{Program, Launch, Status, Fresh, Active, Waiting, Exhausted, Coexp, Store, State, running, failing, hopping, over, stuck, with_found, on_pair, turn_if, turn, steps, step, here, with_world, with_at, with_given, with_made, with_value, with_values, push_item, outcome, list_made, instrs_of, statics_before, with_pair, pair_now, scans_left, with_exchange, maybe_exchanged, swapped_back, all_left, coexp_at, status_of, activator_of, with_status, with_activator, make_active, fail_by, passed_failure, begun_by, give_by, passed_value, hop, exhaust_active, counted_result, result_given, is_main, is_create_body, with_new, coexp_made, refreshed_from, refresh, entered_by, entered_if, activation, enter_procedure, fill_nulls, collect_rest, with_parameters, called_if, call_procedure, construct_record, choose_item, pushed_or_fails, integer_called, Callee, IsProc, IsRecord, IsFunc, IsNothing, callee_of, callee_called, invoke_value, invoked_with, elements_called, applied_to_elements, field_place, field_taken, field_of, with_result, return_to, proc_fails, without_mark, mark_dropped, resume_by, resumed_or_dropped, fails, members_of, standing_of, with_popped, with_taken, unmark_then, limit_results, limited_result, scan_opened, initial_if, initial_done, activation_of, operate, field_applied, instruction, instruction_at, begun_if, start_of, start, first_store, main_of}
 use Rattle.icn_defs.specs.Keeping.{KeepsIn}
 use Rattle.icn_run_laws.specs.Laws.{Both, Then, With, SameDropped, Agrees}
 use Rattle.icn_run_laws.specs.SameStates.{IsMade, IsLacking, mark_of, Opens, RowsKeep, SameStatus, SameCoexp, alike, Rests, lift, Ready, Same, same_running, same_failing, same_hopping, same_over, same_stuck, lost}
@@ -115,7 +115,7 @@ module _ {K M K' M' : Type 0} (C' : Calls K' M') (C : Calls K M) (P : Program) (
   either_as : (b' b : Bool) (x' y' : State K' M') (x y : State K M) → b' ≡ b → Sm x' x → Sm y' y → Sm (if b' then x' else y') (if b then x else y)
   either_as b' b x' y' x y e p q = subst (λ t. Sm (if t then x' else y') (if b then x else y)) (sym e) (either b x' y' x y p q)
 
-  w_valued : (o : Outcome) (m' : M') (m : M) (st : Store K) (ks' : List (Coexp K')) → Rd st.active m' m ks' st.coexps → (n' : Value → State K' M') (n : Value → State K M) → ((v : Value) → Sm (n' v) (n v)) → Sm (valued o m' (lift st ks') n') (valued o m st n)
+  w_valued : (o : Outcome) (m' : M') (m : M) (st : Store K) (ks' : List (Coexp K')) → Rd st.active m' m ks' st.coexps → (n' : Value → State K' M') (n : Value → State K M) → ((v : Value) → Sm (n' v) (n v)) → Sm (with_given o m' (lift st ks') n') (with_given o m st n)
   w_valued (Gives (Val v) seen) m' m st ks' h n' n f = f v
   w_valued (Gives (Var v) seen) m' m st ks' h n' n f = same_failing st ks' h
   w_valued (Error k v seen) m' m st ks' h n' n f = same_over
@@ -135,7 +135,7 @@ module _ {K M K' M' : Type 0} (C' : Calls K' M') (C : Calls K M) (P : Program) (
 
   w_value : (item : Item) (m' : M') (m : M) (st : Store K) (ks' : List (Coexp K')) → Rd st.active m' m ks' st.coexps → (n' : Value → State K' M') (n : Value → State K M) → ((v : Value) → Sm (n' v) (n v)) → Sm (with_value C' item m' (lift st ks') n') (with_value C item m st n)
   w_value item m' m st ks' h n' n f =
-      subst (λ l. Sm (valued (value_row item (record { world = st.world; locals = l; outside = st.outside })) m' (lift st ks') n') (with_value C item m st n)) (sym (locals_eq st.active m' m ks' st.coexps h))
+      subst (λ l. Sm (with_given (value_row item (record { world = st.world; locals = l; outside = st.outside })) m' (lift st ks') n') (with_value C item m st n)) (sym (locals_eq st.active m' m ks' st.coexps h))
       (w_valued (value_row item (here C m st)) m' m st ks' h n' n f)
 
   w_values : (items : List Item) (m' : M') (m : M) (st : Store K) (ks' : List (Coexp K')) → Rd st.active m' m ks' st.coexps → (n' : List Value → State K' M') (n : List Value → State K M) → ((vs : List Value) → Sm (n' vs) (n vs)) → Sm (with_values C' items m' (lift st ks') n') (with_values C items m st n)
@@ -143,7 +143,7 @@ module _ {K M K' M' : Type 0} (C' : Calls K' M') (C : Calls K M) (P : Program) (
   w_values (item ∷ items) m' m st ks' h n' n f = w_value item m' m st ks' h (λ value. with_values C' items m' (lift st ks') (λ values. n' (value ∷ values))) (λ value. with_values C items m st (λ values. n (value ∷ values)))
       (λ v. w_values items m' m st ks' h (λ values. n' (v ∷ values)) (λ values. n (v ∷ values)) (λ vs. f (v ∷ vs)))
 
-  p_push : (item : Item) (m' : M') (m : M) (st : Store K) (ks' : List (Coexp K')) → Rd st.active m' m ks' st.coexps → Sm (pushed C' item m' (lift st ks')) (pushed C item m st)
+  p_push : (item : Item) (m' : M') (m : M) (st : Store K) (ks' : List (Coexp K')) → Rd st.active m' m ks' st.coexps → Sm (push_item C' item m' (lift st ks')) (push_item C item m st)
   p_push item m' m st ks' h = same_running st ks' (r_push item st.active m' m ks' st.coexps h)
 
   o_outcome : (o : Outcome) (m' : M') (m : M) (st : Store K) (ks' : List (Coexp K')) → KeepsIn (here C m st) o → Rd st.active m' m ks' st.coexps → Sm (outcome C' o m' (lift st ks')) (outcome C o m st)
@@ -162,7 +162,7 @@ module _ {K M K' M' : Type 0} (C' : Calls K' M') (C : Calls K M) (P : Program) (
   abbrev Goes_on : {A : Type 0} → (A → M' → Store K' → State K' M') → (A → M → Store K → State K M) → Store K → List (Coexp K') → Type 0
   Goes_on {A} n' n st ks' = (v : A) (a' : M') (a : M) (seen : Setting) → Rd st.active a' a ks' st.coexps → Sm (n' v a' (lift (with_at seen st) ks')) (n v a (with_at seen st))
 
-  o_made : (o : Outcome) (m' : M') (m : M) (st : Store K) (ks' : List (Coexp K')) → KeepsIn (here C m st) o → Rd st.active m' m ks' st.coexps → (n' : Value → M' → Store K' → State K' M') (n : Value → M → Store K → State K M) → Goes_on n' n st ks' → Sm (made C' o m' (lift st ks') n') (made C o m st n)
+  o_made : (o : Outcome) (m' : M') (m : M) (st : Store K) (ks' : List (Coexp K')) → KeepsIn (here C m st) o → Rd st.active m' m ks' st.coexps → (n' : Value → M' → Store K' → State K' M') (n : Value → M → Store K → State K M) → Goes_on n' n st ks' → Sm (with_made C' o m' (lift st ks') n') (with_made C o m st n)
   o_made (Gives (Val v) seen) m' m st ks' k h n' n f = f v (C'.set_locals seen.locals m') (C.set_locals seen.locals m) seen (r_locals seen.locals st.active m' m ks' st.coexps k.locals h)
   o_made (Gives (Var v) seen) m' m st ks' k h n' n f = same_failing st ks' h
   o_made (Error j v seen) m' m st ks' k h n' n f = same_over
@@ -170,17 +170,17 @@ module _ {K M K' M' : Type 0} (C' : Calls K' M') (C : Calls K M) (P : Program) (
   o_made (Suspends item r seen) m' m st ks' k h n' n f = same_failing st ks' h
   o_made (Ends j seen) m' m st ks' k h n' n f = same_failing st ks' h
 
-  w_made : (f : Setting → Outcome) → ((at : Setting) → KeepsIn at (f at)) → (m' : M') (m : M) (st : Store K) (ks' : List (Coexp K')) → Rd st.active m' m ks' st.coexps → (n' : Value → M' → Store K' → State K' M') (n : Value → M → Store K → State K M) → Goes_on n' n st ks' → Sm (made C' (f (here C' m' (lift st ks'))) m' (lift st ks') n') (made C (f (here C m st)) m st n)
+  w_made : (f : Setting → Outcome) → ((at : Setting) → KeepsIn at (f at)) → (m' : M') (m : M) (st : Store K) (ks' : List (Coexp K')) → Rd st.active m' m ks' st.coexps → (n' : Value → M' → Store K' → State K' M') (n : Value → M → Store K → State K M) → Goes_on n' n st ks' → Sm (with_made C' (f (here C' m' (lift st ks'))) m' (lift st ks') n') (with_made C (f (here C m st)) m st n)
   w_made f k m' m st ks' h n' n g =
-      subst (λ l. Sm (made C' (f (record { world = st.world; locals = l; outside = st.outside })) m' (lift st ks') n') (made C (f (here C m st)) m st n)) (sym (locals_eq st.active m' m ks' st.coexps h))
+      subst (λ l. Sm (with_made C' (f (record { world = st.world; locals = l; outside = st.outside })) m' (lift st ks') n') (with_made C (f (here C m st)) m st n)) (sym (locals_eq st.active m' m ks' st.coexps h))
       (o_made (f (here C m st)) m' m st ks' (k (here C m st)) h n' n g)
 
   w_list : (values : List Value) (m' : M') (m : M) (st : Store K) (ks' : List (Coexp K')) → Rd st.active m' m ks' st.coexps → (n' : Value → M' → Store K' → State K' M') (n : Value → M → Store K → State K M) → Goes_on n' n st ks' → Sm (list_made C' values m' (lift st ks') n') (list_made C values m st n)
   w_list values m' m st ks' h n' n g = w_made (list_row values) (keep.listed values) m' m st ks' h n' n g
 
-  w_collected : (b : Bool) (k : ℕ) (vs : List Value) (m' : M') (m : M) (st : Store K) (ks' : List (Coexp K')) → Rd st.active m' m ks' st.coexps → (n' : List Value → M' → Store K' → State K' M') (n : List Value → M → Store K → State K M) → Goes_on n' n st ks' → Sm (collected C' b k vs m' (lift st ks') n') (collected C b k vs m st n)
-  w_collected false k vs m' m st ks' h n' n f = f (filled k vs) m' m (here C m st) h
-  w_collected true k vs m' m st ks' h n' n f = w_list (drop (k - 1) vs) m' m st ks' h (λ rest m st. n' (filled (k - 1) vs ++ rest ∷ []) m st) (λ rest m st. n (filled (k - 1) vs ++ rest ∷ []) m st) (λ rest a' a seen r. f (filled (k - 1) vs ++ rest ∷ []) a' a seen r)
+  w_collected : (b : Bool) (k : ℕ) (vs : List Value) (m' : M') (m : M) (st : Store K) (ks' : List (Coexp K')) → Rd st.active m' m ks' st.coexps → (n' : List Value → M' → Store K' → State K' M') (n : List Value → M → Store K → State K M) → Goes_on n' n st ks' → Sm (collect_rest C' b k vs m' (lift st ks') n') (collect_rest C b k vs m st n)
+  w_collected false k vs m' m st ks' h n' n f = f (fill_nulls k vs) m' m (here C m st) h
+  w_collected true k vs m' m st ks' h n' n f = w_list (drop (k - 1) vs) m' m st ks' h (λ rest m st. n' (fill_nulls (k - 1) vs ++ rest ∷ []) m st) (λ rest m st. n (fill_nulls (k - 1) vs ++ rest ∷ []) m st) (λ rest a' a seen r. f (fill_nulls (k - 1) vs ++ rest ∷ []) a' a seen r)
 
   w_parameters : (entry : Procedure) (vs : List Value) (m' : M') (m : M) (st : Store K) (ks' : List (Coexp K')) → Rd st.active m' m ks' st.coexps → (n' : List Value → M' → Store K' → State K' M') (n : List Value → M → Store K → State K M) → Goes_on n' n st ks' → Sm (with_parameters C' entry vs m' (lift st ks') n') (with_parameters C entry vs m st n)
   w_parameters entry vs m' m st ks' h n' n f = w_collected entry.collects entry.parameters vs m' m st ks' h n' n f
@@ -200,14 +200,14 @@ module _ {K M K' M' : Type 0} (C' : Calls K' M') (C : Calls K M) (P : Program) (
   activator_eq A k st ks' r = same_activator (A k) _ _ (at_number A k st ks' r)
 
   -- the co-expressions where number n is active
-  active_rests : (w : G.W) (n : ℕ) (st : Store K) (ks' : List (Coexp K')) → Rests (All w) ks' st.coexps → Rests (Others w n) (activated n (lift st ks')).coexps (activated n st).coexps
+  active_rests : (w : G.W) (n : ℕ) (st : Store K) (ks' : List (Coexp K')) → Rests (All w) ks' st.coexps → Rests (Others w n) (make_active n (lift st ks')).coexps (make_active n st).coexps
   active_rests w n st ks' r = rest_out (All w) ks' st.coexps n _ _ (status_set (All w n) (λ k' k. ⊥) _ _ Active Active (at_number (All w) n st ks' r) tt) r
 
   c_fail : (w : G.W) (n : ℕ) (m' : M') (m : M) (st : Store K) (ks' : List (Coexp K')) → G.Holds w m' → Rests (All w) ks' st.coexps → (s' : Status K') (s : Status K) → SameStatus (All w n) s' s
       → Sm (fail_by C' s' n m' (lift st ks')) (fail_by C s n m st)
   c_fail w n m' m st ks' hold r Fresh Fresh h = same_stuck
   c_fail w n m' m st ks' hold r Active Active h = same_stuck
-  c_fail w n m' m st ks' hold r (Waiting k') (Waiting k) h = same_failing (activated n st) (activated n (lift st ks')).coexps (record { world = w; here = G.taken_up w n k' k m' m h hold; rests = active_rests w n st ks' r })
+  c_fail w n m' m st ks' hold r (Waiting k') (Waiting k) h = same_failing (make_active n st) (make_active n (lift st ks')).coexps (record { world = w; here = G.taken_up w n k' k m' m h hold; rests = active_rests w n st ks' r })
   c_fail w n m' m st ks' hold r Exhausted Exhausted h = same_hopping (record st { active = n }) ks' (record { world = w; holds = hold; rests = r })
   c_fail w n m' m st ks' hold r Fresh Active h = absurd h
   c_fail w n m' m st ks' hold r Fresh (Waiting k) h = absurd h
@@ -227,9 +227,9 @@ module _ {K M K' M' : Type 0} (C' : Calls K' M') (C : Calls K M) (P : Program) (
 
   c_give : (value : Value) (w : G.W) (n : ℕ) (m' : M') (m : M) (st : Store K) (ks' : List (Coexp K')) → G.Holds w m' → Rests (All w) ks' st.coexps → (s' : Status K') (s : Status K) → SameStatus (All w n) s' s
       → Sm (give_by C' s' n value m' (lift st ks')) (give_by C s n value m st)
-  c_give value w n m' m st ks' hold r Fresh Fresh h = c_begun w n _ _ m' m (activated n st) (activated n (lift st ks')).coexps hold (at_number (All w) n st ks' r) (active_rests w n st ks' r)
+  c_give value w n m' m st ks' hold r Fresh Fresh h = c_begun w n _ _ m' m (make_active n st) (make_active n (lift st ks')).coexps hold (at_number (All w) n st ks' r) (active_rests w n st ks' r)
   c_give value w n m' m st ks' hold r Active Active h = same_stuck
-  c_give value w n m' m st ks' hold r (Waiting k') (Waiting k) h = p_push (Val value) (C'.taken_up k' m') (C.taken_up k m) (activated n st) (activated n (lift st ks')).coexps (record { world = w; here = G.taken_up w n k' k m' m h hold; rests = active_rests w n st ks' r })
+  c_give value w n m' m st ks' hold r (Waiting k') (Waiting k) h = p_push (Val value) (C'.taken_up k' m') (C.taken_up k m) (make_active n st) (make_active n (lift st ks')).coexps (record { world = w; here = G.taken_up w n k' k m' m h hold; rests = active_rests w n st ks' r })
   c_give value w n m' m st ks' hold r Exhausted Exhausted h = same_hopping (record st { active = n }) ks' (record { world = w; holds = hold; rests = r })
   c_give value w n m' m st ks' hold r Fresh Active h = absurd h
   c_give value w n m' m st ks' hold r Fresh (Waiting k) h = absurd h
@@ -258,7 +258,7 @@ module _ {K M K' M' : Type 0} (C' : Calls K' M') (C : Calls K M) (P : Program) (
   c_hop w m' m st ks' hold r = w_turn st ks' (λ st. passed_failure C' (activator_of st.active st) m' st) (λ st. passed_failure C (activator_of st.active st) m st)
       (c_pass_failure w _ _ m' m (TurnOf st) ks' (activator_eq (All w) st.active st ks' r) hold r)
 
-  c_exhausted : (m' : M') (m : M) (st : Store K) (ks' : List (Coexp K')) → Rd st.active m' m ks' st.coexps → Sm (exhausted C' P m' (lift st ks')) (exhausted C P m st)
+  c_exhausted : (m' : M') (m : M) (st : Store K) (ks' : List (Coexp K')) → Rd st.active m' m ks' st.coexps → Sm (exhaust_active C' P m' (lift st ks')) (exhaust_active C P m st)
   c_exhausted m' m st ks' h = let r = weaken h.world st.active ks' st.coexps h.rests in
       w_turn st ks' (λ st. passed_failure C' (activator_of st.active st) m' (with_status st.active Exhausted st)) (λ st. passed_failure C (activator_of st.active st) m (with_status st.active Exhausted st))
       (c_pass_failure h.world _ _ m' m (with_status st.active Exhausted (TurnOf st)) (with_status st.active Exhausted (lift (TurnOf st) ks')).coexps (activator_eq (All h.world) st.active st ks' r) (G.holds h.world st.active m' m h.here) (c_status h.world st.active Exhausted Exhausted (TurnOf st) ks' r tt))
@@ -269,10 +269,10 @@ module _ {K M K' M' : Type 0} (C' : Calls K' M') (C : Calls K M) (P : Program) (
       (c_status h.world st.active (Waiting (C'.kept m')) (Waiting (C.kept m)) st ks' r (G.kept h.world st.active m' m h.here))
 
   c_made : (values : List Value) (proc place : ℕ) (m' : M') (m : M) (st : Store K) (ks' : List (Coexp K')) → Rd st.active m' m ks' st.coexps → Sm (coexp_made C' values proc place m' (lift st ks')) (coexp_made C values proc place m st)
-  c_made values proc place m' m st ks' h = w_made (coexpression_row (length values)) (keep.created (length values)) m' m st ks' h (λ value m st. pushed C' (Val value) m (with_new values proc place st)) (λ value m st. pushed C (Val value) m (with_new values proc place st)) (λ v a' a seen q.
+  c_made values proc place m' m st ks' h = w_made (coexpression_row (length values)) (keep.created (length values)) m' m st ks' h (λ value m st. push_item C' (Val value) m (with_new values proc place st)) (λ value m st. push_item C (Val value) m (with_new values proc place st)) (λ v a' a seen q.
       p_push (Val v) a' a (with_new values proc place (with_at seen st)) _ (record { world = q.world; here = q.here; rests = rest_more (Others q.world st.active) ks' st.coexps _ _ (λ B. alike Fresh Fresh 0 values proc place tt) q.rests }))
 
-  c_refreshed : (v : Value) (m' : M') (m : M) (st : Store K) (ks' : List (Coexp K')) → Rd st.active m' m ks' st.coexps → Sm (refreshed C' v m' (lift st ks')) (refreshed C v m st)
+  c_refreshed : (v : Value) (m' : M') (m : M) (st : Store K) (ks' : List (Coexp K')) → Rd st.active m' m ks' st.coexps → Sm (refresh C' v m' (lift st ks')) (refresh C v m st)
   c_refreshed (ACoexp zero) m' m st ks' h = same_over
   c_refreshed (ACoexp (suc n)) m' m st ks' h = from (slice_get ks' (suc n)) (slice_get st.coexps (suc n)) (rest_get (Others h.world st.active) ks' st.coexps (suc n) h.rests)
     where
@@ -327,15 +327,15 @@ module _ {K M K' M' : Type 0} (C' : Calls K' M') (C : Calls K M) (P : Program) (
 
   a_called_if : (b : Bool) (k : ℕ) (entry : Procedure) (vs : List Value) (m' : M') (m : M) (st : Store K) (ks' : List (Coexp K')) → Rd st.active m' m ks' st.coexps → Sm (called_if C' b k entry vs m' (lift st ks')) (called_if C b k entry vs m st)
   a_called_if false k entry vs m' m st ks' h = same_over
-  a_called_if true k entry vs m' m st ks' h = w_parameters entry vs m' m st ks' h (λ parameters m st. entered C' k entry parameters m st) (λ parameters m st. entered C k entry parameters m st)
+  a_called_if true k entry vs m' m st ks' h = w_parameters entry vs m' m st ks' h (λ parameters m st. enter_procedure C' k entry parameters m st) (λ parameters m st. enter_procedure C k entry parameters m st)
       (λ ps a' a seen r. same_running (with_at seen st) ks' (r_enter k (ps ++ replicate entry.locals Null) st.active a' a ks' st.coexps r))
 
-  a_called : (k : ℕ) (entry : Procedure) (vs : List Value) (m' : M') (m : M) (st : Store K) (ks' : List (Coexp K')) → Rd st.active m' m ks' st.coexps → Sm (called C' k entry vs m' (lift st ks')) (called C k entry vs m st)
-  a_called k entry vs m' m st ks' h = subst (λ l. Sm (called_if C' (nat_le (suc l) st.world.heap.bounds.levels) k entry vs m' (lift st ks')) (called C k entry vs m st)) (sym (G.level h.world st.active m' m h.here))
+  a_called : (k : ℕ) (entry : Procedure) (vs : List Value) (m' : M') (m : M) (st : Store K) (ks' : List (Coexp K')) → Rd st.active m' m ks' st.coexps → Sm (call_procedure C' k entry vs m' (lift st ks')) (call_procedure C k entry vs m st)
+  a_called k entry vs m' m st ks' h = subst (λ l. Sm (called_if C' (nat_le (suc l) st.world.heap.bounds.levels) k entry vs m' (lift st ks')) (call_procedure C k entry vs m st)) (sym (G.level h.world st.active m' m h.here))
       (a_called_if (nat_le (suc (C.level m)) st.world.heap.bounds.levels) k entry vs m' m st ks' h)
 
-  a_constructed : (k : ℕ) (entry : RecordType) (vs : List Value) (m' : M') (m : M) (st : Store K) (ks' : List (Coexp K')) → Rd st.active m' m ks' st.coexps → Sm (constructed C' k entry vs m' (lift st ks')) (constructed C k entry vs m st)
-  a_constructed k entry vs m' m st ks' h = w_made (record_row k (filled (length entry.fields) vs)) (keep.recorded k (filled (length entry.fields) vs)) m' m st ks' h (λ value m st. pushed C' (Val value) m st) (λ value m st. pushed C (Val value) m st)
+  a_constructed : (k : ℕ) (entry : RecordType) (vs : List Value) (m' : M') (m : M) (st : Store K) (ks' : List (Coexp K')) → Rd st.active m' m ks' st.coexps → Sm (construct_record C' k entry vs m' (lift st ks')) (construct_record C k entry vs m st)
+  a_constructed k entry vs m' m st ks' h = w_made (record_row k (fill_nulls (length entry.fields) vs)) (keep.recorded k (fill_nulls (length entry.fields) vs)) m' m st ks' h (λ value m st. push_item C' (Val value) m st) (λ value m st. push_item C (Val value) m st)
       (λ v a' a seen r. p_push (Val v) a' a (with_at seen st) ks' r)
 
   a_or_fails : (o : Option Item) (m' : M') (m : M) (st : Store K) (ks' : List (Coexp K')) → Rd st.active m' m ks' st.coexps → Sm (pushed_or_fails C' o m' (lift st ks')) (pushed_or_fails C o m st)
@@ -343,22 +343,22 @@ module _ {K M K' M' : Type 0} (C' : Calls K' M') (C : Calls K M) (P : Program) (
   a_or_fails None m' m st ks' h = same_failing st ks' h
 
   a_integer : (v : Value) (o : Option ℤ) (items : List Item) (m' : M') (m : M) (st : Store K) (ks' : List (Coexp K')) → Rd st.active m' m ks' st.coexps → Sm (integer_called C' v o items m' (lift st ks')) (integer_called C v o items m st)
-  a_integer v (Some k) items m' m st ks' h = a_or_fails (chosen k items) m' m st ks' h
+  a_integer v (Some k) items m' m st ks' h = a_or_fails (choose_item k items) m' m st ks' h
   a_integer v None items m' m st ks' h = same_over
 
   a_callee : (c : Callee) (k : ℕ) (items : List Item) (m' : M') (m : M) (st : Store K) (ks' : List (Coexp K')) → Rd st.active m' m ks' st.coexps → Sm (callee_called C' c k items m' (lift st ks')) (callee_called C c k items m st)
-  a_callee (IsProc entry) k items m' m st ks' h = w_values items m' m st ks' h (λ vs. called C' k entry vs m' (lift st ks')) (λ vs. called C k entry vs m st) (λ vs. a_called k entry vs m' m st ks' h)
-  a_callee (IsRecord kind entry) k items m' m st ks' h = w_values items m' m st ks' h (λ vs. constructed C' kind entry vs m' (lift st ks')) (λ vs. constructed C kind entry vs m st) (λ vs. a_constructed kind entry vs m' m st ks' h)
+  a_callee (IsProc entry) k items m' m st ks' h = w_values items m' m st ks' h (λ vs. call_procedure C' k entry vs m' (lift st ks')) (λ vs. call_procedure C k entry vs m st) (λ vs. a_called k entry vs m' m st ks' h)
+  a_callee (IsRecord kind entry) k items m' m st ks' h = w_values items m' m st ks' h (λ vs. construct_record C' kind entry vs m' (lift st ks')) (λ vs. construct_record C kind entry vs m st) (λ vs. a_constructed kind entry vs m' m st ks' h)
   a_callee (IsFunc func) k items m' m st ks' h = w_outcome (apply st.names (Function func) items) (keep.applied st.names (Function func) items) m' m st ks' h
   a_callee IsNothing k items m' m st ks' h = same_over
 
-  a_invoked : (v : Value) (items : List Item) (m' : M') (m : M) (st : Store K) (ks' : List (Coexp K')) → Rd st.active m' m ks' st.coexps → Sm (invoked C' P v items m' (lift st ks')) (invoked C P v items m st)
+  a_invoked : (v : Value) (items : List Item) (m' : M') (m : M) (st : Store K) (ks' : List (Coexp K')) → Rd st.active m' m ks' st.coexps → Sm (invoke_value C' P v items m' (lift st ks')) (invoke_value C P v items m st)
   a_invoked (ProcedureValue k) items m' m st ks' h = a_callee (callee_of P k) k items m' m st ks' h
   a_invoked v items m' m st ks' h = a_integer v (number_of v) items m' m st ks' h
 
   a_invoked_with : (items : List Item) (m' : M') (m : M) (st : Store K) (ks' : List (Coexp K')) → Rd st.active m' m ks' st.coexps → Sm (invoked_with C' P items m' (lift st ks')) (invoked_with C P items m st)
   a_invoked_with [] m' m st ks' h = same_stuck
-  a_invoked_with (callee ∷ items) m' m st ks' h = w_value callee m' m st ks' h (λ v. invoked C' P v items m' (lift st ks')) (λ v. invoked C P v items m st) (λ v. a_invoked v items m' m st ks' h)
+  a_invoked_with (callee ∷ items) m' m st ks' h = w_value callee m' m st ks' h (λ v. invoke_value C' P v items m' (lift st ks')) (λ v. invoke_value C P v items m st) (λ v. a_invoked v items m' m st ks' h)
 
   a_elements : (v from : Value) (m' : M') (m : M) (st : Store K) (ks' : List (Coexp K')) → Rd st.active m' m ks' st.coexps → Sm (elements_called C' P v from m' (lift st ks')) (elements_called C P v from m st)
   a_elements v (AList n) m' m st ks' h = a_invoked v _ m' m st ks' h
@@ -401,7 +401,7 @@ module _ {K M K' M' : Type 0} (C' : Calls K' M') (C : Calls K M) (P : Program) (
   w_back Q (Some x') (Some x) st ks' n' n b f = subst (λ p. Sm (n' (with_pair p (lift st ks'))) (n (with_pair x.0 st))) (sym b.0) (f (record st.world { subject = x.0.subject; position = x.0.position }))
 
   w_exchanged : (o' : Option (Pair × M')) (o : Option (Pair × M)) (st : Store K) (ks' : List (Coexp K')) (n' : M' → Store K' → State K' M') (n : M → Store K → State K M) → Both ⊥ (RdWith st.active ks' st.coexps) o' o
-      → ((a' : M') (a : M) (w : World) → Rd st.active a' a ks' st.coexps → Sm (n' a' (lift (with_world w st) ks')) (n a (with_world w st))) → Sm (exchanged o' n' (lift st ks')) (exchanged o n st)
+      → ((a' : M') (a : M) (w : World) → Rd st.active a' a ks' st.coexps → Sm (n' a' (lift (with_world w st) ks')) (n a (with_world w st))) → Sm (with_exchange o' n' (lift st ks')) (with_exchange o n st)
   w_exchanged None None st ks' n' n b f = same_stuck
   w_exchanged None (Some x) st ks' n' n b f = absurd b
   w_exchanged (Some x') None st ks' n' n b f = absurd b
@@ -415,20 +415,20 @@ module _ {K M K' M' : Type 0} (C' : Calls K' M') (C : Calls K M) (P : Program) (
   w_maybe (Some x') (Some x) m' m st ks' n' n h b f = subst (λ p. Sm (n' x'.1 (with_pair p (lift st ks'))) (n x.1 (with_pair x.0 st))) (sym b.0) (f x'.1 x.1 (record st.world { subject = x.0.subject; position = x.0.position }) b.1)
 
   w_popped : (m' : M') (m : M) (st : Store K) (ks' : List (Coexp K')) → Rd st.active m' m ks' st.coexps → (n' : Item → M' → State K' M') (n : Item → M → State K M) → ((item : Item) (a' : M') (a : M) → Rd st.active a' a ks' st.coexps → Sm (n' item a') (n item a)) → Sm (with_popped C' m' n') (with_popped C m n)
-  w_popped m' m st ks' h n' n f = w_found (RdWith {A = Item} st.active ks' st.coexps) (C'.pop m') (C.pop m) (parted n') (parted n) (b_with st.active m' m ks' st.coexps (C'.pop m') (C.pop m) h (G.pop h.world st.active m' m h.here))
+  w_popped m' m st ks' h n' n f = w_found (RdWith {A = Item} st.active ks' st.coexps) (C'.pop m') (C.pop m) (on_pair n') (on_pair n) (b_with st.active m' m ks' st.coexps (C'.pop m') (C.pop m) h (G.pop h.world st.active m' m h.here))
       (λ x' x q. subst (λ i. Sm (n' i x'.1) (n x.0 x.1)) (sym q.0) (f x.0 x'.1 x.1 q.1))
 
   w_taken : (k : ℕ) (m' : M') (m : M) (st : Store K) (ks' : List (Coexp K')) → Rd st.active m' m ks' st.coexps → (n' : List Item → M' → State K' M') (n : List Item → M → State K M) → ((items : List Item) (a' : M') (a : M) → Rd st.active a' a ks' st.coexps → Sm (n' items a') (n items a)) → Sm (with_taken C' k m' n') (with_taken C k m n)
-  w_taken k m' m st ks' h n' n f = w_found (RdWith {A = List Item} st.active ks' st.coexps) (C'.take k m') (C.take k m) (parted n') (parted n) (b_with st.active m' m ks' st.coexps (C'.take k m') (C.take k m) h (G.take k h.world st.active m' m h.here))
+  w_taken k m' m st ks' h n' n f = w_found (RdWith {A = List Item} st.active ks' st.coexps) (C'.take k m') (C.take k m) (on_pair n') (on_pair n) (b_with st.active m' m ks' st.coexps (C'.take k m') (C.take k m) h (G.take k h.world st.active m' m h.here))
       (λ x' x q. subst (λ i. Sm (n' i x'.1) (n x.0 x.1)) (sym q.0) (f x.0 x'.1 x.1 q.1))
 
   w_unmarked : (m' : M') (m : M) (st : Store K) (ks' : List (Coexp K')) → Rd st.active m' m ks' st.coexps → (n' : M' → Store K' → State K' M') (n : M → Store K → State K M)
-      → ((a' : M') (a : M) (w : World) → Rd st.active a' a ks' st.coexps → Sm (n' a' (lift (with_world w st) ks')) (n a (with_world w st))) → Sm (unmarked C' m' (lift st ks') n') (unmarked C m st n)
-  w_unmarked m' m st ks' h n' n f = w_found (λ x' x. Tn h.world st.active x'.0 x.0 × (x'.1 ≡ x.1)) (C'.unmark m') (C.unmark m) (parted (λ outside pair. n' outside (scans_left pair (lift st ks')))) (parted (λ outside pair. n outside (scans_left pair st))) (G.unmark h.world st.active m' m h.here)
+      → ((a' : M') (a : M) (w : World) → Rd st.active a' a ks' st.coexps → Sm (n' a' (lift (with_world w st) ks')) (n a (with_world w st))) → Sm (unmark_then C' m' (lift st ks') n') (unmark_then C m st n)
+  w_unmarked m' m st ks' h n' n f = w_found (λ x' x. Tn h.world st.active x'.0 x.0 × (x'.1 ≡ x.1)) (C'.unmark m') (C.unmark m) (on_pair (λ outside pair. n' outside (scans_left pair (lift st ks')))) (on_pair (λ outside pair. n outside (scans_left pair st))) (G.unmark h.world st.active m' m h.here)
       (λ x' x q. w_left x'.1 x.1 st ks' (n' x'.0) (n x.0) q.1 (λ w. f x'.0 x.0 w (r_then st.active x'.0 x.0 ks' st.coexps h.world h.rests q.0)))
 
   w_returned : (o' : Option M') (o : Option M) (st : Store K) (ks' : List (Coexp K')) (n' : M' → Store K' → State K' M') (n : M → Store K → State K M) → Both ⊥ (λ a' a. Rd st.active a' a ks' st.coexps) o' o
-      → ((a' : M') (a : M) → Rd st.active a' a ks' st.coexps → Sm (n' a' (lift st ks')) (n a st)) → Sm (returned o' n' (lift st ks')) (returned o n st)
+      → ((a' : M') (a : M) → Rd st.active a' a ks' st.coexps → Sm (n' a' (lift st ks')) (n a st)) → Sm (return_to o' n' (lift st ks')) (return_to o n st)
   w_returned None None st ks' n' n b f = either (is_main st.active) _ _ _ _ same_over same_stuck
   w_returned None (Some x) st ks' n' n b f = absurd b
   w_returned (Some x') None st ks' n' n b f = absurd b
@@ -450,8 +450,8 @@ module _ {K M K' M' : Type 0} (C' : Calls K' M') (C : Calls K M) (P : Program) (
 
   -- back in the caller, with all scans left
   w_all_left : (m' : M') (m : M) (st : Store K) (ks' : List (Coexp K')) → Rd st.active m' m ks' st.coexps → (n' : M' → Store K' → State K' M') (n : M → Store K → State K M)
-      → ((a' : M') (a : M) (w : World) → Rd st.active a' a ks' st.coexps → Sm (n' a' (lift (with_world w st) ks')) (n a (with_world w st))) → Sm (returned (C'.leave m') n' (all_left C' m' (lift st ks'))) (returned (C.leave m) n (all_left C m st))
-  w_all_left m' m st ks' h n' n f = w_back (λ a' a. Rd st.active a' a ks' st.coexps) (C'.swap_oldest (pair_now st) m') (C.swap_oldest (pair_now st) m) st ks' (returned (C'.leave m') n') (returned (C.leave m) n) (b_oldest (pair_now st) st.active m' m ks' st.coexps h)
+      → ((a' : M') (a : M) (w : World) → Rd st.active a' a ks' st.coexps → Sm (n' a' (lift (with_world w st) ks')) (n a (with_world w st))) → Sm (return_to (C'.leave m') n' (all_left C' m' (lift st ks'))) (return_to (C.leave m) n (all_left C m st))
+  w_all_left m' m st ks' h n' n f = w_back (λ a' a. Rd st.active a' a ks' st.coexps) (C'.swap_oldest (pair_now st) m') (C.swap_oldest (pair_now st) m) st ks' (return_to (C'.leave m') n') (return_to (C.leave m) n) (b_oldest (pair_now st) st.active m' m ks' st.coexps h)
       (λ w. w_returned (C'.leave m') (C.leave m) (with_world w st) ks' n' n (b_leave st.active m' m ks' st.coexps h) (λ a' a r. f a' a w r))
 
   l_proc_fails : (m' : M') (m : M) (st : Store K) (ks' : List (Coexp K')) → Rd st.active m' m ks' st.coexps → Sm (proc_fails C' m' (lift st ks')) (proc_fails C m st)
@@ -462,7 +462,7 @@ module _ {K M K' M' : Type 0} (C' : Calls K' M') (C : Calls K M) (P : Program) (
 
   -- instructions
 
-  l_limited : (v : Value) (o : Option ℤ) (m' : M') (m : M) (st : Store K) (ks' : List (Coexp K')) → Rd st.active m' m ks' st.coexps → Sm (limited C' v o m' (lift st ks')) (limited C v o m st)
+  l_limited : (v : Value) (o : Option ℤ) (m' : M') (m : M) (st : Store K) (ks' : List (Coexp K')) → Rd st.active m' m ks' st.coexps → Sm (limit_results C' v o m' (lift st ks')) (limit_results C v o m st)
   l_limited v None m' m st ks' h = same_over
   l_limited v (Some (negsuc k)) m' m st ks' h = same_over
   l_limited v (Some (pos zero)) m' m st ks' h = same_failing st ks' h
@@ -471,36 +471,36 @@ module _ {K M K' M' : Type 0} (C' : Calls K' M') (C : Calls K M) (P : Program) (
   b_suspend_mark : (s : ℕ) (m' : M') (m : M) (ks' : List (Coexp K')) (ks : List (Coexp K)) → Rd s m' m ks' ks → Both ⊥ (λ a' a. Rd s a' a ks' ks) (C'.suspend_mark m') (C.suspend_mark m)
   b_suspend_mark s m' m ks' ks h = b_then ⊥ s m' m ks' ks (C'.suspend_mark m') (C.suspend_mark m) h (G.suspend_mark h.world s m' m h.here)
 
-  l_esusp : (item : Item) (m' : M') (m : M) (st : Store K) (ks' : List (Coexp K')) → Rd st.active m' m ks' st.coexps → Sm (with_found (C'.suspend_mark m') (λ after. pushed C' item after (lift st ks'))) (with_found (C.suspend_mark m) (λ after. pushed C item after st))
-  l_esusp item m' m st ks' h = w_found (λ a' a. Rd st.active a' a ks' st.coexps) (C'.suspend_mark m') (C.suspend_mark m) (λ after. pushed C' item after (lift st ks')) (λ after. pushed C item after st) (b_suspend_mark st.active m' m ks' st.coexps h)
+  l_esusp : (item : Item) (m' : M') (m : M) (st : Store K) (ks' : List (Coexp K')) → Rd st.active m' m ks' st.coexps → Sm (with_found (C'.suspend_mark m') (λ after. push_item C' item after (lift st ks'))) (with_found (C.suspend_mark m) (λ after. push_item C item after st))
+  l_esusp item m' m st ks' h = w_found (λ a' a. Rd st.active a' a ks' st.coexps) (C'.suspend_mark m') (C.suspend_mark m) (λ after. push_item C' item after (lift st ks')) (λ after. push_item C item after st) (b_suspend_mark st.active m' m ks' st.coexps h)
       (λ a' a r. p_push item a' a st ks' r)
 
   l_limited_result : (item : Item) (k : ℕ) (m' : M') (m : M) (st : Store K) (ks' : List (Coexp K')) → Rd st.active m' m ks' st.coexps → Sm (limited_result C' item k m' (lift st ks')) (limited_result C item k m st)
-  l_limited_result item zero m' m st ks' h = w_unmarked m' m st ks' h (pushed C' item) (pushed C item) (λ a' a w r. p_push item a' a (with_world w st) ks' r)
+  l_limited_result item zero m' m st ks' h = w_unmarked m' m st ks' h (push_item C' item) (push_item C item) (λ a' a w r. p_push item a' a (with_world w st) ks' r)
   l_limited_result item (suc k) m' m st ks' h = l_esusp item m' m st ks' h
 
   l_scan : (v : Value) (m' : M') (m : M) (st : Store K) (ks' : List (Coexp K')) → Rd st.active m' m ks' st.coexps → Sm (scan_opened C' v m' (lift st ks')) (scan_opened C v m st)
   l_scan (Text text) m' m st ks' h = same_running (with_pair (record { subject = text; position = 1 }) st) ks' (r_suspend (Scan (pair_now st)) st.active m' m ks' st.coexps h)
   l_scan _ m' m st ks' h = same_failing st ks' h
 
-  l_keyword : (keyword : Keyword) (m' : M') (m : M) (st : Store K) (ks' : List (Coexp K')) → Rd st.active m' m ks' st.coexps → Sm (pushed_or_fails C' (keyword_item (standing C' m' (lift st ks')) keyword) m' (lift st ks')) (pushed_or_fails C (keyword_item (standing C m st) keyword) m st)
+  l_keyword : (keyword : Keyword) (m' : M') (m : M) (st : Store K) (ks' : List (Coexp K')) → Rd st.active m' m ks' st.coexps → Sm (pushed_or_fails C' (keyword_item (standing_of C' m' (lift st ks')) keyword) m' (lift st ks')) (pushed_or_fails C (keyword_item (standing_of C m st) keyword) m st)
   l_keyword keyword m' m st ks' h =
-      subst (λ l. Sm (pushed_or_fails C' (keyword_item (record { level = l; current = st.active; source = activator_of st.active (lift st ks') }) keyword) m' (lift st ks')) (pushed_or_fails C (keyword_item (standing C m st) keyword) m st)) (sym (G.level h.world st.active m' m h.here))
-      (subst (λ n. Sm (pushed_or_fails C' (keyword_item (record { level = C.level m; current = st.active; source = n }) keyword) m' (lift st ks')) (pushed_or_fails C (keyword_item (standing C m st) keyword) m st)) (sym (activator_eq (Others h.world st.active) st.active st ks' h.rests))
-      (a_or_fails (keyword_item (standing C m st) keyword) m' m st ks' h))
+      subst (λ l. Sm (pushed_or_fails C' (keyword_item (record { level = l; current = st.active; source = activator_of st.active (lift st ks') }) keyword) m' (lift st ks')) (pushed_or_fails C (keyword_item (standing_of C m st) keyword) m st)) (sym (G.level h.world st.active m' m h.here))
+      (subst (λ n. Sm (pushed_or_fails C' (keyword_item (record { level = C.level m; current = st.active; source = n }) keyword) m' (lift st ks')) (pushed_or_fails C (keyword_item (standing_of C m st) keyword) m st)) (sym (activator_eq (Others h.world st.active) st.active st ks' h.rests))
+      (a_or_fails (keyword_item (standing_of C m st) keyword) m' m st ks' h))
 
-  l_refreshed : (items : List Item) (m' : M') (m : M) (st : Store K) (ks' : List (Coexp K')) → Rd st.active m' m ks' st.coexps → Sm (operated C' Ops.Refresh items m' (lift st ks')) (operated C Ops.Refresh items m st)
+  l_refreshed : (items : List Item) (m' : M') (m : M) (st : Store K) (ks' : List (Coexp K')) → Rd st.active m' m ks' st.coexps → Sm (operate C' Ops.Refresh items m' (lift st ks')) (operate C Ops.Refresh items m st)
   l_refreshed [] m' m st ks' h = w_outcome (apply st.names (Operation Ops.Refresh) []) (keep.applied st.names (Operation Ops.Refresh) []) m' m st ks' h
-  l_refreshed (item ∷ items) m' m st ks' h = w_value item m' m st ks' h (λ value. refreshed C' value m' (lift st ks')) (λ value. refreshed C value m st) (λ v. c_refreshed v m' m st ks' h)
+  l_refreshed (item ∷ items) m' m st ks' h = w_value item m' m st ks' h (λ value. refresh C' value m' (lift st ks')) (λ value. refresh C value m st) (λ v. c_refreshed v m' m st ks' h)
 
-  l_operated : (op : Op) (items : List Item) (m' : M') (m : M) (st : Store K) (ks' : List (Coexp K')) → Rd st.active m' m ks' st.coexps → Sm (operated C' op items m' (lift st ks')) (operated C op items m st)
+  l_operated : (op : Op) (items : List Item) (m' : M') (m : M) (st : Store K) (ks' : List (Coexp K')) → Rd st.active m' m ks' st.coexps → Sm (operate C' op items m' (lift st ks')) (operate C op items m st)
   l_operated Ops.Refresh items m' m st ks' h = l_refreshed items m' m st ks' h
   l_operated op items m' m st ks' h = w_outcome (apply st.names (Operation op) items) (keep.applied st.names (Operation op) items) m' m st ks' h
 
   l_op : (op : Op) (m' : M') (m : M) (st : Store K) (ks' : List (Coexp K')) → Rd st.active m' m ks' st.coexps
-      → Sm (with_taken C' (arity op) m' (λ items m. turn P (lift st ks') (operated C' op items m))) (with_taken C (arity op) m (λ items m. turn P st (operated C op items m)))
-  l_op op m' m st ks' h = w_taken (arity op) m' m st ks' h (λ items m. turn P (lift st ks') (operated C' op items m)) (λ items m. turn P st (operated C op items m))
-      (λ items a' a r. w_turn st ks' (operated C' op items a') (operated C op items a) (l_operated op items a' a (TurnOf st) ks' r))
+      → Sm (with_taken C' (arity op) m' (λ items m. turn P (lift st ks') (operate C' op items m))) (with_taken C (arity op) m (λ items m. turn P st (operate C op items m)))
+  l_op op m' m st ks' h = w_taken (arity op) m' m st ks' h (λ items m. turn P (lift st ks') (operate C' op items m)) (λ items m. turn P st (operate C op items m))
+      (λ items a' a r. w_turn st ks' (operate C' op items a') (operate C op items a) (l_operated op items a' a (TurnOf st) ks' r))
 
   l_init_if : (b : Bool) (label : ℕ) (m' : M') (m : M) (st : Store K) (ks' : List (Coexp K')) → Rd st.active m' m ks' st.coexps → Sm (initial_if C' b label m' (lift st ks')) (initial_if C b label m st)
   l_init_if true label m' m st ks' h = same_running st ks' (r_go label st.active m' m ks' st.coexps h)
@@ -511,9 +511,9 @@ module _ {K M K' M' : Type 0} (C' : Calls K' M') (C : Calls K M) (P : Program) (
       (l_init_if (slice_index_or st.begun (C.proc m) true) label m' m st ks' h)
 
   l_psusp : (result : Item) (m' : M') (m : M) (st : Store K) (ks' : List (Coexp K')) → Rd st.active m' m ks' st.coexps
-      → Sm (maybe_exchanged (C'.swap_oldest (pair_now st) m') m' (lift st ks') (λ m. returned (C'.suspend_proc m) (pushed C' result))) (maybe_exchanged (C.swap_oldest (pair_now st) m) m st (λ m. returned (C.suspend_proc m) (pushed C result)))
-  l_psusp result m' m st ks' h = w_maybe (C'.swap_oldest (pair_now st) m') (C.swap_oldest (pair_now st) m) m' m st ks' (λ m. returned (C'.suspend_proc m) (pushed C' result)) (λ m. returned (C.suspend_proc m) (pushed C result)) h (b_oldest (pair_now st) st.active m' m ks' st.coexps h)
-      (λ a' a w r. w_returned (C'.suspend_proc a') (C.suspend_proc a) (with_world w st) ks' (pushed C' result) (pushed C result) (b_then ⊥ st.active a' a ks' st.coexps (C'.suspend_proc a') (C.suspend_proc a) r (G.suspend_proc r.world st.active a' a r.here))
+      → Sm (maybe_exchanged (C'.swap_oldest (pair_now st) m') m' (lift st ks') (λ m. return_to (C'.suspend_proc m) (push_item C' result))) (maybe_exchanged (C.swap_oldest (pair_now st) m) m st (λ m. return_to (C.suspend_proc m) (push_item C result)))
+  l_psusp result m' m st ks' h = w_maybe (C'.swap_oldest (pair_now st) m') (C.swap_oldest (pair_now st) m) m' m st ks' (λ m. return_to (C'.suspend_proc m) (push_item C' result)) (λ m. return_to (C.suspend_proc m) (push_item C result)) h (b_oldest (pair_now st) st.active m' m ks' st.coexps h)
+      (λ a' a w r. w_returned (C'.suspend_proc a') (C.suspend_proc a) (with_world w st) ks' (push_item C' result) (push_item C result) (b_then ⊥ st.active a' a ks' st.coexps (C'.suspend_proc a') (C.suspend_proc a) r (G.suspend_proc r.world st.active a' a r.here))
       (λ b' b q. p_push result b' b (with_world w st) ks' q))
 
   l_create : (label : ℕ) (m' : M') (m : M) (st : Store K) (ks' : List (Coexp K')) → Rd st.active m' m ks' st.coexps
@@ -525,30 +525,30 @@ module _ {K M K' M' : Type 0} (C' : Calls K' M') (C : Calls K M) (P : Program) (
       (w_turn st ks' (coexp_made C' (C.locals m) (C.proc m) (C.place m) (C'.go label m')) (coexp_made C (C.locals m) (C.proc m) (C.place m) (C.go label m))
       (c_made (C.locals m) (C.proc m) (C.place m) (C'.go label m') (C.go label m) (TurnOf st) ks' (r_go label st.active m' m ks' st.coexps h)))))
 
-  l_below : (m' : M') (m : M) (st : Store K) (ks' : List (Coexp K')) → Rd st.active m' m ks' st.coexps → Sm (with_found (C'.below m') (λ item. pushed C' item m' (lift st ks'))) (with_found (C.below m) (λ item. pushed C item m st))
-  l_below m' m st ks' h = subst (λ o. Sm (with_found o (λ item. pushed C' item m' (lift st ks'))) (with_found (C.below m) (λ item. pushed C item m st))) (sym (G.below h.world st.active m' m h.here))
-      (w_same (C.below m) (λ item. pushed C' item m' (lift st ks')) (λ item. pushed C item m st) (λ item. p_push item m' m st ks' h))
+  l_below : (m' : M') (m : M) (st : Store K) (ks' : List (Coexp K')) → Rd st.active m' m ks' st.coexps → Sm (with_found (C'.below m') (λ item. push_item C' item m' (lift st ks'))) (with_found (C.below m) (λ item. push_item C item m st))
+  l_below m' m st ks' h = subst (λ o. Sm (with_found o (λ item. push_item C' item m' (lift st ks'))) (with_found (C.below m) (λ item. push_item C item m st))) (sym (G.below h.world st.active m' m h.here))
+      (w_same (C.below m) (λ item. push_item C' item m' (lift st ks')) (λ item. push_item C item m st) (λ item. p_push item m' m st ks' h))
 
   l_static : (k : ℕ) (m' : M') (m : M) (st : Store K) (ks' : List (Coexp K')) → Rd st.active m' m ks' st.coexps → Sm (instruction C' P (I.Static k) m' (lift st ks')) (instruction C P (I.Static k) m st)
-  l_static k m' m st ks' h = subst (λ p. Sm (pushed C' (Var (Whole (Static (statics_before P p + k)))) m' (lift st ks')) (instruction C P (I.Static k) m st)) (sym (G.proc h.world st.active m' m h.here)) (p_push _ m' m st ks' h)
+  l_static k m' m st ks' h = subst (λ p. Sm (push_item C' (Var (Whole (Static (statics_before P p + k)))) m' (lift st ks')) (instruction C P (I.Static k) m st)) (sym (G.proc h.world st.active m' m h.here)) (p_push _ m' m st ks' h)
 
   -- the place is that of the next instruction
   pub l_instruction : (i : Instr) (m' : M') (m : M) (st : Store K) (ks' : List (Coexp K')) → slice_get (instrs_of P (C.proc m)) (pred (C.place m)) ≡ Some i → Rd st.active m' m ks' st.coexps → ((label : ℕ) → i ≡ I.Chfail label → Lacks m' → Lost) → Sm (instruction C' P i m' (lift st ks')) (instruction C P i m st)
   l_instruction I.Pnull m' m st ks' e h d = p_push (Val Null) m' m st ks' h
-  l_instruction (I.Int k) m' m st ks' e h d = w_same (slice_get P.integers k) (λ n. pushed C' (Val (Integer n)) m' (lift st ks')) (λ n. pushed C (Val (Integer n)) m st) (λ x. p_push (Val (Integer x)) m' m st ks' h)
-  l_instruction (I.Str k) m' m st ks' e h d = w_same (slice_get P.strings k) (λ n. pushed C' (Val (Text n)) m' (lift st ks')) (λ n. pushed C (Val (Text n)) m st) (λ x. p_push (Val (Text x)) m' m st ks' h)
-  l_instruction (I.Cset k) m' m st ks' e h d = w_same (slice_get P.csets k) (λ n. pushed C' (Val (Chars (members_of n))) m' (lift st ks')) (λ n. pushed C (Val (Chars (members_of n))) m st) (λ x. p_push (Val (Chars (members_of x))) m' m st ks' h)
+  l_instruction (I.Int k) m' m st ks' e h d = w_same (slice_get P.integers k) (λ n. push_item C' (Val (Integer n)) m' (lift st ks')) (λ n. push_item C (Val (Integer n)) m st) (λ x. p_push (Val (Integer x)) m' m st ks' h)
+  l_instruction (I.Str k) m' m st ks' e h d = w_same (slice_get P.strings k) (λ n. push_item C' (Val (Text n)) m' (lift st ks')) (λ n. push_item C (Val (Text n)) m st) (λ x. p_push (Val (Text x)) m' m st ks' h)
+  l_instruction (I.Cset k) m' m st ks' e h d = w_same (slice_get P.csets k) (λ n. push_item C' (Val (Chars (members_of n))) m' (lift st ks')) (λ n. push_item C (Val (Chars (members_of n))) m st) (λ x. p_push (Val (Chars (members_of x))) m' m st ks' h)
   l_instruction (I.Local k) m' m st ks' e h d = p_push _ m' m st ks' h
   l_instruction (I.Static k) m' m st ks' e h d = l_static k m' m st ks' h
   l_instruction (I.Global k) m' m st ks' e h d = p_push _ m' m st ks' h
   l_instruction (I.Keywd keyword) m' m st ks' e h d = l_keyword keyword m' m st ks' h
   l_instruction I.Pop m' m st ks' e h d = w_popped m' m st ks' h (λ item m. running m (lift st ks')) (λ item m. running m st) (λ item a' a r. same_running st ks' r)
-  l_instruction I.Dup m' m st ks' e h d = w_popped m' m st ks' h (λ item below. pushed C' item m' (lift st ks')) (λ item below. pushed C item m st) (λ item a' a r. p_push item m' m st ks' h)
+  l_instruction I.Dup m' m st ks' e h d = w_popped m' m st ks' h (λ item below. push_item C' item m' (lift st ks')) (λ item below. push_item C item m st) (λ item a' a r. p_push item m' m st ks' h)
   l_instruction (I.Op op) m' m st ks' e h d = l_op op m' m st ks' h
-  l_instruction (I.Llist k) m' m st ks' e h d = w_taken k m' m st ks' h (λ items m. turn P (lift st ks') (λ st. with_values C' items m st (λ values. list_made C' values m st (λ list m st. pushed C' (Val list) m st)))) (λ items m. turn P st (λ st. with_values C items m st (λ values. list_made C values m st (λ list m st. pushed C (Val list) m st))))
-      (λ items a' a r. w_turn st ks' (λ st. with_values C' items a' st (λ values. list_made C' values a' st (λ list m st. pushed C' (Val list) m st))) (λ st. with_values C items a st (λ values. list_made C values a st (λ list m st. pushed C (Val list) m st)))
-      (w_values items a' a (TurnOf st) ks' r (λ values. list_made C' values a' (lift (TurnOf st) ks') (λ list m st. pushed C' (Val list) m st)) (λ values. list_made C values a (TurnOf st) (λ list m st. pushed C (Val list) m st))
-      (λ vs. w_list vs a' a (TurnOf st) ks' r (λ list m st. pushed C' (Val list) m st) (λ list m st. pushed C (Val list) m st) (λ v b' b seen q. p_push (Val v) b' b (with_at seen (TurnOf st)) ks' q))))
+  l_instruction (I.Llist k) m' m st ks' e h d = w_taken k m' m st ks' h (λ items m. turn P (lift st ks') (λ st. with_values C' items m st (λ values. list_made C' values m st (λ list m st. push_item C' (Val list) m st)))) (λ items m. turn P st (λ st. with_values C items m st (λ values. list_made C values m st (λ list m st. push_item C (Val list) m st))))
+      (λ items a' a r. w_turn st ks' (λ st. with_values C' items a' st (λ values. list_made C' values a' st (λ list m st. push_item C' (Val list) m st))) (λ st. with_values C items a st (λ values. list_made C values a st (λ list m st. push_item C (Val list) m st)))
+      (w_values items a' a (TurnOf st) ks' r (λ values. list_made C' values a' (lift (TurnOf st) ks') (λ list m st. push_item C' (Val list) m st)) (λ values. list_made C values a (TurnOf st) (λ list m st. push_item C (Val list) m st))
+      (λ vs. w_list vs a' a (TurnOf st) ks' r (λ list m st. push_item C' (Val list) m st) (λ list m st. push_item C (Val list) m st) (λ v b' b seen q. p_push (Val v) b' b (with_at seen (TurnOf st)) ks' q))))
   l_instruction (I.Field k) m' m st ks' e h d = w_taken 1 m' m st ks' h (λ items m. turn P (lift st ks') (field_applied C' P k items m)) (λ items m. turn P st (field_applied C P k items m))
       (λ items a' a r. w_turn st ks' (field_applied C' P k items a') (field_applied C P k items a) (a_field_applied k items a' a (TurnOf st) ks' r))
   l_instruction (I.Invoke k) m' m st ks' e h d = w_taken (suc k) m' m st ks' h (λ items m. turn P (lift st ks') (invoked_with C' P items m)) (λ items m. turn P st (invoked_with C P items m))
@@ -558,14 +558,14 @@ module _ {K M K' M' : Type 0} (C' : Calls K' M') (C : Calls K M) (P : Program) (
   l_instruction (I.Mark l) m' m st ks' e h d = same_running st ks' (r_mark (Some l) st.active m' m ks' st.coexps e h)
   l_instruction I.Mark0 m' m st ks' e h d = same_running st ks' (r_mark None st.active m' m ks' st.coexps e h)
   l_instruction I.Unmark m' m st ks' e h d = w_unmarked m' m st ks' h running running (λ a' a w r. same_running (with_world w st) ks' r)
-  l_instruction I.Eret m' m st ks' e h d = w_popped m' m st ks' h (λ item m. with_value C' item m (lift st ks') (λ value. unmarked C' m (lift st ks') (pushed C' (Val value)))) (λ item m. with_value C item m st (λ value. unmarked C m st (pushed C (Val value))))
-      (λ item a' a r. w_value item a' a st ks' r (λ value. unmarked C' a' (lift st ks') (pushed C' (Val value))) (λ value. unmarked C a st (pushed C (Val value)))
-      (λ v. w_unmarked a' a st ks' r (pushed C' (Val v)) (pushed C (Val v)) (λ b' b w q. p_push (Val v) b' b (with_world w st) ks' q)))
-  l_instruction I.Esusp m' m st ks' e h d = w_popped m' m st ks' h (λ item m. with_found (C'.suspend_mark m) (λ m. pushed C' item m (lift st ks'))) (λ item m. with_found (C.suspend_mark m) (λ m. pushed C item m st)) (λ item a' a r. l_esusp item a' a st ks' r)
-  l_instruction I.Limit m' m st ks' e h d = w_popped m' m st ks' h (λ item m. with_value C' item m (lift st ks') (λ value. limited C' value (integer_of value) m (lift st ks'))) (λ item m. with_value C item m st (λ value. limited C value (integer_of value) m st))
-      (λ item a' a r. w_value item a' a st ks' r (λ value. limited C' value (integer_of value) a' (lift st ks')) (λ value. limited C value (integer_of value) a st) (λ v. l_limited v (integer_of v) a' a st ks' r))
-  l_instruction I.Lsusp m' m st ks' e h d = w_popped m' m st ks' h (λ item m. with_found (C'.count_down m) (parted (λ count m. limited_result C' item count m (lift st ks')))) (λ item m. with_found (C.count_down m) (parted (λ count m. limited_result C item count m st)))
-      (λ item a' a r. w_found (RdWith {A = ℕ} st.active ks' st.coexps) (C'.count_down a') (C.count_down a) (parted (λ count m. limited_result C' item count m (lift st ks'))) (parted (λ count m. limited_result C item count m st))
+  l_instruction I.Eret m' m st ks' e h d = w_popped m' m st ks' h (λ item m. with_value C' item m (lift st ks') (λ value. unmark_then C' m (lift st ks') (push_item C' (Val value)))) (λ item m. with_value C item m st (λ value. unmark_then C m st (push_item C (Val value))))
+      (λ item a' a r. w_value item a' a st ks' r (λ value. unmark_then C' a' (lift st ks') (push_item C' (Val value))) (λ value. unmark_then C a st (push_item C (Val value)))
+      (λ v. w_unmarked a' a st ks' r (push_item C' (Val v)) (push_item C (Val v)) (λ b' b w q. p_push (Val v) b' b (with_world w st) ks' q)))
+  l_instruction I.Esusp m' m st ks' e h d = w_popped m' m st ks' h (λ item m. with_found (C'.suspend_mark m) (λ m. push_item C' item m (lift st ks'))) (λ item m. with_found (C.suspend_mark m) (λ m. push_item C item m st)) (λ item a' a r. l_esusp item a' a st ks' r)
+  l_instruction I.Limit m' m st ks' e h d = w_popped m' m st ks' h (λ item m. with_value C' item m (lift st ks') (λ value. limit_results C' value (integer_of value) m (lift st ks'))) (λ item m. with_value C item m st (λ value. limit_results C value (integer_of value) m st))
+      (λ item a' a r. w_value item a' a st ks' r (λ value. limit_results C' value (integer_of value) a' (lift st ks')) (λ value. limit_results C value (integer_of value) a st) (λ v. l_limited v (integer_of v) a' a st ks' r))
+  l_instruction I.Lsusp m' m st ks' e h d = w_popped m' m st ks' h (λ item m. with_found (C'.count_down m) (on_pair (λ count m. limited_result C' item count m (lift st ks')))) (λ item m. with_found (C.count_down m) (on_pair (λ count m. limited_result C item count m st)))
+      (λ item a' a r. w_found (RdWith {A = ℕ} st.active ks' st.coexps) (C'.count_down a') (C.count_down a) (on_pair (λ count m. limited_result C' item count m (lift st ks'))) (on_pair (λ count m. limited_result C item count m st))
       (b_with st.active a' a ks' st.coexps (C'.count_down a') (C.count_down a) r (G.count_down r.world st.active a' a r.here))
       (λ x' x q. subst (λ k. Sm (limited_result C' item k x'.1 (lift st ks')) (limited_result C item x.0 x.1 st)) (sym q.0) (l_limited_result item x.0 x'.1 x.1 st ks' q.1)))
   l_instruction I.Efail m' m st ks' e h d = same_failing st ks' h
@@ -573,22 +573,22 @@ module _ {K M K' M' : Type 0} (C' : Calls K' M') (C : Calls K M) (P : Program) (
       (b_then (Lacks m') st.active m' m ks' st.coexps (C'.relabel l m') (C.relabel l m) h (G.relabel l h.world st.active m' m h.here)) (λ a' a r. same_running st ks' r)
   l_instruction (I.Goto l) m' m st ks' e h d = same_running st ks' (r_go l st.active m' m ks' st.coexps h)
   l_instruction (I.Loop l) m' m st ks' e h d = w_turn st ks' (running (C'.go l m')) (running (C.go l m)) (same_running (TurnOf st) ks' (r_go l st.active m' m ks' st.coexps h))
-  l_instruction I.Bscan m' m st ks' e h d = w_popped m' m st ks' h (λ item m. with_value C' item m (lift st ks') (λ value. made C' (text_row value (here C' m (lift st ks'))) m (lift st ks') (scan_opened C'))) (λ item m. with_value C item m st (λ value. made C (text_row value (here C m st)) m st (scan_opened C)))
-      (λ item a' a r. w_value item a' a st ks' r (λ value. made C' (text_row value (here C' a' (lift st ks'))) a' (lift st ks') (scan_opened C')) (λ value. made C (text_row value (here C a st)) a st (scan_opened C))
+  l_instruction I.Bscan m' m st ks' e h d = w_popped m' m st ks' h (λ item m. with_value C' item m (lift st ks') (λ value. with_made C' (text_row value (here C' m (lift st ks'))) m (lift st ks') (scan_opened C'))) (λ item m. with_value C item m st (λ value. with_made C (text_row value (here C m st)) m st (scan_opened C)))
+      (λ item a' a r. w_value item a' a st ks' r (λ value. with_made C' (text_row value (here C' a' (lift st ks'))) a' (lift st ks') (scan_opened C')) (λ value. with_made C (text_row value (here C a st)) a st (scan_opened C))
       (λ v. w_made (text_row v) (keep.scanned v) a' a st ks' r (scan_opened C') (scan_opened C) (λ x b' b seen q. l_scan x b' b (with_at seen st) ks' q)))
-  l_instruction I.Escan m' m st ks' e h d = w_popped m' m st ks' h (λ item m. exchanged (C'.swap_newest (pair_now st) m) (λ m. pushed C' item (C'.suspend Escan m)) (lift st ks')) (λ item m. exchanged (C.swap_newest (pair_now st) m) (λ m. pushed C item (C.suspend Escan m)) st)
-      (λ item a' a r. w_exchanged (C'.swap_newest (pair_now st) a') (C.swap_newest (pair_now st) a) st ks' (λ m. pushed C' item (C'.suspend Escan m)) (λ m. pushed C item (C.suspend Escan m)) (b_newest (pair_now st) st.active a' a ks' st.coexps r)
+  l_instruction I.Escan m' m st ks' e h d = w_popped m' m st ks' h (λ item m. with_exchange (C'.swap_newest (pair_now st) m) (λ m. push_item C' item (C'.suspend Escan m)) (lift st ks')) (λ item m. with_exchange (C.swap_newest (pair_now st) m) (λ m. push_item C item (C.suspend Escan m)) st)
+      (λ item a' a r. w_exchanged (C'.swap_newest (pair_now st) a') (C.swap_newest (pair_now st) a) st ks' (λ m. push_item C' item (C'.suspend Escan m)) (λ m. push_item C item (C.suspend Escan m)) (b_newest (pair_now st) st.active a' a ks' st.coexps r)
       (λ b' b w q. p_push item _ _ (with_world w st) ks' (r_suspend Escan st.active b' b ks' st.coexps q)))
   l_instruction I.Ccase m' m st ks' e h d = l_below m' m st ks' h
   l_instruction (I.Init l) m' m st ks' e h d = l_init l m' m st ks' h
   l_instruction I.Psusp m' m st ks' e h d = w_popped m' m st ks' h
-      (λ item below. with_result C' item m' (lift st ks') (λ result. maybe_exchanged (C'.swap_oldest (pair_now st) m') m' (lift st ks') (λ m. returned (C'.suspend_proc m) (pushed C' result))))
-      (λ item below. with_result C item m st (λ result. maybe_exchanged (C.swap_oldest (pair_now st) m) m st (λ m. returned (C.suspend_proc m) (pushed C result))))
-      (λ item a' a r. w_result item m' m st ks' h (λ result. maybe_exchanged (C'.swap_oldest (pair_now st) m') m' (lift st ks') (λ m. returned (C'.suspend_proc m) (pushed C' result))) (λ result. maybe_exchanged (C.swap_oldest (pair_now st) m) m st (λ m. returned (C.suspend_proc m) (pushed C result)))
+      (λ item below. with_result C' item m' (lift st ks') (λ result. maybe_exchanged (C'.swap_oldest (pair_now st) m') m' (lift st ks') (λ m. return_to (C'.suspend_proc m) (push_item C' result))))
+      (λ item below. with_result C item m st (λ result. maybe_exchanged (C.swap_oldest (pair_now st) m) m st (λ m. return_to (C.suspend_proc m) (push_item C result))))
+      (λ item a' a r. w_result item m' m st ks' h (λ result. maybe_exchanged (C'.swap_oldest (pair_now st) m') m' (lift st ks') (λ m. return_to (C'.suspend_proc m) (push_item C' result))) (λ result. maybe_exchanged (C.swap_oldest (pair_now st) m) m st (λ m. return_to (C.suspend_proc m) (push_item C result)))
       (λ result. l_psusp result m' m st ks' h))
-  l_instruction I.Pret m' m st ks' e h d = w_popped m' m st ks' h (λ item m. with_result C' item m (lift st ks') (λ result. returned (C'.leave m) (pushed C' result) (all_left C' m (lift st ks')))) (λ item m. with_result C item m st (λ result. returned (C.leave m) (pushed C result) (all_left C m st)))
-      (λ item a' a r. w_result item a' a st ks' r (λ result. returned (C'.leave a') (pushed C' result) (all_left C' a' (lift st ks'))) (λ result. returned (C.leave a) (pushed C result) (all_left C a st))
-      (λ result. w_all_left a' a st ks' r (pushed C' result) (pushed C result) (λ b' b w q. p_push result b' b (with_world w st) ks' q)))
+  l_instruction I.Pret m' m st ks' e h d = w_popped m' m st ks' h (λ item m. with_result C' item m (lift st ks') (λ result. return_to (C'.leave m) (push_item C' result) (all_left C' m (lift st ks')))) (λ item m. with_result C item m st (λ result. return_to (C.leave m) (push_item C result) (all_left C m st)))
+      (λ item a' a r. w_result item a' a st ks' r (λ result. return_to (C'.leave a') (push_item C' result) (all_left C' a' (lift st ks'))) (λ result. return_to (C.leave a) (push_item C result) (all_left C a st))
+      (λ result. w_all_left a' a st ks' r (push_item C' result) (push_item C result) (λ b' b w q. p_push result b' b (with_world w st) ks' q)))
   l_instruction I.Pfail m' m st ks' e h d = either_as (is_create_body C' m' (lift st ks')) (is_create_body C m st) _ _ _ _ (create_eq m' m st ks' h) same_stuck (l_proc_fails m' m st ks' h)
   l_instruction (I.Create l) m' m st ks' e h d = l_create l m' m st ks' h
   l_instruction I.Coact m' m st ks' e h d = w_taken 2 m' m st ks' h (λ items m. turn P (lift st ks') (activation_of C' items m)) (λ items m. turn P st (activation_of C items m))
@@ -627,7 +627,7 @@ module _ {K M K' M' : Type 0} (C' : Calls K' M') (C : Calls K M) (P : Program) (
   f_again false label m' m st ks' e h = inl same_over
   f_again true label m' m st ks' e h = inr ((label, e), (f_reopened label m' m (TurnOf st) ks' e h, refl))
 
-  f_dropped : (m' : M') (m : M) (st : Store K) (ks' : List (Coexp K')) → (h : Rd st.active m' m ks' st.coexps) → (d' : Dropped M') (d : Dropped M) → SameDropped C (Opens P) G.Next G.Now h.world st.active d' d → Reaches st.turns (mark_dropped C' P m' (lift st ks') d') (mark_dropped C P m st d)
+  f_dropped : (m' : M') (m : M) (st : Store K) (ks' : List (Coexp K')) → (h : Rd st.active m' m ks' st.coexps) → (d' : MarkDrop M') (d : MarkDrop M) → SameDropped C (Opens P) G.Next G.Now h.world st.active d' d → Reaches st.turns (mark_dropped C' P m' (lift st ks') d') (mark_dropped C P m st d)
   f_dropped m' m st ks' h NoMark NoMark x = inl (f_without m' m st ks' h)
   f_dropped m' m st ks' h (Goes a') (Goes a) x = inl (same_running st ks' (r_then st.active a' a ks' st.coexps h.world h.rests x))
   f_dropped m' m st ks' h (WithoutLabel a') (WithoutLabel a) x = inl (same_failing st ks' (r_then st.active a' a ks' st.coexps h.world h.rests x))
@@ -646,7 +646,7 @@ module _ {K M K' M' : Type 0} (C' : Calls K' M') (C : Calls K M) (P : Program) (
   f_dropped m' m st ks' h (WithoutLabel a') (Goes a) x = absurd x
   f_dropped m' m st ks' h (WithoutLabel a') (Repeats a) x = absurd x
 
-  f_resumed : (why : Why) (m' : M') (m : M) (st : Store K) (ks' : List (Coexp K')) → Rd st.active m' m ks' st.coexps → Sm (resumed C' P why m' (lift st ks')) (resumed C P why m st)
+  f_resumed : (why : Why) (m' : M') (m : M) (st : Store K) (ks' : List (Coexp K')) → Rd st.active m' m ks' st.coexps → Sm (resume_by C' P why m' (lift st ks')) (resume_by C P why m st)
   f_resumed Alt m' m st ks' h = same_failing st ks' h
   f_resumed (Operating residual) m' m st ks' h = w_turn st ks' (λ st. outcome C' (again residual (here C' m' st)) m' st) (λ st. outcome C (again residual (here C m st)) m st) (w_outcome (again residual) (keep.resumed residual) m' m (TurnOf st) ks' h)
   f_resumed (Scan pair) m' m st ks' h = same_failing (with_pair pair st) ks' h
@@ -659,7 +659,7 @@ module _ {K M K' M' : Type 0} (C' : Calls K' M') (C : Calls K M) (P : Program) (
   f_back m' m st ks' h None None b = f_dropped m' m st ks' h (C'.drop_mark m') (C.drop_mark m) (G.drop_mark h.world st.active m' m h.here)
   f_back m' m st ks' h None (Some x) b = absurd b
   f_back m' m st ks' h (Some x') None b = absurd b
-  f_back m' m st ks' h (Some x') (Some x) b = inl (subst (λ y. Sm (resumed C' P y x'.1 (lift st ks')) (resumed C P x.0 x.1 st)) (sym b.0) (f_resumed x.0 x'.1 x.1 st ks' b.1))
+  f_back m' m st ks' h (Some x') (Some x) b = inl (subst (λ y. Sm (resume_by C' P y x'.1 (lift st ks')) (resume_by C P x.0 x.1 st)) (sym b.0) (f_resumed x.0 x'.1 x.1 st ks' b.1))
 
   f_fails : (m' : M') (m : M) (st : Store K) (ks' : List (Coexp K')) → Rd st.active m' m ks' st.coexps → Reaches st.turns (fails C' P m' (lift st ks')) (fails C P m st)
   f_fails m' m st ks' h = f_back m' m st ks' h (C'.resume m') (C.resume m) (b_with st.active m' m ks' st.coexps (C'.resume m') (C.resume m) h (G.resume h.world st.active m' m h.here))
@@ -712,7 +712,7 @@ module _ {K M K' M' : Type 0} (C' : Calls K' M') (C : Calls K M) (P : Program) (
     abbrev First : {A : Type 0} → (A → M' → Store K' → State K' M') → (A → M → Store K → State K M) → Store K → List (Coexp K') → Type 0
     First {A} n' n st ks' = (v : A) (a' : M') (a : M) (seen : Setting) → Blank a' a → Sm (n' v a' (lift (with_at seen st) ks')) (n v a (with_at seen st))
 
-    first_made : (o : Outcome) (m' : M') (m : M) (st : Store K) (ks' : List (Coexp K')) → IsMade o → KeepsIn (here C m st) o → Blank m' m → (n' : Value → M' → Store K' → State K' M') (n : Value → M → Store K → State K M) → First n' n st ks' → Sm (made C' o m' (lift st ks') n') (made C o m st n)
+    first_made : (o : Outcome) (m' : M') (m : M) (st : Store K) (ks' : List (Coexp K')) → IsMade o → KeepsIn (here C m st) o → Blank m' m → (n' : Value → M' → Store K' → State K' M') (n : Value → M → Store K → State K M) → First n' n st ks' → Sm (with_made C' o m' (lift st ks') n') (with_made C o m st n)
     first_made (Gives (Val v) seen) m' m st ks' i k h n' n f = f v (C'.set_locals seen.locals m') (C.set_locals seen.locals m) seen (set seen.locals m' m k.locals h)
     first_made (Gives (Var v) seen) m' m st ks' i k h n' n f = absurd i
     first_made (Error j v seen) m' m st ks' i k h n' n f = same_over
@@ -720,14 +720,14 @@ module _ {K M K' M' : Type 0} (C' : Calls K' M') (C : Calls K M) (P : Program) (
     first_made (Suspends item r seen) m' m st ks' i k h n' n f = absurd i
     first_made (Ends j seen) m' m st ks' i k h n' n f = absurd i
 
-    first_row : (f : Setting → Outcome) → ((at : Setting) → IsMade (f at)) → ((at : Setting) → KeepsIn at (f at)) → (m' : M') (m : M) (st : Store K) (ks' : List (Coexp K')) → Blank m' m → (n' : Value → M' → Store K' → State K' M') (n : Value → M → Store K → State K M) → First n' n st ks' → Sm (made C' (f (here C' m' (lift st ks'))) m' (lift st ks') n') (made C (f (here C m st)) m st n)
+    first_row : (f : Setting → Outcome) → ((at : Setting) → IsMade (f at)) → ((at : Setting) → KeepsIn at (f at)) → (m' : M') (m : M) (st : Store K) (ks' : List (Coexp K')) → Blank m' m → (n' : Value → M' → Store K' → State K' M') (n : Value → M → Store K → State K M) → First n' n st ks' → Sm (with_made C' (f (here C' m' (lift st ks'))) m' (lift st ks') n') (with_made C (f (here C m st)) m st n)
     first_row f i k m' m st ks' h n' n g =
-        subst (λ l. Sm (made C' (f (record { world = st.world; locals = l; outside = st.outside })) m' (lift st ks') n') (made C (f (here C m st)) m st n)) (sym (no_locals m' m h))
+        subst (λ l. Sm (with_made C' (f (record { world = st.world; locals = l; outside = st.outside })) m' (lift st ks') n') (with_made C (f (here C m st)) m st n)) (sym (no_locals m' m h))
         (first_made (f (here C m st)) m' m st ks' (i (here C m st)) (k (here C m st)) h n' n g)
 
-    first_collected : (b : Bool) (k : ℕ) (vs : List Value) (m' : M') (m : M) (st : Store K) (ks' : List (Coexp K')) → Blank m' m → (n' : List Value → M' → Store K' → State K' M') (n : List Value → M → Store K → State K M) → First n' n st ks' → Sm (collected C' b k vs m' (lift st ks') n') (collected C b k vs m st n)
-    first_collected false k vs m' m st ks' h n' n f = f (filled k vs) m' m (here C m st) h
-    first_collected true k vs m' m st ks' h n' n f = first_row (list_row (drop (k - 1) vs)) (keep.list_made (drop (k - 1) vs)) (keep.listed (drop (k - 1) vs)) m' m st ks' h (λ rest m st. n' (filled (k - 1) vs ++ rest ∷ []) m st) (λ rest m st. n (filled (k - 1) vs ++ rest ∷ []) m st) (λ rest a' a seen r. f (filled (k - 1) vs ++ rest ∷ []) a' a seen r)
+    first_collected : (b : Bool) (k : ℕ) (vs : List Value) (m' : M') (m : M) (st : Store K) (ks' : List (Coexp K')) → Blank m' m → (n' : List Value → M' → Store K' → State K' M') (n : List Value → M → Store K → State K M) → First n' n st ks' → Sm (collect_rest C' b k vs m' (lift st ks') n') (collect_rest C b k vs m st n)
+    first_collected false k vs m' m st ks' h n' n f = f (fill_nulls k vs) m' m (here C m st) h
+    first_collected true k vs m' m st ks' h n' n f = first_row (list_row (drop (k - 1) vs)) (keep.list_made (drop (k - 1) vs)) (keep.listed (drop (k - 1) vs)) m' m st ks' h (λ rest m st. n' (fill_nulls (k - 1) vs ++ rest ∷ []) m st) (λ rest m st. n (fill_nulls (k - 1) vs ++ rest ∷ []) m st) (λ rest a' a seen r. f (fill_nulls (k - 1) vs ++ rest ∷ []) a' a seen r)
 
     s_begun_if : (b : Bool) (main : ℕ) (entry : Procedure) (vs : List Value) (m' : M') (m : M) (st : Store K) (ks' : List (Coexp K')) → Blank m' m → Rests (Others w st.active) ks' st.coexps → Sm (begun_if C' b main entry vs m' (lift st ks')) (begun_if C b main entry vs m st)
     s_begun_if false main entry vs m' m st ks' h r = same_over
@@ -737,8 +737,8 @@ module _ {K M K' M' : Type 0} (C' : Calls K' M') (C : Calls K M) (P : Program) (
     s_start : (words : List (List ℕ)) (m' : M') (m : M) (st : Store K) (ks' : List (Coexp K')) → Blank m' m → Rests (Others w st.active) ks' st.coexps → (o : Option ℕ) → Sm (start_of C' P words m' (lift st ks') o) (start_of C P words m st o)
     s_start words m' m st ks' h r None = same_over
     s_start words m' m st ks' h r (Some main) = w_same (slice_get P.procs main)
-        (λ (entry : Procedure). made C' (words_row words (here C' m' (lift st ks'))) m' (lift st ks') (λ list m st. begun_if C' (nat_le 1 st.world.heap.bounds.levels) main entry (list ∷ []) m st))
-        (λ (entry : Procedure). made C (words_row words (here C m st)) m st (λ list m st. begun_if C (nat_le 1 st.world.heap.bounds.levels) main entry (list ∷ []) m st))
+        (λ (entry : Procedure). with_made C' (words_row words (here C' m' (lift st ks'))) m' (lift st ks') (λ list m st. begun_if C' (nat_le 1 st.world.heap.bounds.levels) main entry (list ∷ []) m st))
+        (λ (entry : Procedure). with_made C (words_row words (here C m st)) m st (λ list m st. begun_if C (nat_le 1 st.world.heap.bounds.levels) main entry (list ∷ []) m st))
         (λ entry. first_row (words_row words) (keep.words_made words) (keep.worded words) m' m st ks' h (λ list m st. begun_if C' (nat_le 1 st.world.heap.bounds.levels) main entry (list ∷ []) m st) (λ list m st. begun_if C (nat_le 1 st.world.heap.bounds.levels) main entry (list ∷ []) m st)
         (λ v a' a seen q. s_begun_if (nat_le 1 seen.world.heap.bounds.levels) main entry (v ∷ []) a' a (with_at seen st) ks' q r))
 

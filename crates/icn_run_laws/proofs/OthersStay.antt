@@ -9,8 +9,8 @@ use Rattle.icn_code.specs.declared.instr.Instr.{Instr}
 use Rattle.icn_code.specs.declared.instr.Instr.TheVariants as I
 use Rattle.icn_code.specs.Codes.{Proc as Procedure, RecordType}
 use Rattle.icn_run.specs.Rows.{Value, Null, Integer, Text, Chars, Procedure as ProcedureValue, ARecord, AList, ACoexp, Local, Field, Whole, Part, Item, Val, Var, Outcome, Fails, Gives, Suspends, Error, Ends, Operation, Function, apply, again, value_row, list_row, record_row, text_row, coexpression_row, integer_of, number_of, keyword_item, list_at, record_at}
-use Rattle.icn_run.specs.Calls.{Pair, Why, Alt, Op as Operating, Scan, Escan, Proc, Dropped, NoMark, Goes, Repeats, Outside as WithoutLabel, Calls}
-use Rattle.icn_run.specs.Step.{Program, Fresh, Coexp, Store, State, running, failing, hopping, over, stuck, with_found, parted, turn_if, turn, here, with_at, valued, made, with_value, with_values, pushed, outcome, list_made, pair_now, with_pair, scans_left, exchanged, maybe_exchanged, swapped_back, all_left, is_main, is_create_body, with_new, coexp_made, refreshed_from, refreshed, filled, entered, collected, with_parameters, called_if, called, constructed, pushed_or_fails, integer_called, chosen, Callee, IsProc, IsRecord, IsFunc, IsNothing, callee_of, callee_called, invoked, invoked_with, plain, elements_called, applied_to_elements, field_place, field_taken, field_of, field_applied, with_result, finished, returned, proc_fails, without_mark, mark_dropped, resumed, resumed_or_dropped, fails, members_of, standing, with_popped, with_taken, unmarked, limited, limited_result, scan_opened, initial_if, operated, statics_before, instruction, instruction_at, step}
+use Rattle.icn_run.specs.Calls.{Pair, Why, Alt, Op as Operating, Scan, Escan, Proc, MarkDrop, NoMark, Goes, Repeats, Outside as WithoutLabel, Calls}
+use Rattle.icn_run.specs.Step.{Program, Fresh, Coexp, Store, State, running, failing, hopping, over, stuck, with_found, on_pair, turn_if, turn, here, with_at, with_given, with_made, with_value, with_values, push_item, outcome, list_made, pair_now, with_pair, scans_left, with_exchange, maybe_exchanged, swapped_back, all_left, is_main, is_create_body, with_new, coexp_made, refreshed_from, refresh, fill_nulls, enter_procedure, collect_rest, with_parameters, called_if, call_procedure, construct_record, pushed_or_fails, integer_called, choose_item, Callee, IsProc, IsRecord, IsFunc, IsNothing, callee_of, callee_called, invoke_value, invoked_with, plain, elements_called, applied_to_elements, field_place, field_taken, field_of, field_applied, with_result, finish_run, return_to, proc_fails, without_mark, mark_dropped, resume_by, resumed_or_dropped, fails, members_of, standing_of, with_popped, with_taken, unmark_then, limit_results, limited_result, scan_opened, initial_if, operate, statics_before, instruction, instruction_at, step}
 use Rattle.icn_run_laws.specs.OthersStay.{is_transfer, IsNew, IsMadeAgain, Adds, AddsNone, Stay, StayIn, is_no_mark, EndsBody, OthersStay}
 
 module _ {K M : Type 0} (C : Calls K M) (P : Program) (IsAdded : Coexp K → Type 0) (before : Store K) where
@@ -33,7 +33,7 @@ module _ {K M : Type 0} (C : Calls K M) (P : Program) (IsAdded : Coexp K → Typ
   q_found None next f = tt
   q_found (Some x) next f = f x
 
-  q_valued : (o : Outcome) (m : M) (st : Store K) (next : Value → State K M) → Same st → ((v : Value) → Q (next v)) → Q (valued o m st next)
+  q_valued : (o : Outcome) (m : M) (st : Store K) (next : Value → State K M) → Same st → ((v : Value) → Q (next v)) → Q (with_given o m st next)
   q_valued (Gives (Val v) seen) m st next h f = f v
   q_valued (Gives (Var v) seen) m st next h f = stay st h
   q_valued (Error k v seen) m st next h f = tt
@@ -41,7 +41,7 @@ module _ {K M : Type 0} (C : Calls K M) (P : Program) (IsAdded : Coexp K → Typ
   q_valued (Suspends item r seen) m st next h f = stay st h
   q_valued (Ends k seen) m st next h f = stay st h
 
-  q_made : (o : Outcome) (m : M) (st : Store K) (next : Value → M → Store K → State K M) → Same st → ((v : Value) (a : M) (st' : Store K) → Same st' → Q (next v a st')) → Q (made C o m st next)
+  q_made : (o : Outcome) (m : M) (st : Store K) (next : Value → M → Store K → State K M) → Same st → ((v : Value) (a : M) (st' : Store K) → Same st' → Q (next v a st')) → Q (with_made C o m st next)
   q_made (Gives (Val v) seen) m st next h f = f v (C.set_locals seen.locals m) (with_at seen st) (record { active = h.active; coexps = h.coexps })
   q_made (Gives (Var v) seen) m st next h f = stay st h
   q_made (Error k v seen) m st next h f = tt
@@ -75,17 +75,17 @@ module _ {K M : Type 0} (C : Calls K M) (P : Program) (IsAdded : Coexp K → Typ
 
   -- calls
 
-  q_collected : (b : Bool) (k : ℕ) (vs : List Value) (m : M) (st : Store K) (next : List Value → M → Store K → State K M) → Same st → ((ps : List Value) (a : M) (st' : Store K) → Same st' → Q (next ps a st')) → Q (collected C b k vs m st next)
-  q_collected false k vs m st next h f = f (filled k vs) m st h
-  q_collected true k vs m st next h f = q_list (drop (k - 1) vs) m st (λ rest m st. next (filled (k - 1) vs ++ rest ∷ []) m st) h (λ rest a st' h'. f (filled (k - 1) vs ++ rest ∷ []) a st' h')
+  q_collected : (b : Bool) (k : ℕ) (vs : List Value) (m : M) (st : Store K) (next : List Value → M → Store K → State K M) → Same st → ((ps : List Value) (a : M) (st' : Store K) → Same st' → Q (next ps a st')) → Q (collect_rest C b k vs m st next)
+  q_collected false k vs m st next h f = f (fill_nulls k vs) m st h
+  q_collected true k vs m st next h f = q_list (drop (k - 1) vs) m st (λ rest m st. next (fill_nulls (k - 1) vs ++ rest ∷ []) m st) h (λ rest a st' h'. f (fill_nulls (k - 1) vs ++ rest ∷ []) a st' h')
 
   q_called : (b : Bool) (n : ℕ) (entry : Procedure) (vs : List Value) (m : M) (st : Store K) → Same st → Q (called_if C b n entry vs m st)
-  q_called true n entry vs m st h = q_collected entry.collects entry.parameters vs m st (λ parameters m st. entered C n entry parameters m st) h (λ ps a st' h'. stay st' h')
+  q_called true n entry vs m st h = q_collected entry.collects entry.parameters vs m st (λ parameters m st. enter_procedure C n entry parameters m st) h (λ ps a st' h'. stay st' h')
   q_called false n entry vs m st h = tt
 
   q_callee : (c : Callee) (n : ℕ) (items : List Item) (m : M) (st : Store K) → Same st → Q (callee_called C c n items m st)
-  q_callee (IsProc entry) n items m st h = q_values items m st (λ arguments. called C n entry arguments m st) h (λ vs. q_called (nat_le (suc (C.level m)) st.world.heap.bounds.levels) n entry vs m st h)
-  q_callee (IsRecord kind entry) n items m st h = q_values items m st (λ arguments. constructed C kind entry arguments m st) h (λ vs. q_made (record_row kind (filled (length entry.fields) vs) (here C m st)) m st (λ value m st. pushed C (Val value) m st) h (λ v a st' h'. stay st' h'))
+  q_callee (IsProc entry) n items m st h = q_values items m st (λ arguments. call_procedure C n entry arguments m st) h (λ vs. q_called (nat_le (suc (C.level m)) st.world.heap.bounds.levels) n entry vs m st h)
+  q_callee (IsRecord kind entry) n items m st h = q_values items m st (λ arguments. construct_record C kind entry arguments m st) h (λ vs. q_made (record_row kind (fill_nulls (length entry.fields) vs) (here C m st)) m st (λ value m st. push_item C (Val value) m st) h (λ v a st' h'. stay st' h'))
   q_callee (IsFunc func) n items m st h = q_outcome (apply st.names (Function func) items (here C m st)) m st h
   q_callee IsNothing n items m st h = tt
 
@@ -94,10 +94,10 @@ module _ {K M : Type 0} (C : Calls K M) (P : Program) (IsAdded : Coexp K → Typ
   q_one None m st h = stay st h
 
   q_integer : (callee : Value) (o : Option ℤ) (items : List Item) (m : M) (st : Store K) → Same st → Q (integer_called C callee o items m st)
-  q_integer callee (Some k) items m st h = q_one (chosen k items) m st h
+  q_integer callee (Some k) items m st h = q_one (choose_item k items) m st h
   q_integer callee None items m st h = tt
 
-  q_invoked : (callee : Value) (items : List Item) (m : M) (st : Store K) → Same st → Q (invoked C P callee items m st)
+  q_invoked : (callee : Value) (items : List Item) (m : M) (st : Store K) → Same st → Q (invoke_value C P callee items m st)
   q_invoked (ProcedureValue n) items m st h = q_callee (callee_of P n) n items m st h
   q_invoked Null items m st h = q_integer Null (number_of Null) items m st h
   q_invoked (Integer x) items m st h = q_integer (Integer x) (number_of (Integer x)) items m st h
@@ -112,7 +112,7 @@ module _ {K M : Type 0} (C : Calls K M) (P : Program) (IsAdded : Coexp K → Typ
 
   q_invoked_with : (items : List Item) (m : M) (st : Store K) → Same st → Q (invoked_with C P items m st)
   q_invoked_with [] m st h = tt
-  q_invoked_with (callee ∷ items) m st h = q_value callee m st (λ value. invoked C P value items m st) h (λ v. q_invoked v items m st h)
+  q_invoked_with (callee ∷ items) m st h = q_value callee m st (λ value. invoke_value C P value items m st) h (λ v. q_invoked v items m st h)
 
   q_elements : (callee from : Value) (m : M) (st : Store K) → Same st → Q (elements_called C P callee from m st)
   q_elements callee (AList n) m st h = q_invoked callee (map plain (list_at st.world.heap n).items) m st h
@@ -140,7 +140,7 @@ module _ {K M : Type 0} (C : Calls K M) (P : Program) (IsAdded : Coexp K → Typ
   -- one that is made is added
   q_new : (values : List Value) (proc place : ℕ) (m : M) (st : Store K) → Same st → ((new : Coexp K) → IsNew values proc place new → IsAdded new)
       → Q (coexp_made C values proc place m st)
-  q_new values proc place m st h added = q_made (coexpression_row (length values) (here C m st)) m st (λ value m st. pushed C (Val value) m (with_new values proc place st)) h (λ v a st' h'.
+  q_new values proc place m st h added = q_made (coexpression_row (length values) (here C m st)) m st (λ value m st. push_item C (Val value) m (with_new values proc place st)) h (λ v a st' h'.
       let new : Coexp K = record { status = Fresh; activator = zero; values = values; proc = proc; place = place } in
       record { active = h'.active; coexps = inr (new, added new refl, ap (λ x. x ++ new ∷ []) h'.coexps) })
 
@@ -158,7 +158,7 @@ module _ {K M : Type 0} (C : Calls K M) (P : Program) (IsAdded : Coexp K → Typ
   }))
   q_refreshed_from n None m st e h added = tt
 
-  q_refreshed : (v : Value) (m : M) (st : Store K) → Same st → AddsAgain → Q (refreshed C v m st)
+  q_refreshed : (v : Value) (m : M) (st : Store K) → Same st → AddsAgain → Q (refresh C v m st)
   q_refreshed (ACoexp zero) m st h added = tt
   q_refreshed (ACoexp (suc n)) m st h added = q_refreshed_from (suc n) (slice_get st.coexps (suc n)) m st refl h added
   q_refreshed Null m st h added = tt
@@ -176,8 +176,8 @@ module _ {K M : Type 0} (C : Calls K M) (P : Program) (IsAdded : Coexp K → Typ
   abbrev Allows : Instr → M → Type 0
   Allows instr m = (new : Coexp K) → Adds C instr m before new → IsAdded new
 
-  q_operated : (op : Op) (items : List Item) (start m : M) (st : Store K) → Same st → Allows (I.Op op) start → Q (operated C op items m st)
-  q_operated Ops.Refresh (item ∷ items) start m st h added = q_value item m st (λ value. refreshed C value m st) h (λ v. q_refreshed v m st h added)
+  q_operated : (op : Op) (items : List Item) (start m : M) (st : Store K) → Same st → Allows (I.Op op) start → Q (operate C op items m st)
+  q_operated Ops.Refresh (item ∷ items) start m st h added = q_value item m st (λ value. refresh C value m st) h (λ v. q_refreshed v m st h added)
   q_operated op items start m st h added = q_outcome (apply st.names (Operation op) items (here C m st)) m st h
 
   -- marks, scans and frames
@@ -186,18 +186,18 @@ module _ {K M : Type 0} (C : Calls K M) (P : Program) (IsAdded : Coexp K → Typ
   q_left None st next h f = f st h
   q_left (Some pair) st next h f = f (with_pair pair st) (record { active = h.active; coexps = h.coexps })
 
-  q_unmarked : (m : M) (st : Store K) (next : M → Store K → State K M) → Same st → ((a : M) (st' : Store K) → Same st' → Q (next a st')) → Q (unmarked C m st next)
-  q_unmarked m st next h f = q_found (C.unmark m) (parted (λ outside pair. next outside (scans_left pair st))) (λ x. q_left x.1 st (next x.0) h (λ st' h'. f x.0 st' h'))
+  q_unmarked : (m : M) (st : Store K) (next : M → Store K → State K M) → Same st → ((a : M) (st' : Store K) → Same st' → Q (next a st')) → Q (unmark_then C m st next)
+  q_unmarked m st next h f = q_found (C.unmark m) (on_pair (λ outside pair. next outside (scans_left pair st))) (λ x. q_left x.1 st (next x.0) h (λ st' h'. f x.0 st' h'))
 
-  q_limited : (v : Value) (o : Option ℤ) (m : M) (st : Store K) → Same st → Q (limited C v o m st)
+  q_limited : (v : Value) (o : Option ℤ) (m : M) (st : Store K) → Same st → Q (limit_results C v o m st)
   q_limited v None m st h = tt
   q_limited v (Some (negsuc k)) m st h = tt
   q_limited v (Some (pos zero)) m st h = stay st h
   q_limited v (Some (pos (suc k))) m st h = stay st h
 
   q_result : (item : Item) (k : ℕ) (m : M) (st : Store K) → Same st → Q (limited_result C item k m st)
-  q_result item zero m st h = q_unmarked m st (pushed C item) h (λ a st' h'. stay st' h')
-  q_result item (suc k) m st h = q_found (C.suspend_mark m) (λ after. pushed C item after st) (λ a. stay st h)
+  q_result item zero m st h = q_unmarked m st (push_item C item) h (λ a st' h'. stay st' h')
+  q_result item (suc k) m st h = q_found (C.suspend_mark m) (λ after. push_item C item after st) (λ a. stay st h)
 
   q_scan : (v : Value) (m : M) (st : Store K) → Same st → Q (scan_opened C v m st)
   q_scan (Text x) m st h = record { active = h.active; coexps = inl h.coexps }
@@ -212,7 +212,7 @@ module _ {K M : Type 0} (C : Calls K M) (P : Program) (IsAdded : Coexp K → Typ
   q_scan (ATable x) m st h = stay st h
   q_scan (ACoexp x) m st h = stay st h
 
-  q_exchanged : (o : Option (Pair × M)) (next : M → Store K → State K M) (st : Store K) → Same st → ((a : M) (st' : Store K) → Same st' → Q (next a st')) → Q (exchanged o next st)
+  q_exchanged : (o : Option (Pair × M)) (next : M → Store K → State K M) (st : Store K) → Same st → ((a : M) (st' : Store K) → Same st' → Q (next a st')) → Q (with_exchange o next st)
   q_exchanged None next st h f = tt
   q_exchanged (Some swap) next st h f = f swap.1 (with_pair swap.0 st) (record { active = h.active; coexps = h.coexps })
 
@@ -220,7 +220,7 @@ module _ {K M : Type 0} (C : Calls K M) (P : Program) (IsAdded : Coexp K → Typ
   q_maybe None m st next h f = f m st h
   q_maybe (Some swap) m st next h f = f swap.1 (with_pair swap.0 st) (record { active = h.active; coexps = h.coexps })
 
-  q_returned : (o : Option M) (next : M → Store K → State K M) (st : Store K) → Same st → ((a : M) → Q (next a st)) → Q (returned o next st)
+  q_returned : (o : Option M) (next : M → Store K → State K M) (st : Store K) → Same st → ((a : M) → Q (next a st)) → Q (return_to o next st)
   q_returned None next st h f = q_if (is_main st.active) _ _ tt tt
   q_returned (Some caller) next st h f = f caller
 
@@ -229,7 +229,7 @@ module _ {K M : Type 0} (C : Calls K M) (P : Program) (IsAdded : Coexp K → Typ
   q_all (Some swap) st next h f = f (with_pair swap.0 st) (record { active = h.active; coexps = h.coexps })
 
   q_proc_fails : (m : M) (st : Store K) → Same st → Q (proc_fails C m st)
-  q_proc_fails m st h = q_all (C.swap_oldest (pair_now st) m) st (λ st. returned (C.leave m) failing st) h (λ st' h'. q_returned (C.leave m) failing st' h' (λ a. stay st' h'))
+  q_proc_fails m st h = q_all (C.swap_oldest (pair_now st) m) st (λ st. return_to (C.leave m) failing st) h (λ st' h'. q_returned (C.leave m) failing st' h' (λ a. stay st' h'))
 
   q_with_result : (item : Item) (m : M) (st : Store K) (next : Item → State K M) → Same st → ((x : Item) → Q (next x)) → Q (with_result C item m st next)
   q_with_result (Var (Whole (Local k))) m st next h f = q_value (Var (Whole (Local k))) m st (λ value. next (Val value)) h (λ v. f (Val v))
@@ -248,34 +248,34 @@ module _ {K M : Type 0} (C : Calls K M) (P : Program) (IsAdded : Coexp K → Typ
   q_instruction (I.Local k) m st h d added = stay st h
   q_instruction (I.Static k) m st h d added = stay st h
   q_instruction (I.Global k) m st h d added = stay st h
-  q_instruction (I.Keywd k) m st h d added = q_one (keyword_item (standing C m st) k) m st h
+  q_instruction (I.Keywd k) m st h d added = q_one (keyword_item (standing_of C m st) k) m st h
   q_instruction I.Pop m st h d added = q_found (C.pop m) _ (λ x. stay st h)
   q_instruction I.Dup m st h d added = q_found (C.pop m) _ (λ x. stay st h)
-  q_instruction (I.Op op) m st h d added = q_found (C.take (arity op) m) _ (λ x. q_turn st (operated C op x.0 x.1) h (λ st' h'. q_operated op x.0 m x.1 st' h' added))
-  q_instruction (I.Llist k) m st h d added = q_found (C.take k m) _ (λ x. q_turn st (λ st. with_values C x.0 x.1 st (λ values. list_made C values x.1 st (λ list m st. pushed C (Val list) m st))) h (λ st' h'.
-      q_values x.0 x.1 st' (λ values. list_made C values x.1 st' (λ list m st. pushed C (Val list) m st)) h' (λ vs. q_list vs x.1 st' (λ list m st. pushed C (Val list) m st) h' (λ v a st'' h''. stay st'' h''))))
+  q_instruction (I.Op op) m st h d added = q_found (C.take (arity op) m) _ (λ x. q_turn st (operate C op x.0 x.1) h (λ st' h'. q_operated op x.0 m x.1 st' h' added))
+  q_instruction (I.Llist k) m st h d added = q_found (C.take k m) _ (λ x. q_turn st (λ st. with_values C x.0 x.1 st (λ values. list_made C values x.1 st (λ list m st. push_item C (Val list) m st))) h (λ st' h'.
+      q_values x.0 x.1 st' (λ values. list_made C values x.1 st' (λ list m st. push_item C (Val list) m st)) h' (λ vs. q_list vs x.1 st' (λ list m st. push_item C (Val list) m st) h' (λ v a st'' h''. stay st'' h''))))
   q_instruction (I.Field k) m st h d added = q_found (C.take 1 m) _ (λ x. q_turn st (field_applied C P k x.0 x.1) h (λ st' h'. q_field_applied k x.0 x.1 st' h'))
   q_instruction (I.Invoke k) m st h d added = q_found (C.take (suc k) m) _ (λ x. q_turn st (invoked_with C P x.0 x.1) h (λ st' h'. q_invoked_with x.0 x.1 st' h'))
   q_instruction I.Appl m st h d added = q_found (C.take 2 m) _ (λ x. q_turn st (applied_to_elements C P x.0 x.1) h (λ st' h'. q_applied x.0 x.1 st' h'))
   q_instruction (I.Mark l) m st h d added = stay st h
   q_instruction I.Mark0 m st h d added = stay st h
   q_instruction I.Unmark m st h d added = q_unmarked m st running h (λ a st' h'. stay st' h')
-  q_instruction I.Eret m st h d added = q_found (C.pop m) _ (λ x. q_value x.0 x.1 st (λ value. unmarked C x.1 st (pushed C (Val value))) h (λ v. q_unmarked x.1 st (pushed C (Val v)) h (λ a st' h'. stay st' h')))
-  q_instruction I.Esusp m st h d added = q_found (C.pop m) _ (λ x. q_found (C.suspend_mark x.1) (λ m. pushed C x.0 m st) (λ a. stay st h))
-  q_instruction I.Limit m st h d added = q_found (C.pop m) _ (λ x. q_value x.0 x.1 st (λ value. limited C value (integer_of value) x.1 st) h (λ v. q_limited v (integer_of v) x.1 st h))
-  q_instruction I.Lsusp m st h d added = q_found (C.pop m) _ (λ x. q_found (C.count_down x.1) (parted (λ count m. limited_result C x.0 count m st)) (λ y. q_result x.0 y.0 y.1 st h))
+  q_instruction I.Eret m st h d added = q_found (C.pop m) _ (λ x. q_value x.0 x.1 st (λ value. unmark_then C x.1 st (push_item C (Val value))) h (λ v. q_unmarked x.1 st (push_item C (Val v)) h (λ a st' h'. stay st' h')))
+  q_instruction I.Esusp m st h d added = q_found (C.pop m) _ (λ x. q_found (C.suspend_mark x.1) (λ m. push_item C x.0 m st) (λ a. stay st h))
+  q_instruction I.Limit m st h d added = q_found (C.pop m) _ (λ x. q_value x.0 x.1 st (λ value. limit_results C value (integer_of value) x.1 st) h (λ v. q_limited v (integer_of v) x.1 st h))
+  q_instruction I.Lsusp m st h d added = q_found (C.pop m) _ (λ x. q_found (C.count_down x.1) (on_pair (λ count m. limited_result C x.0 count m st)) (λ y. q_result x.0 y.0 y.1 st h))
   q_instruction I.Efail m st h d added = stay st h
   q_instruction (I.Chfail l) m st h d added = q_found (C.relabel l m) _ (λ a. stay st h)
   q_instruction (I.Goto l) m st h d added = stay st h
   q_instruction (I.Loop l) m st h d added = q_turn st (running (C.go l m)) h (λ st' h'. stay st' h')
-  q_instruction I.Bscan m st h d added = q_found (C.pop m) _ (λ x. q_value x.0 x.1 st (λ value. made C (text_row value (here C x.1 st)) x.1 st (scan_opened C)) h (λ v. q_made (text_row v (here C x.1 st)) x.1 st (scan_opened C) h (λ u a st' h'. q_scan u a st' h')))
-  q_instruction I.Escan m st h d added = q_found (C.pop m) _ (λ x. q_exchanged (C.swap_newest (pair_now st) x.1) (λ m. pushed C x.0 (C.suspend Escan m)) st h (λ a st' h'. stay st' h'))
+  q_instruction I.Bscan m st h d added = q_found (C.pop m) _ (λ x. q_value x.0 x.1 st (λ value. with_made C (text_row value (here C x.1 st)) x.1 st (scan_opened C)) h (λ v. q_made (text_row v (here C x.1 st)) x.1 st (scan_opened C) h (λ u a st' h'. q_scan u a st' h')))
+  q_instruction I.Escan m st h d added = q_found (C.pop m) _ (λ x. q_exchanged (C.swap_newest (pair_now st) x.1) (λ m. push_item C x.0 (C.suspend Escan m)) st h (λ a st' h'. stay st' h'))
   q_instruction I.Ccase m st h d added = q_found (C.below m) _ (λ item. stay st h)
   q_instruction (I.Init l) m st h d added = q_initial (slice_index_or st.begun (C.proc m) true) l m st h
-  q_instruction I.Psusp m st h d added = q_found (C.pop m) _ (λ x. q_with_result x.0 m st (λ result. maybe_exchanged (C.swap_oldest (pair_now st) m) m st (λ m. returned (C.suspend_proc m) (pushed C result))) h (λ result.
-      q_maybe (C.swap_oldest (pair_now st) m) m st (λ m. returned (C.suspend_proc m) (pushed C result)) h (λ a st' h'. q_returned (C.suspend_proc a) (pushed C result) st' h' (λ b. stay st' h'))))
-  q_instruction I.Pret m st h d added = q_found (C.pop m) _ (λ x. q_with_result x.0 x.1 st (λ result. returned (C.leave x.1) (pushed C result) (all_left C x.1 st)) h (λ result.
-      q_all (C.swap_oldest (pair_now st) x.1) st (λ st. returned (C.leave x.1) (pushed C result) st) h (λ st' h'. q_returned (C.leave x.1) (pushed C result) st' h' (λ b. stay st' h'))))
+  q_instruction I.Psusp m st h d added = q_found (C.pop m) _ (λ x. q_with_result x.0 m st (λ result. maybe_exchanged (C.swap_oldest (pair_now st) m) m st (λ m. return_to (C.suspend_proc m) (push_item C result))) h (λ result.
+      q_maybe (C.swap_oldest (pair_now st) m) m st (λ m. return_to (C.suspend_proc m) (push_item C result)) h (λ a st' h'. q_returned (C.suspend_proc a) (push_item C result) st' h' (λ b. stay st' h'))))
+  q_instruction I.Pret m st h d added = q_found (C.pop m) _ (λ x. q_with_result x.0 x.1 st (λ result. return_to (C.leave x.1) (push_item C result) (all_left C x.1 st)) h (λ result.
+      q_all (C.swap_oldest (pair_now st) x.1) st (λ st. return_to (C.leave x.1) (push_item C result) st) h (λ st' h'. q_returned (C.leave x.1) (push_item C result) st' h' (λ b. stay st' h'))))
   q_instruction I.Pfail m st h d added = q_if (is_create_body C m st) _ _ tt (q_proc_fails m st h)
   q_instruction (I.Create l) m st h d added = q_turn st (coexp_made C (C.locals m) (C.proc m) (C.place m) (C.go l m)) h (λ st' h'. q_new (C.locals m) (C.proc m) (C.place m) (C.go l m) st' h' added)
   q_instruction I.Coact m st h d added = absurd (cc)
@@ -284,7 +284,7 @@ module _ {K M : Type 0} (C : Calls K M) (P : Program) (IsAdded : Coexp K → Typ
 
   -- failing
 
-  q_resumed : (why : Why) (m : M) (st : Store K) → Same st → Q (resumed C P why m st)
+  q_resumed : (why : Why) (m : M) (st : Store K) → Same st → Q (resume_by C P why m st)
   q_resumed Alt m st h = stay st h
   q_resumed (Operating r) m st h = q_turn st (λ st. outcome C (again r (here C m st)) m st) h (λ st' h'. q_outcome (again r (here C m st')) m st' h')
   q_resumed (Scan pair) m st h = record { active = h.active; coexps = inl h.coexps }
@@ -295,7 +295,7 @@ module _ {K M : Type 0} (C : Calls K M) (P : Program) (IsAdded : Coexp K → Typ
   q_without true m st e d h = absurd (d refl)
   q_without false m st e d h = rw e (q_proc_fails m st h)
 
-  q_dropped : (o : Dropped M) (m : M) (st : Store K) → (is_no_mark o ≡ true → is_create_body C m st ≡ true → ⊥) → Same st → Q (mark_dropped C P m st o)
+  q_dropped : (o : MarkDrop M) (m : M) (st : Store K) → (is_no_mark o ≡ true → is_create_body C m st ≡ true → ⊥) → Same st → Q (mark_dropped C P m st o)
   q_dropped NoMark m st d h = q_without (is_create_body C m st) m st refl (d refl) h
   q_dropped (Goes a) m st d h = stay st h
   q_dropped (Repeats a) m st d h = q_turn st (running a) h (λ st' h'. stay st' h')

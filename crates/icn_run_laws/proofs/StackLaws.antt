@@ -4,9 +4,9 @@ use Rattle.std.specs.Prelude.{slice_get, drop}
 use Rattle.std.specs.Option.{option_and_then}
 use Rattle.icn_run.specs.Rows.{Item}
 use Rattle.icn_run.specs.Calls.{Pair, Why, Alt, Proc}
-use Rattle.icn_run.specs.Stacks.{Cell, base, call, local, mark, limit, suspension, operand, Registers, Frames, cut, cell_at, copy_up, pair_at, oldest, scan_after, push, suspend, mark_suspended, suspend_mark, proc_suspended, suspend_proc, resumed, resume, unmarked, unmark}
+use Rattle.icn_run.specs.Stacks.{Cell, base, call, local, mark, limit, suspension, operand, Registers, Frames, cut, cell_at, copy_up, pair_at, oldest, scan_after, push, suspend, mark_suspended, suspend_mark, proc_suspended, suspend_proc, resume_from, resume, unmark_in, unmark}
 use Rattle.icn_run_laws.specs.StackLaws.{IsBare, AreOnTop, SameUpTo, IsCallFrom, Suspended, registers_within, Suspends, Resumed, Resumes, IsMarkOn, Unmarked, EndsLimit, Unmarks}
-use Rattle.icn_run.specs.Step.{Store, parted, with_found, running, scans_left}
+use Rattle.icn_run.specs.Step.{Store, on_pair, with_found, running, scans_left}
 use Rattle.icn_run_laws.proofs.Lists.{no_some, some_inj, get_seam}
 
 -- what is copied are the operands on top
@@ -130,7 +130,7 @@ suspends = record {
 
 -- Resuming
 
-resumed_by : (m : Frames) (height : ℕ) (why : Why) (after : Frames) (cells : List Cell) → m.registers.newest ≡ Some height → cut height m.cells ≡ cells → resumed cells ≡ Some (why, after) → Resumed m why after
+resumed_by : (m : Frames) (height : ℕ) (why : Why) (after : Frames) (cells : List Cell) → m.registers.newest ≡ Some height → cut height m.cells ≡ cells → resume_from cells ≡ Some (why, after) → Resumed m why after
 resumed_by m height why after (suspension w r q ∷ below) n c e =
     let e' : (w, record { cells = below; registers = r; place = q }) ≡ (why, after) = some_inj e in
     let o = split (length m.cells - height) m.cells (suspension w r q) below c in
@@ -154,8 +154,8 @@ pub resumes : Resumes
 resumes m why after e = by m.registers.newest refl
   where
     by : (o : Option ℕ) → m.registers.newest ≡ o → Resumed m why after
-    by None n = no_some (why, after) (ap (λ o. option_and_then (λ height. resumed (cut height m.cells)) o) (sym n) ∙ e)
-    by (Some height) n = resumed_by m height why after (cut height m.cells) n refl (ap (λ o. option_and_then (λ height. resumed (cut height m.cells)) o) (sym n) ∙ e)
+    by None n = no_some (why, after) (ap (λ o. option_and_then (λ height. resume_from (cut height m.cells)) o) (sym n) ∙ e)
+    by (Some height) n = resumed_by m height why after (cut height m.cells) n refl (ap (λ o. option_and_then (λ height. resume_from (cut height m.cells)) o) (sym n) ∙ e)
 
 -- Dropping a mark
 
@@ -174,7 +174,7 @@ unmarked_by m after cell registers below pair is c e f =
       saved = sym f;
     })
 
-unmarked_at : (m after : Frames) (pair : Option Pair) (cells : List Cell) → cut m.registers.mark m.cells ≡ cells → unmarked m cells ≡ Some (after, pair) → Unmarked m after pair
+unmarked_at : (m after : Frames) (pair : Option Pair) (cells : List Cell) → cut m.registers.mark m.cells ≡ cells → unmark_in m cells ≡ Some (after, pair) → Unmarked m after pair
 unmarked_at m after pair (mark l b r ∷ below) c e = unmarked_by m after (mark l b r) r below pair refl c (ap (λ (x : Frames × Option Pair). x.0) (some_inj e)) (ap (λ (x : Frames × Option Pair). x.1) (some_inj e))
 unmarked_at m after pair (limit k r ∷ below) c e = unmarked_by m after (limit k r) r below pair refl c (ap (λ (x : Frames × Option Pair). x.0) (some_inj e)) (ap (λ (x : Frames × Option Pair). x.1) (some_inj e))
 unmarked_at m after pair [] c e = no_some (after, pair) e
@@ -189,7 +189,7 @@ unmarks = record {
   drops = drops;
   last_result = λ item m after pair st e. record {
     unmarked = drops m after pair e;
-    goes_on = ap (λ (o : Option (Frames × Option Pair)). with_found o (parted (λ outside pair. running (push item outside) (scans_left pair st)))) e;
+    goes_on = ap (λ (o : Option (Frames × Option Pair)). with_found o (on_pair (λ outside pair. running (push item outside) (scans_left pair st)))) e;
   };
 }
   where

@@ -7,7 +7,7 @@ use Rattle.std.proofs.lemmas.List.{length-set}
 use Rattle.icn_run.specs.Rows.{Value, Null}
 use Rattle.icn_run.specs.Calls.{Pair, Scan}
 use Rattle.icn_run.specs.Stacks.{Cell, local as c_local, limit as c_limit, suspension as c_suspension}
-use Rattle.icn_run.specs.Chains.{fixed, flagged, because, scanning, forgotten, label_of}
+use Rattle.icn_run.specs.Chains.{fixed, flagged, because, scanning, forget_label, label_of}
 use Rattle.icn_run_laws.specs.Rendered.{Name, activation_name, flag_name, limit_name, saved_name, Kept, Flag, Changed, Count, Saved, Locals, values_of, Memory, held, flag_kept, activation_kept, limit_kept, saved_kept, NCell, n_base, n_call, n_local, n_mark, n_limit, n_suspension, n_operand, World, Owned, shown_label, count_of, saved_in, shown, render, Ok, AllOk, Next}
 use Rattle.icn_run_laws.proofs.Lists.{some_inj, no_some, get_more, get_seam, get_set_same, get_set_other}
 
@@ -204,19 +204,19 @@ flag_there F n k (is_labelled label f g) = (false, f)
 
 -- Other labels
 
-label_self : (n : ℕ) (rs : List (ℕ × ℕ)) → label_of n (forgotten n rs) ≡ None
+label_self : (n : ℕ) (rs : List (ℕ × ℕ)) → label_of n (forget_label n rs) ≡ None
 label_self n [] = refl
 label_self n (entry ∷ rs) = by_test (label_self n rs) (entry.0 == n) refl
   where
-    by_test : label_of n (forgotten n rs) ≡ None → (b : Bool) → (entry.0 == n) ≡ b → label_of n (if b then forgotten n rs else (entry ∷ forgotten n rs)) ≡ None
+    by_test : label_of n (forget_label n rs) ≡ None → (b : Bool) → (entry.0 == n) ≡ b → label_of n (if b then forget_label n rs else (entry ∷ forget_label n rs)) ≡ None
     by_test i true e = i
-    by_test i false e = ap (λ b. if b then Some entry.1 else label_of n (forgotten n rs)) e ∙ i
+    by_test i false e = ap (λ b. if b then Some entry.1 else label_of n (forget_label n rs)) e ∙ i
 
-label_other : (n m : ℕ) (rs : List (ℕ × ℕ)) → m ≢ n → label_of m (forgotten n rs) ≡ label_of m rs
+label_other : (n m : ℕ) (rs : List (ℕ × ℕ)) → m ≢ n → label_of m (forget_label n rs) ≡ label_of m rs
 label_other n m [] d = refl
 label_other n m (entry ∷ rs) d = by_test (label_other n m rs d) (entry.0 == n) refl
   where
-    by_test : label_of m (forgotten n rs) ≡ label_of m rs → (b : Bool) → (entry.0 == n) ≡ b → label_of m (if b then forgotten n rs else (entry ∷ forgotten n rs)) ≡ label_of m (entry ∷ rs)
+    by_test : label_of m (forget_label n rs) ≡ label_of m rs → (b : Bool) → (entry.0 == n) ≡ b → label_of m (if b then forget_label n rs else (entry ∷ forget_label n rs)) ≡ label_of m (entry ∷ rs)
     by_test i true e = i ∙ sym (ap (λ b. if b then Some entry.1 else label_of m rs) (unlike entry.0 m (λ j. d (sym j ∙ eqb-true entry.0 n e))))
     by_test i false e = ap (λ l. if entry.0 == m then Some entry.1 else l) i
 
@@ -347,18 +347,18 @@ module _ (w : World) (n : ℕ) (up : Bool) (labels : List (ℕ × ℕ)) (others_
       others (limit_name m) t b v d o = record { owner = o.owner; holds = o.holds }
 
 -- the flag is raised
-pub label_up : (w : World) (n m : ℕ) → m ≢ n → label_of m (forgotten n w.kept.relabels) ≡ label_of m w.kept.relabels
+pub label_up : (w : World) (n m : ℕ) → m ≢ n → label_of m (forget_label n w.kept.relabels) ≡ label_of m w.kept.relabels
 label_up w n m d = label_other n m w.kept.relabels d
 
-pub own_up : (w : World) (n : ℕ) → label_of n (forgotten n w.kept.relabels) ≡ None
+pub own_up : (w : World) (n : ℕ) → label_of n (forget_label n w.kept.relabels) ≡ None
 own_up w n = label_self n w.kept.relabels
 
 -- it gets another label
-pub label_set : (w : World) (n label m : ℕ) → m ≢ n → label_of m ((n, label) ∷ forgotten n w.kept.relabels) ≡ label_of m w.kept.relabels
-label_set w n label m d = ap (λ b. if b then Some label else label_of m (forgotten n w.kept.relabels)) (unlike n m (λ e. d (sym e))) ∙ label_other n m w.kept.relabels d
+pub label_set : (w : World) (n label m : ℕ) → m ≢ n → label_of m ((n, label) ∷ forget_label n w.kept.relabels) ≡ label_of m w.kept.relabels
+label_set w n label m d = ap (λ b. if b then Some label else label_of m (forget_label n w.kept.relabels)) (unlike n m (λ e. d (sym e))) ∙ label_other n m w.kept.relabels d
 
-pub own_set : (w : World) (n label : ℕ) → label_of n ((n, label) ∷ forgotten n w.kept.relabels) ≡ Some label
-own_set w n label = ap (λ b. if b then Some label else label_of n (forgotten n w.kept.relabels)) (alike n)
+pub own_set : (w : World) (n label : ℕ) → label_of n ((n, label) ∷ forget_label n w.kept.relabels) ≡ Some label
+own_set w n label = ap (λ b. if b then Some label else label_of n (forget_label n w.kept.relabels)) (alike n)
 
 abbrev pub IsLocals : Kept → Type 0
 IsLocals (Locals values) = Unit {0}

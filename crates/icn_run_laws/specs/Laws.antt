@@ -1,7 +1,7 @@
 -- When two machines agree: what their calls keep.
 use Rattle.std.specs.Prelude.{◌≡◌, ◌≢◌, ℕ, suc, pred, List, length, Option, Some, None, ◌⊎◌}
 use Rattle.icn_run.specs.Rows.{Value, Item}
-use Rattle.icn_run.specs.Calls.{Pair, Why, Dropped, NoMark, Goes, Repeats, Outside, Calls}
+use Rattle.icn_run.specs.Calls.{Pair, Why, MarkDrop, NoMark, Goes, Repeats, Outside, Calls}
 
 -- both have something, or neither; or the first lacks what it may lack
 abbrev pub Both : {A B : Type 0} → Type 0 → (A → B → Type 0) → Option A → Option B → Type 0
@@ -21,7 +21,7 @@ With Next Now w s x y = (x.0 ≡ y.0) × Then Next Now w s x.1 y.1
 abbrev pub Reopened : {K W M' M : Type 0} → Calls K M → (ℕ → ℕ → Option ℕ → Type 0) → (ℕ → W → W → Type 0) → (W → ℕ → M' → M → Type 0) → W → ℕ → M' → M → Type 0
 Reopened C Opens Next Now w s m' m = (label : Option ℕ) × Opens (C.proc m) (C.place m) label × Then Next Now w s m' (C.mark label (C.go (suc (C.place m)) m))
 
-abbrev pub SameDropped : {K W M' M : Type 0} → Calls K M → (ℕ → ℕ → Option ℕ → Type 0) → (ℕ → W → W → Type 0) → (W → ℕ → M' → M → Type 0) → W → ℕ → Dropped M' → Dropped M → Type 0
+abbrev pub SameDropped : {K W M' M : Type 0} → Calls K M → (ℕ → ℕ → Option ℕ → Type 0) → (ℕ → W → W → Type 0) → (W → ℕ → M' → M → Type 0) → W → ℕ → MarkDrop M' → MarkDrop M → Type 0
 SameDropped C Opens Next Now w s NoMark NoMark = Unit {0}
 SameDropped C Opens Next Now w s (Goes m') (Goes m) = Then Next Now w s m' m
 SameDropped C Opens Next Now w s (Outside m') (Outside m) = Then Next Now w s m' m

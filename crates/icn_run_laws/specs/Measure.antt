@@ -4,7 +4,7 @@ use Rattle.std.specs.Prelude.{◌≡◌, ◌⊎◌, ℕ, zero, suc, ◌+◌, ◌
 use Rattle.icn_code.specs.declared.instr.Instr.{Instr}
 use Rattle.icn_code.specs.declared.instr.Instr.TheVariants as I
 use Rattle.icn_run.specs.Rows.{Value, Item}
-use Rattle.icn_run.specs.Calls.{Pair, Why, Alt, Op, Scan, Escan, Proc, Dropped, NoMark, Goes, Repeats, Outside, Calls}
+use Rattle.icn_run.specs.Calls.{Pair, Why, Alt, Op, Scan, Escan, Proc, MarkDrop, NoMark, Goes, Repeats, Outside, Calls}
 use Rattle.icn_run.specs.Step.{Program, Status, Fresh, Active, Waiting, Exhausted, Coexp, Store, State, running, failing, hopping, over, stuck, instrs_of, steps}
 
 -- what so many instructions are worth
@@ -42,7 +42,7 @@ pub record Lightens {M : Type 0} (Fits : M → ℕ → Type 0) (v : ℕ) (after 
   pub fits : (x : ℕ) × Fits after x
   pub weighs : fits.0 < v
 
-abbrev pub DropsWell : {M : Type 0} → (M → ℕ → Type 0) → (M → ℕ) → ℕ → ℕ → Dropped M → Type 0
+abbrev pub DropsWell : {M : Type 0} → (M → ℕ → Type 0) → (M → ℕ) → ℕ → ℕ → MarkDrop M → Type 0
 DropsWell Fits place N v NoMark = Unit {0}
 DropsWell Fits place N v (Goes after) = Pays Fits place N v after
 DropsWell Fits place N v (Repeats after) = (x : ℕ) × Fits after x

@@ -4,7 +4,7 @@ use Rattle.icn_text.specs.declared.op.Op.TheVariants as Ops
 use Rattle.icn_value.specs.Values.{Value}
 use Rattle.icn_code.specs.declared.instr.Instr.{Instr}
 use Rattle.icn_code.specs.declared.instr.Instr.TheVariants as Instrs
-use Rattle.icn_run.specs.Calls.{Calls, Dropped, NoMark, Goes, Repeats, Outside}
+use Rattle.icn_run.specs.Calls.{Calls, MarkDrop, NoMark, Goes, Repeats, Outside}
 use Rattle.icn_run.specs.Step.{Program, Coexp, Fresh, Store, State, running, failing, hopping, over, stuck, instruction_at, is_create_body, step}
 
 -- an activation, a result of a co-expression, or its end
@@ -50,7 +50,7 @@ StayIn IsAdded before (over ending outside) = Unit {0}
 StayIn IsAdded before stuck = Unit {0}
 
 -- failure finds a suspension, or a mark, or a procedure that is no create body
-abbrev pub is_no_mark : {M : Type 0} → Dropped M → Bool
+abbrev pub is_no_mark : {M : Type 0} → MarkDrop M → Bool
 is_no_mark NoMark = true
 is_no_mark (Goes m) = false
 is_no_mark (Repeats m) = false

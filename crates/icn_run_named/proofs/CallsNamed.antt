@@ -7,7 +7,7 @@ use Rattle.std.proofs.lemmas.List.Elements.{All-nil, All-cons, All-head, All-tai
 use Rattle.icn_value.specs.Values.{Value, Item}
 use Rattle.icn_value.specs.Store.{Names}
 use Rattle.icn_named.specs.Named.{ItemNamed, ValueNamed}
-use Rattle.icn_run.specs.Calls.{Pair, Why, Alt, Op, Scan, Escan, Proc, Dropped, NoMark, Goes, Repeats, Outside}
+use Rattle.icn_run.specs.Calls.{Pair, Why, Alt, Op, Scan, Escan, Proc, MarkDrop, NoMark, Goes, Repeats, Outside}
 use Rattle.icn_run.specs.Stacks as S
 use Rattle.icn_run.specs.Stacks.{Cell, base, call, local, mark, limit, suspension, operand, Frames, Registers}
 use Rattle.icn_run_named.specs.StateNames.{CellNamed, StackNamed, WhyNamed}
@@ -150,7 +150,7 @@ module _ (ns : Names) where
 
   -- Operands
 
-  popped : (m : Frames) (cells : List Cell) → Cs cells → Maybe (Two I) (S.popped m cells)
+  popped : (m : Frames) (cells : List Cell) → Cs cells → Maybe (Two I) (S.pop_from m cells)
   popped m [] h = tt
   popped m (operand x ∷ cells) h = (h.0, h.1)
   popped m (base p l ∷ cells) h = tt
@@ -163,7 +163,7 @@ module _ (ns : Names) where
   pub pop : (m : Frames) → M m → Maybe (Two I) (S.pop m)
   pop m h = popped m m.cells h
 
-  taken : (n : ℕ) (m : Frames) (cells : List Cell) (xs : List Item) → Cs cells → Each I xs → Maybe (Two (Each I)) (S.taken n m cells xs)
+  taken : (n : ℕ) (m : Frames) (cells : List Cell) (xs : List Item) → Cs cells → Each I xs → Maybe (Two (Each I)) (S.take_top n m cells xs)
   taken zero m cells xs h g = (g, h)
   taken (suc n) m [] xs h g = tt
   taken (suc n) m (operand x ∷ cells) xs h g = taken n m cells (x ∷ xs) h.1 (h.0, g)
@@ -193,7 +193,7 @@ module _ (ns : Names) where
 
   -- Marks
 
-  relabelled : (l : ℕ) (m : Frames) (o : Option Cell) → M m → Maybe M (S.relabelled l m o)
+  relabelled : (l : ℕ) (m : Frames) (o : Option Cell) → M m → Maybe M (S.relabel_in l m o)
   relabelled l m None h = tt
   relabelled l m (Some (mark old c r)) h = cell_set m.registers.mark (mark (Some l) true r) m.cells h tt
   relabelled l m (Some (operand x)) h = tt
@@ -209,7 +209,7 @@ module _ (ns : Names) where
   abbrev pub Counted : ℕ → Type 0
   Counted n = Unit {0}
 
-  counted : (m : Frames) (o : Option Cell) → M m → Maybe (Two Counted) (S.counted m o)
+  counted : (m : Frames) (o : Option Cell) → M m → Maybe (Two Counted) (S.count_in m o)
   counted m None h = tt
   counted m (Some (limit n r)) h = (tt, cell_set m.registers.mark (limit (pred n) r) m.cells h tt)
   counted m (Some (mark l c r)) h = tt
@@ -225,7 +225,7 @@ module _ (ns : Names) where
   abbrev pub Left : Frames × Option Pair → Type 0
   Left pair = M pair.0
 
-  unmarked : (m : Frames) (cells : List Cell) → Cs cells → Maybe Left (S.unmarked m cells)
+  unmarked : (m : Frames) (cells : List Cell) → Cs cells → Maybe Left (S.unmark_in m cells)
   unmarked m [] h = tt
   unmarked m (mark l c r ∷ cells) h = h.1
   unmarked m (limit n r ∷ cells) h = h.1
@@ -238,13 +238,13 @@ module _ (ns : Names) where
   pub unmark : (m : Frames) → M m → Maybe Left (S.unmark m)
   unmark m h = unmarked m (S.cut m.registers.mark m.cells) (cells_cut m.registers.mark m.cells h)
 
-  abbrev pub Drops : Dropped Frames → Type 0
+  abbrev pub Drops : MarkDrop Frames → Type 0
   Drops NoMark = Unit {0}
   Drops (Goes a) = M a
   Drops (Repeats a) = M a
   Drops (Outside a) = M a
 
-  dropped : (m : Frames) (cells : List Cell) → Cs cells → Drops (S.dropped m cells)
+  dropped : (m : Frames) (cells : List Cell) → Cs cells → Drops (S.drop_from m cells)
   dropped m [] h = tt
   dropped m (mark (Some l) false r ∷ cells) h = h.1
   dropped m (mark (Some l) true r ∷ cells) h = h.1
@@ -322,7 +322,7 @@ module _ (ns : Names) where
   pub suspend_proc : (m : Frames) → M m → Maybe M (S.suspend_proc m)
   suspend_proc m h = proc_suspended m (S.cut m.registers.base m.cells) h (cells_cut m.registers.base m.cells h)
 
-  resumed : (cells : List Cell) → Cs cells → Maybe (Two (WhyNamed ns)) (S.resumed cells)
+  resumed : (cells : List Cell) → Cs cells → Maybe (Two (WhyNamed ns)) (S.resume_from cells)
   resumed [] h = tt
   resumed (suspension w r p ∷ cells) h = (h.0, h.1)
   resumed (operand x ∷ cells) h = tt
@@ -332,14 +332,14 @@ module _ (ns : Names) where
   resumed (mark l c r ∷ cells) h = tt
   resumed (limit n r ∷ cells) h = tt
 
-  resume_at : (m : Frames) (o : Option ℕ) → M m → Maybe (Two (WhyNamed ns)) (option_and_then (λ height. S.resumed (S.cut height m.cells)) o)
+  resume_at : (m : Frames) (o : Option ℕ) → M m → Maybe (Two (WhyNamed ns)) (option_and_then (λ height. S.resume_from (S.cut height m.cells)) o)
   resume_at m None h = tt
   resume_at m (Some n) h = resumed (S.cut n m.cells) (cells_cut n m.cells h)
 
   pub resume : (m : Frames) → M m → Maybe (Two (WhyNamed ns)) (S.resume m)
   resume m h = resume_at m m.registers.newest h
 
-  left : (cells : List Cell) → Cs cells → Maybe M (S.left cells)
+  left : (cells : List Cell) → Cs cells → Maybe M (S.leave_from cells)
   left [] h = tt
   left (call p l k r q ∷ cells) h = h.1
   left (mark l c r ∷ cells) h = tt

@@ -131,7 +131,7 @@ module _ (rows : RowsKeepNames) (P : Tables) where
   started : (words : List (List ℕ)) (m : Frames) (st : Store Frames) (o : Option ℕ) → M m → N.K rows P st → N.G rows P (S.start_of flat P words m st o)
   started words m st None h k = tt
   started words m st (Some main) h k =
-      N.any rows P (slice_get P.procs main) (λ entry. S.made flat (words_row words (S.here flat m st)) m st (λ list m st. S.begun_if flat (nat_le 1 st.world.heap.bounds.levels) main entry (list ∷ []) m st))
+      N.any rows P (slice_get P.procs main) (λ entry. S.with_made flat (words_row words (S.here flat m st)) m st (λ list m st. S.begun_if flat (nat_le 1 st.world.heap.bounds.levels) main entry (list ∷ []) m st))
       (λ entry. N.made rows P (words_row words (S.here flat m st)) m st (λ list m st. S.begun_if flat (nat_le 1 st.world.heap.bounds.levels) main entry (list ∷ []) m st)
       (rows.words (N.ns rows P) words (S.here flat m st) (N.here rows P m st h k)) h k
       (λ v m s n h k. begun (nat_le 1 s.world.heap.bounds.levels) main entry (v ∷ []) m s (n, tt) h k))
@@ -159,7 +159,7 @@ module _ (rows : RowsKeepSizes) (P : Tables) where
   starts : (words : List (List ℕ)) (m : Frames) (st : Store Frames) (o : Option ℕ) → Z.K rows P st → Z.G rows P (S.start_of flat P words m st o)
   starts words m st None k = tt
   starts words m st (Some main) k =
-      Z.found rows P (slice_get P.procs main) (λ entry. S.made flat (words_row words (S.here flat m st)) m st (λ list m st. S.begun_if flat (nat_le 1 st.world.heap.bounds.levels) main entry (list ∷ []) m st))
+      Z.found rows P (slice_get P.procs main) (λ entry. S.with_made flat (words_row words (S.here flat m st)) m st (λ list m st. S.begun_if flat (nat_le 1 st.world.heap.bounds.levels) main entry (list ∷ []) m st))
       (λ entry. Z.made rows P (words_row words (S.here flat m st)) m st (λ list m st. S.begun_if flat (nat_le 1 st.world.heap.bounds.levels) main entry (list ∷ []) m st)
       ((rows.words (field_count P) words (S.here flat m st)).fit k) k (λ v m s k. begins (nat_le 1 s.world.heap.bounds.levels) main entry (v ∷ []) m s k))
 

@@ -21,7 +21,7 @@ use Rattle.icn_defs.specs.Running.{Done, Pair, number_of}
 use Rattle.icn_defs.specs.StepRows.{Operation, Function, apply, value_row, list_row, text_row, record_row, coexpression_row}
 use Rattle.icn_named.specs.Named.{ItemNamed, SettingNamed, ValueNamed, WorldNamed}
 use Rattle.icn_named.specs.Keeping.{OutcomeNamed, RowsKeepNames}
-use Rattle.icn_run.specs.Calls.{Why, Alt, Op as Operating, Scan, Escan, Proc, Dropped, NoMark, Goes, Repeats, Outside as WithoutLabel}
+use Rattle.icn_run.specs.Calls.{Why, Alt, Op as Operating, Scan, Escan, Proc, MarkDrop, NoMark, Goes, Repeats, Outside as WithoutLabel}
 use Rattle.icn_run.specs.Stacks as flats
 use Rattle.icn_run.specs.Stacks.{Frames, flat}
 use Rattle.icn_run.specs.Step as S
@@ -79,7 +79,7 @@ module _ (rows : RowsKeepNames) (P : Tables) where
   turn : (st : Store Frames) (go : Store Frames → State Frames Frames) → K st → ((s : Store Frames) → K s → G (go s)) → G (S.turn P st go)
   turn st go k f = turn_if (nat_lt st.turns st.world.heap.bounds.turns) st go k f
 
-  valued : (o : Outcome) (m : Frames) (st : Store Frames) (go : Value → State Frames Frames) → OutcomeNamed ns o → M m → K st → ((v : Value) → V v → G (go v)) → G (S.valued o m st go)
+  valued : (o : Outcome) (m : Frames) (st : Store Frames) (go : Value → State Frames Frames) → OutcomeNamed ns o → M m → K st → ((v : Value) → V v → G (go v)) → G (S.with_given o m st go)
   valued (Gives (Val v) s) m st go n h k f = f v n.0.named
   valued (Gives (Var x) s) m st go n h k f = (h, k)
   valued (Error e v s) m st go n h k f = tt
@@ -87,7 +87,7 @@ module _ (rows : RowsKeepNames) (P : Tables) where
   valued (Suspends x r s) m st go n h k f = (h, k)
   valued (Ends e s) m st go n h k f = (h, k)
 
-  pub made : (o : Outcome) (m : Frames) (st : Store Frames) (go : Value → Frames → Store Frames → State Frames Frames) → OutcomeNamed ns o → M m → K st → ((v : Value) (m : Frames) (s : Store Frames) → V v → M m → K s → G (go v m s)) → G (S.made flat o m st go)
+  pub made : (o : Outcome) (m : Frames) (st : Store Frames) (go : Value → Frames → Store Frames → State Frames Frames) → OutcomeNamed ns o → M m → K st → ((v : Value) (m : Frames) (s : Store Frames) → V v → M m → K s → G (go v m s)) → G (S.with_made flat o m st go)
   made (Gives (Val v) s) m st go n h k f = let at = placed m st s n.1 h k in f v (flats.set_locals s.locals m) (S.with_at s st) n.0.named at.0 at.1
   made (Gives (Var x) s) m st go n h k f = (h, k)
   made (Error e v s) m st go n h k f = tt
@@ -132,7 +132,7 @@ module _ (rows : RowsKeepNames) (P : Tables) where
   plain : (v : Value) → V v → X (Val v)
   plain v h = record { named = h }
 
-  pushed : (x : Item) (m : Frames) (st : Store Frames) → X x → M m → K st → G (S.pushed flat x m st)
+  pushed : (x : Item) (m : Frames) (st : Store Frames) → X x → M m → K st → G (S.push_item flat x m st)
   pushed x m st n h k = ((n, h), k)
 
   -- Scans
@@ -140,7 +140,7 @@ module _ (rows : RowsKeepNames) (P : Tables) where
   with_pair : (pair : Pair) (st : Store Frames) → K st → K (S.with_pair pair st)
   with_pair pair st k = record { world = record { heap = k.world.heap; globals = k.world.globals; statics = k.world.statics }; coexps = k.coexps }
 
-  exchanged : (o : Option (Pair × Frames)) (go : Frames → Store Frames → State Frames Frames) (st : Store Frames) → Maybe (C.Swapped ns) o → K st → ((m : Frames) (s : Store Frames) → M m → K s → G (go m s)) → G (S.exchanged o go st)
+  exchanged : (o : Option (Pair × Frames)) (go : Frames → Store Frames → State Frames Frames) (st : Store Frames) → Maybe (C.Swapped ns) o → K st → ((m : Frames) (s : Store Frames) → M m → K s → G (go m s)) → G (S.with_exchange o go st)
   exchanged (Some x) go st h k f = f x.1 (S.with_pair x.0 st) h (with_pair x.0 st k)
   exchanged None go st h k f = tt
 
@@ -159,8 +159,8 @@ module _ (rows : RowsKeepNames) (P : Tables) where
   all_left : (m : Frames) (st : Store Frames) → K st → K (S.all_left flat m st)
   all_left m st k = swapped_back (flats.swap_oldest (S.pair_now st) m) st k
 
-  unmarked : (m : Frames) (st : Store Frames) (go : Frames → Store Frames → State Frames Frames) → M m → K st → ((m : Frames) (s : Store Frames) → M m → K s → G (go m s)) → G (S.unmarked flat m st go)
-  unmarked m st go h k f = found (C.Left ns) (flats.unmark m) (S.parted (λ outside pair. go outside (S.scans_left pair st))) (C.unmark ns m h) (λ x n. f x.0 (S.scans_left x.1 st) n (left x.1 st k))
+  unmarked : (m : Frames) (st : Store Frames) (go : Frames → Store Frames → State Frames Frames) → M m → K st → ((m : Frames) (s : Store Frames) → M m → K s → G (go m s)) → G (S.unmark_then flat m st go)
+  unmarked m st go h k f = found (C.Left ns) (flats.unmark m) (S.on_pair (λ outside pair. go outside (S.scans_left pair st))) (C.unmark ns m h) (λ x n. f x.0 (S.scans_left x.1 st) n (left x.1 st k))
 
   -- Co-expressions
 
@@ -182,7 +182,7 @@ module _ (rows : RowsKeepNames) (P : Tables) where
   active : (n : ℕ) (st : Store Frames) → K st → K (record st { active = n })
   active n st k = record { world = k.world; coexps = k.coexps }
 
-  activated : (n : ℕ) (st : Store Frames) → K st → K (S.activated n st)
+  activated : (n : ℕ) (st : Store Frames) → K st → K (S.make_active n st)
   activated n st k = with_status n Active (record st { active = n }) tt (active n st k)
 
   taken_up : (m : Frames) → StackNamed ns m → M m
@@ -198,7 +198,7 @@ module _ (rows : RowsKeepNames) (P : Tables) where
   begun_by co m st h k = (C.begin ns co.proc co.values co.place m (each_of V co.values h.values), k)
 
   give_by : (u : Status Frames) (n : ℕ) (v : Value) (m : Frames) (st : Store Frames) → StatusNamed ns u → V v → K st → G (S.give_by flat u n v m st)
-  give_by Fresh n v m st h a k = begun_by (S.coexp_at n st) m (S.activated n st) (coexp_at n st k) (activated n st k)
+  give_by Fresh n v m st h a k = begun_by (S.coexp_at n st) m (S.make_active n st) (coexp_at n st k) (activated n st k)
   give_by Active n v m st h a k = tt
   give_by (Waiting b) n v m st h a k = ((plain v a, taken_up b h), activated n st k)
   give_by Exhausted n v m st h a k = active n st k
@@ -209,7 +209,7 @@ module _ (rows : RowsKeepNames) (P : Tables) where
   hop : (m : Frames) (st : Store Frames) → K st → G (S.hop flat P m st)
   hop m st k = turn st (λ st. S.passed_failure flat (S.activator_of st.active st) m st) k (λ st k. to_activator (S.activator_of st.active st) m st k)
 
-  exhausted : (m : Frames) (st : Store Frames) → K st → G (S.exhausted flat P m st)
+  exhausted : (m : Frames) (st : Store Frames) → K st → G (S.exhaust_active flat P m st)
   exhausted m st k = turn st (λ st. S.passed_failure flat (S.activator_of st.active st) m (S.with_status st.active Exhausted st)) k
       (λ st k. to_activator (S.activator_of st.active st) m (S.with_status st.active Exhausted st) (with_status st.active Exhausted st tt k))
 
@@ -228,14 +228,14 @@ module _ (rows : RowsKeepNames) (P : Tables) where
       (counted st.active (S.with_status st.active (Waiting m) st) (with_status st.active (Waiting m) st (C.stack_out ns m h) k))
 
   coexp_made : (vs : List Value) (proc place : ℕ) (m : Frames) (st : Store Frames) → Each V vs → M m → K st → G (S.coexp_made flat vs proc place m st)
-  coexp_made vs proc place m st a h k = made (coexpression_row (length vs) (S.here flat m st)) m st (λ value m st. S.pushed flat (Val value) m (S.with_new vs proc place st)) (rows.coexpressions ns (length vs) (S.here flat m st) (here m st h k)) h k
+  coexp_made vs proc place m st a h k = made (coexpression_row (length vs) (S.here flat m st)) m st (λ value m st. S.push_item flat (Val value) m (S.with_new vs proc place st)) (rows.coexpressions ns (length vs) (S.here flat m st) (here m st h k)) h k
       (λ v m s n h k. ((plain v n, h), record { world = k.world; coexps = each_append (CoexpNamed ns) s.coexps (record { status = Fresh; activator = zero; values = vs; proc = proc; place = place } ∷ []) k.coexps (record { status = tt; values = all_of V vs a }, tt) }))
 
   refreshed_from : (o : Option (Coexp Frames)) (m : Frames) (st : Store Frames) → Maybe (CoexpNamed ns) o → M m → K st → G (S.refreshed_from flat o m st)
   refreshed_from (Some co) m st n h k = coexp_made co.values co.proc co.place m st (each_of V co.values n.values) h k
   refreshed_from None m st n h k = tt
 
-  refreshed : (v : Value) (m : Frames) (st : Store Frames) → M m → K st → G (S.refreshed flat v m st)
+  refreshed : (v : Value) (m : Frames) (st : Store Frames) → M m → K st → G (S.refresh flat v m st)
   refreshed (ACoexp zero) m st h k = tt
   refreshed (ACoexp (suc n)) m st h k = refreshed_from (slice_get st.coexps (suc n)) m st (each_get (CoexpNamed ns) st.coexps (suc n) k.coexps) h k
   refreshed Null m st h k = tt
@@ -280,25 +280,25 @@ module _ (rows : RowsKeepNames) (P : Tables) where
   pub nulls : (n : ℕ) → Each V (replicate n Null)
   nulls n = each_replicate V n Null tt
 
-  filled : (n : ℕ) (vs : List Value) → Each V vs → Each V (S.filled n vs)
+  filled : (n : ℕ) (vs : List Value) → Each V vs → Each V (S.fill_nulls n vs)
   filled n vs h = each_take V n (vs ++ replicate n Null) (each_append V vs (replicate n Null) h (nulls n))
 
-  pub collected : (t : Bool) (n : ℕ) (vs : List Value) (m : Frames) (st : Store Frames) (go : List Value → Frames → Store Frames → State Frames Frames) → Each V vs → M m → K st → ((vs : List Value) (m : Frames) (s : Store Frames) → Each V vs → M m → K s → G (go vs m s)) → G (S.collected flat t n vs m st go)
-  collected false n vs m st go a h k f = f (S.filled n vs) m st (filled n vs a) h k
-  collected true n vs m st go a h k f = list_made (drop (n - 1) vs) m st (λ rest m st. go (S.filled (n - 1) vs ++ rest ∷ []) m st) (each_drop V (n - 1) vs a) h k
-      (λ rest m st b h k. f (S.filled (n - 1) vs ++ rest ∷ []) m st (each_append V (S.filled (n - 1) vs) (rest ∷ []) (filled (n - 1) vs a) (b, tt)) h k)
+  pub collected : (t : Bool) (n : ℕ) (vs : List Value) (m : Frames) (st : Store Frames) (go : List Value → Frames → Store Frames → State Frames Frames) → Each V vs → M m → K st → ((vs : List Value) (m : Frames) (s : Store Frames) → Each V vs → M m → K s → G (go vs m s)) → G (S.collect_rest flat t n vs m st go)
+  collected false n vs m st go a h k f = f (S.fill_nulls n vs) m st (filled n vs a) h k
+  collected true n vs m st go a h k f = list_made (drop (n - 1) vs) m st (λ rest m st. go (S.fill_nulls (n - 1) vs ++ rest ∷ []) m st) (each_drop V (n - 1) vs a) h k
+      (λ rest m st b h k. f (S.fill_nulls (n - 1) vs ++ rest ∷ []) m st (each_append V (S.fill_nulls (n - 1) vs) (rest ∷ []) (filled (n - 1) vs a) (b, tt)) h k)
 
-  entered : (n : ℕ) (entry : Procedure) (vs : List Value) (m : Frames) (st : Store Frames) → Each V vs → M m → K st → G (S.entered flat n entry vs m st)
+  entered : (n : ℕ) (entry : Procedure) (vs : List Value) (m : Frames) (st : Store Frames) → Each V vs → M m → K st → G (S.enter_procedure flat n entry vs m st)
   entered n entry vs m st a h k = (C.enter ns n (vs ++ replicate entry.locals Null) m (each_append V vs (replicate entry.locals Null) a (nulls entry.locals)) h, k)
 
   called_if : (t : Bool) (n : ℕ) (entry : Procedure) (vs : List Value) (m : Frames) (st : Store Frames) → Each V vs → M m → K st → G (S.called_if flat t n entry vs m st)
-  called_if true n entry vs m st a h k = collected entry.collects entry.parameters vs m st (λ parameters m st. S.entered flat n entry parameters m st) a h k (λ vs m st a h k. entered n entry vs m st a h k)
+  called_if true n entry vs m st a h k = collected entry.collects entry.parameters vs m st (λ parameters m st. S.enter_procedure flat n entry parameters m st) a h k (λ vs m st a h k. entered n entry vs m st a h k)
   called_if false n entry vs m st a h k = tt
 
-  constructed : (n : ℕ) (entry : RecordType) (vs : List Value) (m : Frames) (st : Store Frames) → n < length ns.records → Each V vs → M m → K st → G (S.constructed flat n entry vs m st)
+  constructed : (n : ℕ) (entry : RecordType) (vs : List Value) (m : Frames) (st : Store Frames) → n < length ns.records → Each V vs → M m → K st → G (S.construct_record flat n entry vs m st)
   constructed n entry vs m st l a h k =
-      let fs = S.filled (length entry.fields) vs in
-      made (record_row n fs (S.here flat m st)) m st (λ value m st. S.pushed flat (Val value) m st) (rows.records ns n fs (S.here flat m st) (here m st h k) l (all_of V fs (filled (length entry.fields) vs a))) h k (λ v m s n h k. ((plain v n, h), k))
+      let fs = S.fill_nulls (length entry.fields) vs in
+      made (record_row n fs (S.here flat m st)) m st (λ value m st. S.push_item flat (Val value) m st) (rows.records ns n fs (S.here flat m st) (here m st h k) l (all_of V fs (filled (length entry.fields) vs a))) h k (λ v m s n h k. ((plain v n, h), k))
 
   pushed_or_fails : (o : Option Item) (m : Frames) (st : Store Frames) → Maybe X o → M m → K st → G (S.pushed_or_fails flat o m st)
   pushed_or_fails (Some x) m st n h k = ((n, h), k)
@@ -310,7 +310,7 @@ module _ (rows : RowsKeepNames) (P : Tables) where
   argument (Some (suc n)) xs h = each_get X xs n h
 
   integer_called : (f : Value) (o : Option ℤ) (xs : List Item) (m : Frames) (st : Store Frames) → Each X xs → M m → K st → G (S.integer_called flat f o xs m st)
-  integer_called f (Some n) xs m st a h k = pushed_or_fails (S.chosen n xs) m st (argument _ xs a) h k
+  integer_called f (Some n) xs m st a h k = pushed_or_fails (S.choose_item n xs) m st (argument _ xs a) h k
   integer_called f None xs m st a h k = tt
 
   -- a callee that is a record is one of the tables
@@ -343,13 +343,13 @@ module _ (rows : RowsKeepNames) (P : Tables) where
 
   callee_called : (c : Callee) (n : ℕ) (xs : List Item) (m : Frames) (st : Store Frames) → Within (length P.records) c → ((func : Func) → c ≡ IsFunc func → OutcomeNamed ns (apply st.names (Function func) xs (S.here flat m st)))
       → Each X xs → M m → K st → G (S.callee_called flat c n xs m st)
-  callee_called (IsProc entry) n xs m st w f a h k = values xs m st (λ arguments. S.called flat n entry arguments m st) a h k (λ vs b. called_if (nat_le (suc (flats.level m)) st.world.heap.bounds.levels) n entry vs m st b h k)
+  callee_called (IsProc entry) n xs m st w f a h k = values xs m st (λ arguments. S.call_procedure flat n entry arguments m st) a h k (λ vs b. called_if (nat_le (suc (flats.level m)) st.world.heap.bounds.levels) n entry vs m st b h k)
   callee_called (IsRecord kind entry) n xs m st w f a h k =
-      values xs m st (λ arguments. S.constructed flat kind entry arguments m st) a h k (λ vs b. constructed kind entry vs m st (subst (λ (j : ℕ). kind < j) (sym named_records) w) b h k)
+      values xs m st (λ arguments. S.construct_record flat kind entry arguments m st) a h k (λ vs b. constructed kind entry vs m st (subst (λ (j : ℕ). kind < j) (sym named_records) w) b h k)
   callee_called (IsFunc func) n xs m st w f a h k = outcome (apply st.names (Function func) xs (S.here flat m st)) m st (f func refl) h k
   callee_called IsNothing n xs m st w f a h k = tt
 
-  invoked : (f : Value) (xs : List Item) (m : Frames) (st : Store Frames) → FunctionNamed P f xs m st → Each X xs → M m → K st → G (S.invoked flat P f xs m st)
+  invoked : (f : Value) (xs : List Item) (m : Frames) (st : Store Frames) → FunctionNamed P f xs m st → Each X xs → M m → K st → G (S.invoke_value flat P f xs m st)
   invoked (ProcedureValue n) xs m st f a h k = callee_called (S.callee_of P n) n xs m st (callees n P.procs P.records) (λ func e. f n func refl e) a h k
   invoked Null xs m st f a h k = integer_called Null (number_of Null) xs m st a h k
   invoked (Integer n) xs m st f a h k = integer_called (Integer n) (number_of (Integer n)) xs m st a h k
@@ -400,7 +400,7 @@ module _ (rows : RowsKeepNames) (P : Tables) where
   finished true st = tt
   finished false st = tt
 
-  returned : (o : Option Frames) (go : Frames → Store Frames → State Frames Frames) (st : Store Frames) → Maybe M o → K st → ((m : Frames) (s : Store Frames) → M m → K s → G (go m s)) → G (S.returned o go st)
+  returned : (o : Option Frames) (go : Frames → Store Frames → State Frames Frames) (st : Store Frames) → Maybe M o → K st → ((m : Frames) (s : Store Frames) → M m → K s → G (go m s)) → G (S.return_to o go st)
   returned (Some m) go st h k f = f m st h k
   returned None go st h k f = finished (S.is_main st.active) st
 
@@ -414,15 +414,15 @@ module _ (rows : RowsKeepNames) (P : Tables) where
   either false x y f g = g
 
   without_mark : (m : Frames) (st : Store Frames) → M m → K st → G (S.without_mark flat P m st)
-  without_mark m st h k = either (S.is_create_body flat m st) (S.exhausted flat P m st) (S.proc_fails flat m st) (exhausted m st k) (proc_fails m st h k)
+  without_mark m st h k = either (S.is_create_body flat m st) (S.exhaust_active flat P m st) (S.proc_fails flat m st) (exhausted m st k) (proc_fails m st h k)
 
-  dropped : (m : Frames) (st : Store Frames) (d : Dropped Frames) → C.Drops ns d → M m → K st → G (S.mark_dropped flat P m st d)
+  dropped : (m : Frames) (st : Store Frames) (d : MarkDrop Frames) → C.Drops ns d → M m → K st → G (S.mark_dropped flat P m st d)
   dropped m st NoMark n h k = without_mark m st h k
   dropped m st (Goes a) n h k = (n, k)
   dropped m st (Repeats a) n h k = turn st (running a) k (λ s k. (n, k))
   dropped m st (WithoutLabel a) n h k = (n, k)
 
-  resumed : (why : Why) (m : Frames) (st : Store Frames) → WhyNamed ns why → M m → K st → G (S.resumed flat P why m st)
+  resumed : (why : Why) (m : Frames) (st : Store Frames) → WhyNamed ns why → M m → K st → G (S.resume_by flat P why m st)
   resumed Alt m st w h k = (h, k)
   resumed (Operating r) m st w h k = turn st (λ st. S.outcome flat (again r (S.here flat m st)) m st) k (λ st k. outcome (again r (S.here flat m st)) m st (rows.resumed ns r (S.here flat m st) (here m st h k) w) h k)
   resumed (Scan pair) m st w h k = (h, with_pair pair st k)
@@ -440,20 +440,20 @@ module _ (rows : RowsKeepNames) (P : Tables) where
   -- Instructions
 
   popped : (m : Frames) (go : Item → Frames → State Frames Frames) → M m → ((x : Item) (m : Frames) → X x → M m → G (go x m)) → G (S.with_popped flat m go)
-  popped m go h f = found (C.Two ns X) (flats.pop m) (S.parted go) (C.pop ns m h) (λ x n. f x.0 x.1 n.0 n.1)
+  popped m go h f = found (C.Two ns X) (flats.pop m) (S.on_pair go) (C.pop ns m h) (λ x n. f x.0 x.1 n.0 n.1)
 
   taken : (n : ℕ) (m : Frames) (go : List Item → Frames → State Frames Frames) → M m → ((xs : List Item) (m : Frames) → Each X xs → M m → G (go xs m)) → G (S.with_taken flat n m go)
-  taken n m go h f = found (C.Two ns (Each X)) (flats.take n m) (S.parted go) (C.take_items ns n m h) (λ x n. f x.0 x.1 n.0 n.1)
+  taken n m go h f = found (C.Two ns (Each X)) (flats.take n m) (S.on_pair go) (C.take_items ns n m h) (λ x n. f x.0 x.1 n.0 n.1)
 
-  limited : (v : Value) (o : Option ℤ) (m : Frames) (st : Store Frames) → M m → K st → G (S.limited flat v o m st)
+  limited : (v : Value) (o : Option ℤ) (m : Frames) (st : Store Frames) → M m → K st → G (S.limit_results flat v o m st)
   limited v None m st h k = tt
   limited v (Some (negsuc n)) m st h k = tt
   limited v (Some (pos zero)) m st h k = (h, k)
   limited v (Some (pos (suc n))) m st h k = ((tt, h), k)
 
   limited_result : (x : Item) (n : ℕ) (m : Frames) (st : Store Frames) → X x → M m → K st → G (S.limited_result flat x n m st)
-  limited_result x zero m st a h k = unmarked m st (S.pushed flat x) h k (λ m s h k. ((a, h), k))
-  limited_result x (suc n) m st a h k = found M (flats.suspend_mark m) (λ after. S.pushed flat x after st) (C.suspend_mark ns m h) (λ m h. ((a, h), k))
+  limited_result x zero m st a h k = unmarked m st (S.push_item flat x) h k (λ m s h k. ((a, h), k))
+  limited_result x (suc n) m st a h k = found M (flats.suspend_mark m) (λ after. S.push_item flat x after st) (C.suspend_mark ns m h) (λ m h. ((a, h), k))
 
   scan_opened : (v : Value) (m : Frames) (st : Store Frames) → M m → K st → G (S.scan_opened flat v m st)
   scan_opened (Text text) m st h k = (C.suspend ns (Scan (S.pair_now st)) m tt h, with_pair (record { subject = text; position = 1 }) st k)
@@ -506,7 +506,7 @@ module _ (rows : RowsKeepNames) (P : Tables) where
   keyword s Keywords.Subject = record { named = tt }
   keyword s Keywords.Ucase = plain _ tt
 
-  operated : (op : Op) (xs : List Item) (m : Frames) (st : Store Frames) → Each X xs → M m → K st → G (S.operated flat op xs m st)
+  operated : (op : Op) (xs : List Item) (m : Frames) (st : Store Frames) → Each X xs → M m → K st → G (S.operate flat op xs m st)
   operated Ops.IsNull xs m st a h k = operates Ops.IsNull xs m st a h k
   operated Ops.IsNotNull xs m st a h k = operates Ops.IsNotNull xs m st a h k
   operated Ops.Dereference xs m st a h k = operates Ops.Dereference xs m st a h k
@@ -518,7 +518,7 @@ module _ (rows : RowsKeepNames) (P : Tables) where
   operated Ops.Random xs m st a h k = operates Ops.Random xs m st a h k
   operated Ops.TabMatch xs m st a h k = operates Ops.TabMatch xs m st a h k
   operated Ops.Refresh [] m st a h k = operates Ops.Refresh [] m st a h k
-  operated Ops.Refresh (x ∷ xs) m st a h k = value x m st (λ value. S.refreshed flat value m st) a.0 h k (λ v b. refreshed v m st h k)
+  operated Ops.Refresh (x ∷ xs) m st a h k = value x m st (λ value. S.refresh flat value m st) a.0 h k (λ v b. refreshed v m st h k)
   operated Ops.Add xs m st a h k = operates Ops.Add xs m st a h k
   operated Ops.Subtract xs m st a h k = operates Ops.Subtract xs m st a h k
   operated Ops.Multiply xs m st a h k = operates Ops.Multiply xs m st a h k
@@ -556,56 +556,56 @@ module _ (rows : RowsKeepNames) (P : Tables) where
 
   instruction : (i : Instr) (m : Frames) (st : Store Frames) → (MayCall i → ⊥) → M m → K st → G (S.instruction flat P i m st)
   instruction I.Pnull m st d h k = ((plain Null tt, h), k)
-  instruction (I.Int n) m st d h k = any (slice_get P.integers n) (λ n. S.pushed flat (Val (Integer n)) m st) (λ x. ((plain (Integer x) tt, h), k))
-  instruction (I.Str n) m st d h k = any (slice_get P.strings n) (λ bytes. S.pushed flat (Val (Text bytes)) m st) (λ x. ((plain (Text x) tt, h), k))
-  instruction (I.Cset n) m st d h k = any (slice_get P.csets n) (λ set. S.pushed flat (Val (Chars (S.members_of set))) m st) (λ x. ((plain (Chars (S.members_of x)) tt, h), k))
+  instruction (I.Int n) m st d h k = any (slice_get P.integers n) (λ n. S.push_item flat (Val (Integer n)) m st) (λ x. ((plain (Integer x) tt, h), k))
+  instruction (I.Str n) m st d h k = any (slice_get P.strings n) (λ bytes. S.push_item flat (Val (Text bytes)) m st) (λ x. ((plain (Text x) tt, h), k))
+  instruction (I.Cset n) m st d h k = any (slice_get P.csets n) (λ set. S.push_item flat (Val (Chars (S.members_of set))) m st) (λ x. ((plain (Chars (S.members_of x)) tt, h), k))
   instruction (I.Local n) m st d h k = ((record { named = tt }, h), k)
   instruction (I.Static n) m st d h k = ((record { named = tt }, h), k)
   instruction (I.Global n) m st d h k = ((record { named = tt }, h), k)
-  instruction (I.Keywd word) m st d h k = pushed_or_fails (keyword_item (S.standing flat m st) word) m st (keyword (S.standing flat m st) word) h k
+  instruction (I.Keywd word) m st d h k = pushed_or_fails (keyword_item (S.standing_of flat m st) word) m st (keyword (S.standing_of flat m st) word) h k
   instruction I.Pop m st d h k = popped m (λ item m. running m st) h (λ x m a h. (h, k))
-  instruction I.Dup m st d h k = popped m (λ item below. S.pushed flat item m st) h (λ x b a g. ((a, h), k))
-  instruction (I.Op op) m st d h k = taken (arity op) m (λ items m. S.turn P st (S.operated flat op items m)) h (λ xs m a h. turn st (S.operated flat op xs m) k (λ st k. operated op xs m st a h k))
-  instruction (I.Llist n) m st d h k = taken n m (λ items m. S.turn P st (λ st. S.with_values flat items m st (λ values. S.list_made flat values m st (λ list m st. S.pushed flat (Val list) m st)))) h
-      (λ xs m a h. turn st (λ st. S.with_values flat xs m st (λ values. S.list_made flat values m st (λ list m st. S.pushed flat (Val list) m st))) k
-      (λ st k. values xs m st (λ values. S.list_made flat values m st (λ list m st. S.pushed flat (Val list) m st)) a h k (λ vs b. list_made vs m st (λ list m st. S.pushed flat (Val list) m st) b h k (λ v m s c h k. ((plain v c, h), k)))))
+  instruction I.Dup m st d h k = popped m (λ item below. S.push_item flat item m st) h (λ x b a g. ((a, h), k))
+  instruction (I.Op op) m st d h k = taken (arity op) m (λ items m. S.turn P st (S.operate flat op items m)) h (λ xs m a h. turn st (S.operate flat op xs m) k (λ st k. operated op xs m st a h k))
+  instruction (I.Llist n) m st d h k = taken n m (λ items m. S.turn P st (λ st. S.with_values flat items m st (λ values. S.list_made flat values m st (λ list m st. S.push_item flat (Val list) m st)))) h
+      (λ xs m a h. turn st (λ st. S.with_values flat xs m st (λ values. S.list_made flat values m st (λ list m st. S.push_item flat (Val list) m st))) k
+      (λ st k. values xs m st (λ values. S.list_made flat values m st (λ list m st. S.push_item flat (Val list) m st)) a h k (λ vs b. list_made vs m st (λ list m st. S.push_item flat (Val list) m st) b h k (λ v m s c h k. ((plain v c, h), k)))))
   instruction (I.Field n) m st d h k = taken 1 m (λ items m. S.turn P st (S.field_applied flat P n items m)) h (λ xs m a h. turn st (S.field_applied flat P n xs m) k (λ st k. field_applied n xs m st a h k))
   instruction (I.Invoke n) m st d h k = absurd (d tt)
   instruction I.Appl m st d h k = absurd (d tt)
   instruction (I.Mark l) m st d h k = ((tt, h), k)
   instruction I.Mark0 m st d h k = ((tt, h), k)
   instruction I.Unmark m st d h k = unmarked m st running h k (λ m s h k. (h, k))
-  instruction I.Eret m st d h k = popped m (λ item m. S.with_value flat item m st (λ value. S.unmarked flat m st (S.pushed flat (Val value)))) h
-      (λ x m a h. value x m st (λ value. S.unmarked flat m st (S.pushed flat (Val value))) a h k (λ v b. unmarked m st (S.pushed flat (Val v)) h k (λ m s h k. ((plain v b, h), k))))
-  instruction I.Esusp m st d h k = popped m (λ item m. S.with_found (flats.suspend_mark m) (λ m. S.pushed flat item m st)) h (λ x m a h. found M (flats.suspend_mark m) (λ m. S.pushed flat x m st) (C.suspend_mark ns m h) (λ m h. ((a, h), k)))
-  instruction I.Limit m st d h k = popped m (λ item m. S.with_value flat item m st (λ value. S.limited flat value (integer_of value) m st)) h
-      (λ x m a h. value x m st (λ value. S.limited flat value (integer_of value) m st) a h k (λ v b. limited v (integer_of v) m st h k))
-  instruction I.Lsusp m st d h k = popped m (λ item m. S.with_found (flats.count_down m) (S.parted (λ count m. S.limited_result flat item count m st))) h
-      (λ x m a h. found (C.Two ns (C.Counted ns)) (flats.count_down m) (S.parted (λ count m. S.limited_result flat x count m st)) (C.count_down ns m h) (λ y n. limited_result x y.0 y.1 st a n.1 k))
+  instruction I.Eret m st d h k = popped m (λ item m. S.with_value flat item m st (λ value. S.unmark_then flat m st (S.push_item flat (Val value)))) h
+      (λ x m a h. value x m st (λ value. S.unmark_then flat m st (S.push_item flat (Val value))) a h k (λ v b. unmarked m st (S.push_item flat (Val v)) h k (λ m s h k. ((plain v b, h), k))))
+  instruction I.Esusp m st d h k = popped m (λ item m. S.with_found (flats.suspend_mark m) (λ m. S.push_item flat item m st)) h (λ x m a h. found M (flats.suspend_mark m) (λ m. S.push_item flat x m st) (C.suspend_mark ns m h) (λ m h. ((a, h), k)))
+  instruction I.Limit m st d h k = popped m (λ item m. S.with_value flat item m st (λ value. S.limit_results flat value (integer_of value) m st)) h
+      (λ x m a h. value x m st (λ value. S.limit_results flat value (integer_of value) m st) a h k (λ v b. limited v (integer_of v) m st h k))
+  instruction I.Lsusp m st d h k = popped m (λ item m. S.with_found (flats.count_down m) (S.on_pair (λ count m. S.limited_result flat item count m st))) h
+      (λ x m a h. found (C.Two ns (C.Counted ns)) (flats.count_down m) (S.on_pair (λ count m. S.limited_result flat x count m st)) (C.count_down ns m h) (λ y n. limited_result x y.0 y.1 st a n.1 k))
   instruction I.Efail m st d h k = (h, k)
   instruction (I.Chfail l) m st d h k = found M (flats.relabel l m) (λ m. running m st) (C.relabel ns l m h) (λ m h. (h, k))
   instruction (I.Goto l) m st d h k = (h, k)
   instruction (I.Loop l) m st d h k = turn st (running (flats.go l m)) k (λ s k. (h, k))
-  instruction I.Bscan m st d h k = popped m (λ item m. S.with_value flat item m st (λ value. S.made flat (text_row value (S.here flat m st)) m st (S.scan_opened flat))) h
-      (λ x m a h. value x m st (λ value. S.made flat (text_row value (S.here flat m st)) m st (S.scan_opened flat)) a h k
+  instruction I.Bscan m st d h k = popped m (λ item m. S.with_value flat item m st (λ value. S.with_made flat (text_row value (S.here flat m st)) m st (S.scan_opened flat))) h
+      (λ x m a h. value x m st (λ value. S.with_made flat (text_row value (S.here flat m st)) m st (S.scan_opened flat)) a h k
       (λ v b. made (text_row v (S.here flat m st)) m st (S.scan_opened flat) (rows.texts ns v (S.here flat m st) (here m st h k) b) h k (λ v m s c h k. scan_opened v m s h k)))
-  instruction I.Escan m st d h k = popped m (λ item m. S.exchanged (flats.swap_newest (S.pair_now st) m) (λ m. S.pushed flat item (flats.suspend Escan m)) st) h
-      (λ x m a h. exchanged (flats.swap_newest (S.pair_now st) m) (λ m. S.pushed flat x (flats.suspend Escan m)) st (C.swap_newest ns (S.pair_now st) m h) k (λ m s h k. ((a, C.suspend ns Escan m tt h), k)))
-  instruction I.Ccase m st d h k = found X (flats.below m) (λ item. S.pushed flat item m st) (C.below ns m h) (λ x a. ((a, h), k))
+  instruction I.Escan m st d h k = popped m (λ item m. S.with_exchange (flats.swap_newest (S.pair_now st) m) (λ m. S.push_item flat item (flats.suspend Escan m)) st) h
+      (λ x m a h. exchanged (flats.swap_newest (S.pair_now st) m) (λ m. S.push_item flat x (flats.suspend Escan m)) st (C.swap_newest ns (S.pair_now st) m h) k (λ m s h k. ((a, C.suspend ns Escan m tt h), k)))
+  instruction I.Ccase m st d h k = found X (flats.below m) (λ item. S.push_item flat item m st) (C.below ns m h) (λ x a. ((a, h), k))
   instruction (I.Init l) m st d h k = initial (slice_index_or st.begun (flats.proc m) true) l m st h k
-  instruction I.Psusp m st d h k = popped m (λ item below. S.with_result flat item m st (λ result. S.maybe_exchanged (flats.swap_oldest (S.pair_now st) m) m st (λ m. S.returned (flats.suspend_proc m) (S.pushed flat result)))) h
-      (λ x below a g. result x m st (λ result. S.maybe_exchanged (flats.swap_oldest (S.pair_now st) m) m st (λ m. S.returned (flats.suspend_proc m) (S.pushed flat result))) a h k
-      (λ x b. maybe_exchanged (flats.swap_oldest (S.pair_now st) m) m st (λ m. S.returned (flats.suspend_proc m) (S.pushed flat x)) (C.swap_oldest ns (S.pair_now st) m h) h k
-      (λ m s h k. returned (flats.suspend_proc m) (S.pushed flat x) s (C.suspend_proc ns m h) k (λ m s h k. ((b, h), k)))))
-  instruction I.Pret m st d h k = popped m (λ item m. S.with_result flat item m st (λ result. S.returned (flats.leave m) (S.pushed flat result) (S.all_left flat m st))) h
-      (λ x m a h. result x m st (λ result. S.returned (flats.leave m) (S.pushed flat result) (S.all_left flat m st)) a h k (λ x b. returned (flats.leave m) (S.pushed flat x) (S.all_left flat m st) (C.leave ns m h) (all_left m st k) (λ m s h k. ((b, h), k))))
+  instruction I.Psusp m st d h k = popped m (λ item below. S.with_result flat item m st (λ result. S.maybe_exchanged (flats.swap_oldest (S.pair_now st) m) m st (λ m. S.return_to (flats.suspend_proc m) (S.push_item flat result)))) h
+      (λ x below a g. result x m st (λ result. S.maybe_exchanged (flats.swap_oldest (S.pair_now st) m) m st (λ m. S.return_to (flats.suspend_proc m) (S.push_item flat result))) a h k
+      (λ x b. maybe_exchanged (flats.swap_oldest (S.pair_now st) m) m st (λ m. S.return_to (flats.suspend_proc m) (S.push_item flat x)) (C.swap_oldest ns (S.pair_now st) m h) h k
+      (λ m s h k. returned (flats.suspend_proc m) (S.push_item flat x) s (C.suspend_proc ns m h) k (λ m s h k. ((b, h), k)))))
+  instruction I.Pret m st d h k = popped m (λ item m. S.with_result flat item m st (λ result. S.return_to (flats.leave m) (S.push_item flat result) (S.all_left flat m st))) h
+      (λ x m a h. result x m st (λ result. S.return_to (flats.leave m) (S.push_item flat result) (S.all_left flat m st)) a h k (λ x b. returned (flats.leave m) (S.push_item flat x) (S.all_left flat m st) (C.leave ns m h) (all_left m st k) (λ m s h k. ((b, h), k))))
   instruction I.Pfail m st d h k = either (S.is_create_body flat m st) stuck (S.proc_fails flat m st) tt (proc_fails m st h k)
   instruction (I.Create l) m st d h k = turn st (S.coexp_made flat (flats.locals m) (flats.proc m) m.place (flats.go l m)) k (λ st k. coexp_made (flats.locals m) (flats.proc m) m.place (flats.go l m) st (C.locals ns m h) h k)
   instruction I.Coact m st d h k = taken 2 m (λ items m. S.turn P st (S.activation_of flat items m)) h (λ xs m a h. turn st (S.activation_of flat xs m) k (λ st k. activation_of xs m st a h k))
   instruction I.Coret m st d h k = either (S.is_create_body flat m st) (S.with_popped flat m (λ item m. S.turn P st (λ st. S.with_value flat item m st (λ value. S.result_given flat value m st)))) stuck
       (popped m (λ item m. S.turn P st (λ st. S.with_value flat item m st (λ value. S.result_given flat value m st))) h
       (λ x m a h. turn st (λ st. S.with_value flat x m st (λ value. S.result_given flat value m st)) k (λ st k. value x m st (λ value. S.result_given flat value m st) a h k (λ v b. result_given v m st b h k)))) tt
-  instruction I.Cofail m st d h k = either (S.is_create_body flat m st) (S.exhausted flat P m st) stuck (exhausted m st k) tt
+  instruction I.Cofail m st d h k = either (S.is_create_body flat m st) (S.exhaust_active flat P m st) stuck (exhausted m st k) tt
 
   -- The law
 

@@ -19,7 +19,7 @@ use Rattle.icn_defs.specs.Rows.{Outcome, Fails, Gives, Suspends, Error, Ends}
 use Rattle.icn_defs.specs.Running.{Done, Pair, number_of}
 use Rattle.icn_defs.specs.StepRows.{Operation, Function, apply, value_row, list_row, text_row, record_row, coexpression_row}
 use Rattle.icn_named.specs.Sizes.{RowsKeepSizes}
-use Rattle.icn_run.specs.Calls.{Why, Alt, Op as Operating, Scan, Escan, Proc, Dropped, NoMark, Goes, Repeats, Outside as WithoutLabel}
+use Rattle.icn_run.specs.Calls.{Why, Alt, Op as Operating, Scan, Escan, Proc, MarkDrop, NoMark, Goes, Repeats, Outside as WithoutLabel}
 use Rattle.icn_run.specs.Stacks as flats
 use Rattle.icn_run.specs.Stacks.{Frames, flat}
 use Rattle.icn_run.specs.Step as S
@@ -51,7 +51,7 @@ module _ (rows : RowsKeepSizes) (P : Tables) where
 
   -- Rows
 
-  valued : (o : Outcome) (m : Frames) (st : Store Frames) (go : Value → State Frames Frames) → K st → ((v : Value) → G (go v)) → G (S.valued o m st go)
+  valued : (o : Outcome) (m : Frames) (st : Store Frames) (go : Value → State Frames Frames) → K st → ((v : Value) → G (go v)) → G (S.with_given o m st go)
   valued (Gives (Val v) s) m st go k f = f v
   valued (Gives (Var x) s) m st go k f = k
   valued (Error e v s) m st go k f = tt
@@ -60,7 +60,7 @@ module _ (rows : RowsKeepSizes) (P : Tables) where
   valued (Ends e s) m st go k f = k
 
   pub made : (o : Outcome) (m : Frames) (st : Store Frames) (go : Value → Frames → Store Frames → State Frames Frames) → OutcomeFits P o → K st
-      → ((v : Value) (m : Frames) (s : Store Frames) → K s → G (go v m s)) → G (S.made flat o m st go)
+      → ((v : Value) (m : Frames) (s : Store Frames) → K s → G (go v m s)) → G (S.with_made flat o m st go)
   made (Gives (Val v) s) m st go n k f = f v (flats.set_locals s.locals m) (S.with_at s st) n
   made (Gives (Var x) s) m st go n k f = k
   made (Error e v s) m st go n k f = tt
@@ -88,7 +88,7 @@ module _ (rows : RowsKeepSizes) (P : Tables) where
 
   -- Scans
 
-  exchanged : (o : Option (Pair × Frames)) (go : Frames → Store Frames → State Frames Frames) (st : Store Frames) → K st → ((m : Frames) (s : Store Frames) → K s → G (go m s)) → G (S.exchanged o go st)
+  exchanged : (o : Option (Pair × Frames)) (go : Frames → Store Frames → State Frames Frames) (st : Store Frames) → K st → ((m : Frames) (s : Store Frames) → K s → G (go m s)) → G (S.with_exchange o go st)
   exchanged (Some x) go st k f = f x.1 (S.with_pair x.0 st) k
   exchanged None go st k f = tt
 
@@ -108,8 +108,8 @@ module _ (rows : RowsKeepSizes) (P : Tables) where
   all_left : (m : Frames) (st : Store Frames) → K st → K (S.all_left flat m st)
   all_left m st k = swapped_back (flats.swap_oldest (S.pair_now st) m) st k
 
-  unmarked : (m : Frames) (st : Store Frames) (go : Frames → Store Frames → State Frames Frames) → K st → ((m : Frames) (s : Store Frames) → K s → G (go m s)) → G (S.unmarked flat m st go)
-  unmarked m st go k f = found (flats.unmark m) (S.parted (λ outside pair. go outside (S.scans_left pair st))) (λ x. f x.0 (S.scans_left x.1 st) (left x.1 st k))
+  unmarked : (m : Frames) (st : Store Frames) (go : Frames → Store Frames → State Frames Frames) → K st → ((m : Frames) (s : Store Frames) → K s → G (go m s)) → G (S.unmark_then flat m st go)
+  unmarked m st go k f = found (flats.unmark m) (S.on_pair (λ outside pair. go outside (S.scans_left pair st))) (λ x. f x.0 (S.scans_left x.1 st) (left x.1 st k))
 
   -- Co-expressions
 
@@ -131,7 +131,7 @@ module _ (rows : RowsKeepSizes) (P : Tables) where
   hop : (m : Frames) (st : Store Frames) → K st → G (S.hop flat P m st)
   hop m st k = turn st (λ st. S.passed_failure flat (S.activator_of st.active st) m st) k (λ st k. to_activator (S.activator_of st.active st) m st k)
 
-  exhausted : (m : Frames) (st : Store Frames) → K st → G (S.exhausted flat P m st)
+  exhausted : (m : Frames) (st : Store Frames) → K st → G (S.exhaust_active flat P m st)
   exhausted m st k = turn st (λ st. S.passed_failure flat (S.activator_of st.active st) m (S.with_status st.active Exhausted st)) k
       (λ st k. to_activator (S.activator_of st.active st) m (S.with_status st.active Exhausted st) k)
 
@@ -143,14 +143,14 @@ module _ (rows : RowsKeepSizes) (P : Tables) where
       passed (S.activator_of st.active st) v m (S.counted_result st.active (S.with_status st.active (Waiting m) st)) (record { fit = k.fit })
 
   coexp_made : (vs : List Value) (proc place : ℕ) (m : Frames) (st : Store Frames) → K st → G (S.coexp_made flat vs proc place m st)
-  coexp_made vs proc place m st k = made (coexpression_row (length vs) (S.here flat m st)) m st (λ value m st. S.pushed flat (Val value) m (S.with_new vs proc place st))
+  coexp_made vs proc place m st k = made (coexpression_row (length vs) (S.here flat m st)) m st (λ value m st. S.push_item flat (Val value) m (S.with_new vs proc place st))
       ((rows.coexpressions (field_count P) (length vs) (S.here flat m st)).fit k) k (λ v m s k. k)
 
   refreshed_from : (o : Option (Coexp Frames)) (m : Frames) (st : Store Frames) → K st → G (S.refreshed_from flat o m st)
   refreshed_from (Some co) m st k = coexp_made co.values co.proc co.place m st k
   refreshed_from None m st k = tt
 
-  refreshed : (v : Value) (m : Frames) (st : Store Frames) → K st → G (S.refreshed flat v m st)
+  refreshed : (v : Value) (m : Frames) (st : Store Frames) → K st → G (S.refresh flat v m st)
   refreshed (ACoexp zero) m st k = tt
   refreshed (ACoexp (suc n)) m st k = refreshed_from (slice_get st.coexps (suc n)) m st k
   refreshed Null m st k = tt
@@ -189,15 +189,15 @@ module _ (rows : RowsKeepSizes) (P : Tables) where
   -- Procedures
 
   pub collected : (t : Bool) (n : ℕ) (vs : List Value) (m : Frames) (st : Store Frames) (go : List Value → Frames → Store Frames → State Frames Frames) → K st
-      → ((vs : List Value) (m : Frames) (s : Store Frames) → K s → G (go vs m s)) → G (S.collected flat t n vs m st go)
-  collected false n vs m st go k f = f (S.filled n vs) m st k
-  collected true n vs m st go k f = list_made (drop (n - 1) vs) m st (λ rest m st. go (S.filled (n - 1) vs ++ rest ∷ []) m st) k (λ rest m st k. f (S.filled (n - 1) vs ++ rest ∷ []) m st k)
+      → ((vs : List Value) (m : Frames) (s : Store Frames) → K s → G (go vs m s)) → G (S.collect_rest flat t n vs m st go)
+  collected false n vs m st go k f = f (S.fill_nulls n vs) m st k
+  collected true n vs m st go k f = list_made (drop (n - 1) vs) m st (λ rest m st. go (S.fill_nulls (n - 1) vs ++ rest ∷ []) m st) k (λ rest m st k. f (S.fill_nulls (n - 1) vs ++ rest ∷ []) m st k)
 
   called_if : (t : Bool) (n : ℕ) (entry : Procedure) (vs : List Value) (m : Frames) (st : Store Frames) → K st → G (S.called_if flat t n entry vs m st)
-  called_if true n entry vs m st k = collected entry.collects entry.parameters vs m st (λ parameters m st. S.entered flat n entry parameters m st) k (λ vs m st k. k)
+  called_if true n entry vs m st k = collected entry.collects entry.parameters vs m st (λ parameters m st. S.enter_procedure flat n entry parameters m st) k (λ vs m st k. k)
   called_if false n entry vs m st k = tt
 
-  filled_length : (n : ℕ) (vs : List Value) → length (S.filled n vs) ≡ n
+  filled_length : (n : ℕ) (vs : List Value) → length (S.fill_nulls n vs) ≡ n
   filled_length n vs = length-take-le n (vs ++ replicate n Null) (omega (arith, length-append vs (replicate n Null), length-replicate n Null))
 
   -- a callee that is a record is one of the tables
@@ -221,28 +221,28 @@ module _ (rows : RowsKeepSizes) (P : Tables) where
   callees zero (p ∷ ps) = tt
   callees (suc n) (p ∷ ps) = callees n ps
 
-  constructed : (n : ℕ) (entry : RecordType) (vs : List Value) (m : Frames) (st : Store Frames) → slice_get P.records n ≡ Some entry → K st → G (S.constructed flat n entry vs m st)
+  constructed : (n : ℕ) (entry : RecordType) (vs : List Value) (m : Frames) (st : Store Frames) → slice_get P.records n ≡ Some entry → K st → G (S.construct_record flat n entry vs m st)
   constructed n entry vs m st e k =
-      let fs = S.filled (length entry.fields) vs in
+      let fs = S.fill_nulls (length entry.fields) vs in
       let long : length fs ≡ field_count P n = filled_length (length entry.fields) vs ∙ sym (ap (λ (o : Option RecordType). option_map_or (λ (entry : RecordType). length entry.fields) o 0) e) in
-      made (record_row n fs (S.here flat m st)) m st (λ value m st. S.pushed flat (Val value) m st) ((rows.records (field_count P) n fs (S.here flat m st) long).fit k) k (λ v m s k. k)
+      made (record_row n fs (S.here flat m st)) m st (λ value m st. S.push_item flat (Val value) m st) ((rows.records (field_count P) n fs (S.here flat m st) long).fit k) k (λ v m s k. k)
 
   pushed_or_fails : (o : Option Item) (m : Frames) (st : Store Frames) → K st → G (S.pushed_or_fails flat o m st)
   pushed_or_fails (Some x) m st k = k
   pushed_or_fails None m st k = k
 
   integer_called : (f : Value) (o : Option ℤ) (xs : List Item) (m : Frames) (st : Store Frames) → K st → G (S.integer_called flat f o xs m st)
-  integer_called f (Some n) xs m st k = pushed_or_fails (S.chosen n xs) m st k
+  integer_called f (Some n) xs m st k = pushed_or_fails (S.choose_item n xs) m st k
   integer_called f None xs m st k = tt
 
   callee_called : (c : Callee) (n : ℕ) (xs : List Item) (m : Frames) (st : Store Frames) → Within c → ((func : Func) → c ≡ IsFunc func → OutcomeFits P (apply st.names (Function func) xs (S.here flat m st)))
       → K st → G (S.callee_called flat c n xs m st)
-  callee_called (IsProc entry) n xs m st w f k = values xs m st (λ arguments. S.called flat n entry arguments m st) k (λ vs. called_if (nat_le (suc (flats.level m)) st.world.heap.bounds.levels) n entry vs m st k)
-  callee_called (IsRecord kind entry) n xs m st w f k = values xs m st (λ arguments. S.constructed flat kind entry arguments m st) k (λ vs. constructed kind entry vs m st w k)
+  callee_called (IsProc entry) n xs m st w f k = values xs m st (λ arguments. S.call_procedure flat n entry arguments m st) k (λ vs. called_if (nat_le (suc (flats.level m)) st.world.heap.bounds.levels) n entry vs m st k)
+  callee_called (IsRecord kind entry) n xs m st w f k = values xs m st (λ arguments. S.construct_record flat kind entry arguments m st) k (λ vs. constructed kind entry vs m st w k)
   callee_called (IsFunc func) n xs m st w f k = outcome (apply st.names (Function func) xs (S.here flat m st)) m st (f func refl)
   callee_called IsNothing n xs m st w f k = tt
 
-  invoked : (f : Value) (xs : List Item) (m : Frames) (st : Store Frames) → FunctionFits P f xs m st → K st → G (S.invoked flat P f xs m st)
+  invoked : (f : Value) (xs : List Item) (m : Frames) (st : Store Frames) → FunctionFits P f xs m st → K st → G (S.invoke_value flat P f xs m st)
   invoked (ProcedureValue n) xs m st f k = callee_called (S.callee_of P n) n xs m st (callees n P.procs) (λ func e. f n func refl e) k
   invoked Null xs m st f k = integer_called Null (number_of Null) xs m st k
   invoked (Integer n) xs m st f k = integer_called (Integer n) (number_of (Integer n)) xs m st k
@@ -293,7 +293,7 @@ module _ (rows : RowsKeepSizes) (P : Tables) where
   finished true st = tt
   finished false st = tt
 
-  returned : (o : Option Frames) (go : Frames → Store Frames → State Frames Frames) (st : Store Frames) → K st → ((m : Frames) (s : Store Frames) → K s → G (go m s)) → G (S.returned o go st)
+  returned : (o : Option Frames) (go : Frames → Store Frames → State Frames Frames) (st : Store Frames) → K st → ((m : Frames) (s : Store Frames) → K s → G (go m s)) → G (S.return_to o go st)
   returned (Some m) go st k f = f m st k
   returned None go st k f = finished (S.is_main st.active) st
 
@@ -303,15 +303,15 @@ module _ (rows : RowsKeepSizes) (P : Tables) where
   -- Failing
 
   without_mark : (m : Frames) (st : Store Frames) → K st → G (S.without_mark flat P m st)
-  without_mark m st k = either (S.is_create_body flat m st) (S.exhausted flat P m st) (S.proc_fails flat m st) (exhausted m st k) (proc_fails m st k)
+  without_mark m st k = either (S.is_create_body flat m st) (S.exhaust_active flat P m st) (S.proc_fails flat m st) (exhausted m st k) (proc_fails m st k)
 
-  dropped : (m : Frames) (st : Store Frames) (d : Dropped Frames) → K st → G (S.mark_dropped flat P m st d)
+  dropped : (m : Frames) (st : Store Frames) (d : MarkDrop Frames) → K st → G (S.mark_dropped flat P m st d)
   dropped m st NoMark k = without_mark m st k
   dropped m st (Goes a) k = k
   dropped m st (Repeats a) k = turn st (running a) k (λ s k. k)
   dropped m st (WithoutLabel a) k = k
 
-  resumed : (why : Why) (m : Frames) (st : Store Frames) → K st → G (S.resumed flat P why m st)
+  resumed : (why : Why) (m : Frames) (st : Store Frames) → K st → G (S.resume_by flat P why m st)
   resumed Alt m st k = k
   resumed (Operating r) m st k = turn st (λ st. S.outcome flat (again r (S.here flat m st)) m st) k
       (λ st k. outcome (again r (S.here flat m st)) m st ((rows.resumed (field_count P) r (S.here flat m st)).fit k))
@@ -330,20 +330,20 @@ module _ (rows : RowsKeepSizes) (P : Tables) where
   -- Instructions
 
   popped : (m : Frames) (go : Item → Frames → State Frames Frames) → ((x : Item) (m : Frames) → G (go x m)) → G (S.with_popped flat m go)
-  popped m go f = found (flats.pop m) (S.parted go) (λ x. f x.0 x.1)
+  popped m go f = found (flats.pop m) (S.on_pair go) (λ x. f x.0 x.1)
 
   taken : (n : ℕ) (m : Frames) (go : List Item → Frames → State Frames Frames) → ((xs : List Item) (m : Frames) → G (go xs m)) → G (S.with_taken flat n m go)
-  taken n m go f = found (flats.take n m) (S.parted go) (λ x. f x.0 x.1)
+  taken n m go f = found (flats.take n m) (S.on_pair go) (λ x. f x.0 x.1)
 
-  limited : (v : Value) (o : Option ℤ) (m : Frames) (st : Store Frames) → K st → G (S.limited flat v o m st)
+  limited : (v : Value) (o : Option ℤ) (m : Frames) (st : Store Frames) → K st → G (S.limit_results flat v o m st)
   limited v None m st k = tt
   limited v (Some (negsuc n)) m st k = tt
   limited v (Some (pos zero)) m st k = k
   limited v (Some (pos (suc n))) m st k = k
 
   limited_result : (x : Item) (n : ℕ) (m : Frames) (st : Store Frames) → K st → G (S.limited_result flat x n m st)
-  limited_result x zero m st k = unmarked m st (S.pushed flat x) k (λ m s k. k)
-  limited_result x (suc n) m st k = found (flats.suspend_mark m) (λ after. S.pushed flat x after st) (λ m. k)
+  limited_result x zero m st k = unmarked m st (S.push_item flat x) k (λ m s k. k)
+  limited_result x (suc n) m st k = found (flats.suspend_mark m) (λ after. S.push_item flat x after st) (λ m. k)
 
   scan_opened : (v : Value) (m : Frames) (st : Store Frames) → K st → G (S.scan_opened flat v m st)
   scan_opened Null m st k = k
@@ -376,9 +376,9 @@ module _ (rows : RowsKeepSizes) (P : Tables) where
   field_applied field (x ∷ xs) m st k = value x m st (λ value. S.field_of flat P field value m st) k (λ v. field_of field v m st k)
   field_applied field [] m st k = tt
 
-  operated : (op : Op) (xs : List Item) (m : Frames) (st : Store Frames) → K st → G (S.operated flat op xs m st)
+  operated : (op : Op) (xs : List Item) (m : Frames) (st : Store Frames) → K st → G (S.operate flat op xs m st)
   operated Ops.Refresh [] m st k = operates Ops.Refresh [] m st k
-  operated Ops.Refresh (x ∷ xs) m st k = value x m st (λ value. S.refreshed flat value m st) k (λ v. refreshed v m st k)
+  operated Ops.Refresh (x ∷ xs) m st k = value x m st (λ value. S.refresh flat value m st) k (λ v. refreshed v m st k)
   operated Ops.IsNull xs m st k = operates Ops.IsNull xs m st k
   operated Ops.IsNotNull xs m st k = operates Ops.IsNotNull xs m st k
   operated Ops.Dereference xs m st k = operates Ops.Dereference xs m st k
@@ -426,56 +426,56 @@ module _ (rows : RowsKeepSizes) (P : Tables) where
 
   instruction : (i : Instr) (m : Frames) (st : Store Frames) → (MayCall i → ⊥) → K st → G (S.instruction flat P i m st)
   instruction I.Pnull m st d k = k
-  instruction (I.Int n) m st d k = found (slice_get P.integers n) (λ n. S.pushed flat (Val (Integer n)) m st) (λ x. k)
-  instruction (I.Str n) m st d k = found (slice_get P.strings n) (λ bytes. S.pushed flat (Val (Text bytes)) m st) (λ x. k)
-  instruction (I.Cset n) m st d k = found (slice_get P.csets n) (λ set. S.pushed flat (Val (Chars (S.members_of set))) m st) (λ x. k)
+  instruction (I.Int n) m st d k = found (slice_get P.integers n) (λ n. S.push_item flat (Val (Integer n)) m st) (λ x. k)
+  instruction (I.Str n) m st d k = found (slice_get P.strings n) (λ bytes. S.push_item flat (Val (Text bytes)) m st) (λ x. k)
+  instruction (I.Cset n) m st d k = found (slice_get P.csets n) (λ set. S.push_item flat (Val (Chars (S.members_of set))) m st) (λ x. k)
   instruction (I.Local n) m st d k = k
   instruction (I.Static n) m st d k = k
   instruction (I.Global n) m st d k = k
-  instruction (I.Keywd word) m st d k = pushed_or_fails (keyword_item (S.standing flat m st) word) m st k
+  instruction (I.Keywd word) m st d k = pushed_or_fails (keyword_item (S.standing_of flat m st) word) m st k
   instruction I.Pop m st d k = popped m (λ item m. running m st) (λ x m. k)
-  instruction I.Dup m st d k = popped m (λ item below. S.pushed flat item m st) (λ x b. k)
-  instruction (I.Op op) m st d k = taken (arity op) m (λ items m. S.turn P st (S.operated flat op items m)) (λ xs m. turn st (S.operated flat op xs m) k (λ st k. operated op xs m st k))
-  instruction (I.Llist n) m st d k = taken n m (λ items m. S.turn P st (λ st. S.with_values flat items m st (λ values. S.list_made flat values m st (λ list m st. S.pushed flat (Val list) m st))))
-      (λ xs m. turn st (λ st. S.with_values flat xs m st (λ values. S.list_made flat values m st (λ list m st. S.pushed flat (Val list) m st))) k
-      (λ st k. values xs m st (λ values. S.list_made flat values m st (λ list m st. S.pushed flat (Val list) m st)) k (λ vs. list_made vs m st (λ list m st. S.pushed flat (Val list) m st) k (λ v m s k. k))))
+  instruction I.Dup m st d k = popped m (λ item below. S.push_item flat item m st) (λ x b. k)
+  instruction (I.Op op) m st d k = taken (arity op) m (λ items m. S.turn P st (S.operate flat op items m)) (λ xs m. turn st (S.operate flat op xs m) k (λ st k. operated op xs m st k))
+  instruction (I.Llist n) m st d k = taken n m (λ items m. S.turn P st (λ st. S.with_values flat items m st (λ values. S.list_made flat values m st (λ list m st. S.push_item flat (Val list) m st))))
+      (λ xs m. turn st (λ st. S.with_values flat xs m st (λ values. S.list_made flat values m st (λ list m st. S.push_item flat (Val list) m st))) k
+      (λ st k. values xs m st (λ values. S.list_made flat values m st (λ list m st. S.push_item flat (Val list) m st)) k (λ vs. list_made vs m st (λ list m st. S.push_item flat (Val list) m st) k (λ v m s k. k))))
   instruction (I.Field n) m st d k = taken 1 m (λ items m. S.turn P st (S.field_applied flat P n items m)) (λ xs m. turn st (S.field_applied flat P n xs m) k (λ st k. field_applied n xs m st k))
   instruction (I.Invoke n) m st d k = absurd (d tt)
   instruction I.Appl m st d k = absurd (d tt)
   instruction (I.Mark l) m st d k = k
   instruction I.Mark0 m st d k = k
   instruction I.Unmark m st d k = unmarked m st running k (λ m s k. k)
-  instruction I.Eret m st d k = popped m (λ item m. S.with_value flat item m st (λ value. S.unmarked flat m st (S.pushed flat (Val value))))
-      (λ x m. value x m st (λ value. S.unmarked flat m st (S.pushed flat (Val value))) k (λ v. unmarked m st (S.pushed flat (Val v)) k (λ m s k. k)))
-  instruction I.Esusp m st d k = popped m (λ item m. S.with_found (flats.suspend_mark m) (λ m. S.pushed flat item m st)) (λ x m. found (flats.suspend_mark m) (λ m. S.pushed flat x m st) (λ m. k))
-  instruction I.Limit m st d k = popped m (λ item m. S.with_value flat item m st (λ value. S.limited flat value (integer_of value) m st))
-      (λ x m. value x m st (λ value. S.limited flat value (integer_of value) m st) k (λ v. limited v (integer_of v) m st k))
-  instruction I.Lsusp m st d k = popped m (λ item m. S.with_found (flats.count_down m) (S.parted (λ count m. S.limited_result flat item count m st)))
-      (λ x m. found (flats.count_down m) (S.parted (λ count m. S.limited_result flat x count m st)) (λ y. limited_result x y.0 y.1 st k))
+  instruction I.Eret m st d k = popped m (λ item m. S.with_value flat item m st (λ value. S.unmark_then flat m st (S.push_item flat (Val value))))
+      (λ x m. value x m st (λ value. S.unmark_then flat m st (S.push_item flat (Val value))) k (λ v. unmarked m st (S.push_item flat (Val v)) k (λ m s k. k)))
+  instruction I.Esusp m st d k = popped m (λ item m. S.with_found (flats.suspend_mark m) (λ m. S.push_item flat item m st)) (λ x m. found (flats.suspend_mark m) (λ m. S.push_item flat x m st) (λ m. k))
+  instruction I.Limit m st d k = popped m (λ item m. S.with_value flat item m st (λ value. S.limit_results flat value (integer_of value) m st))
+      (λ x m. value x m st (λ value. S.limit_results flat value (integer_of value) m st) k (λ v. limited v (integer_of v) m st k))
+  instruction I.Lsusp m st d k = popped m (λ item m. S.with_found (flats.count_down m) (S.on_pair (λ count m. S.limited_result flat item count m st)))
+      (λ x m. found (flats.count_down m) (S.on_pair (λ count m. S.limited_result flat x count m st)) (λ y. limited_result x y.0 y.1 st k))
   instruction I.Efail m st d k = k
   instruction (I.Chfail l) m st d k = found (flats.relabel l m) (λ m. running m st) (λ m. k)
   instruction (I.Goto l) m st d k = k
   instruction (I.Loop l) m st d k = turn st (running (flats.go l m)) k (λ s k. k)
-  instruction I.Bscan m st d k = popped m (λ item m. S.with_value flat item m st (λ value. S.made flat (text_row value (S.here flat m st)) m st (S.scan_opened flat)))
-      (λ x m. value x m st (λ value. S.made flat (text_row value (S.here flat m st)) m st (S.scan_opened flat)) k
+  instruction I.Bscan m st d k = popped m (λ item m. S.with_value flat item m st (λ value. S.with_made flat (text_row value (S.here flat m st)) m st (S.scan_opened flat)))
+      (λ x m. value x m st (λ value. S.with_made flat (text_row value (S.here flat m st)) m st (S.scan_opened flat)) k
       (λ v. made (text_row v (S.here flat m st)) m st (S.scan_opened flat) ((rows.texts (field_count P) v (S.here flat m st)).fit k) k (λ v m s k. scan_opened v m s k)))
-  instruction I.Escan m st d k = popped m (λ item m. S.exchanged (flats.swap_newest (S.pair_now st) m) (λ m. S.pushed flat item (flats.suspend Escan m)) st)
-      (λ x m. exchanged (flats.swap_newest (S.pair_now st) m) (λ m. S.pushed flat x (flats.suspend Escan m)) st k (λ m s k. k))
-  instruction I.Ccase m st d k = found (flats.below m) (λ item. S.pushed flat item m st) (λ x. k)
+  instruction I.Escan m st d k = popped m (λ item m. S.with_exchange (flats.swap_newest (S.pair_now st) m) (λ m. S.push_item flat item (flats.suspend Escan m)) st)
+      (λ x m. exchanged (flats.swap_newest (S.pair_now st) m) (λ m. S.push_item flat x (flats.suspend Escan m)) st k (λ m s k. k))
+  instruction I.Ccase m st d k = found (flats.below m) (λ item. S.push_item flat item m st) (λ x. k)
   instruction (I.Init l) m st d k = initial (slice_index_or st.begun (flats.proc m) true) l m st k
-  instruction I.Psusp m st d k = popped m (λ item below. S.with_result flat item m st (λ result. S.maybe_exchanged (flats.swap_oldest (S.pair_now st) m) m st (λ m. S.returned (flats.suspend_proc m) (S.pushed flat result))))
-      (λ x below. result x m st (λ result. S.maybe_exchanged (flats.swap_oldest (S.pair_now st) m) m st (λ m. S.returned (flats.suspend_proc m) (S.pushed flat result))) k
-      (λ x. maybe_exchanged (flats.swap_oldest (S.pair_now st) m) m st (λ m. S.returned (flats.suspend_proc m) (S.pushed flat x)) k
-      (λ m s k. returned (flats.suspend_proc m) (S.pushed flat x) s k (λ m s k. k))))
-  instruction I.Pret m st d k = popped m (λ item m. S.with_result flat item m st (λ result. S.returned (flats.leave m) (S.pushed flat result) (S.all_left flat m st)))
-      (λ x m. result x m st (λ result. S.returned (flats.leave m) (S.pushed flat result) (S.all_left flat m st)) k (λ x. returned (flats.leave m) (S.pushed flat x) (S.all_left flat m st) (all_left m st k) (λ m s k. k)))
+  instruction I.Psusp m st d k = popped m (λ item below. S.with_result flat item m st (λ result. S.maybe_exchanged (flats.swap_oldest (S.pair_now st) m) m st (λ m. S.return_to (flats.suspend_proc m) (S.push_item flat result))))
+      (λ x below. result x m st (λ result. S.maybe_exchanged (flats.swap_oldest (S.pair_now st) m) m st (λ m. S.return_to (flats.suspend_proc m) (S.push_item flat result))) k
+      (λ x. maybe_exchanged (flats.swap_oldest (S.pair_now st) m) m st (λ m. S.return_to (flats.suspend_proc m) (S.push_item flat x)) k
+      (λ m s k. returned (flats.suspend_proc m) (S.push_item flat x) s k (λ m s k. k))))
+  instruction I.Pret m st d k = popped m (λ item m. S.with_result flat item m st (λ result. S.return_to (flats.leave m) (S.push_item flat result) (S.all_left flat m st)))
+      (λ x m. result x m st (λ result. S.return_to (flats.leave m) (S.push_item flat result) (S.all_left flat m st)) k (λ x. returned (flats.leave m) (S.push_item flat x) (S.all_left flat m st) (all_left m st k) (λ m s k. k)))
   instruction I.Pfail m st d k = either (S.is_create_body flat m st) stuck (S.proc_fails flat m st) tt (proc_fails m st k)
   instruction (I.Create l) m st d k = turn st (S.coexp_made flat (flats.locals m) (flats.proc m) m.place (flats.go l m)) k (λ st k. coexp_made (flats.locals m) (flats.proc m) m.place (flats.go l m) st k)
   instruction I.Coact m st d k = taken 2 m (λ items m. S.turn P st (S.activation_of flat items m)) (λ xs m. turn st (S.activation_of flat xs m) k (λ st k. activation_of xs m st k))
   instruction I.Coret m st d k = either (S.is_create_body flat m st) (S.with_popped flat m (λ item m. S.turn P st (λ st. S.with_value flat item m st (λ value. S.result_given flat value m st)))) stuck
       (popped m (λ item m. S.turn P st (λ st. S.with_value flat item m st (λ value. S.result_given flat value m st)))
       (λ x m. turn st (λ st. S.with_value flat x m st (λ value. S.result_given flat value m st)) k (λ st k. value x m st (λ value. S.result_given flat value m st) k (λ v. result_given v m st k)))) tt
-  instruction I.Cofail m st d k = either (S.is_create_body flat m st) (S.exhausted flat P m st) stuck (exhausted m st k) tt
+  instruction I.Cofail m st d k = either (S.is_create_body flat m st) (S.exhaust_active flat P m st) stuck (exhausted m st k) tt
 
 pub steps_sized : RowsKeepSizes → StepsKeepSizes
 steps_sized rows = record {

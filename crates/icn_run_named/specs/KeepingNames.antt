@@ -11,7 +11,7 @@ use Rattle.icn_code.specs.Codes.{Tables}
 use Rattle.icn_named.specs.Keeping.{OutcomeNamed}
 use Rattle.icn_named.specs.Named.{ItemNamed, ValueNamed}
 use Rattle.icn_run.specs.Stacks.{Frames, flat}
-use Rattle.icn_run.specs.Step.{State, Store, IsFunc, all_names, callee_of, fails, here, hop, instruction, invoked, outcome, with_values}
+use Rattle.icn_run.specs.Step.{State, Store, IsFunc, all_names, callee_of, fails, here, hop, instruction, invoke_value, outcome, with_values}
 use Rattle.icn_run_named.specs.StateNames.{StackNamed, StateNamed, StoreNamed}
 
 -- an instruction that may call a function
@@ -41,4 +41,4 @@ pub record StepsKeepNames : Type 0 where
       → StateNamed (all_names tables) (with_values flat items m st next)
   pub called : (tables : Tables) (callee : Value) (items : List Item) (m : Frames) (st : Store Frames) → FunctionNamed tables callee items m st
       → All (ItemNamed (all_names tables)) items → StackNamed (all_names tables) m → StoreNamed (all_names tables) st
-      → StateNamed (all_names tables) (invoked flat tables callee items m st)
+      → StateNamed (all_names tables) (invoke_value flat tables callee items m st)

@@ -9,7 +9,7 @@ use Rattle.icn_code.specs.declared.instr.Instr.{Instr}
 use Rattle.icn_code.specs.Codes.{RecordType, Tables}
 use Rattle.icn_named.specs.Sizes.{FitSizes, heap_after}
 use Rattle.icn_run.specs.Stacks.{Frames, flat}
-use Rattle.icn_run.specs.Step.{State, Store, IsFunc, callee_of, fails, failing, here, hop, hopping, instruction, invoked, outcome, over, running, stuck, with_values}
+use Rattle.icn_run.specs.Step.{State, Store, IsFunc, callee_of, fails, failing, here, hop, hopping, instruction, invoke_value, outcome, over, running, stuck, with_values}
 use Rattle.icn_run_named.specs.KeepingNames.{MayCall}
 
 -- how many fields a kind of the tables has
@@ -46,4 +46,4 @@ pub record StepsKeepSizes : Type 0 where
   pub values : (tables : Tables) (items : List Item) (m : Frames) (st : Store Frames) (next : List Value → State Frames Frames)
       → StoreFits tables st → ((values : List Value) → StateFits tables (next values)) → StateFits tables (with_values flat items m st next)
   pub called : (tables : Tables) (callee : Value) (items : List Item) (m : Frames) (st : Store Frames)
-      → FunctionFits tables callee items m st → StoreFits tables st → StateFits tables (invoked flat tables callee items m st)
+      → FunctionFits tables callee items m st → StoreFits tables st → StateFits tables (invoke_value flat tables callee items m st)

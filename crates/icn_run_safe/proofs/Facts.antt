@@ -10,7 +10,7 @@ use Rattle.icn_verify.specs.Shapes.{PlainShape}
 use Rattle.icn_verify.specs.Given.{HaveShapes}
 use Rattle.icn_run.specs.Stacks.{Frames, flat}
 use Rattle.icn_run.specs.Rows.{Item}
-use Rattle.icn_run.specs.Chains.{Chain, chain, Outer, base, call, mark, limit, Parked, Linked, linked, outer_of, scans_of, taken, take_from}
+use Rattle.icn_run.specs.Chains.{Chain, chain, Outer, base, call, mark, limit, Parked, Linked, linked, outer_of, scans_of, take_top, take_from}
 use Rattle.icn_run.specs.Step.{Launch, State, Store, running, stuck, instruction_at, instruction, with_found, is_main, step, steps}
 use Rattle.icn_run.specs.FlatStep as Flat
 use Rattle.icn_run.specs.LinkedStep as Marks
@@ -123,7 +123,7 @@ module _ (tables : Tables) (have : HaveShapes tables) (ok : TablesOk tables) (ke
   none_there R None (Some x) h e = absurd h
   none_there R (Some x) o h e = let b : true ≡ false = e in cc
 
-  none_left : (n : ℕ) (items found : List Item) → length items < n → is_some (taken n items found) ≡ false
+  none_left : (n : ℕ) (items found : List Item) → length items < n → is_some (take_top n items found) ≡ false
   none_left zero items found less = absurd (omega (arith, less))
   none_left (suc n) [] found less = refl
   none_left (suc n) (item ∷ items) found less = none_left n items (item ∷ found) (omega (arith, less))
@@ -136,7 +136,7 @@ module _ (tables : Tables) (have : HaveShapes tables) (ok : TablesOk tables) (ke
   none_taken : (m : Linked) (c : Chain) → m.chain ≡ c → (n : ℕ) → length (operands_of m.chain) < n → is_some (marks.take n m) ≡ false
   none_taken m (chain items suspensions scans outer) e n less =
       let few : length items < n = subst (λ c. length (operands_of c) < n) e less in
-      subst (λ c. is_some (take_from n m c) ≡ false) (sym e) (map_none _ (taken n items []) (none_left n items [] few))
+      subst (λ c. is_some (take_from n m c) ≡ false) (sym e) (map_none _ (take_top n items []) (none_left n items [] few))
 
   abbrev pub ShapedIn : State Frames Frames → Type 0
   ShapedIn (running m st) = IsFlatShapedAt tables sh m st

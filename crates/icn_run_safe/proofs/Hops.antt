@@ -4,10 +4,10 @@ use Rattle.std.specs.Prelude.{slice_get, slice_set, ◌==◌, not}
 use Rattle.icn_value.specs.Values.{Std, ASet, ATable}
 use Rattle.icn_verify.specs.Shapes.{PlainShape, start_shape, with_more}
 use Rattle.icn_run.specs.Rows.{Value, Null, Integer, Text, Chars, Procedure as ProcedureValue, ARecord, AList, ACoexp, Val, Var, Outcome, Fails, Gives, Suspends, Error, Ends, again, coexpression_row}
-use Rattle.icn_run.specs.Calls.{Pair, Why, Alt, Op as Operation, Scan, Escan, Proc, Dropped, NoMark, Goes, Repeats, Outside as WithoutLabel}
+use Rattle.icn_run.specs.Calls.{Pair, Why, Alt, Op as Operation, Scan, Escan, Proc, MarkDrop, NoMark, Goes, Repeats, Outside as WithoutLabel}
 use Rattle.icn_run.specs.Chains as C
 use Rattle.icn_run.specs.Chains.{Chain, Linked, Parked}
-use Rattle.icn_run.specs.Step.{Program, Status, Fresh, Active, Waiting, Exhausted, Coexp, Store, running, failing, hopping, here, with_at, made, outcome, pushed, pair_now, with_pair, exchanged, maybe_exchanged, swapped_back, all_left, coexp_at, status_of, activator_of, with_coexp, with_status, with_activator, activated, fail_by, passed_failure, give_by, passed_value, hop, exhausted, counted_result, result_given, is_main, is_create_body, with_new, coexp_made, refreshed_from, refreshed, entered_by, entered_if, activation, returned, proc_fails, without_mark, mark_dropped, resumed, resumed_or_dropped, fails}
+use Rattle.icn_run.specs.Step.{Program, Status, Fresh, Active, Waiting, Exhausted, Coexp, Store, running, failing, hopping, here, with_at, with_made, outcome, push_item, pair_now, with_pair, with_exchange, maybe_exchanged, swapped_back, all_left, coexp_at, status_of, activator_of, with_coexp, with_status, with_activator, make_active, fail_by, passed_failure, give_by, passed_value, hop, exhaust_active, counted_result, result_given, is_main, is_create_body, with_new, coexp_made, refreshed_from, refresh, entered_by, entered_if, activation, return_to, proc_fails, without_mark, mark_dropped, resume_by, resumed_or_dropped, fails}
 use Rattle.icn_run_laws.proofs.RowsKeep.{rows_keep}
 use Rattle.icn_run_safe.specs.Within.{ValueWithin, CreatedWithin, RowsStayWithin}
 use Rattle.icn_run_safe.specs.Shaped.{Known, MemoryOf, LocalsOk, ParkedOk, StatusOk, IsFresh, Entered, StoreOk, Shaped}
@@ -49,16 +49,16 @@ module _ (P : Program) (sh : ℕ → ℕ → Option PlainShape) (given : Shaped 
   read_coexp : (st : Store Parked) (n : ℕ) (c : Coexp Parked) → slice_get st.coexps n ≡ Some c → coexp_at n st ≡ c
   read_coexp st n c e = index_there st.coexps n c _ e
 
-  store_active : (w : Known) (st : Store Parked) (n : ℕ) (c : Coexp Parked) → StoreOk P sh w (λ i. ⊥) st → slice_get st.coexps n ≡ Some c → StoreOk P sh w (λ i. i ≡ n) (activated n st)
+  store_active : (w : Known) (st : Store Parked) (n : ℕ) (c : Coexp Parked) → StoreOk P sh w (λ i. ⊥) st → slice_get st.coexps n ≡ Some c → StoreOk P sh w (λ i. i ≡ n) (make_active n st)
   store_active w st n c h e = subst (λ (x : Coexp Parked). StoreOk P sh w (λ i. i ≡ n) (with_coexp n (record x { status = Active }) (record st { active = n }))) (sym (read_coexp st n c e)) (set_active P sh w st n c h e (h.coexps.each n c e).activator)
 
-  taken_ready : (w : Known) (m : Linked) (st : Store Parked) (n : ℕ) (c : Coexp Parked) (k : Parked) → Idle w m st → slice_get st.coexps n ≡ Some c → (h : ParkedOk P sh w n k) → Set w h.proc h.shape (M.taken_up k m) (activated n st)
+  taken_ready : (w : Known) (m : Linked) (st : Store Parked) (n : ℕ) (c : Coexp Parked) (k : Parked) → Idle w m st → slice_get st.coexps n ≡ Some c → (h : ParkedOk P sh w n k) → Set w h.proc h.shape (M.taken_up k m) (make_active n st)
   taken_ready w m st n c k i e h = record { now = record { has = h.has; memory = i.memory }; store = store_active w st n c i.store e }
 
   fail_ok : (n : ℕ) (w : Known) (m : Linked) (st : Store Parked) (c : Coexp Parked) → Idle w m st → slice_get st.coexps n ≡ Some c → HasBegun st n → (s : Status Parked) → StatusOk P sh w n s → (IsFresh P sh s → ⊥) → Good (fail_by M s n m st)
   fail_ok n w m st c i e ent Fresh h f = absurd (f tt)
   fail_ok n w m st c i e ent Active h f = absurd h
-  fail_ok n w m st c i e ent (Waiting k) h f = ok_fails P sh given keep w h.proc h.shape (M.taken_up k m) (activated n st) (taken_ready w m st n c k i e h)
+  fail_ok n w m st c i e ent (Waiting k) h f = ok_fails P sh given keep w h.proc h.shape (M.taken_up k m) (make_active n st) (taken_ready w m st n c k i e h)
   fail_ok n w m st c i e ent Exhausted h f = hop_ready w m st n i ent
 
   -- what is done by the status of one is done by what is read of it
@@ -76,14 +76,14 @@ module _ (P : Program) (sh : ℕ → ℕ → Option PlainShape) (given : Shaped 
   give_ok : (n : ℕ) (value : Value) (w : Known) (m : Linked) (st : Store Parked) (c : Coexp Parked) → Idle w m st → slice_get st.coexps n ≡ Some c → ValueWithin w.coexps value → (s : Status Parked) → s ≡ c.status → StatusOk P sh w n s → Good (give_by M s n value m st)
   give_ok n value w m st c i e g Fresh q h =
       let o = i.store.coexps.each n c e in
-      subst (λ (x : Coexp Parked). Good (running (C.begin x.proc x.values x.place m) (activated n st))) (sym (read_coexp st n c e))
-      (ok_runs P sh given keep (with_activation w c.proc) c.proc (start_shape true) (C.begin c.proc c.values c.place m) (activated n st)
+      subst (λ (x : Coexp Parked). Good (running (C.begin x.proc x.values x.place m) (make_active n st))) (sym (read_coexp st n c e))
+      (ok_runs P sh given keep (with_activation w c.proc) c.proc (start_shape true) (C.begin c.proc c.values c.place m) (make_active n st)
       (record {
         now = begin_ok P sh c.proc c.values c.place true w n m i.memory (o.values h) (not_first n h);
-        store = grow_store P sh w (with_activation w c.proc) (λ i. i ≡ n) (activated n st) refl (grow_activation w c.proc) (store_active w st n c i.store e);
+        store = grow_store P sh w (with_activation w c.proc) (λ i. i ≡ n) (make_active n st) refl (grow_activation w c.proc) (store_active w st n c i.store e);
       }) (o.origin h))
   give_ok n value w m st c i e g Active q h = absurd h
-  give_ok n value w m st c i e g (Waiting k) q h = ok_push P sh given keep (Val value) w h.proc h.shape (M.taken_up k m) (activated n st) (taken_ready w m st n c k i e h) g h.goes
+  give_ok n value w m st c i e g (Waiting k) q h = ok_push P sh given keep (Val value) w h.proc h.shape (M.taken_up k m) (make_active n st) (taken_ready w m st n c k i e h) g h.goes
   give_ok n value w m st c i e g Exhausted q h = hop_ready w m st n i (record { coexp = c; stands = e; begun = subst (λ x. IsFresh P sh x → ⊥) q (λ z. z) })
 
   passed_value_ok : (n : ℕ) (value : Value) (w : Known) (m : Linked) (st : Store Parked) (c : Coexp Parked) → Idle w m st → slice_get st.coexps n ≡ Some c → ValueWithin w.coexps value → Good (passed_value M n value m st)
@@ -101,7 +101,7 @@ module _ (P : Program) (sh : ℕ → ℕ → Option PlainShape) (given : Shaped 
   begun_then s w p S m st h f n ent = let a = h.store.coexps.there in
       subst (λ (x : Coexp Parked). Entered P sh (slice_set st.coexps st.active (record x { status = s })) n) (sym (read_coexp st st.active a.coexp a.stands)) (entered_set P sh st.coexps st.active a.coexp (record a.coexp { status = s }) n a.stands (λ q. absurd (f q)) ent)
 
-  pub exhausted_ok : (w : Known) (p : ℕ) (S : PlainShape) (m : Linked) (st : Store Parked) → Set w p S m st → Good (exhausted M P m st)
+  pub exhausted_ok : (w : Known) (p : ℕ) (S : PlainShape) (m : Linked) (st : Store Parked) → Set w p S m st → Good (exhaust_active M P m st)
   exhausted_ok w p S m st h = ok_turn P sh given keep w p S m st (λ st. passed_failure M (activator_of st.active st) m (with_status st.active Exhausted st)) h (λ st' r.
       let i = status_ok Exhausted w p S m st' r (λ z. z) tt in
       let a = st'.active in
@@ -174,7 +174,7 @@ module _ (P : Program) (sh : ℕ → ℕ → Option PlainShape) (given : Shaped 
 
   -- a new one is made
   created_ok : (o : Outcome) (values : List Value) (proc place : ℕ) (w : Known) (p : ℕ) (S : PlainShape) (m : Linked) (st : Store Parked) → Set w p S m st → CreatedWithin w.coexps (here M m st) o → LocalsOk P sh w proc values → sh proc place ≡ Some (start_shape true) → sh p m.place ≡ Some (with_more 1 S)
-      → Good (made M o m st (λ value m st. pushed M (Val value) m (with_new values proc place st)))
+      → Good (with_made M o m st (λ value m st. push_item M (Val value) m (with_new values proc place st)))
   created_ok (Gives (Val v) seen) values proc place w p S m st h c g origin e =
       let locals = locals_ok P sh w st.active p S m h.now in
       let now = set_locals_ok P sh seen.locals w st.active p S m h.now (subst (LocalsOk P sh w p) (sym c.2) locals) in
@@ -195,7 +195,7 @@ module _ (P : Program) (sh : ℕ → ℕ → Option PlainShape) (given : Shaped 
   coexp_made_ok values proc place w p S m st h g origin e =
       created_ok (coexpression_row (length values) (here M m st)) values proc place w p S m st h (keep.created w.coexps (length values) (here M m st) (here_within P sh given keep w p S m st h)) g origin e
 
-  pub refreshed_ok : (v : Value) (w : Known) (p : ℕ) (S : PlainShape) (m : Linked) (st : Store Parked) → Set w p S m st → ValueWithin w.coexps v → sh p m.place ≡ Some (with_more 1 S) → Good (refreshed M v m st)
+  pub refreshed_ok : (v : Value) (w : Known) (p : ℕ) (S : PlainShape) (m : Linked) (st : Store Parked) → Set w p S m st → ValueWithin w.coexps v → sh p m.place ≡ Some (with_more 1 S) → Good (refresh M v m st)
   refreshed_ok (ACoexp zero) w p S m st h g e = tt
   refreshed_ok (ACoexp (suc n)) w p S m st h g e =
       let count = h.store.coexps.count in
@@ -226,14 +226,14 @@ module _ (P : Program) (sh : ℕ → ℕ → Option PlainShape) (given : Shaped 
   ok_maybe (Some swap) w p S m st next h g f = f swap.1 (with_pair swap.0 st) (ready_pair P sh given keep w p S swap.1 st swap.0 (record { now = g.now; store = h.store })) g.place
 
   pub ok_exchanged : (w : Known) (p : ℕ) (S : PlainShape) (m : Linked) (st : Store Parked) (next : Linked → Store Parked → St P sh given keep) → Set w p S m st → 0 < S.inner.scans
-      → ((m' : Linked) (st' : Store Parked) → Set w p S m' st' → m'.place ≡ m.place → Good (next m' st')) → Good (exchanged (C.swap_newest (pair_now st) m) next st)
+      → ((m' : Linked) (st' : Store Parked) → Set w p S m' st' → m'.place ≡ m.place → Good (next m' st')) → Good (with_exchange (C.swap_newest (pair_now st) m) next st)
   ok_exchanged w p S m st next h l f = let o = swap_newest_ok P sh (pair_now st) w st.active p S m h.now l in
-      subst (λ x. Good (exchanged x next st)) (sym o.1) (f o.0.1 (with_pair o.0.0 st) (ready_pair P sh given keep w p S o.0.1 st o.0.0 (record { now = o.2.now; store = h.store })) o.2.place)
+      subst (λ x. Good (with_exchange x next st)) (sym o.1) (f o.0.1 (with_pair o.0.0 st) (ready_pair P sh given keep w p S o.0.1 st o.0.0 (record { now = o.2.now; store = h.store })) o.2.place)
 
   -- Back to the caller
 
   pub ok_returned : (o : Option Linked) (w : Known) (cr : Bool) (st : Store Parked) (next : Linked → Store Parked → St P sh given keep) → StoreOk P sh w (λ i. i ≡ st.active) st → Left P sh w st.active cr o → cr ≡ false
-      → ((m : Linked) (p : ℕ) (S : PlainShape) → Set w p S m st → sh p m.place ≡ Some (with_more 1 S) → Good (next m st)) → Good (returned o next st)
+      → ((m : Linked) (p : ℕ) (S : PlainShape) → Set w p S m st → sh p m.place ≡ Some (with_more 1 S) → Good (next m st)) → Good (return_to o next st)
   ok_returned None w cr st next h g e f = ok_if P sh given keep (is_main st.active) _ _ (λ q. tt) (λ q. let z : is_main st.active ≡ true = is_first st.active (sym e ∙ g) in not_true (sym q ∙ z))
   ok_returned (Some m) w cr st next h g e f = f m g.proc g.shape (record { now = g.now; store = h }) g.goes
 
@@ -246,7 +246,7 @@ module _ (P : Program) (sh : ℕ → ℕ → Option PlainShape) (given : Shaped 
       by (Some swap) = f (with_pair swap.0 st) (ready_pair P sh given keep w p S m st swap.0 h)
 
   pub proc_fails_ok : (w : Known) (p : ℕ) (S : PlainShape) (m : Linked) (st : Store Parked) → Set w p S m st → S.in_create ≡ false → Good (proc_fails M m st)
-  proc_fails_ok w p S m st h e = ok_all w p S m st (λ st. returned (C.leave m) failing st) h (λ st' r. ok_returned (C.leave m) w S.in_create st' failing r.store (leave_ok P sh w st'.active p S m r.now) e
+  proc_fails_ok w p S m st h e = ok_all w p S m st (λ st. return_to (C.leave m) failing st) h (λ st' r. ok_returned (C.leave m) w S.in_create st' failing r.store (leave_ok P sh w st'.active p S m r.now) e
       (λ m' p' S' r' e'. ok_fails P sh given keep w p' S' m' st' r'))
 
   -- Failing
@@ -254,13 +254,13 @@ module _ (P : Program) (sh : ℕ → ℕ → Option PlainShape) (given : Shaped 
   without_mark_ok : (w : Known) (p : ℕ) (S : PlainShape) (m : Linked) (st : Store Parked) → Set w p S m st → Good (without_mark M P m st)
   without_mark_ok w p S m st h = ok_if P sh given keep (is_create_body M m st) _ _ (λ e. exhausted_ok w p S m st h) (λ e. proc_fails_ok w p S m st h (sym (here_create P sh w st.active p S m h.now) ∙ e))
 
-  dropped_ok : (w : Known) (p : ℕ) (S : PlainShape) (m : Linked) (st : Store Parked) (d : Dropped Linked) → Set w p S m st → DroppedOk P sh w st.active d → Good (mark_dropped M P m st d)
+  dropped_ok : (w : Known) (p : ℕ) (S : PlainShape) (m : Linked) (st : Store Parked) (d : MarkDrop Linked) → Set w p S m st → DroppedOk P sh w st.active d → Good (mark_dropped M P m st d)
   dropped_ok w p S m st NoMark h g = without_mark_ok w p S m st h
   dropped_ok w p S m st (Goes after) h g = ok_runs P sh given keep w g.proc g.shape after st (record { now = g.now; store = h.store }) g.goes
   dropped_ok w p S m st (Repeats after) h g = ok_turn P sh given keep w g.proc g.shape after st (running after) (record { now = g.now; store = h.store }) (λ st' r. ok_runs P sh given keep w g.proc g.shape after st' r g.goes)
   dropped_ok w p S m st (WithoutLabel after) h g = ok_fails P sh given keep w g.0 g.1 after st (record { now = g.2; store = h.store })
 
-  resumed_ok : (why : Why) (w : Known) (p : ℕ) (S : PlainShape) (m : Linked) (st : Store Parked) → Set w p S m st → WhyOk P sh w p S m.place why → Good (resumed M P why m st)
+  resumed_ok : (why : Why) (w : Known) (p : ℕ) (S : PlainShape) (m : Linked) (st : Store Parked) → Set w p S m st → WhyOk P sh w p S m.place why → Good (resume_by M P why m st)
   resumed_ok Alt w p S m st h g = ok_fails P sh given keep w p S m st h
   resumed_ok (Operation r) w p S m st h g = ok_turn P sh given keep w p S m st (λ st. outcome M (again r (here M m st)) m st) h (λ st' q.
       ok_outcome P sh given keep (again r (here M m st')) w p S m st' q (keep.resumed w.coexps r (here M m st') (here_within P sh given keep w p S m st' q) g.0) (rows_keep.resumed r (here M m st')) g.1)

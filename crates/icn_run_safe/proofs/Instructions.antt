@@ -19,7 +19,7 @@ use Rattle.icn_run.specs.Calls as Cs
 use Rattle.icn_run.specs.Calls.{Pair}
 use Rattle.icn_run.specs.Chains as C
 use Rattle.icn_run.specs.Chains.{Chain, Linked, Parked, with_chain}
-use Rattle.icn_run.specs.Step.{Program, Store, running, parted, with_found, turn, here, with_value, with_values, pushed, list_made, made, pair_now, with_pair, exchanged, maybe_exchanged, returned, all_left, coexp_made, refreshed, field_applied, field_of, invoked_with, applied_to_elements, activation_of, activation, with_result, standing, pushed_or_fails, activator_of, unmarked, limited, limited_result, scan_opened, result_given, is_create_body, members_of, operated, initial_if, instruction, statics_before}
+use Rattle.icn_run.specs.Step.{Program, Store, running, on_pair, with_found, turn, here, with_value, with_values, push_item, list_made, with_made, pair_now, with_pair, with_exchange, maybe_exchanged, return_to, all_left, coexp_made, refresh, field_applied, field_of, invoked_with, applied_to_elements, activation_of, activation, with_result, standing_of, pushed_or_fails, activator_of, unmark_then, limit_results, limited_result, scan_opened, result_given, is_create_body, members_of, operate, initial_if, instruction, statics_before}
 use Rattle.icn_run_laws.proofs.RowsKeep.{rows_keep}
 use Rattle.icn_run_safe.specs.Within.{Each, ItemWithin, RowsStayWithin}
 use Rattle.icn_run_safe.specs.Shaped.{Known, LabelTo, LocalsOk, StoreOk, Shaped, InRange}
@@ -71,7 +71,7 @@ module _ (P : Program) (sh : ℕ → ℕ → Option PlainShape) (given : Shaped 
   flag_store w p S st h = grow_store P sh w (with_flag w p S) (λ i. i ≡ st.active) st refl (grow_flag w p S) h
 
   -- the active co-expression, its activator and `&main` are there
-  keyword_ok : (k : Keyword) (w : Known) (p : ℕ) (S : PlainShape) (m : Linked) (st : Store Parked) → Set w p S m st → sh p m.place ≡ Some (with_more 1 S) → Good (pushed_or_fails M (keyword_item (standing M m st) k) m st)
+  keyword_ok : (k : Keyword) (w : Known) (p : ℕ) (S : PlainShape) (m : Linked) (st : Store Parked) → Set w p S m st → sh p m.place ≡ Some (with_more 1 S) → Good (pushed_or_fails M (keyword_item (standing_of M m st) k) m st)
   keyword_ok k w p S m st h e =
       let count = h.store.coexps.count in
       let a = h.store.coexps.there in
@@ -81,11 +81,11 @@ module _ (P : Program) (sh : ℕ → ℕ → Option PlainShape) (given : Shaped 
       let o = (h.store.coexps.each st.active a.coexp a.stands).activator in
       let other = within st.coexps a.coexp.activator o.coexp o.stands in
       let same : activator_of st.active st ≡ a.coexp.activator = ap (λ c. c.activator) (index_there st.coexps st.active a.coexp _ a.stands) in
-      ok_one P sh given keep (keyword_item (standing M m st) k) w p S m st h (keyword_within w.coexps (standing M m st) k (omega (arith, first, count)) (omega (arith, one, count)) (omega (arith, other, count, same))) e
+      ok_one P sh given keep (keyword_item (standing_of M m st) k) w p S m st h (keyword_within w.coexps (standing_of M m st) k (omega (arith, first, count)) (omega (arith, one, count)) (omega (arith, other, count, same))) e
 
   -- operations
-  operated_ok : (op : Op) (items : List Item) (w : Known) (p : ℕ) (S : PlainShape) (m : Linked) (st : Store Parked) → Set w p S m st → Each (ItemWithin w.coexps) items → sh p m.place ≡ Some (with_more 1 S) → Good (operated M op items m st)
-  operated_ok Ops.Refresh (item ∷ items) w p S m st h g e = ok_value P sh given keep item w p S m st (λ value. refreshed M value m st) h g.0 (λ v gv. refreshed_ok P sh given keep v w p S m st h gv e)
+  operated_ok : (op : Op) (items : List Item) (w : Known) (p : ℕ) (S : PlainShape) (m : Linked) (st : Store Parked) → Set w p S m st → Each (ItemWithin w.coexps) items → sh p m.place ≡ Some (with_more 1 S) → Good (operate M op items m st)
+  operated_ok Ops.Refresh (item ∷ items) w p S m st h g e = ok_value P sh given keep item w p S m st (λ value. refresh M value m st) h g.0 (λ v gv. refreshed_ok P sh given keep v w p S m st h gv e)
   operated_ok op items w p S m st h g e =
       ok_outcome P sh given keep (apply st.names (Operation op) items (here M m st)) w p S m st h (keep.applied w.coexps st.names (Operation op) items (here M m st) (here_within P sh given keep w p S m st h) g) (rows_keep.applied st.names (Operation op) items (here M m st)) e
 
@@ -101,7 +101,7 @@ module _ (P : Program) (sh : ℕ → ℕ → Option PlainShape) (given : Shaped 
   activation_of_ok (x ∷ y ∷ z ∷ items) w p S m st h l g e = absurd (omega (arith, l))
 
   -- limits
-  limited_ok : (v : Value) (o : Option ℤ) (w : Known) (p : ℕ) (S : PlainShape) (m : Linked) (st : Store Parked) → Set w p S m st → sh p m.place ≡ Some (with_mark Levels.Limit S) → Good (limited M v o m st)
+  limited_ok : (v : Value) (o : Option ℤ) (w : Known) (p : ℕ) (S : PlainShape) (m : Linked) (st : Store Parked) → Set w p S m st → sh p m.place ≡ Some (with_mark Levels.Limit S) → Good (limit_results M v o m st)
   limited_ok v None w p S m st h e = tt
   limited_ok v (Some (negsuc n)) w p S m st h e = tt
   limited_ok v (Some (pos zero)) w p S m st h e = ok_fails P sh given keep w p S m st h
@@ -109,14 +109,14 @@ module _ (P : Program) (sh : ℕ → ℕ → Option PlainShape) (given : Shaped 
 
   -- the innermost mark is suspended with its level, and the result stands on what is outside
   suspended_ok : (item : Item) (w : Known) (p : ℕ) (S : PlainShape) (m : Linked) (st : Store Parked) → Set w p S m st → ItemWithin w.coexps item → is_some (slice_get S.outer 0) ≡ true → ((S' : PlainShape) → before_mark S ≡ Some S' → sh p m.place ≡ Some (with_more 1 S'))
-      → Good (with_found (M.suspend_mark m) (λ m. pushed M item m st))
+      → Good (with_found (M.suspend_mark m) (λ m. push_item M item m st))
   suspended_ok item w p S m st h g l e = let o = outside_ok P sh w st.active p S m h.now l in
-      let m' : Linked = with_chain (C.suspended (C.suspension (C.because Cs.Alt) m.place m.chain) o.chain) m in
-      ok_found P sh given keep (C.suspend_mark m) (λ m. pushed M item m st) m' o.suspend (ok_push P sh given keep item w p o.shape m' st (ready_at P sh given keep w p S m st o.shape m' h (suspend_alt P sh w st.active p S m h.now o)) g (e o.shape o.before))
+      let m' : Linked = with_chain (C.suspend_in (C.suspension (C.because Cs.Alt) m.place m.chain) o.chain) m in
+      ok_found P sh given keep (C.suspend_mark m) (λ m. push_item M item m st) m' o.suspend (ok_push P sh given keep item w p o.shape m' st (ready_at P sh given keep w p S m st o.shape m' h (suspend_alt P sh w st.active p S m h.now o)) g (e o.shape o.before))
 
   limited_result_ok : (item : Item) (n : ℕ) (w : Known) (p : ℕ) (S : PlainShape) (m : Linked) (st : Store Parked) → Set w p S m st → ItemWithin w.coexps item → is_some (slice_get S.outer 0) ≡ true → ((S' : PlainShape) → before_mark S ≡ Some S' → sh p m.place ≡ Some (with_more 1 S'))
       → Good (limited_result M item n m st)
-  limited_result_ok item zero w p S m st h g l e = ok_unmarked P sh given keep w p S m st (pushed M item) h l (λ c' S' st' q r. ok_push P sh given keep item w p S' (with_chain c' m) st' r g (e S' q))
+  limited_result_ok item zero w p S m st h g l e = ok_unmarked P sh given keep w p S m st (push_item M item) h l (λ c' S' st' q r. ok_push P sh given keep item w p S' (with_chain c' m) st' r g (e S' q))
   limited_result_ok item (suc n) w p S m st h g l e = suspended_ok item w p S m st h g l e
 
   -- scans
@@ -191,11 +191,11 @@ module _ (P : Program) (sh : ℕ → ℕ → Option PlainShape) (given : Shaped 
         → InRange P instr → Good (instruction M P instr m st)
     instruction_ok Instrs.Pnull fit on onward backward range = ok_push P sh given keep (Val Null) w p S m st h tt (pushes on)
     instruction_ok (Instrs.Int k) fit on onward backward range = let o = stands P.integers k range in
-        ok_found P sh given keep (slice_get P.integers k) (λ n. pushed M (Val (Integer n)) m st) o.0 o.1 (ok_push P sh given keep (Val (Integer o.0)) w p S m st h tt (pushes on))
+        ok_found P sh given keep (slice_get P.integers k) (λ n. push_item M (Val (Integer n)) m st) o.0 o.1 (ok_push P sh given keep (Val (Integer o.0)) w p S m st h tt (pushes on))
     instruction_ok (Instrs.Str k) fit on onward backward range = let o = stands P.strings k range in
-        ok_found P sh given keep (slice_get P.strings k) (λ bytes. pushed M (Val (Text bytes)) m st) o.0 o.1 (ok_push P sh given keep (Val (Text o.0)) w p S m st h tt (pushes on))
+        ok_found P sh given keep (slice_get P.strings k) (λ bytes. push_item M (Val (Text bytes)) m st) o.0 o.1 (ok_push P sh given keep (Val (Text o.0)) w p S m st h tt (pushes on))
     instruction_ok (Instrs.Cset k) fit on onward backward range = let o = stands P.csets k range in
-        ok_found P sh given keep (slice_get P.csets k) (λ set. pushed M (Val (Chars (members_of set))) m st) o.0 o.1 (ok_push P sh given keep (Val (Chars (members_of o.0))) w p S m st h tt (pushes on))
+        ok_found P sh given keep (slice_get P.csets k) (λ set. push_item M (Val (Chars (members_of set))) m st) o.0 o.1 (ok_push P sh given keep (Val (Chars (members_of o.0))) w p S m st h tt (pushes on))
     instruction_ok (Instrs.Local k) fit on onward backward range = ok_push P sh given keep (Var (Whole (Local k))) w p S m st h tt (pushes on)
     instruction_ok (Instrs.Static k) fit on onward backward range = ok_push P sh given keep (Var (Whole (Static (statics_before P (M.proc m) + k)))) w p S m st h tt (pushes on)
     instruction_ok (Instrs.Global k) fit on onward backward range = ok_push P sh given keep (Var (Whole (Global k))) w p S m st h tt (pushes on)
@@ -204,16 +204,16 @@ module _ (P : Program) (sh : ℕ → ℕ → Option PlainShape) (given : Shaped 
         ok_popped P sh given keep w p S m st (λ item m. running m st) h l (λ item c' g r. ok_runs P sh given keep w p (with_fewer 1 S) (with_chain c' m) st r (on_next (with_more 0 (with_fewer 1 S)) on ∙ ap Some (more_none (with_fewer 1 S))))
     instruction_ok Instrs.Dup fit on onward backward range = let l = (enough S.inner.operands 1 true fit).0 in
         let z : S.inner.operands - 1 + 2 ≡ S.inner.operands + 1 = omega (arith, l) in
-        ok_popped P sh given keep w p S m st (λ item below. pushed M item m st) h l (λ item c' g r. ok_push P sh given keep item w p S m st h g (on_next (with_more 2 (with_fewer 1 S)) on ∙ ap (λ n. Some (record S { inner = record S.inner { operands = n } })) z))
+        ok_popped P sh given keep w p S m st (λ item below. push_item M item m st) h l (λ item c' g r. ok_push P sh given keep item w p S m st h g (on_next (with_more 2 (with_fewer 1 S)) on ∙ ap (λ n. Some (record S { inner = record S.inner { operands = n } })) z))
     instruction_ok (Instrs.Op op) fit on onward backward range =
-        ok_taken P sh given keep (arity op) w p S m st (λ items m. turn P st (operated M op items m)) h (enough S.inner.operands (arity op) true fit).0 (λ items c' l g r.
-        ok_turn P sh given keep w p (with_fewer (arity op) S) (with_chain c' m) st (operated M op items (with_chain c' m)) r (λ st' r'.
+        ok_taken P sh given keep (arity op) w p S m st (λ items m. turn P st (operate M op items m)) h (enough S.inner.operands (arity op) true fit).0 (λ items c' l g r.
+        ok_turn P sh given keep w p (with_fewer (arity op) S) (with_chain c' m) st (operate M op items (with_chain c' m)) r (λ st' r'.
         operated_ok op items w p (with_fewer (arity op) S) (with_chain c' m) st' r' g (on_next (with_more 1 (with_fewer (arity op) S)) on)))
     instruction_ok (Instrs.Llist n) fit on onward backward range =
-        ok_taken P sh given keep n w p S m st (λ items m. turn P st (λ st. with_values M items m st (λ values. list_made M values m st (λ list m st. pushed M (Val list) m st)))) h (enough S.inner.operands n true fit).0 (λ items c' l g r.
-        ok_turn P sh given keep w p (with_fewer n S) (with_chain c' m) st (λ st. with_values M items (with_chain c' m) st (λ values. list_made M values (with_chain c' m) st (λ list m st. pushed M (Val list) m st))) r (λ st' r'.
-        ok_values P sh given keep items w p (with_fewer n S) (with_chain c' m) st' (λ values. list_made M values (with_chain c' m) st' (λ list m st. pushed M (Val list) m st)) r' g (λ vs gv.
-        ok_list P sh given keep vs w p (with_fewer n S) (with_chain c' m) st' (λ list m st. pushed M (Val list) m st) r' gv (λ v a st'' z r'' e.
+        ok_taken P sh given keep n w p S m st (λ items m. turn P st (λ st. with_values M items m st (λ values. list_made M values m st (λ list m st. push_item M (Val list) m st)))) h (enough S.inner.operands n true fit).0 (λ items c' l g r.
+        ok_turn P sh given keep w p (with_fewer n S) (with_chain c' m) st (λ st. with_values M items (with_chain c' m) st (λ values. list_made M values (with_chain c' m) st (λ list m st. push_item M (Val list) m st))) r (λ st' r'.
+        ok_values P sh given keep items w p (with_fewer n S) (with_chain c' m) st' (λ values. list_made M values (with_chain c' m) st' (λ list m st. push_item M (Val list) m st)) r' g (λ vs gv.
+        ok_list P sh given keep vs w p (with_fewer n S) (with_chain c' m) st' (λ list m st. push_item M (Val list) m st) r' gv (λ v a st'' z r'' e.
         ok_push P sh given keep (Val v) w p (with_fewer n S) a st'' r'' z (ap (sh p) e ∙ on_next (with_more 1 (with_fewer n S)) on)))))
     instruction_ok (Instrs.Field k) fit on onward backward range =
         ok_taken P sh given keep 1 w p S m st (λ items m. turn P st (field_applied M P k items m)) h (enough S.inner.operands 1 true fit).0 (λ items c' l g r.
@@ -235,25 +235,25 @@ module _ (P : Program) (sh : ℕ → ℕ → Option PlainShape) (given : Shaped 
     instruction_ok Instrs.Eret fit on onward backward range =
         let f = enough S.inner.operands 1 (is_some (slice_get S.outer 0) && is_ended S.inner) fit in
         let d = both (is_some (slice_get S.outer 0)) (is_ended S.inner) f.1 in
-        ok_popped P sh given keep w p S m st (λ item m. with_value M item m st (λ value. unmarked M m st (pushed M (Val value)))) h f.0 (λ item c' g r.
-        ok_value P sh given keep item w p (with_fewer 1 S) (with_chain c' m) st (λ value. unmarked M (with_chain c' m) st (pushed M (Val value))) r g (λ v gv.
-        ok_unmarked P sh given keep w p (with_fewer 1 S) (with_chain c' m) st (pushed M (Val v)) r d.0 (λ c'' S' st' e r'. ok_push P sh given keep (Val v) w p S' (with_chain c'' (with_chain c' m)) st' r' gv (drops 1 1 on S' e))))
+        ok_popped P sh given keep w p S m st (λ item m. with_value M item m st (λ value. unmark_then M m st (push_item M (Val value)))) h f.0 (λ item c' g r.
+        ok_value P sh given keep item w p (with_fewer 1 S) (with_chain c' m) st (λ value. unmark_then M (with_chain c' m) st (push_item M (Val value))) r g (λ v gv.
+        ok_unmarked P sh given keep w p (with_fewer 1 S) (with_chain c' m) st (push_item M (Val v)) r d.0 (λ c'' S' st' e r'. ok_push P sh given keep (Val v) w p S' (with_chain c'' (with_chain c' m)) st' r' gv (drops 1 1 on S' e))))
     instruction_ok Instrs.Esusp fit on onward backward range =
         let f = enough S.inner.operands 1 (is_some (slice_get S.outer 0) && same_kind S.inner.kind Levels.Plain && is_ended S.inner) fit in
         let k = both (is_some (slice_get S.outer 0) && same_kind S.inner.kind Levels.Plain) (is_ended S.inner) f.1 in
         let d = both (is_some (slice_get S.outer 0)) (same_kind S.inner.kind Levels.Plain) k.0 in
-        ok_popped P sh given keep w p S m st (λ item m. with_found (M.suspend_mark m) (λ m. pushed M item m st)) h f.0 (λ item c' g r. suspended_ok item w p (with_fewer 1 S) (with_chain c' m) st r g d.0 (drops 1 1 on))
+        ok_popped P sh given keep w p S m st (λ item m. with_found (M.suspend_mark m) (λ m. push_item M item m st)) h f.0 (λ item c' g r. suspended_ok item w p (with_fewer 1 S) (with_chain c' m) st r g d.0 (drops 1 1 on))
     instruction_ok Instrs.Limit fit on onward backward range = let l = (enough S.inner.operands 1 true fit).0 in
-        ok_popped P sh given keep w p S m st (λ item m. with_value M item m st (λ value. limited M value (integer_of value) m st)) h l (λ item c' g r.
-        ok_value P sh given keep item w p (with_fewer 1 S) (with_chain c' m) st (λ value. limited M value (integer_of value) (with_chain c' m) st) r g (λ v gv.
+        ok_popped P sh given keep w p S m st (λ item m. with_value M item m st (λ value. limit_results M value (integer_of value) m st)) h l (λ item c' g r.
+        ok_value P sh given keep item w p (with_fewer 1 S) (with_chain c' m) st (λ value. limit_results M value (integer_of value) (with_chain c' m) st) r g (λ v gv.
         limited_ok v (integer_of v) w p (with_fewer 1 S) (with_chain c' m) st r (on_next (with_more 0 (with_mark Levels.Limit (with_fewer 1 S))) on ∙ ap Some (more_none (with_mark Levels.Limit (with_fewer 1 S))))))
     instruction_ok Instrs.Lsusp fit on onward backward range =
         let f = enough S.inner.operands 1 (is_some (slice_get S.outer 0) && same_kind S.inner.kind Levels.Limit && is_ended S.inner) fit in
         let k = both (is_some (slice_get S.outer 0) && same_kind S.inner.kind Levels.Limit) (is_ended S.inner) f.1 in
         let d = both (is_some (slice_get S.outer 0)) (same_kind S.inner.kind Levels.Limit) k.0 in
-        ok_popped P sh given keep w p S m st (λ item m. with_found (M.count_down m) (parted (λ count m. limited_result M item count m st))) h f.0 (λ item c' g r.
+        ok_popped P sh given keep w p S m st (λ item m. with_found (M.count_down m) (on_pair (λ count m. limited_result M item count m st))) h f.0 (λ item c' g r.
         let o = count_ok P sh w st.active p (with_fewer 1 S) (with_chain c' m) r.now d.0 d.1 in
-        ok_found P sh given keep (C.count_down (with_chain c' m)) (parted (λ count m. limited_result M item count m st)) o.0 o.1
+        ok_found P sh given keep (C.count_down (with_chain c' m)) (on_pair (λ count m. limited_result M item count m st)) o.0 o.1
         (limited_result_ok item o.0.0 w p (with_fewer 1 S) o.0.1 st (record { now = o.2.now; store = r.store }) g d.0 (λ S' e. ap (sh p) o.2.place ∙ drops 1 1 on S' e)))
     instruction_ok Instrs.Efail fit on onward backward range = ok_fails P sh given keep w p S m st h
     instruction_ok (Instrs.Chfail l) fit on onward backward range =
@@ -266,35 +266,35 @@ module _ (P : Program) (sh : ℕ → ℕ → Option PlainShape) (given : Shaped 
     instruction_ok (Instrs.Loop l) fit on onward backward range =
         ok_turn P sh given keep w p S (M.go l m) st (running (M.go l m)) (record { now = record { has = h.now.has; memory = h.now.memory }; store = h.store }) (λ st' r. ok_runs P sh given keep w p S (M.go l m) st' r backward.1)
     instruction_ok Instrs.Bscan fit on onward backward range = let l = (enough S.inner.operands 1 true fit).0 in
-        ok_popped P sh given keep w p S m st (λ item m. with_value M item m st (λ value. made M (text_row value (here M m st)) m st (scan_opened M))) h l (λ item c' g r.
-        ok_value P sh given keep item w p (with_fewer 1 S) (with_chain c' m) st (λ value. made M (text_row value (here M (with_chain c' m) st)) (with_chain c' m) st (scan_opened M)) r g (λ v gv.
+        ok_popped P sh given keep w p S m st (λ item m. with_value M item m st (λ value. with_made M (text_row value (here M m st)) m st (scan_opened M))) h l (λ item c' g r.
+        ok_value P sh given keep item w p (with_fewer 1 S) (with_chain c' m) st (λ value. with_made M (text_row value (here M (with_chain c' m) st)) (with_chain c' m) st (scan_opened M)) r g (λ v gv.
         ok_made P sh given keep (text_row v (here M (with_chain c' m) st)) w p (with_fewer 1 S) (with_chain c' m) st (scan_opened M) r
         (keep.scanned w.coexps v (here M (with_chain c' m) st) (here_within P sh given keep w p (with_fewer 1 S) (with_chain c' m) st r)) (rows_keep.scanned v (here M (with_chain c' m) st)) (λ v' a st' gv' r' e.
         scan_ok v' w p (with_fewer 1 S) a st' r' (ap (sh p) e ∙ on_next (with_more 0 (with_scan (with_fewer 1 S))) on ∙ ap Some (more_none (with_scan (with_fewer 1 S)))))))
     instruction_ok Instrs.Escan fit on onward backward range =
         let f = enough S.inner.operands 1 (nat_lt 0 S.inner.scans) fit in
         let some = ltb-true 0 S.inner.scans f.1 in
-        ok_popped P sh given keep w p S m st (λ item m. exchanged (C.swap_newest (pair_now st) m) (λ m. pushed M item (M.suspend Cs.Escan m)) st) h f.0 (λ item c' g r.
-        ok_exchanged P sh given keep w p (with_fewer 1 S) (with_chain c' m) st (λ m. pushed M item (M.suspend Cs.Escan m)) r some (λ m' st' r' e.
+        ok_popped P sh given keep w p S m st (λ item m. with_exchange (C.swap_newest (pair_now st) m) (λ m. push_item M item (M.suspend Cs.Escan m)) st) h f.0 (λ item c' g r.
+        ok_exchanged P sh given keep w p (with_fewer 1 S) (with_chain c' m) st (λ m. push_item M item (M.suspend Cs.Escan m)) r some (λ m' st' r' e.
         ok_push P sh given keep item w p (without_scan (with_fewer 1 S)) (M.suspend Cs.Escan m') st' (record { now = suspend_escan P sh w st'.active p (with_fewer 1 S) m' r'.now some; store = r'.store }) g (ap (sh p) e ∙ on_next (with_more 1 (without_scan (with_fewer 1 S))) on)))
     instruction_ok Instrs.Ccase fit on onward backward range =
         let o = below_ok P sh w st.active p S m h.now (enough S.inner.operands 0 (option_map_or has_operand (slice_get S.outer 0) false) fit).1 in
-        ok_found P sh given keep (C.below m) (λ item. pushed M item m st) o.0 o.1 (ok_push P sh given keep o.0 w p S m st h o.2 (pushes on))
+        ok_found P sh given keep (C.below m) (λ item. push_item M item m st) o.0 o.1 (ok_push P sh given keep o.0 w p S m st h o.2 (pushes on))
     instruction_ok (Instrs.Init l) fit on onward backward range = initial_ok (slice_index_or st.begun (M.proc m) true) l onward.1 on
     instruction_ok Instrs.Psusp fit on onward backward range =
         let f = enough S.inner.operands 1 (not S.in_create) fit in
         let back_here = on_next (with_more 1 (with_fewer 1 S)) on ∙ ap Some (more_of_fewer 1 S f.0) in
-        ok_popped P sh given keep w p S m st (λ item below. with_result M item m st (λ result. maybe_exchanged (C.swap_oldest (pair_now st) m) m st (λ m. returned (C.suspend_proc m) (pushed M result)))) h f.0 (λ item c' g r.
-        result_of item w p S m st (λ result. maybe_exchanged (C.swap_oldest (pair_now st) m) m st (λ m. returned (C.suspend_proc m) (pushed M result))) h g (λ result gr.
-        ok_maybe P sh given keep (C.swap_oldest (pair_now st) m) w p S m st (λ m. returned (C.suspend_proc m) (pushed M result)) h (swap_oldest_ok P sh (pair_now st) w st.active p S m h.now) (λ m' st' r' e.
-        ok_returned P sh given keep (C.suspend_proc m') w S.in_create st' (pushed M result) r'.store (suspend_proc_ok P sh w st'.active p S m' r'.now (ap (sh p) e ∙ back_here)) (is_false S.in_create f.1) (λ m'' p' S' r'' e'.
+        ok_popped P sh given keep w p S m st (λ item below. with_result M item m st (λ result. maybe_exchanged (C.swap_oldest (pair_now st) m) m st (λ m. return_to (C.suspend_proc m) (push_item M result)))) h f.0 (λ item c' g r.
+        result_of item w p S m st (λ result. maybe_exchanged (C.swap_oldest (pair_now st) m) m st (λ m. return_to (C.suspend_proc m) (push_item M result))) h g (λ result gr.
+        ok_maybe P sh given keep (C.swap_oldest (pair_now st) m) w p S m st (λ m. return_to (C.suspend_proc m) (push_item M result)) h (swap_oldest_ok P sh (pair_now st) w st.active p S m h.now) (λ m' st' r' e.
+        ok_returned P sh given keep (C.suspend_proc m') w S.in_create st' (push_item M result) r'.store (suspend_proc_ok P sh w st'.active p S m' r'.now (ap (sh p) e ∙ back_here)) (is_false S.in_create f.1) (λ m'' p' S' r'' e'.
         ok_push P sh given keep result w p' S' m'' st' r'' gr e'))))
     instruction_ok Instrs.Pret fit on onward backward range =
         let f = enough S.inner.operands 1 (not S.in_create) fit in
-        ok_popped P sh given keep w p S m st (λ item m. with_result M item m st (λ result. returned (C.leave m) (pushed M result) (all_left M m st))) h f.0 (λ item c' g r.
-        result_of item w p (with_fewer 1 S) (with_chain c' m) st (λ result. returned (C.leave (with_chain c' m)) (pushed M result) (all_left M (with_chain c' m) st)) r g (λ result gr.
-        ok_all P sh given keep w p (with_fewer 1 S) (with_chain c' m) st (λ st. returned (C.leave (with_chain c' m)) (pushed M result) st) r (λ st' r'.
-        ok_returned P sh given keep (C.leave (with_chain c' m)) w S.in_create st' (pushed M result) r'.store (leave_ok P sh w st'.active p (with_fewer 1 S) (with_chain c' m) r'.now) (is_false S.in_create f.1) (λ m'' p' S' r'' e'.
+        ok_popped P sh given keep w p S m st (λ item m. with_result M item m st (λ result. return_to (C.leave m) (push_item M result) (all_left M m st))) h f.0 (λ item c' g r.
+        result_of item w p (with_fewer 1 S) (with_chain c' m) st (λ result. return_to (C.leave (with_chain c' m)) (push_item M result) (all_left M (with_chain c' m) st)) r g (λ result gr.
+        ok_all P sh given keep w p (with_fewer 1 S) (with_chain c' m) st (λ st. return_to (C.leave (with_chain c' m)) (push_item M result) st) r (λ st' r'.
+        ok_returned P sh given keep (C.leave (with_chain c' m)) w S.in_create st' (push_item M result) r'.store (leave_ok P sh w st'.active p (with_fewer 1 S) (with_chain c' m) r'.now) (is_false S.in_create f.1) (λ m'' p' S' r'' e'.
         ok_push P sh given keep result w p' S' m'' st' r'' gr e'))))
     instruction_ok Instrs.Pfail fit on onward backward range = let d = is_false S.in_create (enough S.inner.operands 0 (not S.in_create) fit).1 in
         ok_if P sh given keep (is_create_body M m st) _ _ (λ z. not_true (sym (in_create_body ∙ d) ∙ z)) (λ z. proc_fails_ok P sh given keep w p S m st h d)

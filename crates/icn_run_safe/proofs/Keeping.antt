@@ -110,14 +110,14 @@ module _ (tables : Tables) (sh : ℕ → ℕ → Option PlainShape) where
 
   -- Operands
 
-  pushed_ok : (w : Known) (s p : ℕ) (S : PlainShape) (item : Item) (c : Chain) → ChainOk tables sh w s p S c → ItemWithin w.coexps item → ChainOk tables sh w s p (with_more 1 S) (C.pushed item c)
+  pushed_ok : (w : Known) (s p : ℕ) (S : PlainShape) (item : Item) (c : Chain) → ChainOk tables sh w s p S c → ItemWithin w.coexps item → ChainOk tables sh w s p (with_more 1 S) (C.push_on item c)
   pushed_ok w s p S item (chain items q scans o) h g = let e = h.0 in (omega (arith, e), (g, h.1), h.2, h.3, h.4)
 
   pub push_ok : (item : Item) (w : Known) (s p : ℕ) (S : PlainShape) (m : Linked) → Now tables sh w s p S m → ItemWithin w.coexps item → Now tables sh w s p (with_more 1 S) (C.push item m)
   push_ok item w s p S m h g = record { has = pushed_ok w s p S item m.chain h.has g; memory = h.memory }
 
   popped_ok : (w : Known) (s p : ℕ) (S : PlainShape) (m : Linked) (c : Chain) → ChainOk tables sh w s p S c → 0 < S.inner.operands
-      → (item : Item) × (c' : Chain) × (C.popped m c ≡ Some (item, with_chain c' m)) × ItemWithin w.coexps item × ChainOk tables sh w s p (with_fewer 1 S) c'
+      → (item : Item) × (c' : Chain) × (C.pop_from m c ≡ Some (item, with_chain c' m)) × ItemWithin w.coexps item × ChainOk tables sh w s p (with_fewer 1 S) c'
   popped_ok w s p S m (chain [] q scans o) h l = let e = h.0 in absurd (omega (arith, e, l))
   popped_ok w s p S m (chain (item ∷ items) q scans o) h l = let e = h.0 in (item, chain items q scans o, refl, h.1.0, (omega (arith, e, l), h.1.1, h.2, h.3, h.4))
 
@@ -126,7 +126,7 @@ module _ (tables : Tables) (sh : ℕ → ℕ → Option PlainShape) where
   pop_ok w s p S m h l = let o = popped_ok w s p S m m.chain h.has l in (o.0, o.1, o.2, o.3, record { has = o.4; memory = h.memory })
 
   taken_ok : (Q : Item → Type 0) (n : ℕ) (items found : List Item) → n ≤ length items → Each Q items → Each Q found
-      → (out : List Item) × (rest : List Item) × (C.taken n items found ≡ Some (out, rest)) × (length rest ≡ length items - n) × (length out ≡ n + length found) × Each Q out × Each Q rest
+      → (out : List Item) × (rest : List Item) × (C.take_top n items found ≡ Some (out, rest)) × (length rest ≡ length items - n) × (length out ≡ n + length found) × Each Q out × Each Q rest
   taken_ok Q zero items found l h g = (found, items, refl, omega arith, omega arith, g, h)
   taken_ok Q (suc n) [] found l h g = absurd (omega (arith, l))
   taken_ok Q (suc n) (item ∷ items) found l h g = let o = taken_ok Q n items (item ∷ found) (omega (arith, l)) h.1 (h.0, g) in

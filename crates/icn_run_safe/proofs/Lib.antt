@@ -10,6 +10,6 @@ pub mod TablesKept
 pub mod NoStuck
 pub mod RowValues
 pub mod RowsWithin
-pub mod Ended
+pub mod Observations
 pub mod Facts
 pub mod AnyOutside

@@ -10,7 +10,7 @@ use Rattle.icn_verify.specs.declared.shape.LevelKind.TheVariants as Levels
 use Rattle.icn_verify.specs.Shapes.{PlainShape, start_shape, with_more, with_mark, before_mark, shape_outside, with_scan, without_scan, same_kind}
 use Rattle.icn_verify.specs.Rows.{has_operand}
 use Rattle.icn_run.specs.Rows.{Value, Item, Residual}
-use Rattle.icn_run.specs.Calls.{Pair, Why, Alt, Op, Scan, Escan, Proc, Dropped, NoMark, Goes, Repeats, Outside as WithoutLabel}
+use Rattle.icn_run.specs.Calls.{Pair, Why, Alt, Op, Scan, Escan, Proc, MarkDrop, NoMark, Goes, Repeats, Outside as WithoutLabel}
 use Rattle.icn_run.specs.Chains as C
 use Rattle.icn_run.specs.Chains.{Label, fixed, flagged, Reason, because, scanning, Chain, chain, Suspensions, none, suspension, Outer, base, call, mark, limit, Frame, at_base, in_call, Linked, outer_of, scans_of, frame, with_chain}
 use Rattle.icn_run.specs.Step.{is_main}
@@ -35,8 +35,8 @@ module _ (tables : Tables) (sh : ℕ → ℕ → Option PlainShape) where
     pub shape : PlainShape
     pub before : before_mark S ≡ Some shape
     pub has : ChainOk tables sh w s p shape chain
-    pub unmark : C.unmark_from m o ≡ C.unmarked m chain
-    pub suspend : C.suspend_outer m o ≡ Some (with_chain (C.suspended (suspension (because Alt) m.place m.chain) chain) m)
+    pub unmark : C.unmark_from m o ≡ C.unmark_in m chain
+    pub suspend : C.suspend_outer m o ≡ Some (with_chain (C.suspend_in (suspension (because Alt) m.place m.chain) chain) m)
 
   outside_by : (w : Known) (s p : ℕ) (cr : Bool) (inner : Level) (ls : List Level) (m : Linked) (o : Outer) → OuterOk tables sh w s p cr inner.kind ls o → is_some (slice_get ls 0) ≡ true → Outside w s p (record { in_create = cr; inner = inner; outer = ls }) m o
   outside_by w s p cr inner ls m (base proc a) h e = not_true (subst (λ (x : List Level). is_some (slice_get x 0) ≡ true) h.3 e)
@@ -48,7 +48,7 @@ module _ (tables : Tables) (sh : ℕ → ℕ → Option PlainShape) where
   outside_ok w s p S m h e = outside_by w s p S.in_create S.inner S.outer m (outer_of m.chain) (outer_ok tables sh w s p S m.chain h.has) e
 
   -- the mark is suspended with its level
-  suspended_ok : (w : Known) (s p : ℕ) (S : PlainShape) (q : Suspensions) (c : Chain) → SuspsOk tables sh w s q → ChainOk tables sh w s p S c → ChainOk tables sh w s p S (C.suspended q c)
+  suspended_ok : (w : Known) (s p : ℕ) (S : PlainShape) (q : Suspensions) (c : Chain) → SuspsOk tables sh w s q → ChainOk tables sh w s p S c → ChainOk tables sh w s p S (C.suspend_in q c)
   suspended_ok w s p S q (chain items old scans o) g h = (h.0, h.1, h.2, g, h.4)
 
   -- the operand below the innermost mark
@@ -67,11 +67,11 @@ module _ (tables : Tables) (sh : ℕ → ℕ → Option PlainShape) where
 
   -- another label
 
-  forgotten_ok : (w : Known) (flag : ℕ) (xs : List (ℕ × ℕ)) → Each (RelabelOk tables sh w) xs → Each (RelabelOk tables sh w) (C.forgotten flag xs)
+  forgotten_ok : (w : Known) (flag : ℕ) (xs : List (ℕ × ℕ)) → Each (RelabelOk tables sh w) xs → Each (RelabelOk tables sh w) (C.forget_label flag xs)
   forgotten_ok w flag [] h = tt
   forgotten_ok w flag (x ∷ xs) h = by (x.0 == flag) (forgotten_ok w flag xs h.1)
     where
-      by : (b : Bool) → Each (RelabelOk tables sh w) (C.forgotten flag xs) → Each (RelabelOk tables sh w) (if b then C.forgotten flag xs else (x ∷ C.forgotten flag xs))
+      by : (b : Bool) → Each (RelabelOk tables sh w) (C.forget_label flag xs) → Each (RelabelOk tables sh w) (if b then C.forget_label flag xs else (x ∷ C.forget_label flag xs))
       by true g = g
       by false g = (h.0, g)
 
@@ -82,14 +82,14 @@ module _ (tables : Tables) (sh : ℕ → ℕ → Option PlainShape) where
 
   relabel_if : (b : Bool) (label flag : ℕ) (w : Known) (s p : ℕ) (S : PlainShape) (m : Linked) (S' : PlainShape) → Now tables sh w s p S m → IsBefore w flag p S' → sh p label ≡ Some S' → Relabelled w s p S m (C.relabelled_if b label flag m)
   relabel_if true label flag w s p S m S' h i e =
-      record { now = record { has = h.has; memory = memory_labels tables sh w m.activations m.flags m.relabels (C.forgotten flag m.relabels) flag true h.memory (forgotten_ok w flag m.relabels h.memory.labels) }; place = refl }
+      record { now = record { has = h.has; memory = memory_labels tables sh w m.activations m.flags m.relabels (C.forget_label flag m.relabels) flag true h.memory (forgotten_ok w flag m.relabels h.memory.labels) }; place = refl }
   relabel_if false label flag w s p S m S' h i e = record {
-    now = record { has = h.has; memory = memory_labels tables sh w m.activations m.flags m.relabels ((flag, label) ∷ C.forgotten flag m.relabels) flag false h.memory ((p, S', i, e), forgotten_ok w flag m.relabels h.memory.labels) };
+    now = record { has = h.has; memory = memory_labels tables sh w m.activations m.flags m.relabels ((flag, label) ∷ C.forget_label flag m.relabels) flag false h.memory ((p, S', i, e), forgotten_ok w flag m.relabels h.memory.labels) };
     place = refl;
   }
 
   relabel_by : (label : ℕ) (w : Known) (s p : ℕ) (S : PlainShape) (cr : Bool) (kind : LevelKind) (ls : List Level) (m : Linked) (o : Outer) → Now tables sh w s p S m → OuterOk tables sh w s p cr kind ls o → is_some (slice_get ls 0) ≡ true → same_kind kind Levels.Plain ≡ true
-      → ((S' : PlainShape) → shape_outside cr ls ≡ Some S' → sh p label ≡ Some S') → (m' : Linked) × (C.relabelled label m o ≡ Some m') × Relabelled w s p S m m'
+      → ((S' : PlainShape) → shape_outside cr ls ≡ Some S' → sh p label ≡ Some S') → (m' : Linked) × (C.relabel_in label m o ≡ Some m') × Relabelled w s p S m m'
   relabel_by label w s p S cr kind ls m (base proc a) g h e k f = not_true (subst (λ (x : List Level). is_some (slice_get x 0) ≡ true) h.3 e)
   relabel_by label w s p S cr kind ls m (call proc a level place caller) g h e k f = not_true (subst (λ (x : List Level). is_some (slice_get x 0) ≡ true) h.3 e)
   relabel_by label w s p S cr kind ls m (mark (fixed l) out) g h e k f = absurd h.4
@@ -107,7 +107,7 @@ module _ (tables : Tables) (sh : ℕ → ℕ → Option PlainShape) where
   pub suspend_op : (residual : Residual) (w : Known) (s p : ℕ) (S : PlainShape) (m : Linked) → Now tables sh w s p S m → ResidualWithin w.coexps residual → sh p m.place ≡ Some (with_more 1 S) → Now tables sh w s p S (C.suspend (Op residual) m)
   suspend_op r w s p S m h g e = record { has = suspended_ok w s p S (suspension (because (Op r)) m.place m.chain) m.chain (p, S, (g, e), h.has) h.has; memory = h.memory }
 
-  pub suspend_alt : (w : Known) (s p : ℕ) (S : PlainShape) (m : Linked) → (h : Now tables sh w s p S m) → (o : Outside w s p S m (outer_of m.chain)) → Now tables sh w s p o.shape (with_chain (C.suspended (suspension (because Alt) m.place m.chain) o.chain) m)
+  pub suspend_alt : (w : Known) (s p : ℕ) (S : PlainShape) (m : Linked) → (h : Now tables sh w s p S m) → (o : Outside w s p S m (outer_of m.chain)) → Now tables sh w s p o.shape (with_chain (C.suspend_in (suspension (because Alt) m.place m.chain) o.chain) m)
   suspend_alt w s p S m h o = record { has = suspended_ok w s p o.shape (suspension (because Alt) m.place m.chain) o.chain (p, S, tt, h.has) o.has; memory = h.memory }
 
   with_scan_ok : (w : Known) (s p n : ℕ) (S : PlainShape) (c : Chain) → ChainOk tables sh w s p S c → ChainOk tables sh w s p (with_scan S) (C.with_scan n c)
@@ -119,14 +119,14 @@ module _ (tables : Tables) (sh : ℕ → ℕ → Option PlainShape) where
 
   pub suspend_scan : (pair : Pair) (w : Known) (s p : ℕ) (S : PlainShape) (m : Linked) → Now tables sh w s p S m → Now tables sh w s p (with_scan S) (C.suspend (Scan pair) m)
   suspend_scan pair w s p S m h = record {
-    has = with_scan_ok w s p (length m.saved) S (C.suspended (suspension (scanning (length m.saved)) m.place m.chain) m.chain)
+    has = with_scan_ok w s p (length m.saved) S (C.suspend_in (suspension (scanning (length m.saved)) m.place m.chain) m.chain)
         (suspended_ok w s p S (suspension (scanning (length m.saved)) m.place m.chain) m.chain (p, S, tt, h.has) h.has);
     memory = h.memory;
   }
 
   pub suspend_escan : (w : Known) (s p : ℕ) (S : PlainShape) (m : Linked) → Now tables sh w s p S m → 0 < S.inner.scans → Now tables sh w s p (without_scan S) (C.suspend Escan m)
   suspend_escan w s p S m h l = record {
-    has = without_scan_ok w s p S (C.suspended (suspension (because Escan) m.place m.chain) m.chain) (suspended_ok w s p S (suspension (because Escan) m.place m.chain) m.chain (p, S, l, h.has) h.has);
+    has = without_scan_ok w s p S (C.suspend_in (suspension (because Escan) m.place m.chain) m.chain) (suspended_ok w s p S (suspension (because Escan) m.place m.chain) m.chain (p, S, l, h.has) h.has);
     memory = h.memory;
   }
 
@@ -243,7 +243,7 @@ module _ (tables : Tables) (sh : ℕ → ℕ → Option PlainShape) where
     pub now : Now tables sh w s proc shape m
     pub goes : sh proc m.place ≡ Some shape
 
-  abbrev pub DroppedOk : Known → ℕ → Dropped Linked → Type 0
+  abbrev pub DroppedOk : Known → ℕ → MarkDrop Linked → Type 0
   DroppedOk w s NoMark = Unit {0}
   DroppedOk w s (Goes m) = GoesOn w s m
   DroppedOk w s (Repeats m) = GoesOn w s m
@@ -271,7 +271,7 @@ module _ (tables : Tables) (sh : ℕ → ℕ → Option PlainShape) where
   dropped_by_ok w s p S m c label None g h l o = dropped_to_ok w s p S m c label g h l
   dropped_by_ok w s p S m c label (Some other) g h l o = record { proc = p; shape = S; now = record { has = h; memory = g }; goes = o }
 
-  repeated_ok : (b : Bool) (w : Known) (s p : ℕ) (S : PlainShape) (m : Linked) (c : Chain) (label : Option ℕ) (flag place : ℕ) → MemoryOf tables sh w m → ChainOk tables sh w s p S c → LabelOk tables sh w p S (flagged label flag place) → DroppedOk w s (C.repeated label flag place c m b)
+  repeated_ok : (b : Bool) (w : Known) (s p : ℕ) (S : PlainShape) (m : Linked) (c : Chain) (label : Option ℕ) (flag place : ℕ) → MemoryOf tables sh w m → ChainOk tables sh w s p S c → LabelOk tables sh w p S (flagged label flag place) → DroppedOk w s (C.repeat_mark label flag place c m b)
   repeated_ok true w s p S m c label flag place g h l = record {
     proc = p;
     shape = with_mark Levels.Plain S;
@@ -283,7 +283,7 @@ module _ (tables : Tables) (sh : ℕ → ℕ → Option PlainShape) where
   }
   repeated_ok false w s p S m c label flag place g h l = dropped_by_ok w s p S m c label (C.label_of flag m.relabels) g h l.1 (label_ok w p S flag m.relabels g.labels l.0)
 
-  drop_by : (w : Known) (s p : ℕ) (cr : Bool) (kind : LevelKind) (ls : List Level) (m : Linked) (o : Outer) → MemoryOf tables sh w m → OuterOk tables sh w s p cr kind ls o → DroppedOk w s (C.dropped m o)
+  drop_by : (w : Known) (s p : ℕ) (cr : Bool) (kind : LevelKind) (ls : List Level) (m : Linked) (o : Outer) → MemoryOf tables sh w m → OuterOk tables sh w s p cr kind ls o → DroppedOk w s (C.drop_from m o)
   drop_by w s p cr kind ls m (base proc a) g h = tt
   drop_by w s p cr kind ls m (call proc a level place caller) g h = tt
   drop_by w s p cr kind ls m (mark (fixed l) c) g h = absurd h.4

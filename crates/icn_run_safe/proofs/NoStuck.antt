@@ -8,7 +8,7 @@ use Rattle.icn_verify.specs.Given.{HaveShapes, HasShapes, IsFine}
 use Rattle.icn_run.specs.Rows.{Value, Null, Val, Var, Outcome, Fails, Gives, Suspends, Error, Ends, list_row, words_row}
 use Rattle.icn_run.specs.Chains.{Parked, Linked, empty}
 use Rattle.icn_run.specs.Chains as C
-use Rattle.icn_run.specs.Step.{Program, Launch, Store, Coexp, Active, running, failing, hopping, over, stuck, here, with_at, made, collected, filled, begun_if, instruction, instruction_at, instrs_of, step, steps, start, start_of, first_store, main_of, static_count, is_main}
+use Rattle.icn_run.specs.Step.{Program, Launch, Store, Coexp, Active, running, failing, hopping, over, stuck, here, with_at, with_made, collect_rest, fill_nulls, begun_if, instruction, instruction_at, instrs_of, step, steps, start, start_of, first_store, main_of, static_count, is_main}
 use Rattle.icn_run.specs.LinkedStep.{repeats_anywhere}
 use Rattle.icn_run_laws.specs.SameStates.{IsMade}
 use Rattle.icn_run_laws.specs.SecondLaw.{LinkedStuck, FlatStuck}
@@ -88,7 +88,7 @@ module _ (P : Program) (sh : ℕ → ℕ → Option PlainShape) (given : Shaped 
   here_starts : (m : Linked) (st : Store Parked) → Starts m st → SettingWithin 1 (here M m st)
   here_starts m st h = record { world = h.store.world; locals = subst (Each (ValueWithin 1)) (sym (none_there m.activations _ [] (sym h.memory.same_activations))) tt }
 
-  made_starts : (o : Outcome) (m : Linked) (st : Store Parked) (next : Value → Linked → Store Parked → St P sh given keep) → IsMade o → OutcomeWithin 1 o → Starts m st → ((v : Value) (a : Linked) (st' : Store Parked) → ValueWithin 1 v → Starts a st' → Good (next v a st')) → Good (made M o m st next)
+  made_starts : (o : Outcome) (m : Linked) (st : Store Parked) (next : Value → Linked → Store Parked → St P sh given keep) → IsMade o → OutcomeWithin 1 o → Starts m st → ((v : Value) (a : Linked) (st' : Store Parked) → ValueWithin 1 v → Starts a st' → Good (next v a st')) → Good (with_made M o m st next)
   made_starts (Gives (Val v) seen) m st next i g h f = f v (C.set_locals seen.locals m) (with_at seen st) g.0 (record { memory = memory_none m h.memory _ seen.locals; store = record { world = g.1.world; coexps = h.store.coexps }; main = h.main })
   made_starts (Gives (Var v) seen) m st next i g h f = absurd i
   made_starts (Error k v seen) m st next i g h f = tt
@@ -97,13 +97,13 @@ module _ (P : Program) (sh : ℕ → ℕ → Option PlainShape) (given : Shaped 
   made_starts (Ends k seen) m st next i g h f = absurd i
 
   collected_starts : (b : Bool) (entry : Procedure) → (b ≡ true → 0 < entry.parameters) → (vs : List Value) (m : Linked) (st : Store Parked) (next : List Value → Linked → Store Parked → St P sh given keep) → Each (ValueWithin 1) vs → Starts m st
-      → ((ps : List Value) (a : Linked) (st' : Store Parked) → Parameters P sh given keep none_known entry ps → Starts a st' → Good (next ps a st')) → Good (collected M b entry.parameters vs m st next)
-  collected_starts false entry some vs m st next g h f = f (filled entry.parameters vs) m st (record { within = filled_within entry.parameters 1 vs g; count = filled_length entry.parameters vs }) h
+      → ((ps : List Value) (a : Linked) (st' : Store Parked) → Parameters P sh given keep none_known entry ps → Starts a st' → Good (next ps a st')) → Good (collect_rest M b entry.parameters vs m st next)
+  collected_starts false entry some vs m st next g h f = f (fill_nulls entry.parameters vs) m st (record { within = filled_within entry.parameters 1 vs g; count = filled_length entry.parameters vs }) h
   collected_starts true entry some vs m st next g h f =
       let k = entry.parameters - 1 in
       let rest = drop k vs in
-      made_starts (list_row rest (here M m st)) m st (λ rest m st. next (filled k vs ++ rest ∷ []) m st) (rows_keep.list_made rest (here M m st)) (keep.listed 1 rest (here M m st) (here_starts m st h) (each_drop (ValueWithin 1) k vs g)) h
-      (λ v a st' gv h'. f (filled k vs ++ v ∷ []) a st' (record { within = each_append (ValueWithin 1) (filled k vs) (v ∷ []) (filled_within k 1 vs g) (gv, tt); count = joined_length entry.parameters vs v (some refl) }) h')
+      made_starts (list_row rest (here M m st)) m st (λ rest m st. next (fill_nulls k vs ++ rest ∷ []) m st) (rows_keep.list_made rest (here M m st)) (keep.listed 1 rest (here M m st) (here_starts m st h) (each_drop (ValueWithin 1) k vs g)) h
+      (λ v a st' gv h'. f (fill_nulls k vs ++ v ∷ []) a st' (record { within = each_append (ValueWithin 1) (fill_nulls k vs) (v ∷ []) (filled_within k 1 vs g) (gv, tt); count = joined_length entry.parameters vs v (some refl) }) h')
 
   begun_ok : (b : Bool) (main : ℕ) (entry : Procedure) → slice_get P.procs main ≡ Some entry → main < length P.procs → (v : Value) (m : Linked) (st : Store Parked) → ValueWithin 1 v → Starts m st → Good (begun_if M b main entry (v ∷ []) m st)
   begun_ok false main entry e l v m st g h = tt
@@ -121,7 +121,7 @@ module _ (P : Program) (sh : ℕ → ℕ → Option PlainShape) (given : Shaped 
   start_ok words m st (Some main) e h =
       let l = tables_ok.main main e in
       let o = stands P.procs main l in
-      ok_found P sh given keep (slice_get P.procs main) (λ (entry : Procedure). made M (words_row words (here M m st)) m st (λ list m st. begun_if M (nat_le 1 st.world.heap.bounds.levels) main entry (list ∷ []) m st)) o.0 o.1
+      ok_found P sh given keep (slice_get P.procs main) (λ (entry : Procedure). with_made M (words_row words (here M m st)) m st (λ list m st. begun_if M (nat_le 1 st.world.heap.bounds.levels) main entry (list ∷ []) m st)) o.0 o.1
       (made_starts (words_row words (here M m st)) m st (λ list m st. begun_if M (nat_le 1 st.world.heap.bounds.levels) main o.0 (list ∷ []) m st) (rows_keep.words_made words (here M m st)) (keep.worded 1 words (here M m st) (here_starts m st h)) h
       (λ v a st' g h'. begun_ok (nat_le 1 st'.world.heap.bounds.levels) main o.0 o.1 l v a st' g h'))
 

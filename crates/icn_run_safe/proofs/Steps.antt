@@ -17,7 +17,7 @@ use Rattle.icn_run.specs.Calls as Cs
 use Rattle.icn_run.specs.Chains as C
 use Rattle.icn_run.specs.Chains.{Chain, Linked, Parked, linked, with_chain, outer_of}
 use Rattle.icn_run.specs.LinkedStep.{repeats_anywhere}
-use Rattle.icn_run.specs.Step.{Program, Store, State, running, failing, with_found, parted, turn_if, turn, here, with_world, with_at, valued, made, with_value, with_values, pushed, outcome, list_made, with_pair, scans_left, with_popped, with_taken, unmarked, filled, collected, with_parameters, entered, called_if, called, constructed, argument_at, chosen, pushed_or_fails, integer_called, Callee, IsProc, IsRecord, IsFunc, IsNothing, func_callee, record_among, callee_among, callee_of, callee_called, invoked, invoked_with, plain, elements_called, applied_to_elements, field_place, field_taken, field_of}
+use Rattle.icn_run.specs.Step.{Program, Store, State, running, failing, with_found, on_pair, turn_if, turn, here, with_world, with_at, with_given, with_made, with_value, with_values, push_item, outcome, list_made, with_pair, scans_left, with_popped, with_taken, unmark_then, fill_nulls, collect_rest, with_parameters, enter_procedure, called_if, call_procedure, construct_record, argument_at, choose_item, pushed_or_fails, integer_called, Callee, IsProc, IsRecord, IsFunc, IsNothing, func_callee, record_among, callee_among, callee_of, callee_called, invoke_value, invoked_with, plain, elements_called, applied_to_elements, field_place, field_taken, field_of}
 use Rattle.icn_defs.specs.Numbers.{func_of}
 use Rattle.icn_run_laws.proofs.RowsKeep.{rows_keep}
 use Rattle.icn_run_safe.specs.Within.{Each, ValueWithin, ItemWithin, ListWithin, RecordWithin, WorldWithin, SettingWithin, OutcomeWithin, RowsStayWithin}
@@ -63,15 +63,15 @@ taken_length zero xs l = refl
 taken_length (suc n) [] l = absurd (omega (arith, l))
 taken_length (suc n) (x ∷ xs) l = ap suc (taken_length n xs (omega (arith, l)))
 
-pub filled_length : (n : ℕ) (vs : List Value) → length (filled n vs) ≡ n
+pub filled_length : (n : ℕ) (vs : List Value) → length (fill_nulls n vs) ≡ n
 filled_length n vs = taken_length n (vs ++ replicate n Null) (omega (arith, length-append vs (replicate n Null), replicate_length n Null))
 
-pub filled_within : (k n : ℕ) (vs : List Value) → Each (ValueWithin n) vs → Each (ValueWithin n) (filled k vs)
+pub filled_within : (k n : ℕ) (vs : List Value) → Each (ValueWithin n) vs → Each (ValueWithin n) (fill_nulls k vs)
 filled_within k n vs h = each_take (ValueWithin n) k (vs ++ replicate k Null) (each_append (ValueWithin n) vs (replicate k Null) h (each_replicate (ValueWithin n) k Null tt))
 
 -- all but the last, and a list of those behind
-pub joined_length : (n : ℕ) (vs : List Value) (v : Value) → 0 < n → length (filled (n - 1) vs ++ v ∷ []) ≡ n
-joined_length n vs v l = omega (arith, length-append (filled (n - 1) vs) (v ∷ []), filled_length (n - 1) vs, l)
+pub joined_length : (n : ℕ) (vs : List Value) (v : Value) → 0 < n → length (fill_nulls (n - 1) vs ++ v ∷ []) ≡ n
+joined_length n vs v l = omega (arith, length-append (fill_nulls (n - 1) vs) (v ∷ []), filled_length (n - 1) vs, l)
 
 items_at : (n : ℕ) (xs : List (Numbered Value)) (k : ℕ) → Each (ListWithin n) xs → Each (ValueWithin n) (unwrap_or (slice_get xs k) (new_list [])).items
 items_at n [] k h = tt
@@ -128,7 +128,7 @@ module _ (P : Program) (sh : ℕ → ℕ → Option PlainShape) (given : Shaped 
   pub ok_runs : (w : Known) (p : ℕ) (S : PlainShape) (m : Linked) (st : Store Parked) → Ready w p S m st → sh p m.place ≡ Some S → Ok (running m st)
   ok_runs w p S m st h e = (w, p, S, h.now, e, h.store)
 
-  pub ok_push : (item : Item) (w : Known) (p : ℕ) (S : PlainShape) (m : Linked) (st : Store Parked) → Ready w p S m st → ItemWithin w.coexps item → sh p m.place ≡ Some (with_more 1 S) → Ok (pushed M item m st)
+  pub ok_push : (item : Item) (w : Known) (p : ℕ) (S : PlainShape) (m : Linked) (st : Store Parked) → Ready w p S m st → ItemWithin w.coexps item → sh p m.place ≡ Some (with_more 1 S) → Ok (push_item M item m st)
   ok_push item w p S m st h g e = (w, p, with_more 1 S, push_ok P sh item w st.active p S m h.now g, e, h.store)
 
   pub ready_world : (w : Known) (p : ℕ) (S : PlainShape) (m : Linked) (st : Store Parked) (world : World) → Ready w p S m st → WorldWithin w.coexps world → Ready w p S m (with_world world st)
@@ -139,7 +139,7 @@ module _ (P : Program) (sh : ℕ → ℕ → Option PlainShape) (given : Shaped 
 
   -- Rows
 
-  valued_ok : (n : ℕ) (o : Outcome) (w : Known) (p : ℕ) (S : PlainShape) (m : Linked) (st : Store Parked) (next : Value → St) → Ready w p S m st → OutcomeWithin n o → ((v : Value) → ValueWithin n v → Ok (next v)) → Ok (valued o m st next)
+  valued_ok : (n : ℕ) (o : Outcome) (w : Known) (p : ℕ) (S : PlainShape) (m : Linked) (st : Store Parked) (next : Value → St) → Ready w p S m st → OutcomeWithin n o → ((v : Value) → ValueWithin n v → Ok (next v)) → Ok (with_given o m st next)
   valued_ok n (Gives (Val v) seen) w p S m st next h g f = f v g.0
   valued_ok n (Gives (Var v) seen) w p S m st next h g f = ok_fails w p S m st h
   valued_ok n (Error k v seen) w p S m st next h g f = tt
@@ -174,7 +174,7 @@ module _ (P : Program) (sh : ℕ → ℕ → Option PlainShape) (given : Shaped 
 
   -- what a row makes, after which the same shape stands
   pub ok_made : (o : Outcome) (w : Known) (p : ℕ) (S : PlainShape) (m : Linked) (st : Store Parked) (next : Value → Linked → Store Parked → St) → Ready w p S m st → OutcomeWithin w.coexps o → KeepsIn (here M m st) o
-      → ((v : Value) (a : Linked) (st' : Store Parked) → ValueWithin w.coexps v → Ready w p S a st' → a.place ≡ m.place → Ok (next v a st')) → Ok (made M o m st next)
+      → ((v : Value) (a : Linked) (st' : Store Parked) → ValueWithin w.coexps v → Ready w p S a st' → a.place ≡ m.place → Ok (next v a st')) → Ok (with_made M o m st next)
   ok_made (Gives (Val v) seen) w p S m st next h g k f = f v (C.set_locals seen.locals m) (with_at seen st) g.0 (ready_seen w p S m st seen h g.1 k) refl
   ok_made (Gives (Var v) seen) w p S m st next h g k f = ok_fails w p S m st h
   ok_made (Error j v seen) w p S m st next h g k f = tt
@@ -205,14 +205,14 @@ module _ (P : Program) (sh : ℕ → ℕ → Option PlainShape) (given : Shaped 
     pub count : length values ≡ entry.parameters
 
   collected_ok : (b : Bool) (entry : Procedure) → (b ≡ true → 0 < entry.parameters) → (vs : List Value) (w : Known) (p : ℕ) (S : PlainShape) (m : Linked) (st : Store Parked) (next : List Value → Linked → Store Parked → St) → Ready w p S m st → Each (ValueWithin w.coexps) vs
-      → ((ps : List Value) (a : Linked) (st' : Store Parked) → Parameters w entry ps → Ready w p S a st' → a.place ≡ m.place → Ok (next ps a st')) → Ok (collected M b entry.parameters vs m st next)
+      → ((ps : List Value) (a : Linked) (st' : Store Parked) → Parameters w entry ps → Ready w p S a st' → a.place ≡ m.place → Ok (next ps a st')) → Ok (collect_rest M b entry.parameters vs m st next)
   collected_ok false entry some vs w p S m st next h g f =
-      f (filled entry.parameters vs) m st (record { within = filled_within entry.parameters w.coexps vs g; count = filled_length entry.parameters vs }) h refl
+      f (fill_nulls entry.parameters vs) m st (record { within = filled_within entry.parameters w.coexps vs g; count = filled_length entry.parameters vs }) h refl
   collected_ok true entry some vs w p S m st next h g f =
       let k = entry.parameters - 1 in
-      ok_list (drop k vs) w p S m st (λ rest m st. next (filled k vs ++ rest ∷ []) m st) h (each_drop (ValueWithin w.coexps) k vs g) (λ rest a st' gr h' e.
-      f (filled k vs ++ rest ∷ []) a st' (record {
-        within = each_append (ValueWithin w.coexps) (filled k vs) (rest ∷ []) (filled_within k w.coexps vs g) (gr, tt);
+      ok_list (drop k vs) w p S m st (λ rest m st. next (fill_nulls k vs ++ rest ∷ []) m st) h (each_drop (ValueWithin w.coexps) k vs g) (λ rest a st' gr h' e.
+      f (fill_nulls k vs ++ rest ∷ []) a st' (record {
+        within = each_append (ValueWithin w.coexps) (fill_nulls k vs) (rest ∷ []) (filled_within k w.coexps vs g) (gr, tt);
         count = joined_length entry.parameters vs rest (some refl);
       }) h' e)
 
@@ -236,20 +236,20 @@ module _ (P : Program) (sh : ℕ → ℕ → Option PlainShape) (given : Shaped 
   called_ok : (b : Bool) (n : ℕ) (entry : Procedure) → slice_get P.procs n ≡ Some entry → (vs : List Value) (w : Known) (p : ℕ) (S : PlainShape) (m : Linked) (st : Store Parked) → Ready w p S m st → Each (ValueWithin w.coexps) vs → sh p m.place ≡ Some (with_more 1 S)
       → Ok (called_if M b n entry vs m st)
   called_ok false n entry e vs w p S m st h g o = tt
-  called_ok true n entry e vs w p S m st h g o = ok_parameters n entry e vs w p S m st (λ parameters m st. entered M n entry parameters m st) h g (λ ps a st' gp h' q.
+  called_ok true n entry e vs w p S m st h g o = ok_parameters n entry e vs w p S m st (λ parameters m st. enter_procedure M n entry parameters m st) h g (λ ps a st' gp h' q.
       ok_runs (with_activation w n) n (start_shape false) (C.enter n (ps ++ replicate entry.locals Null) a) st'
       (ready_enter n (ps ++ replicate entry.locals Null) w p S a st' h' (parameters_locals n entry e w ps gp) (ap (sh p) q ∙ o)) (given.starts n (within P.procs n entry e)))
 
-  constructed_ok : (kind : ℕ) (entry : RecordType) (vs : List Value) (w : Known) (p : ℕ) (S : PlainShape) (m : Linked) (st : Store Parked) → Ready w p S m st → Each (ValueWithin w.coexps) vs → sh p m.place ≡ Some (with_more 1 S) → Ok (constructed M kind entry vs m st)
+  constructed_ok : (kind : ℕ) (entry : RecordType) (vs : List Value) (w : Known) (p : ℕ) (S : PlainShape) (m : Linked) (st : Store Parked) → Ready w p S m st → Each (ValueWithin w.coexps) vs → sh p m.place ≡ Some (with_more 1 S) → Ok (construct_record M kind entry vs m st)
   constructed_ok kind entry vs w p S m st h g e =
-      let fields = filled (length entry.fields) vs in
-      ok_made (record_row kind fields (here M m st)) w p S m st (λ value m st. pushed M (Val value) m st) h
+      let fields = fill_nulls (length entry.fields) vs in
+      ok_made (record_row kind fields (here M m st)) w p S m st (λ value m st. push_item M (Val value) m st) h
       (keep.recorded w.coexps kind fields (here M m st) (here_within w p S m st h) (filled_within (length entry.fields) w.coexps vs g)) (rows_keep.recorded kind fields (here M m st))
       (λ v a st' gv h' q. ok_push (Val v) w p S a st' h' gv (ap (sh p) q ∙ e))
 
   callee_ok : (c : Callee) (n : ℕ) → CalleeIn P.procs n c → (items : List Item) (w : Known) (p : ℕ) (S : PlainShape) (m : Linked) (st : Store Parked) → Ready w p S m st → Each (ItemWithin w.coexps) items → sh p m.place ≡ Some (with_more 1 S) → Ok (callee_called M c n items m st)
-  callee_ok (IsProc entry) n i items w p S m st h g e = ok_values items w p S m st (λ arguments. called M n entry arguments m st) h g (λ vs gv. called_ok (nat_le (suc (M.level m)) st.world.heap.bounds.levels) n entry i vs w p S m st h gv e)
-  callee_ok (IsRecord kind entry) n i items w p S m st h g e = ok_values items w p S m st (λ arguments. constructed M kind entry arguments m st) h g (λ vs gv. constructed_ok kind entry vs w p S m st h gv e)
+  callee_ok (IsProc entry) n i items w p S m st h g e = ok_values items w p S m st (λ arguments. call_procedure M n entry arguments m st) h g (λ vs gv. called_ok (nat_le (suc (M.level m)) st.world.heap.bounds.levels) n entry i vs w p S m st h gv e)
+  callee_ok (IsRecord kind entry) n i items w p S m st h g e = ok_values items w p S m st (λ arguments. construct_record M kind entry arguments m st) h g (λ vs gv. constructed_ok kind entry vs w p S m st h gv e)
   callee_ok (IsFunc func) n i items w p S m st h g e = ok_outcome (apply st.names (Function func) items (here M m st)) w p S m st h (keep.applied w.coexps st.names (Function func) items (here M m st) (here_within w p S m st h) g) (rows_keep.applied st.names (Function func) items (here M m st)) e
   callee_ok IsNothing n i items w p S m st h g e = tt
 
@@ -258,10 +258,10 @@ module _ (P : Program) (sh : ℕ → ℕ → Option PlainShape) (given : Shaped 
   ok_one None w p S m st h g e = ok_fails w p S m st h
 
   integer_ok : (callee : Value) (o : Option ℤ) (items : List Item) (w : Known) (p : ℕ) (S : PlainShape) (m : Linked) (st : Store Parked) → Ready w p S m st → Each (ItemWithin w.coexps) items → sh p m.place ≡ Some (with_more 1 S) → Ok (integer_called M callee o items m st)
-  integer_ok callee (Some n) items w p S m st h g e = ok_one (chosen n items) w p S m st h (argument_within w.coexps (place_of n (length items)) items g) e
+  integer_ok callee (Some n) items w p S m st h g e = ok_one (choose_item n items) w p S m st h (argument_within w.coexps (place_of n (length items)) items g) e
   integer_ok callee None items w p S m st h g e = tt
 
-  pub ok_invoked : (callee : Value) (items : List Item) (w : Known) (p : ℕ) (S : PlainShape) (m : Linked) (st : Store Parked) → Ready w p S m st → Each (ItemWithin w.coexps) items → sh p m.place ≡ Some (with_more 1 S) → Ok (invoked M P callee items m st)
+  pub ok_invoked : (callee : Value) (items : List Item) (w : Known) (p : ℕ) (S : PlainShape) (m : Linked) (st : Store Parked) → Ready w p S m st → Each (ItemWithin w.coexps) items → sh p m.place ≡ Some (with_more 1 S) → Ok (invoke_value M P callee items m st)
   ok_invoked (ProcedureValue n) items w p S m st h g e = callee_ok (callee_of P n) n (callee_in P.procs P.records n) items w p S m st h g e
   ok_invoked Null items w p S m st h g e = tt
   ok_invoked (Integer x) items w p S m st h g e = integer_ok (Integer x) (number_of (Integer x)) items w p S m st h g e
@@ -300,7 +300,7 @@ module _ (P : Program) (sh : ℕ → ℕ → Option PlainShape) (given : Shaped 
 
   pub ok_invoked_with : (items : List Item) (k : ℕ) (w : Known) (p : ℕ) (S : PlainShape) (m : Linked) (st : Store Parked) → Ready w p S m st → length items ≡ suc k → Each (ItemWithin w.coexps) items → sh p m.place ≡ Some (with_more 1 S) → Ok (invoked_with M P items m st)
   ok_invoked_with [] k w p S m st h l g e = absurd (omega (arith, l))
-  ok_invoked_with (callee ∷ items) k w p S m st h l g e = ok_value callee w p S m st (λ value. invoked M P value items m st) h g.0 (λ v z. ok_invoked v items w p S m st h g.1 e)
+  ok_invoked_with (callee ∷ items) k w p S m st h l g e = ok_value callee w p S m st (λ value. invoke_value M P value items m st) h g.0 (λ v z. ok_invoked v items w p S m st h g.1 e)
 
   field_ok : (n : ℕ) (o : Option ℕ) (w : Known) (p : ℕ) (S : PlainShape) (m : Linked) (st : Store Parked) → Ready w p S m st → sh p m.place ≡ Some (with_more 1 S) → Ok (field_taken M o n m st)
   field_ok n None w p S m st h e = tt
@@ -327,12 +327,12 @@ module _ (P : Program) (sh : ℕ → ℕ → Option PlainShape) (given : Shaped 
   pub ok_popped : (w : Known) (p : ℕ) (S : PlainShape) (m : Linked) (st : Store Parked) (next : Item → Linked → St) → Ready w p S m st → 0 < S.inner.operands
       → ((item : Item) (c : Chain) → ItemWithin w.coexps item → Ready w p (with_fewer 1 S) (with_chain c m) st → Ok (next item (with_chain c m))) → Ok (with_popped M m next)
   ok_popped w p S m st next h l f = let o = pop_ok P sh w st.active p S m h.now l in
-      ok_found (C.pop m) (parted next) (o.0, with_chain o.1 m) o.2 (f o.0 o.1 o.3 (ready_at w p S m st (with_fewer 1 S) (with_chain o.1 m) h o.4))
+      ok_found (C.pop m) (on_pair next) (o.0, with_chain o.1 m) o.2 (f o.0 o.1 o.3 (ready_at w p S m st (with_fewer 1 S) (with_chain o.1 m) h o.4))
 
   pub ok_taken : (n : ℕ) (w : Known) (p : ℕ) (S : PlainShape) (m : Linked) (st : Store Parked) (next : List Item → Linked → St) → Ready w p S m st → n ≤ S.inner.operands
       → ((items : List Item) (c : Chain) → length items ≡ n → Each (ItemWithin w.coexps) items → Ready w p (with_fewer n S) (with_chain c m) st → Ok (next items (with_chain c m))) → Ok (with_taken M n m next)
   ok_taken n w p S m st next h l f = let o = take_ok P sh n w st.active p S m h.now l in
-      ok_found (C.take_items n m) (parted next) (o.0, with_chain o.1 m) o.2 (f o.0 o.1 o.3 o.4 (ready_at w p S m st (with_fewer n S) (with_chain o.1 m) h o.5))
+      ok_found (C.take_items n m) (on_pair next) (o.0, with_chain o.1 m) o.2 (f o.0 o.1 o.3 o.4 (ready_at w p S m st (with_fewer n S) (with_chain o.1 m) h o.5))
 
   pub ready_pair : (w : Known) (p : ℕ) (S : PlainShape) (m : Linked) (st : Store Parked) (pair : Pair) → Ready w p S m st → Ready w p S m (with_pair pair st)
   ready_pair w p S m st pair h = ready_world w p S m st (record st.world { subject = pair.subject; position = pair.position }) h (record { heap = h.store.world.heap; globals = h.store.world.globals; statics = h.store.world.statics })
@@ -342,8 +342,8 @@ module _ (P : Program) (sh : ℕ → ℕ → Option PlainShape) (given : Shaped 
   left_ok w p S m st (Some pair) next h f = f (with_pair pair st) (ready_pair w p S m st pair h)
 
   pub ok_unmarked : (w : Known) (p : ℕ) (S : PlainShape) (m : Linked) (st : Store Parked) (next : Linked → Store Parked → St) → Ready w p S m st → is_some (slice_get S.outer 0) ≡ true
-      → ((c : Chain) (S' : PlainShape) (st' : Store Parked) → before_mark S ≡ Some S' → Ready w p S' (with_chain c m) st' → Ok (next (with_chain c m) st')) → Ok (unmarked M m st next)
+      → ((c : Chain) (S' : PlainShape) (st' : Store Parked) → before_mark S ≡ Some S' → Ready w p S' (with_chain c m) st' → Ok (next (with_chain c m) st')) → Ok (unmark_then M m st next)
   ok_unmarked w p S m st next h l f = let o = outside_ok P sh w st.active p S m h.now l in
       let pair : Option Pair = C.pair_at m (C.oldest (C.first_scan (C.scans_of o.chain)) (C.scans_of m.chain)) in
-      ok_found (C.unmark m) (parted (λ outside pair. next outside (scans_left pair st))) (with_chain o.chain m, pair) o.unmark
+      ok_found (C.unmark m) (on_pair (λ outside pair. next outside (scans_left pair st))) (with_chain o.chain m, pair) o.unmark
       (left_ok w p o.shape (with_chain o.chain m) st pair (next (with_chain o.chain m)) (ready_at w p S m st o.shape (with_chain o.chain m) h (record { has = o.has; memory = h.now.memory })) (λ st' r. f o.chain o.shape st' o.before r))

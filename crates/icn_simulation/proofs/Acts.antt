@@ -113,7 +113,7 @@ module _ (G : Ground) where
       (if b then S.stuck else S.proc_fails (machine G) (linked_of m (suc p) st) (store_of st ls)))
       (sym (d.no_body st.active live.0))
       (subst (λ y. Reach G (MA.off v st)
-      (S.returned (leave_frame (linked_of m (suc p) st) (frame_of o)) S.failing y))
+      (S.return_to (leave_frame (linked_of m (suc p) st) (frame_of o)) S.failing y))
       (sym (all_by (oldest z) m (suc p) st ls)) (d.gone m (suc p) st ls live)))
 
   pub on_off : {first : Bool} {n : Nest} {v : Surroundings} {xs : List Item} {s : Suspensions} {z : List ℕ}
@@ -224,7 +224,7 @@ module _ (G : Ground) where
         goes G w u1 (on_break _ (away os st) ls (good_to u1 good) live ej u v e g))
     on_break_at {e = te} {xs = xs} {s = s} {o = o} os w p st ls good live ej (b_scan u)
         (v_scan {v = v'} {i = i} {z = z} v) e g =
-        subst (λ l. Goes G w (MA.break te v' (MS.restored i st)) (run (chain xs s l o) p st ls))
+        subst (λ l. Goes G w (MA.break te v' (MS.restore_pair i st)) (run (chain xs s l o) p st ls))
         (append_assoc os (i ∷ []) z)
         (subst (λ y. Goes G w (MA.break te v' y) (run (chain xs s ((os ++ i ∷ []) ++ z) o) p st ls))
         (away_snoc os i st) (on_break_at (os ++ i ∷ []) w p st ls
@@ -270,7 +270,7 @@ module _ (G : Ground) where
         goes G w u1 (on_next _ (away os st) ls (good_to u1 good) live ej u v g))
     on_next_at {xs = xs} {s = s} {o = o} os w p st ls good live ej (n_scan u)
         (v_scan {v = v'} {i = i} {z = z} v) g =
-        subst (λ l. Goes G w (MA.next v' (MS.restored i st)) (run (chain xs s l o) p st ls))
+        subst (λ l. Goes G w (MA.next v' (MS.restore_pair i st)) (run (chain xs s l o) p st ls))
         (append_assoc os (i ∷ []) z)
         (subst (λ y. Goes G w (MA.next v' y) (run (chain xs s ((os ++ i ∷ []) ++ z) o) p st ls))
         (away_snoc os i st) (on_next_at (os ++ i ∷ []) w p st ls

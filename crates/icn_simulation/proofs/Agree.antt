@@ -25,7 +25,7 @@ use Rattle.icn_simulation.specs.Ground.{Ground, code_of, machine, OfCallee, o_ro
 use Rattle.icn_simulation.specs.Begins.{OfMain, no_main, a_main, Begins}
 use Rattle.icn_simulation.proofs.Basics.{LState, Misses, Reach, Live, run, then_reach, on_made, errored}
 use Rattle.icn_simulation.proofs.Acts.{on_rest}
-use Rattle.icn_simulation.proofs.Applied.{inits, fitted_filled}
+use Rattle.icn_simulation.proofs.Application.{inits, fitted_filled}
 use Rattle.icn_run_laws.proofs.Shadowed.{shadowed_start}
 use Rattle.icn_run_laws.specs.SecondLaw.{MissingCell}
 use Rattle.icn_simulation.proofs.Runs.{good_steps, after, shift, forward, backward, was_over, reach_misses}
@@ -100,7 +100,7 @@ module _ (G : Ground) where
       → length routine.locals - routine.parameters ≡ entry.locals
       → StandsRoutine G.L n routine.initial routine.body →
       Reach G (MC.collect b n routine vs 1 zero Nothing NoChoice st)
-      (S.collected (machine G) b routine.parameters vs (linked_of (chain [] none [] (base 0 0)) 0 st)
+      (S.collect_rest (machine G) b routine.parameters vs (linked_of (chain [] none [] (base 0 0)) 0 st)
       (store_of st ls) (begins_at n entry))
   main_collect false n routine entry vs st ls live el stands =
       main_enter n routine entry _ _ st ls live (fitted_filled routine.parameters vs) el stands
@@ -118,10 +118,10 @@ module _ (G : Ground) where
   main_call false n routine entry vs st ls live c = errored G NoChoice 301 None st ls
   main_call true n routine entry vs st ls live (o_routine ep ec el stands) =
       subst (λ b. Reach G (MC.collect routine.collects n routine vs 1 zero Nothing NoChoice st)
-      (S.collected (machine G) b entry.parameters vs (linked_of (chain [] none [] (base 0 0)) 0 st)
+      (S.collect_rest (machine G) b entry.parameters vs (linked_of (chain [] none [] (base 0 0)) 0 st)
       (store_of st ls) (begins_at n entry))) ec
       (subst (λ w. Reach G (MC.collect routine.collects n routine vs 1 zero Nothing NoChoice st)
-      (S.collected (machine G) routine.collects w vs (linked_of (chain [] none [] (base 0 0)) 0 st)
+      (S.collect_rest (machine G) routine.collects w vs (linked_of (chain [] none [] (base 0 0)) 0 st)
       (store_of st ls) (begins_at n entry))) ep
       (main_collect routine.collects n routine entry vs st ls live el stands))
 
@@ -137,7 +137,7 @@ module _ (G : Ground) where
       (store_of st ls) (Some n))) (sym er)
       (subst (λ x. Reach G (MM.main_called n routine words st)
       (S.with_found x (λ (entry : Procedure).
-      S.made (machine G) (words_row words
+      S.with_made (machine G) (words_row words
       (S.here (machine G) (linked_of (chain [] none [] (base 0 0)) 0 st) (store_of st ls)))
       (linked_of (chain [] none [] (base 0 0)) 0 st) (store_of st ls)
       (λ list m st. S.begun_if (machine G) (nat_le 1 st.world.heap.bounds.levels) n entry (list ∷ []) m

@@ -14,7 +14,7 @@ use Rattle.icn_defs.specs.StepRows.{value_row}
 use Rattle.icn_meaning.specs.Contexts as M
 use Rattle.icn_meaning.specs.Contexts.{Works, Nothing, ◌and_then◌, Choices, NoChoice, ◌or_else◌, Surroundings}
 use Rattle.icn_meaning.specs.Turns as MT
-use Rattle.icn_run.specs.Chains.{outer_of, proc_of, frame_of, fixed, flagged, Chain, chain, Suspensions, none, Outer, mark, Parked, Linked, opened}
+use Rattle.icn_run.specs.Chains.{outer_of, proc_of, frame_of, fixed, flagged, Chain, chain, Suspensions, none, Outer, mark, Parked, Linked, push_mark}
 use Rattle.icn_run.specs.Step as S
 use Rattle.icn_run_laws.specs.SameStates.{IsLacking, Opens as IsMark}
 use Rattle.icn_run_laws.proofs.Lists.{some_inj}
@@ -156,13 +156,13 @@ module _ (G : Ground) where
   -- a mark is opened
   open_if : (b : Bool) (label : Option ℕ) (m : Chain) (p : ℕ) (st : M.Store) (ls : List (S.Coexp Parked))
       → b ≡ false → ran (if b then record
-      (opened (flagged label (length st.flags) p) (linked_of m (suc p) st))
-      { flags = st.flags ++ false ∷ [] } else opened (fixed label) (linked_of m (suc p) st))
-      (store_of st ls) ≡ ran (opened (fixed label) (linked_of m (suc p) st)) (store_of st ls)
+      (push_mark (flagged label (length st.flags) p) (linked_of m (suc p) st))
+      { flags = st.flags ++ false ∷ [] } else push_mark (fixed label) (linked_of m (suc p) st))
+      (store_of st ls) ≡ ran (push_mark (fixed label) (linked_of m (suc p) st)) (store_of st ls)
   open_if b label m p st ls e = ap
       (λ (b : Bool). ran (if b then record
-      (opened (flagged label (length st.flags) p) (linked_of m (suc p) st))
-      { flags = st.flags ++ false ∷ [] } else opened (fixed label) (linked_of m (suc p) st))
+      (push_mark (flagged label (length st.flags) p) (linked_of m (suc p) st))
+      { flags = st.flags ++ false ∷ [] } else push_mark (fixed label) (linked_of m (suc p) st))
       (store_of st ls)) e
 
   pub opens : {xs : List Item} {s : Suspensions} {z : List ℕ} {o : Outer} {label : Option ℕ} (p : ℕ)
@@ -191,8 +191,8 @@ module _ (G : Ground) where
       record {
         by = stepped p m st ls h
             ∙ ap (λ (b : Bool). ran (if b then record
-            (opened (flagged None (length st.flags) p) (linked_of m (suc p) st))
-            { flags = st.flags ++ false ∷ [] } else opened (fixed None) (linked_of m (suc p) st))
+            (push_mark (flagged None (length st.flags) p) (linked_of m (suc p) st))
+            { flags = st.flags ++ false ∷ [] } else push_mark (fixed None) (linked_of m (suc p) st))
             (store_of st ls)) e;
         whole = sets_none p m st ls h refl;
       }
@@ -204,17 +204,17 @@ module _ (G : Ground) where
       (chain (x ∷ xs) s z o) p st ls
   loaded p st ls e l_null = refl
   loaded {xs = xs} {s = s} {z = z} {o = o} p st ls e (l_integer h) =
-      ap (λ n. S.with_found n (λ n. S.pushed (machine G) (Val (Integer n)) (linked_of (chain xs s z o) p st)
+      ap (λ n. S.with_found n (λ n. S.push_item (machine G) (Val (Integer n)) (linked_of (chain xs s z o) p st)
       (store_of st ls))) h
   loaded {xs = xs} {s = s} {z = z} {o = o} p st ls e (l_string h) =
-      ap (λ n. S.with_found n (λ n. S.pushed (machine G) (Val (Text n)) (linked_of (chain xs s z o) p st)
+      ap (λ n. S.with_found n (λ n. S.push_item (machine G) (Val (Text n)) (linked_of (chain xs s z o) p st)
       (store_of st ls))) h
   loaded {xs = xs} {s = s} {z = z} {o = o} p st ls e (l_cset h) =
-      ap (λ n. S.with_found n (λ n. S.pushed (machine G) (Val (Chars (S.members_of n)))
+      ap (λ n. S.with_found n (λ n. S.push_item (machine G) (Val (Chars (S.members_of n)))
       (linked_of (chain xs s z o) p st) (store_of st ls))) h
   loaded p st ls e l_local = refl
   loaded {xs = xs} {s = s} {z = z} {o = o} p st ls e (l_static {k = k}) =
-      ap (λ j. S.pushed (machine G) (Var (Whole (Static (S.statics_before G.L.tables j + k))))
+      ap (λ j. S.push_item (machine G) (Var (Whole (Static (S.statics_before G.L.tables j + k))))
       (linked_of (chain xs s z o) p st) (store_of st ls)) (sym e)
   loaded p st ls e l_global = refl
 
@@ -276,7 +276,7 @@ module _ (G : Ground) where
       (xs : List Item) (out : Outcome) (st : M.Store) (ls : List (S.Coexp Parked)) (f : Value → M.State)
       (g : Value → LState) → Live G first st.active st.coexpressions ls → OfChoices G.L first r s z o
       → ((v : Value) → Reach G (f v) (g v))
-      → Reach G (MT.valued out r st f) (S.valued out (linked_of (chain xs s z o) p st) (store_of st ls) g)
+      → Reach G (MT.with_given out r st f) (S.with_given out (linked_of (chain xs s z o) p st) (store_of st ls) g)
   on_valued p xs (Fails seen) st ls f g a r h = stay (at_fail a.0 a.1 r)
   on_valued p xs (Gives (Val v) seen) st ls f g a r h = h v
   on_valued p xs (Gives (Var x) seen) st ls f g a r h = stay (at_fail a.0 a.1 r)
@@ -294,7 +294,7 @@ module _ (G : Ground) where
   on_value {r = r} {a = a} {s = s} {z = z} {o = o} p xs x st ls f g e live r' h =
       subst (λ a. Reach G (MT.value x a r st f)
       (S.with_value (machine G) x (linked_of (chain xs s z o) p st) (store_of st ls) g)) (sym e)
-      (on_valued p xs (value_row x (MT.within (activation_in o) st)) st ls f g live r' h)
+      (on_valued p xs (value_row x (MT.setting_in (activation_in o) st)) st ls f g live r' h)
 
   pub on_values : {first : Bool} {r : Choices} {a : ℕ} {s : Suspensions} {z : List ℕ} {o : Outer} (p : ℕ)
       (xs : List Item) (items : List Item) (st : M.Store) (ls : List (S.Coexp Parked))
@@ -318,8 +318,8 @@ module _ (G : Ground) where
       → Reach G (f v (MT.after (activation_in o) seen st))
       (g v (linked_of (chain xs s z o) p (MT.after (activation_in o) seen st))
       (store_of (MT.after (activation_in o) seen st) ls)))
-      → Reach G (MT.made out (activation_in o) r st f)
-      (S.made (machine G) out (linked_of (chain xs s z o) p st) (store_of st ls) g)
+      → Reach G (MT.with_made out (activation_in o) r st f)
+      (S.with_made (machine G) out (linked_of (chain xs s z o) p st) (store_of st ls) g)
   made_by p xs (Fails seen) st ls f g a r h = stay (at_fail a.0 a.1 r)
   made_by p xs (Gives (Val v) seen) st ls f g a r h = h v seen
   made_by p xs (Gives (Var x) seen) st ls f g a r h = stay (at_fail a.0 a.1 r)
@@ -335,14 +335,14 @@ module _ (G : Ground) where
       → ((v : Value) (seen : Setting)
       → Reach G (f v (MT.after a seen st))
       (g v (linked_of (chain xs s z o) p (MT.after a seen st)) (store_of (MT.after a seen st) ls)))
-      → Reach G (MT.made (row (MT.within a st)) a r st f)
-      (S.made (machine G) (row (S.here (machine G) (linked_of (chain xs s z o) p st) (store_of st ls)))
+      → Reach G (MT.with_made (row (MT.setting_in a st)) a r st f)
+      (S.with_made (machine G) (row (S.here (machine G) (linked_of (chain xs s z o) p st) (store_of st ls)))
       (linked_of (chain xs s z o) p st) (store_of st ls) g)
   on_made {r = r} {a = a} {s = s} {z = z} {o = o} p xs row st ls f g e live r' h =
       let P : ℕ → Type 0 = λ a. ((v : Value) (seen : Setting)
       → Reach G (f v (MT.after a seen st))
       (g v (linked_of (chain xs s z o) p (MT.after a seen st)) (store_of (MT.after a seen st) ls)))
-      → Reach G (MT.made (row (MT.within a st)) a r st f)
-      (S.made (machine G) (row (S.here (machine G) (linked_of (chain xs s z o) p st) (store_of st ls)))
+      → Reach G (MT.with_made (row (MT.setting_in a st)) a r st f)
+      (S.with_made (machine G) (row (S.here (machine G) (linked_of (chain xs s z o) p st) (store_of st ls)))
       (linked_of (chain xs s z o) p st) (store_of st ls) g) in
-      subst P (sym e) (λ h. made_by p xs (row (MT.within (activation_in o) st)) st ls f g live r' h) h
+      subst P (sym e) (λ h. made_by p xs (row (MT.setting_in (activation_in o) st)) st ls f g live r' h) h

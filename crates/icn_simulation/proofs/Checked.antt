@@ -19,10 +19,10 @@ use Rattle.icn_parse.specs.Outcomes.{first_unknown, initial_keywords, all_keywor
 use Rattle.icn_decls.specs.Contexts.{outermost, Fault as ContextFault}
 use Rattle.icn_decls.specs.Faults.{initial_faults, all_faults, all_repeated, fault_if_met, too_many, declared_names, procedure_faults, declaration_faults, declarations_faults, names_after, context_faults}
 use Rattle.icn_tree.specs.NameSets.{NameTest, none_met}
-use Rattle.icn_meaning.specs.Program.{joined, procedures_of}
+use Rattle.icn_meaning.specs.Program.{joined_declarations, procedures_of}
 use Rattle.icn_decls.specs.Spelled.{IsSpelled}
 use Rattle.icn_simulation.specs.Faultless.{IsFaultless}
-use Rattle.icn_simulation.proofs.Formed.{FormedInitial, FormedAll, initial_prop, all_prop, are_formed, Keeps, keeps_nothing, keeps_sign_at, keeps_sign, keeps_then, keeps_map, keeps_part, formed}
+use Rattle.icn_simulation.proofs.TreeForms.{FormedInitial, FormedAll, initial_prop, all_prop, are_formed, Keeps, keeps_nothing, keeps_sign_at, keeps_sign, keeps_then, keeps_map, keeps_part, formed}
 use Rattle.icn_simulation.proofs.Fitting.{none_before, none_behind}
 
 -- what the rules say of a procedure's `initial` and body
@@ -218,7 +218,7 @@ each_append P (Record place name fields ∷ others) files h g = each_append P ot
 each_append P (ProcedureOf p ∷ others) files h g = (h.0, each_append P others files h.1 g)
 
 pub sound_files : (files : List (List Declaration)) → All IsFaultless files
-    → Each IsSoundProcedure (procedures_of (joined files))
+    → Each IsSoundProcedure (procedures_of (joined_declarations files))
 sound_files [] h = tt
-sound_files (file ∷ files) h = each_append IsSoundProcedure file (joined files)
+sound_files (file ∷ files) h = each_append IsSoundProcedure file (joined_declarations files)
     (sound_faultless file (h 0 file (omega arith))) (sound_files files (λ k d l. h (suc k) d (omega arith)))

@@ -24,7 +24,7 @@ use Rattle.icn_simulation.proofs.Works.{exchanged_of, on_exchanged}
 use Rattle.icn_simulation.proofs.Coexps.{on_failed}
 use Rattle.icn_simulation.proofs.Basics.{on_answer}
 use Rattle.icn_defs.specs.Applying.{again}
-use Rattle.icn_run.specs.Chains.{repeated}
+use Rattle.icn_run.specs.Chains.{repeat_mark}
 
 module _ (G : Ground) where
   on_exhaust : {first : Bool} {j a : ℕ} {xs : List Item} {s : Suspensions} {z : List ℕ} (p : ℕ)
@@ -35,19 +35,19 @@ module _ (G : Ground) where
       chain xs s z (base j a) in
       then_reach G (record {
         by = stepped G p m st ls h
-            ∙ ap (λ b. if (true && not b) then S.exhausted (machine G) (code_of G) (linked_of m (suc p) st)
+            ∙ ap (λ b. if (true && not b) then S.exhaust_active (machine G) (code_of G) (linked_of m (suc p) st)
             (store_of st ls) else S.stuck) (sym live.0 ∙ e);
         whole = sets_none G p m st ls h refl;
       })
       (on_turn G st ls _ _ (failed (record st { turns = suc st.turns }) live))
     where
       failed : (st : M.Store) → Live G first st.active st.coexpressions ls
-          → Reach G (MX.failed (MX.activator_of st.active st) (MX.with_status st.active M.Exhausted st))
+          → Reach G (MX.fail_coexp (MX.activator_of st.active st) (MX.with_status st.active M.Exhausted st))
           (S.passed_failure (machine G) (S.activator_of st.active (store_of st ls))
           (linked_of (chain xs s z (base j a)) (suc p) st)
           (S.with_status st.active S.Exhausted (store_of st ls)))
       failed st live = let ST = MX.with_status st.active M.Exhausted st in
-          subst (λ n. Reach G (MX.failed n ST)
+          subst (λ n. Reach G (MX.fail_coexp n ST)
           (S.passed_failure (machine G) (S.activator_of st.active (store_of st ls))
           (linked_of (chain xs s z (base j a)) (suc p) st)
           (S.with_status st.active S.Exhausted (store_of st ls))))
@@ -64,7 +64,7 @@ module _ (G : Ground) where
       Reach G (MF.again_if b e v f k r st)
       (S.mark_dropped (machine G) (code_of G)
       (linked_of (chain ys none z' (mark (flagged None f p) (chain xs s z o))) p' st) (store_of st ls)
-      (repeated None f p (chain xs s z o)
+      (repeat_mark None f p (chain xs s z o)
       (linked_of (chain ys none z' (mark (flagged None f p) (chain xs s z o))) p' st) b))
   on_again f ys z' false p p' st ls live e h1 h2 v k r = stay G (at_fail live.0 live.1 r)
   on_again {xs = xs} {s = s} {z = z} {o = o} f ys z' true p p' st ls live e h1 h2 v k r =
@@ -90,7 +90,7 @@ module _ (G : Ground) where
   on_choices {xs = xs} p st ls live (r_end {j = j} {a = a} e) =
       goes G 0 (record {
         by = ap (λ b.
-            if (true && not b) then S.exhausted (machine G) (code_of G)
+            if (true && not b) then S.exhaust_active (machine G) (code_of G)
             (linked_of (chain xs none [] (base j a)) p st)
             (store_of st ls) else (if b then S.over M.Done st.outside else S.stuck)) (sym live.0 ∙ e);
         whole = λ x. x;
@@ -110,7 +110,7 @@ module _ (G : Ground) where
   on_choices p st ls live (r_resume {m = m} {o = o} k r) =
       goes G 0 (record { by = refl; whole = λ x. x })
       (on_turn G st ls _ _ (on_answer G
-      (again m (MT.within (activation_in o) (record st { turns = suc st.turns })))
+      (again m (MT.setting_in (activation_in o) (record st { turns = suc st.turns })))
       (record st { turns = suc st.turns }) ls live k r))
   on_choices p st ls live (r_restore r) = goes G 0 (record { by = refl; whole = λ x. x }) (stay G (at_fail live.0 live.1 r))
   on_choices p st ls live (r_reenter r) = goes G 0 (record { by = refl; whole = λ x. x }) (stay G (at_fail live.0 live.1 r))

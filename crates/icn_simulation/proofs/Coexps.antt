@@ -138,17 +138,17 @@ module _ (G : Ground) where
       (S.give_by (machine G) status' c v (linked_of m p st) (store_of st ls))
   on_entered_in c v m p st ls all (t_fresh e s) = let l = look all c in
       on_begins (length st.activations) (co_at st.coexpressions c).activator
-      (co_at st.coexpressions c).status m p (MX.activated c st) _ (sym e, status_all all c t_active) refl
+      (co_at st.coexpressions c).status m p (MX.make_active c st) _ (sym e, status_all all c t_active) refl
       l.procedure l.values s
   on_entered_in c v m p st ls all t_active = stay G at_lost
   on_entered_in c v m p st ls all (t_waiting k r) = stay G (at_succeed refl (status_all all c t_active) k r)
   on_entered_in c v m p st ls all (t_after h r) =
-      then_reach G (efails G _ (MX.activated c st) _ h) (stay G (at_fail refl (status_all all c t_active) r))
+      then_reach G (efails G _ (MX.make_active c st) _ h) (stay G (at_fail refl (status_all all c t_active) r))
   on_entered_in c v m p st ls all t_exhausted = stay G (at_hop refl all)
 
   pub on_entered : (c : ℕ) (v : Value) (m : Chain) (p : ℕ) (st : M.Store) (ls : List (S.Coexp Parked))
       → OfAll G.L st.coexpressions ls
-      → Reach G (MX.entered c v st) (S.passed_value (machine G) c v (linked_of m p st) (store_of st ls))
+      → Reach G (MX.enter_coexp c v st) (S.passed_value (machine G) c v (linked_of m p st) (store_of st ls))
   on_entered c v m p st ls all = on_entered_in c v m p st ls all (look all c).status
 
   on_failed_in : {status : M.Status} {status' : S.Status Parked} (c : ℕ) (m : Chain) (p : ℕ) (st : M.Store)
@@ -164,5 +164,5 @@ module _ (G : Ground) where
 
   pub on_failed : (c : ℕ) (m : Chain) (p : ℕ) (st : M.Store) (ls : List (S.Coexp Parked))
       → OfAll G.L st.coexpressions ls
-      → Reach G (MX.failed c st) (S.passed_failure (machine G) c (linked_of m p st) (store_of st ls))
+      → Reach G (MX.fail_coexp c st) (S.passed_failure (machine G) c (linked_of m p st) (store_of st ls))
   on_failed c m p st ls all = on_failed_in c m p st ls all (look all c).status

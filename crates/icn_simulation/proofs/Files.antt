@@ -4,7 +4,7 @@ use Rattle.icn_tree.specs.Trees.{Declaration}
 use Rattle.icn_code.specs.Codes.{Tables}
 use Rattle.icn_defs.specs.Running.{Launch, Observed, Ending}
 use Rattle.icn_defs.specs.Interruptions.{Streams}
-use Rattle.icn_meaning.specs.Program.{program_of, joined, procedures_of}
+use Rattle.icn_meaning.specs.Program.{program_of, joined_declarations, procedures_of}
 use Rattle.icn_meaning.specs.Meaning.{Means}
 use Rattle.icn_run.specs.LinkedStep as Linked
 use Rattle.icn_run.specs.LinkedStep.{repeats_of}
@@ -26,7 +26,7 @@ pub record AreSame (P Q : Launch → Observed → Type 0) : Type 0 where
 pub same_ends : (files : List (List Declaration)) (tables : Tables) → IsLinked files tables
     → AreSame (FilesMean files) (RunsLinked tables)
 same_ends files tables h =
-    let D = joined files in
+    let D = joined_declarations files in
     let sound : Each IsSoundProcedure (procedures_of D) = sound_files files h.faultless in
     let translated = is_translated D tables.csets h.code.csets sound in
     let starts = begins D tables.csets h.code.csets sound in
@@ -42,7 +42,7 @@ same_ends files tables h =
 pub none_missing : (files : List (List Declaration)) (tables : Tables) (launch : Launch) → IsLinked files tables
     → MissingCell (repeats_of tables) tables launch → ⊥
 none_missing files tables launch h =
-    let D = joined files in
+    let D = joined_declarations files in
     let sound : Each IsSoundProcedure (procedures_of D) = sound_files files h.faultless in
     let translated = is_translated D tables.csets h.code.csets sound in
     let starts = begins D tables.csets h.code.csets sound in

@@ -37,7 +37,7 @@ use Rattle.icn_simulation.specs.Mentions.{Mention, AnInteger, AText, ASet, AFiel
 use Rattle.icn_simulation.specs.Standing.{Nest, top, in_create, in_mark, in_scan, in_loop, in_control, in_each, Proper, w_top, w_mark, w_scan, w_loop, w_control, w_each, is_empty}
 use Rattle.icn_simulation.specs.Translatable.{outside, HasLoop, h_mark, h_scan, h_loop, h_control, h_each, HasNext, x_mark, x_scan, x_loop, x_each, is_prefix_sign, is_infix_sign, Fits, fits_empty, fits_constant, fits_identifier, fits_keyword, fits_fail_keyword, fits_last, fits_before, fits_final, fits_passed, fits_bounded, fits_listing, fits_call, fits_cocall, fits_subscript, fits_section, fits_field, fits_prefix, fits_activate, fits_repeated, fits_not, fits_both, fits_scan, fits_or, fits_limit, fits_infix, fits_at, fits_bang, fits_update_both, fits_update_scan, fits_update_at, fits_update, fits_to, fits_if, fits_if_else, fits_case, fits_while, fits_until, fits_every, fits_repeat, fits_create, fits_next, fits_fail, fits_break, fits_return, fits_suspend, FitsAll, fits_nil, fits_cons, FitsBodies, fits_no_body, fits_body, FitsMaybe, fits_absent, fits_present, FitsDefault, fits_no_default, fits_default, FitsCases, fits_no_case, fits_other, fits_guard, FitsRest, fits_end, fits_skipped, fits_more, FitsRoutine, fits_plain, fits_blank, fits_initial}
 use Rattle.icn_simulation.proofs.FirstMentions.{test_by}
-use Rattle.icn_simulation.proofs.Formed.{is_before, is_between, IsInfix, FormedInitial, Formed, FormedMaybe, FormedSome, FormedAll, FormedClauses}
+use Rattle.icn_simulation.proofs.TreeForms.{is_before, is_between, IsInfix, FormedInitial, Formed, FormedMaybe, FormedSome, FormedAll, FormedClauses}
 
 -- What is open around a place, as the rules see it and as the code does
 

@@ -24,7 +24,7 @@ use Rattle.icn_code.specs.declared.code.Start.TheVariants as Starts
 use Rattle.icn_code.specs.Codes.{RecordType, Proc, Tables}
 use Rattle.icn_code.specs.Rules.{name_of}
 use Rattle.icn_meaning.specs.Program as M
-use Rattle.icn_meaning.specs.Program.{Routine, Kind, program_of, joined, place_of, later, has_name, added, with_name, function_named, globals_of, global_names, procedures_of, kinds_of, kind_names, routine_names, routines_of, routine_of, statics_among, statics_in, start_of, starts_of, meant_by, meaning_in, texts}
+use Rattle.icn_meaning.specs.Program.{Routine, Kind, program_of, joined_declarations, place_of, later, has_name, with_more_names, with_name, function_named, globals_of, global_names, procedures_of, kinds_of, kind_names, routine_names, routines_of, routine_of, statics_among, statics_in, start_of, starts_of, meant_by, meaning_in, texts}
 use Rattle.icn_meaning.specs.Calls.{fields_in}
 use Rattle.icn_run.specs.Step as S
 use Rattle.icn_run.specs.Step.{members_of}
@@ -103,7 +103,7 @@ has_any name (other ∷ names) = by (bytes_eq name other) (has_any name names)
     by false h = h
 
 added_keeps : (name : List ℕ) (known names : List (List ℕ)) → list_any (bytes_eq name) known ≡ true
-    → list_any (bytes_eq name) (added known names) ≡ true
+    → list_any (bytes_eq name) (with_more_names known names) ≡ true
 added_keeps name known [] h = h
 added_keeps name known (other ∷ names) h =
     added_keeps name (known ++ with_name (not (has_name other known)) other []) names
@@ -115,10 +115,10 @@ with_it name known true e = any_left (bytes_eq name) known [] (sym (has_any name
 with_it name known false e = any_right (bytes_eq name) known (name ∷ [])
     (or_left (bytes_eq name name) false (itself bytes_eq bytes_eq-Decides name))
 
-among_added : (known names : List (List ℕ)) → AreAmong names (added known names)
+among_added : (known names : List (List ℕ)) → AreAmong names (with_more_names known names)
 among_added known [] name h = absurd (false≢true h)
 among_added known (other ∷ names) name h = test_by (bytes_eq name other)
-    (λ e. subst (λ (name : List ℕ). list_any (bytes_eq name) (added known (other ∷ names)) ≡ true)
+    (λ e. subst (λ (name : List ℕ). list_any (bytes_eq name) (with_more_names known (other ∷ names)) ≡ true)
     (sym ((bytes_eq-Decides name other).0 e))
     (added_keeps other _ names (with_it other known (has_name other known) refl)))
     (λ e. among_added (known ++ with_name (not (has_name other known)) other []) names name
@@ -461,7 +461,7 @@ module _ (D : List Declaration) (csets : List Cset) (members : map members_of cs
   main_global : (n : ℕ) → place_of main (routine_names (routines D)) ≡ Some n
       → list_any (λ name. bytes_eq name main) (globals_of D) ≡ true
   main_global n e =
-      let declared : List (List ℕ) = added [] (global_names D) in
+      let declared : List (List ℕ) = with_more_names [] (global_names D) in
       turned main (globals_of D) (any_left (bytes_eq main) declared _
       (among_added [] (global_names D) main
       (procedures_among (globals_of D) 0 D main (placed_among main (routine_names (routines D)) n e))))

@@ -50,9 +50,9 @@ old : (i : ℕ) (z : List ℕ) → (n : ℕ) × (oldest (i ∷ z) ≡ Some n)
 old i [] = (i, refl)
 old i (j ∷ z) = old j z
 
-pub away_scan : (i : ℕ) (z : List ℕ) (st : M.Store) → away z (MS.restored i st) ≡ away (i ∷ z) st
+pub away_scan : (i : ℕ) (z : List ℕ) (st : M.Store) → away z (MS.restore_pair i st) ≡ away (i ∷ z) st
 away_scan i [] st = refl
-away_scan i (j ∷ z) st = subst (λ scan. away_by scan (MS.restored i st) ≡ away_by scan st) (sym (old j z).1)
+away_scan i (j ∷ z) st = subst (λ scan. away_by scan (MS.restore_pair i st) ≡ away_by scan st) (sym (old j z).1)
     refl
 
 oldest_snoc : (os : List ℕ) (i : ℕ) → oldest (os ++ i ∷ []) ≡ Some i
@@ -60,7 +60,7 @@ oldest_snoc [] i = refl
 oldest_snoc (j ∷ []) i = refl
 oldest_snoc (j ∷ l ∷ os) i = oldest_snoc (l ∷ os) i
 
-pub away_snoc : (os : List ℕ) (i : ℕ) (st : M.Store) → away (os ++ i ∷ []) st ≡ MS.restored i st
+pub away_snoc : (os : List ℕ) (i : ℕ) (st : M.Store) → away (os ++ i ∷ []) st ≡ MS.restore_pair i st
 away_snoc os i st = ap (λ scan. away_by scan st) (oldest_snoc os i)
 
 last_is : (os : List ℕ) → last_of os ≡ oldest os
@@ -146,7 +146,7 @@ module _ (G : Ground) where
 
   finished : {s : M.State} (active : ℕ) (st : M.Store) (ls : List (S.Coexp Parked))
       → (S.is_main active) ≡ true → st.active ≡ active → Rel G.L s (S.over M.Done st.outside)
-      → Reach G s (S.finished (store_of st ls))
+      → Reach G s (S.finish_run (store_of st ls))
   finished {s} active st ls e e' rel =
       subst (λ b. Reach G s (if b then S.over M.Done st.outside else S.stuck)) (sym (ap S.is_main e' ∙ e))
       (stay G rel)
@@ -157,18 +157,18 @@ module _ (G : Ground) where
         → (is_base_frame t && not (S.is_main active)) ≡ false
     pub gone : (m : Chain) (p : ℕ) (st : M.Store) (ls : List (S.Coexp Parked))
         → Live G first st.active st.coexpressions ls
-        → Reach G (MA.off v st) (S.returned (leave_frame (linked_of m p st) t) S.failing
+        → Reach G (MA.off v st) (S.return_to (leave_frame (linked_of m p st) t) S.failing
         (store_of (away z st) ls))
     pub came : (x : Item) (m : Chain) (p : ℕ) (st : M.Store) (ls : List (S.Coexp Parked))
         → Live G first st.active st.coexpressions ls
-        → Reach G (MC.returned x v st) (S.returned (leave_frame (linked_of m p st) t)
-        (S.pushed (machine G) x) (store_of (away z st) ls))
+        → Reach G (MC.return_item x v st) (S.return_to (leave_frame (linked_of m p st) t)
+        (S.push_item (machine G) x) (store_of (away z st) ls))
     pub left : (x : Item) (b : MaybeTree) (v' : Surroundings) (r : Choices) (m : Chain) (p : ℕ)
         (st : M.Store) (ls : List (S.Coexp Parked)) → Live G first st.active st.coexpressions ls
         → ((z : List ℕ) (o : Outer) → OfChoices G.L first (M.Back b v' or_else r)
         (suspension (because Proc) p m) z o)
-        → Reach G (MC.suspended x b v' v r st)
-        (S.returned (suspend_frame (linked_of m p st) t) (S.pushed (machine G) x) (store_of st ls))
+        → Reach G (MC.suspend_call x b v' v r st)
+        (S.return_to (suspend_frame (linked_of m p st) t) (S.push_item (machine G) x) (store_of st ls))
 
   mutual
     pub called : {first : Bool} {n : Nest} {v : Surroundings} {z : List ℕ} {o : Outer} → Proper n
@@ -189,13 +189,13 @@ module _ (G : Ground) where
     called (w_scan w) (v_scan {v = v'} {i = i} {z = z} {o = o} v) = let d = called w v in record {
       no_body = d.no_body;
       gone = λ m p st ls live. subst (λ y.
-          Reach G (MA.off v' (MS.restored i st))
-          (S.returned (leave_frame (linked_of m p st) (frame_of o)) S.failing (store_of y ls)))
-          (away_scan i z st) (d.gone m p (MS.restored i st) ls live);
+          Reach G (MA.off v' (MS.restore_pair i st))
+          (S.return_to (leave_frame (linked_of m p st) (frame_of o)) S.failing (store_of y ls)))
+          (away_scan i z st) (d.gone m p (MS.restore_pair i st) ls live);
       came = λ x m p st ls live. subst
-          (λ y. Reach G (MC.returned x v' (MS.restored i st))
-          (S.returned (leave_frame (linked_of m p st) (frame_of o)) (S.pushed (machine G) x)
-          (store_of y ls))) (away_scan i z st) (d.came x m p (MS.restored i st) ls live);
+          (λ y. Reach G (MC.return_item x v' (MS.restore_pair i st))
+          (S.return_to (leave_frame (linked_of m p st) (frame_of o)) (S.push_item (machine G) x)
+          (store_of y ls))) (away_scan i z st) (d.came x m p (MS.restore_pair i st) ls live);
       left = λ x b v' r m p st ls live h. d.left x b v' r m p st ls live h;
     }
     called (w_mark w) (v_mark m) = called_in w m

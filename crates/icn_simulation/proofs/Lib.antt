@@ -2,7 +2,7 @@ pub mod Basics
 pub mod Leaving
 pub mod Acts
 pub mod Coexps
-pub mod Applied
+pub mod Application
 pub mod Works
 pub mod Choices
 pub mod Moves
@@ -15,7 +15,7 @@ pub mod Example
 pub mod Files
 pub mod Sizes
 pub mod FirstMentions
-pub mod Formed
+pub mod TreeForms
 pub mod Fitting
 pub mod Checked
 pub mod Joining

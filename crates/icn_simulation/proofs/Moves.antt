@@ -27,7 +27,7 @@ use Rattle.icn_simulation.proofs.Basics.{LState, Reach, Goes, Live, run, weigh, 
 use Rattle.icn_simulation.proofs.Leaving.{level_in, same_activation, same_procedure, same_level}
 use Rattle.icn_simulation.proofs.Acts.{Good, efails, off_goes, on_break_at, on_next_at}
 use Rattle.icn_simulation.proofs.Coexps.{look, on_failed}
-use Rattle.icn_simulation.proofs.Applied.{on_applied, on_fresh}
+use Rattle.icn_simulation.proofs.Application.{on_applied, on_fresh}
 use Rattle.icn_simulation.proofs.Works.{on_works}
 use Rattle.icn_simulation.proofs.Choices.{on_choices}
 
@@ -138,7 +138,7 @@ module _ (G : Ground) where
       (s_keyword {word = word} e h) v k r =
       subst (λ w. Goes G 0 (ME.keyword w v' k' r' st) (run (chain xs s z o) p st ls)) (sym e)
       (goes G _ (at_step G p _ st ls h refl)
-      (let there = S.standing (machine G) (linked_of (chain xs s z o) (suc p) st) (store_of st ls) in
+      (let there = S.standing_of (machine G) (linked_of (chain xs s z o) (suc p) st) (store_of st ls) in
       subst (λ level. Reach G (ME.item_or_failure
       (keyword_item (a_standing level st.active (MX.activator_of st.active st)) word) k' r' st)
       (S.pushed_or_fails (machine G) (keyword_item there word) (linked_of (chain xs s z o) (suc p) st)
@@ -243,11 +243,11 @@ module _ (G : Ground) where
       (at_eval live.0 live.1 e (under v) (k_suspend (w_mark w) h1 h2 b h3 (under v)) (r_mark0 r)))
 
   on_hop : (m : Chain) (p : ℕ) (st : M.Store) (ls : List (S.Coexp Parked)) → OfAll G.L st.coexpressions ls
-      → Reach G (MX.failed (MX.activator_of st.active st) st)
+      → Reach G (MX.fail_coexp (MX.activator_of st.active st) st)
       (S.passed_failure (machine G) (S.activator_of st.active (store_of st ls)) (linked_of m p st)
       (store_of st ls))
   on_hop m p st ls a = subst (λ n.
-      Reach G (MX.failed n st) (S.passed_failure (machine G) (S.activator_of st.active (store_of st ls))
+      Reach G (MX.fail_coexp n st) (S.passed_failure (machine G) (S.activator_of st.active (store_of st ls))
       (linked_of m p st) (store_of st ls))) (sym (look G a st.active).activator)
       (on_failed G (S.activator_of st.active (store_of st ls)) m p st ls a)
 
@@ -256,7 +256,7 @@ module _ (G : Ground) where
   sim good (at_succeed {x = x} {p = p} {st = st} {ls = ls} f a k r) = on_works G x p st ls (f, a) k r
   sim good (at_fail {p = p} {st = st} {ls = ls} f a r) = on_choices G p st ls (f, a) r
   sim good (at_hop {c = c} {p = p} {m = m} {st = st} {ls = ls} e a) =
-      subst (λ c. Goes G 0 (MX.hopped c st) (S.hopping (linked_of m p st) (store_of st ls))) (sym e)
+      subst (λ c. Goes G 0 (MX.pass_failure c st) (S.hopping (linked_of m p st) (store_of st ls))) (sym e)
       (goes G 0 (record { by = refl; whole = λ x. x })
       (on_turn G st ls _ (λ st'. S.passed_failure (machine G) (S.activator_of st'.active st')
       (linked_of m p st) st') (on_hop m p (record st { turns = suc st.turns }) ls a)))

@@ -41,7 +41,7 @@ module _ (L : Linkage) (N : Names) (j : ℕ) where
   rest_of_maybe ne (s_present o b u) rest = e_bounded ne o b u rest
 
   bounded_part : {e : Tree} (p : ℕ) → is_empty e ≡ false → Fits L N j (in_mark top) e
-      → Part L j p (X.bounded_size e) (X.bounded N p e)
+      → Part L j p (X.bounded_size e) (X.bounded_code N p e)
       (StandsMaybe L j top (Present e) p (p + X.bounded_size e))
   bounded_part {e} p ne ok =
       let Q : Bool → Type 0 = λ b. Part L j p (if b then 0 else size [] e + 2)

@@ -7,7 +7,7 @@ use Rattle.icn_tree.specs.declared.tree.LoopKind.TheVariants.{While, Until, Ever
 use Rattle.icn_tree.specs.Trees.{Tree, MaybeTree, Trees, Clause, Clauses, Empty, Constant, Identifier, Keyword, Parentheses, Listing, Compound, Call, CoCall, Subscript, Section, Field, Prefix, Not, Binary, To, If, Case, Loop, Repeat, Create, Next, Fail, Break, Return, Suspend, Absent, Present, NoTrees, More, Default, Guarded, NoClauses, MoreClauses}
 use Rattle.icn_code.specs.declared.instr.Instr.{Instr}
 use Rattle.icn_code.specs.declared.instr.Instr.TheVariants as I
-use Rattle.icn_simulation.specs.Translation.{Names, Depth, Ways, loop_of, deeper, opened_in, dropped_by_next, around, last_way, next_way, is_empty, is_nothing, is_no_element, elements, Form, Both, Scanning, Either, Limiting, Applying, form_of, PrefixForm, Activating, Repeating, Operating, prefix_of, section_op, size, sizes, elements_size, conjunction_size, compound_size, bodies_size, creates_size, subscripts_size, by_size, if_size, body_size, clauses_size, clause_size, default_size, is_default_size, ways, created, code, operands, elements_code, conjunction, compound, bodies_code, creates, subscripts, by_code, if_code, body_code, clauses_code, clause_code, default_code, is_default}
+use Rattle.icn_simulation.specs.Translation.{Names, Depth, Ways, loop_of, deeper, opened_in, dropped_by_next, around, last_way, next_way, is_empty, is_nothing, is_no_element, elements, Form, Both, Scanning, Either, Limiting, Applying, form_of, PrefixForm, Activating, Repeating, Operating, prefix_of, section_op, size, sizes, elements_size, conjunction_size, compound_size, bodies_size, creates_size, subscripts_size, by_size, if_size, body_size, clauses_size, clause_size, default_size, is_default_size, ways, create_code, code, operands, elements_code, conjunction, compound, bodies_code, creates, subscripts, by_code, if_code, body_code, clauses_code, clause_code, default_code, is_default}
 
 la : (xs ys : List Instr) → length (xs ++ ys) ≡ length xs + length ys
 la xs ys = length-append xs ys
@@ -112,7 +112,7 @@ augmented_len N D W p a b (Applying i) s t = let x = s D W p in let y = t D W (p
     la (code N D W p a) (I.Dup ∷ code N D W (p + size D a + 1) b ++ (i ∷ I.Op Ops.Assign ∷ [])) in
     let u = la (code N D W (p + size D a + 1) b) (i ∷ I.Op Ops.Assign ∷ []) in omega arith
 
-created_len : (p n : ℕ) (xs : List Instr) → length (created p n xs) ≡ length xs + 5
+created_len : (p n : ℕ) (xs : List Instr) → length (create_code p n xs) ≡ length xs + 5
 created_len p n xs = let a = la xs (I.Coret ∷ I.Efail ∷ I.Cofail ∷ []) in omega arith
 
 mutual
@@ -268,7 +268,7 @@ mutual
   bodies_len N (More e es) D p = if_len (is_no_element (More e es)) [] _ 0 _ refl
       (let x = code_size N e [] [] (p + 2) in let y = creates_len N es D (p + size [] e + 5) in let a =
       created_len p (size [] e) (code N [] [] (p + 2) e) in
-      let b = la (created p (size [] e) (code N [] [] (p + 2) e)) (creates N (p + size [] e + 5) es) in
+      let b = la (create_code p (size [] e) (code N [] [] (p + 2) e)) (creates N (p + size [] e + 5) es) in
       omega arith)
 
   creates_len : (N : Names) (es : Trees) (D : List Depth) (p : ℕ)
@@ -277,7 +277,7 @@ mutual
   creates_len N (More e es) D p =
       let x = code_size N e [] [] (p + 2) in let y = creates_len N es D (p + size [] e + 5) in let a =
       created_len p (size [] e) (code N [] [] (p + 2) e) in
-      let b = la (created p (size [] e) (code N [] [] (p + 2) e)) (creates N (p + size [] e + 5) es) in
+      let b = la (create_code p (size [] e) (code N [] [] (p + 2) e)) (creates N (p + size [] e + 5) es) in
       omega arith
 
   subscripts_len : (N : Names) (es : Trees) (D : List Depth) (W : List Ways) (p : ℕ)

@@ -22,7 +22,7 @@ use Rattle.icn_meaning.specs.Evaluate.{step_of, creations}
 use Rattle.icn_simulation.specs.Translation as X
 use Rattle.icn_simulation.specs.Translation.{Names, Depth, Ways, deeper, size, sizes, code, operands, elements_size, elements_code, body_size, body_code, literal_code}
 use Rattle.icn_simulation.specs.Linkage.{Linkage, Here, Loads, l_null, l_integer, l_string, l_cset, l_local, l_static, l_global, Applies, f_operation, f_call, f_spread, f_list, f_field, f_activate, Opens, o_mark, o_mark0}
-use Rattle.icn_simulation.specs.Standing.{is_prefix, is_infix, is_update, Breaks, b_mark, b_scan, b_loop, b_control, b_each, Nexts, n_mark, n_scan, n_loop, n_each, Nest, top, in_create, in_mark, in_scan, in_loop, in_control, in_each, IsApplied, i_listing, i_call, i_cocall, i_subscript, i_subscripts, i_section, i_field, i_prefix, i_activate, i_infix, i_at, i_bang, i_to, d_activate, d_operate, count, Stands, s_empty, s_constant, s_identifier, s_keyword, s_fail_keyword, s_applied, s_last, s_before, s_final, s_passed, s_bounded, s_repeated, s_not, s_both, s_scan, s_or, s_limit, s_update_both, s_update_scan, s_update, s_if, s_if_else, s_case, s_while, s_until, s_every, s_repeat, s_create, s_next, s_fail, s_break, s_return, s_suspend, StandsAll, s_nil, s_cons, StandsMaybe, s_absent, s_present, StandsCases, s_none, s_default, s_pass, s_guard, s_body, is_empty}
+use Rattle.icn_simulation.specs.Standing.{is_prefix, is_infix, is_update, Breaks, b_mark, b_scan, b_loop, b_control, b_each, Nexts, n_mark, n_scan, n_loop, n_each, Nest, top, in_create, in_mark, in_scan, in_loop, in_control, in_each, IsApplied, i_listing, i_call, i_cocall, i_subscript, i_subscripts, i_section, i_field, i_prefix, i_activate, i_infix, i_at, i_bang, i_to, d_activate, d_operate, tree_count, Stands, s_empty, s_constant, s_identifier, s_keyword, s_fail_keyword, s_applied, s_last, s_before, s_final, s_passed, s_bounded, s_repeated, s_not, s_both, s_scan, s_or, s_limit, s_update_both, s_update_scan, s_update, s_if, s_if_else, s_case, s_while, s_until, s_every, s_repeat, s_create, s_next, s_fail, s_break, s_return, s_suspend, StandsAll, s_nil, s_cons, StandsMaybe, s_absent, s_present, StandsCases, s_none, s_default, s_pass, s_guard, s_body, is_empty}
 use Rattle.icn_simulation.specs.Translatable.{is_prefix_sign, is_infix_sign, depths, ways_of, Fits, fits_empty, fits_constant, fits_identifier, fits_keyword, fits_fail_keyword, fits_last, fits_before, fits_final, fits_passed, fits_bounded, fits_listing, fits_call, fits_cocall, fits_subscript, fits_section, fits_field, fits_prefix, fits_activate, fits_repeated, fits_not, fits_both, fits_scan, fits_or, fits_limit, fits_infix, fits_at, fits_bang, fits_update_both, fits_update_scan, fits_update_at, fits_update, fits_to, fits_if, fits_if_else, fits_case, fits_while, fits_until, fits_every, fits_repeat, fits_create, fits_next, fits_fail, fits_break, fits_return, fits_suspend, FitsAll, fits_nil, fits_cons, FitsBodies, fits_no_body, fits_body, outside, HasLoop, h_mark, h_scan, h_loop, h_control, h_each, HasNext, x_mark, x_scan, x_loop, x_each, FitsMaybe, fits_absent, fits_present, FitsDefault, fits_no_default, fits_default, FitsCases, fits_no_case, fits_other, fits_guard}
 use Rattle.icn_simulation.proofs.Segments.{Plain, Part, part_nil, part_cons, part_append, part_map, part_repeat}
 
@@ -35,11 +35,11 @@ loads_plain l_local k = refl
 loads_plain l_static k = refl
 loads_plain l_global k = refl
 
-counts : (es : Trees) → X.count_of es ≡ count es
+counts : (es : Trees) → X.count_of es ≡ tree_count es
 counts NoTrees = refl
 counts (More e es) = ap suc (counts es)
 
-element_count : (es : Trees) → X.elements es ≡ count (elements_of es)
+element_count : (es : Trees) → X.elements es ≡ tree_count (elements_of es)
 element_count NoTrees = refl
 element_count (More T.Empty NoTrees) = refl
 element_count (More e es) = counts (More e es)
@@ -62,10 +62,10 @@ elements_creations : (place : Place) (es : Trees) → elements_of (creations pla
 elements_creations place NoTrees = refl
 elements_creations place (More e es) = refl
 
-count_creations : (place : Place) (es : Trees) → count (elements_of (creations place es)) ≡ count es
-count_creations place es = ap count (elements_creations place es) ∙ same place es
+count_creations : (place : Place) (es : Trees) → tree_count (elements_of (creations place es)) ≡ tree_count es
+count_creations place es = ap tree_count (elements_creations place es) ∙ same place es
   where
-    same : (place : Place) (es : Trees) → count (creations place es) ≡ count es
+    same : (place : Place) (es : Trees) → tree_count (creations place es) ≡ tree_count es
     same place NoTrees = refl
     same place (More e es) = ap suc (same place es)
 
@@ -464,7 +464,7 @@ module _ (L : Linkage) (N : Names) (j : ℕ) where
     no_subscript : {l : ℕ} → q ≡ l → Subbed place n x p q NoTrees l
     subscripted : {t : Tree} {is es : Trees} {form : Form} {i : Instr} {q' l : ℕ}
         → IsApplied (T.Subscript place x (More t is)) form es → StandsAll L j n es p q' → Here L j q' i
-        → Applies L form (count es) i → suc q' ≡ l → Subbed place n x p q (More t is) l
+        → Applies L form (tree_count es) i → suc q' ≡ l → Subbed place n x p q (More t is) l
 
   join : {place : Place} {n : Nest} {x t : Tree} {is : Trees} {p q q' q0 l : ℕ}
       → Subbed place n (T.Subscript place x (More t NoTrees)) p q' is l
@@ -480,7 +480,7 @@ module _ (L : Linkage) (N : Names) (j : ℕ) where
   -- `create` and `p{ }`
 
   create_by : {n : Nest} {place : Place} {e : Tree} (p : ℕ) → Good (in_mark in_create) e (p + 2)
-      → Part L j p (size [] e + 5) (X.created p (size [] e) (code N [] [] (p + 2) e))
+      → Part L j p (size [] e + 5) (X.create_code p (size [] e) (code N [] [] (p + 2) e))
       (Stands L j n (T.Create place e) p (p + (size [] e + 5)))
   create_by {n} {place} {e} p g = let m = size [] e in
       part_map L j (part_cons L j (I.Create (p + m + 5)) (λ i. refl) refl

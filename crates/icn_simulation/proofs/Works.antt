@@ -21,14 +21,14 @@ use Rattle.icn_meaning.specs.Succeed as MW
 use Rattle.icn_run.specs.Chains.{Label, flagged, Chain, chain, Suspensions, Outer, base, mark, limit, Parked, Linked, frame_of, oldest as oldest_until, first_scan, swap_at, relabelled_if, leave_frame, saved_at}
 use Rattle.icn_run.specs.Step as S
 use Rattle.icn_simulation.specs.Linkage.{Here, f_operation}
-use Rattle.icn_simulation.specs.Standing.{Nest, in_mark, in_scan, Stands, StandsAll, s_nil, s_cons, StandsMaybe, s_absent, s_present, Updating, d_activate, d_operate, is_update, count}
+use Rattle.icn_simulation.specs.Standing.{Nest, in_mark, in_scan, Stands, StandsAll, s_nil, s_cons, StandsMaybe, s_absent, s_present, Updating, d_activate, d_operate, is_update, tree_count}
 use Rattle.icn_simulation.specs.Relation.{At, proc_in, activation_in, OfWorks, k_goto, k_esusp, k_raise, k_args, k_then, k_cut, k_limit, k_count, k_scan, k_leave, k_update_both, k_update_scan, k_update, k_each, k_select, k_return, k_suspend, k_result, OfSurroundings, v_scan, v_mark, v_limit, m_plain, m_each, a_fail, OfChoices, r_alt, r_limit, r_efail, r_restore, r_reenter, r_back, t_after, linked_of, store_of, at_eval, at_succeed, at_fail}
 use Rattle.icn_simulation.specs.Ground.{Ground, code_of, machine}
 use Rattle.icn_simulation.proofs.Basics.{LState, To, stepped, Reach, Goes, Live, run, ran, weigh, weight, stay, silent, goes, then_reach, at_step, opens, on_turn, on_value, on_made, errored, sets_none}
 use Rattle.icn_simulation.proofs.Leaving.{oldest, front_of, all_by, same_activation, same_scans, called}
 use Rattle.icn_simulation.proofs.Acts.{unmark, pops, gotos, efails, on_action, on_try}
 use Rattle.icn_simulation.proofs.Coexps.{look, status_all, on_entered}
-use Rattle.icn_simulation.proofs.Applied.{on_applied}
+use Rattle.icn_simulation.proofs.Application.{on_applied}
 use Rattle.std.proofs.lemmas.Bool.Decides.{nat_tests}
 
 pub equal_self : (a : ℕ) → (a == a) ≡ true
@@ -37,7 +37,7 @@ equal_self a = grind (arith, nat_tests)
 -- the pair that an oldest scan saved changes places with the present one
 abbrev pub exchanged_by : Option ℕ → M.Store → M.Store
 exchanged_by None st = st
-exchanged_by (Some n) st = MS.exchanged n st
+exchanged_by (Some n) st = MS.exchange_pairs n st
 
 pub exchanged_of : (z : List ℕ) (st : M.Store) → MS.exchanged_if z st ≡ exchanged_by (oldest z) st
 exchanged_of [] st = refl
@@ -56,12 +56,12 @@ update_of o x y v k r st e = refl
 module _ (G : Ground) where
   -- the innermost mark is dropped, with no scan opened in it, and an item is pushed
   unmarked_push : {s' : M.State} (x : Item) (m in_m : Chain) (z : List ℕ) (p : ℕ) (st : M.Store)
-      (ls : List (S.Coexp Parked)) → Reach G s' (S.pushed (machine G) x (linked_of m p st) (store_of st ls))
-      → Reach G s' (S.pushed (machine G) x (linked_of m p st)
+      (ls : List (S.Coexp Parked)) → Reach G s' (S.push_item (machine G) x (linked_of m p st) (store_of st ls))
+      → Reach G s' (S.push_item (machine G) x (linked_of m p st)
       (S.scans_left (option_map (saved_at (linked_of in_m p st)) (oldest_until (first_scan z) z))
       (store_of st ls)))
   unmarked_push {s'} x m in_m z p st ls h =
-      subst (λ scan. Reach G s' (S.pushed (machine G) x (linked_of m p st)
+      subst (λ scan. Reach G s' (S.push_item (machine G) x (linked_of m p st)
       (S.scans_left (option_map (saved_at (linked_of in_m p st)) scan) (store_of st ls))))
       (sym (front_of [] z tt)) h
 
@@ -86,7 +86,7 @@ module _ (G : Ground) where
       (S.maybe_exchanged (swap_at (S.pair_now (store_of st ls)) (linked_of m p st) scan) (linked_of m p st)
       (store_of st ls) g)
   on_exchanged None m p st ls f g live h = h st live
-  on_exchanged (Some n) m p st ls f g live h = h (MS.exchanged n st) live
+  on_exchanged (Some n) m p st ls f g live h = h (MS.exchange_pairs n st) live
 
   on_limit : {first : Bool} {n : Nest} {e : Tree} {v : Surroundings} {k : Works} {r : Choices} {q : ℕ}
       {xs : List Item} {s : Suspensions} {z : List ℕ} {o : Outer} (i : Option ℤ) (value : Value) (p : ℕ)
@@ -94,7 +94,7 @@ module _ (G : Ground) where
       → Stands G.L (proc_in o) (in_mark n) e p q → At G.L o q I.Lsusp → OfSurroundings G.L first n v z o
       → OfWorks G.L first k (suc q) xs z o → OfChoices G.L first r s z o →
       Reach G (MW.limit i value e v k r st)
-      (S.limited (machine G) value i (linked_of (chain xs s z o) p st) (store_of st ls))
+      (S.limit_results (machine G) value i (linked_of (chain xs s z o) p st) (store_of st ls))
   on_limit (Some (pos zero)) value p st ls live e h v k r = stay G (at_fail live.0 live.1 r)
   on_limit (Some (pos (suc n))) value p st ls live e h v k r =
       stay G (at_eval live.0 live.1 e (v_limit (m_plain v)) (k_count h r k) (r_limit r))
@@ -127,7 +127,7 @@ module _ (G : Ground) where
   raises : {f a : ℕ} {l : Option ℕ} {xs : List Item} {s : Suspensions} {z : List ℕ} {m : Chain} (p : ℕ)
       (st : M.Store) (ls : List (S.Coexp Parked)) → At G.L (mark (flagged l f a) m) p (I.Chfail a)
       → To G (run (chain xs s z (mark (flagged l f a) m)) p st ls)
-      (run (chain xs s z (mark (flagged l f a) m)) (suc p) (MW.raised f st) ls)
+      (run (chain xs s z (mark (flagged l f a) m)) (suc p) (MW.raise_flag f st) ls)
   raises {f} {a} {l} {xs} {s} {z} {m} p st ls h = let m' = chain xs s z (mark (flagged l f a) m) in
       record {
         by = stepped G p m' st ls h
@@ -170,8 +170,8 @@ module _ (G : Ground) where
           → Reach G (MX.gives v r st) (S.result_given (machine G) v
           (linked_of (chain xs s z (mark l (chain ys s' z' (base j a)))) (suc p) st) (store_of st ls))
       given v st live = let o = mark l (chain ys s' z' (base j a)) in let ST =
-          MX.counted st.active (MX.with_status st.active (M.AfterResult r) st) in
-          subst (λ n. Reach G (MX.entered n v ST)
+          MX.count_result st.active (MX.with_status st.active (M.AfterResult r) st) in
+          subst (λ n. Reach G (MX.enter_coexp n v ST)
           (S.result_given (machine G) v (linked_of (chain xs s z o) (suc p) st) (store_of st ls)))
           (sym (look G live.1 st.active).activator)
           (on_entered G (S.activator_of st.active (store_of st ls)) v (chain xs s z o) (suc p) ST _
@@ -242,19 +242,19 @@ module _ (G : Ground) where
   on_works {xs = xs} {s = s} {z = z} {o = o} x p st ls live (k_return {v = v'} w h v) r = let m =
       chain xs s z o in goes G _ (at_step G p _ st ls h refl)
       (on_outgoing (suc p) xs x st ls _ _ (same_activation G v) live r (λ x.
-      subst (λ y. Reach G (MC.returned x v' st)
-      (S.returned (leave_frame (linked_of m (suc p) st) (frame_of o)) (S.pushed (machine G) x) y))
+      subst (λ y. Reach G (MC.return_item x v' st)
+      (S.return_to (leave_frame (linked_of m (suc p) st) (frame_of o)) (S.push_item (machine G) x) y))
       (sym (all_by (oldest z) m (suc p) st ls)) ((called G w v).came x m (suc p) st ls live)))
   on_works {r = r'} {xs = xs} {s = s} {z = z} {o = o} x p st ls live
       (k_suspend {b = b'} {v = v'} w h h2 b h3 v) r = let m = chain (x ∷ xs) s z o in
       goes G _ (at_step G p _ st ls h refl)
       (on_outgoing (suc p) (x ∷ xs) x st ls _ _ (same_activation G v) live r (λ y.
-      subst (λ st'. Reach G (MC.suspended y b' v' v' r' st')
+      subst (λ st'. Reach G (MC.suspend_call y b' v' v' r' st')
       (S.maybe_exchanged (swap_at (S.pair_now (store_of st ls)) (linked_of m (suc p) st) (oldest z))
       (linked_of m (suc p) st) (store_of st ls)
-      (λ m st. S.returned ((machine G).suspend_proc m) (S.pushed (machine G) y) st)))
+      (λ m st. S.return_to ((machine G).suspend_proc m) (S.push_item (machine G) y) st)))
       (sym (ap (λ z. MS.exchanged_if z st) (sym (same_scans G v)) ∙ exchanged_of z st))
-      (on_exchanged (oldest z) m (suc p) st ls (λ st. MC.suspended y b' v' v' r' st)
-      (λ m st. S.returned ((machine G).suspend_proc m) (S.pushed (machine G) y) st) live
+      (on_exchanged (oldest z) m (suc p) st ls (λ st. MC.suspend_call y b' v' v' r' st)
+      (λ m st. S.return_to ((machine G).suspend_proc m) (S.push_item (machine G) y) st) live
       (λ st live. (called G w v).left y b' v' r' m (suc p) st ls live (λ z o. r_back h2 b h3 v r)))))
   on_works x p st ls live (k_result e h h2) r = on_result x p st ls live e h h2 r

@@ -17,7 +17,7 @@ use Rattle.icn_code.specs.declared.code.Start.TheVariants as Starts
 use Rattle.icn_code.specs.declared.instr.Instr.{Instr}
 use Rattle.icn_code.specs.declared.instr.Instr.TheVariants as Instrs
 use Rattle.icn_code.specs.Codes.{RecordType, Proc, Tables}
-use Rattle.icn_meaning.specs.Program.{Routine, Kind, joined, place_of, has_name, function_named, globals_of, global_names, procedures_of, kinds_of, kind_names, routine_names, routines_of}
+use Rattle.icn_meaning.specs.Program.{Routine, Kind, joined_declarations, place_of, has_name, function_named, globals_of, global_names, procedures_of, kinds_of, kind_names, routine_names, routines_of}
 use Rattle.icn_meaning.specs.Evaluate.{keyword_among}
 use Rattle.icn_run.specs.Step.{members_of}
 use Rattle.icn_simulation.specs.Translation.{Names, procedure}
@@ -145,4 +145,4 @@ pub record IsCodeOf (declarations : List Declaration) (tables : Tables) : Type 0
 
 -- These tables are the joined code of these files, each the list of its declarations.
 abbrev pub Joined : List (List Declaration) → Tables → Type 0
-Joined files tables = IsCodeOf (joined files) tables
+Joined files tables = IsCodeOf (joined_declarations files) tables

@@ -15,7 +15,7 @@ use Rattle.icn_run.specs.Calls.{Alt, Op, Escan, Proc}
 use Rattle.icn_run.specs.Chains.{Label, fixed, flagged, because, scanning, Chain, chain, Suspensions, none, suspension, Outer, base, call, mark, limit, Parked, Linked, frame_of, proc_of, activation_of}
 use Rattle.icn_run.specs.Step as S
 use Rattle.icn_simulation.specs.Linkage.{Linkage, Here, Loads, Applies}
-use Rattle.icn_simulation.specs.Standing.{Nest, top, in_create, in_mark, in_scan, in_loop, in_control, in_each, Proper, Updating, count, Stands, StandsAll, StandsMaybe, StandsCases, StandsCreate, StandsRest}
+use Rattle.icn_simulation.specs.Standing.{Nest, top, in_create, in_mark, in_scan, in_loop, in_control, in_each, Proper, Updating, tree_count, Stands, StandsAll, StandsMaybe, StandsCases, StandsCreate, StandsRest}
 
 -- the procedure and the activation that run in a chain
 abbrev pub proc_in : Outer → ℕ
@@ -47,7 +47,7 @@ mutual
         → OfWorks L first (M.Raise f and_then k) p xs z (mark (flagged l f a) m)
     k_args : {n : Nest} {form : Form} {xs ys zs : List Item} {es : Trees} {v : Surroundings} {k : Works}
         {i : Instr} {c p q : ℕ} {z : List ℕ} {o : Outer} → StandsAll L (proc_in o) n es p q → At L o q i
-        → Applies L form c i → c ≡ suc (length xs) + count es → zs ≡ xs ++ ys
+        → Applies L form c i → c ≡ suc (length xs) + tree_count es → zs ≡ xs ++ ys
         → OfSurroundings L first n v z o → OfWorks L first k (suc q) ys z o
         → OfWorks L first (M.Args form xs es v and_then k) p zs z o
     k_then : {n : Nest} {e : Tree} {v : Surroundings} {k : Works} {p q : ℕ} {xs : List Item} {z : List ℕ}

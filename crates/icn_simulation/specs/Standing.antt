@@ -124,9 +124,9 @@ pub data Updating : Operator → Form → Type 0 where
   d_activate : Updating Signs.At Activating
   d_operate : {o : Operator} → is_update o ≡ true → Updating o (Operating (infix_op o))
 
-abbrev pub count : Trees → ℕ
-count NoTrees = 0
-count (More e es) = suc (count es)
+abbrev pub tree_count : Trees → ℕ
+tree_count NoTrees = 0
+tree_count (More e es) = suc (tree_count es)
 
 mutual
   -- the instructions of a tree stand from p up to q, in the code of the procedure j
@@ -144,7 +144,7 @@ mutual
         → keyword_among name.text keywords ≡ Some Keywords.Fail → Here L j p I.Efail
         → Stands L j n (T.Keyword place name) p (suc p)
     s_applied : {n : Nest} {e : Tree} {form : Form} {es : Trees} {i : Instr} {p q : ℕ} → IsApplied e form es
-        → StandsAll L j n es p q → Here L j q i → Applies L form (count es) i → Stands L j n e p (suc q)
+        → StandsAll L j n es p q → Here L j q i → Applies L form (tree_count es) i → Stands L j n e p (suc q)
     s_last : {n : Nest} {place : Place} {e : Tree} {p q : ℕ} → Stands L j n e p q
         → Stands L j n (T.Parentheses place (More e NoTrees)) p q
     s_before : {n : Nest} {place : Place} {d e : Tree} {es : Trees} {p q l : ℕ} → Stands L j n d p q

@@ -141,7 +141,7 @@ cases_elsewhere tables outside s h (now ∷ later) = subst (λ (x : State Frames
 go_marked : (m : Frames) (place : ℕ) → IsSome (flats.unmark m) → IsSome (flats.unmark (flats.go place m))
 go_marked m place h = by_cells (flats.cut m.registers.mark m.cells) h
   where
-    by_cells : (s : List flats.Cell) → IsSome (flats.unmarked m s) → IsSome (flats.unmarked (flats.go place m) s)
+    by_cells : (s : List flats.Cell) → IsSome (flats.unmark_in m s) → IsSome (flats.unmark_in (flats.go place m) s)
     by_cells [] q = q
     by_cells (flats.mark label changed r ∷ s) q = refl
     by_cells (flats.limit count r ∷ s) q = refl

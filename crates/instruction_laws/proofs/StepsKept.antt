@@ -16,7 +16,7 @@ use Rattle.icn_defs.specs.Keywords.{keyword_item}
 use Rattle.icn_defs.specs.Rows.{Outcome, Fails, Gives, Suspends, Error, Ends}
 use Rattle.icn_defs.specs.Running.{Done, Launch, Pair, number_of, words_row}
 use Rattle.icn_defs.specs.StepRows.{Operation, Function, apply, value_row, list_row, text_row, record_row, coexpression_row}
-use Rattle.icn_run.specs.Calls.{Why, Alt, Op as Operating, Scan, Escan, Proc, Dropped, NoMark, Goes, Repeats, Outside as WithoutLabel}
+use Rattle.icn_run.specs.Calls.{Why, Alt, Op as Operating, Scan, Escan, Proc, MarkDrop, NoMark, Goes, Repeats, Outside as WithoutLabel}
 use Rattle.icn_run.specs.Stacks as flats
 use Rattle.icn_run.specs.Stacks.{Frames, empty, flat}
 use Rattle.icn_run.specs.Step as S
@@ -57,7 +57,7 @@ module _ (rows : RowsKeepVariables) (P : Tables) where
 
   -- Rows
 
-  valued : (o : Outcome) (m : Frames) (st : Store Frames) (go : Value → State Frames Frames) → K st → ((v : Value) → G (go v)) → G (S.valued o m st go)
+  valued : (o : Outcome) (m : Frames) (st : Store Frames) (go : Value → State Frames Frames) → K st → ((v : Value) → G (go v)) → G (S.with_given o m st go)
   valued (Gives (Val v) s) m st go k f = f v
   valued (Gives (Var x) s) m st go k f = k
   valued (Error e v s) m st go k f = tt
@@ -66,7 +66,7 @@ module _ (rows : RowsKeepVariables) (P : Tables) where
   valued (Ends e s) m st go k f = k
 
   pub made : (o : Outcome) (m : Frames) (st : Store Frames) (go : Value → Frames → Store Frames → State Frames Frames) → OutcomeHas P (length st.begun) o → K st
-      → ((v : Value) (m : Frames) (s : Store Frames) → K s → G (go v m s)) → G (S.made flat o m st go)
+      → ((v : Value) (m : Frames) (s : Store Frames) → K s → G (go v m s)) → G (S.with_made flat o m st go)
   made (Gives (Val v) s) m st go n k f = f v (flats.set_locals s.locals m) (S.with_at s st) n
   made (Gives (Var x) s) m st go n k f = k
   made (Error e v s) m st go n k f = tt
@@ -94,7 +94,7 @@ module _ (rows : RowsKeepVariables) (P : Tables) where
 
   -- Scans
 
-  exchanged : (o : Option (Pair × Frames)) (go : Frames → Store Frames → State Frames Frames) (st : Store Frames) → K st → ((m : Frames) (s : Store Frames) → K s → G (go m s)) → G (S.exchanged o go st)
+  exchanged : (o : Option (Pair × Frames)) (go : Frames → Store Frames → State Frames Frames) (st : Store Frames) → K st → ((m : Frames) (s : Store Frames) → K s → G (go m s)) → G (S.with_exchange o go st)
   exchanged (Some x) go st k f = f x.1 (S.with_pair x.0 st) k
   exchanged None go st k f = tt
 
@@ -114,8 +114,8 @@ module _ (rows : RowsKeepVariables) (P : Tables) where
   all_left : (m : Frames) (st : Store Frames) → K st → K (S.all_left flat m st)
   all_left m st k = swapped_back (flats.swap_oldest (S.pair_now st) m) st k
 
-  unmarked : (m : Frames) (st : Store Frames) (go : Frames → Store Frames → State Frames Frames) → K st → ((m : Frames) (s : Store Frames) → K s → G (go m s)) → G (S.unmarked flat m st go)
-  unmarked m st go k f = found (flats.unmark m) (S.parted (λ outside pair. go outside (S.scans_left pair st))) (λ x. f x.0 (S.scans_left x.1 st) (left x.1 st k))
+  unmarked : (m : Frames) (st : Store Frames) (go : Frames → Store Frames → State Frames Frames) → K st → ((m : Frames) (s : Store Frames) → K s → G (go m s)) → G (S.unmark_then flat m st go)
+  unmarked m st go k f = found (flats.unmark m) (S.on_pair (λ outside pair. go outside (S.scans_left pair st))) (λ x. f x.0 (S.scans_left x.1 st) (left x.1 st k))
 
   -- Co-expressions
 
@@ -137,7 +137,7 @@ module _ (rows : RowsKeepVariables) (P : Tables) where
   hop : (m : Frames) (st : Store Frames) → K st → G (S.hop flat P m st)
   hop m st k = turn st (λ st. S.passed_failure flat (S.activator_of st.active st) m st) k (λ st k. to_activator (S.activator_of st.active st) m st k)
 
-  exhausted : (m : Frames) (st : Store Frames) → K st → G (S.exhausted flat P m st)
+  exhausted : (m : Frames) (st : Store Frames) → K st → G (S.exhaust_active flat P m st)
   exhausted m st k = turn st (λ st. S.passed_failure flat (S.activator_of st.active st) m (S.with_status st.active Exhausted st)) k
       (λ st k. to_activator (S.activator_of st.active st) m (S.with_status st.active Exhausted st) k)
 
@@ -149,14 +149,14 @@ module _ (rows : RowsKeepVariables) (P : Tables) where
       passed (S.activator_of st.active st) v m (S.counted_result st.active (S.with_status st.active (Waiting m) st)) k
 
   coexp_made : (vs : List Value) (proc place : ℕ) (m : Frames) (st : Store Frames) → K st → G (S.coexp_made flat vs proc place m st)
-  coexp_made vs proc place m st k = made (coexpression_row (length vs) (S.here flat m st)) m st (λ value m st. S.pushed flat (Val value) m (S.with_new vs proc place st))
+  coexp_made vs proc place m st k = made (coexpression_row (length vs) (S.here flat m st)) m st (λ value m st. S.push_item flat (Val value) m (S.with_new vs proc place st))
       (kept (rows.coexpressions (length vs) (S.here flat m st)) k) k (λ v m s k. k)
 
   refreshed_from : (o : Option (Coexp Frames)) (m : Frames) (st : Store Frames) → K st → G (S.refreshed_from flat o m st)
   refreshed_from (Some co) m st k = coexp_made co.values co.proc co.place m st k
   refreshed_from None m st k = tt
 
-  refreshed : (v : Value) (m : Frames) (st : Store Frames) → K st → G (S.refreshed flat v m st)
+  refreshed : (v : Value) (m : Frames) (st : Store Frames) → K st → G (S.refresh flat v m st)
   refreshed (ACoexp zero) m st k = tt
   refreshed (ACoexp (suc n)) m st k = refreshed_from (slice_get st.coexps (suc n)) m st k
   refreshed Null m st k = tt
@@ -195,34 +195,34 @@ module _ (rows : RowsKeepVariables) (P : Tables) where
   -- Procedures
 
   pub collected : (t : Bool) (n : ℕ) (vs : List Value) (m : Frames) (st : Store Frames) (go : List Value → Frames → Store Frames → State Frames Frames) → K st
-      → ((vs : List Value) (m : Frames) (s : Store Frames) → K s → G (go vs m s)) → G (S.collected flat t n vs m st go)
-  collected false n vs m st go k f = f (S.filled n vs) m st k
-  collected true n vs m st go k f = list_made (drop (n - 1) vs) m st (λ rest m st. go (S.filled (n - 1) vs ++ rest ∷ []) m st) k (λ rest m st k. f (S.filled (n - 1) vs ++ rest ∷ []) m st k)
+      → ((vs : List Value) (m : Frames) (s : Store Frames) → K s → G (go vs m s)) → G (S.collect_rest flat t n vs m st go)
+  collected false n vs m st go k f = f (S.fill_nulls n vs) m st k
+  collected true n vs m st go k f = list_made (drop (n - 1) vs) m st (λ rest m st. go (S.fill_nulls (n - 1) vs ++ rest ∷ []) m st) k (λ rest m st k. f (S.fill_nulls (n - 1) vs ++ rest ∷ []) m st k)
 
   called_if : (t : Bool) (n : ℕ) (entry : Procedure) (vs : List Value) (m : Frames) (st : Store Frames) → K st → G (S.called_if flat t n entry vs m st)
-  called_if true n entry vs m st k = collected entry.collects entry.parameters vs m st (λ parameters m st. S.entered flat n entry parameters m st) k (λ vs m st k. k)
+  called_if true n entry vs m st k = collected entry.collects entry.parameters vs m st (λ parameters m st. S.enter_procedure flat n entry parameters m st) k (λ vs m st k. k)
   called_if false n entry vs m st k = tt
 
-  constructed : (n : ℕ) (entry : RecordType) (vs : List Value) (m : Frames) (st : Store Frames) → K st → G (S.constructed flat n entry vs m st)
+  constructed : (n : ℕ) (entry : RecordType) (vs : List Value) (m : Frames) (st : Store Frames) → K st → G (S.construct_record flat n entry vs m st)
   constructed n entry vs m st k =
-      let fs = S.filled (length entry.fields) vs in
-      made (record_row n fs (S.here flat m st)) m st (λ value m st. S.pushed flat (Val value) m st) (kept (rows.records n fs (S.here flat m st)) k) k (λ v m s k. k)
+      let fs = S.fill_nulls (length entry.fields) vs in
+      made (record_row n fs (S.here flat m st)) m st (λ value m st. S.push_item flat (Val value) m st) (kept (rows.records n fs (S.here flat m st)) k) k (λ v m s k. k)
 
   pushed_or_fails : (o : Option Item) (m : Frames) (st : Store Frames) → K st → G (S.pushed_or_fails flat o m st)
   pushed_or_fails (Some x) m st k = k
   pushed_or_fails None m st k = k
 
   integer_called : (f : Value) (o : Option ℤ) (xs : List Item) (m : Frames) (st : Store Frames) → K st → G (S.integer_called flat f o xs m st)
-  integer_called f (Some n) xs m st k = pushed_or_fails (S.chosen n xs) m st k
+  integer_called f (Some n) xs m st k = pushed_or_fails (S.choose_item n xs) m st k
   integer_called f None xs m st k = tt
 
   callee_called : (c : Callee) (n : ℕ) (xs : List Item) (m : Frames) (st : Store Frames) → K st → G (S.callee_called flat c n xs m st)
-  callee_called (IsProc entry) n xs m st k = values xs m st (λ arguments. S.called flat n entry arguments m st) k (λ vs. called_if (nat_le (suc (flats.level m)) st.world.heap.bounds.levels) n entry vs m st k)
-  callee_called (IsRecord kind entry) n xs m st k = values xs m st (λ arguments. S.constructed flat kind entry arguments m st) k (λ vs. constructed kind entry vs m st k)
+  callee_called (IsProc entry) n xs m st k = values xs m st (λ arguments. S.call_procedure flat n entry arguments m st) k (λ vs. called_if (nat_le (suc (flats.level m)) st.world.heap.bounds.levels) n entry vs m st k)
+  callee_called (IsRecord kind entry) n xs m st k = values xs m st (λ arguments. S.construct_record flat kind entry arguments m st) k (λ vs. constructed kind entry vs m st k)
   callee_called (IsFunc func) n xs m st k = outcome (apply st.names (Function func) xs (S.here flat m st)) m st (kept (rows.functions st.names func xs (S.here flat m st)) k)
   callee_called IsNothing n xs m st k = tt
 
-  invoked : (f : Value) (xs : List Item) (m : Frames) (st : Store Frames) → K st → G (S.invoked flat P f xs m st)
+  invoked : (f : Value) (xs : List Item) (m : Frames) (st : Store Frames) → K st → G (S.invoke_value flat P f xs m st)
   invoked (ProcedureValue n) xs m st k = callee_called (S.callee_of P n) n xs m st k
   invoked Null xs m st k = integer_called Null (number_of Null) xs m st k
   invoked (Integer n) xs m st k = integer_called (Integer n) (number_of (Integer n)) xs m st k
@@ -237,7 +237,7 @@ module _ (rows : RowsKeepVariables) (P : Tables) where
 
   invoked_with : (xs : List Item) (m : Frames) (st : Store Frames) → K st → G (S.invoked_with flat P xs m st)
   invoked_with [] m st k = tt
-  invoked_with (x ∷ xs) m st k = value x m st (λ value. S.invoked flat P value xs m st) k (λ v. invoked v xs m st k)
+  invoked_with (x ∷ xs) m st k = value x m st (λ value. S.invoke_value flat P value xs m st) k (λ v. invoked v xs m st k)
 
   elements_called : (f v : Value) (m : Frames) (st : Store Frames) → K st → G (S.elements_called flat P f v m st)
   elements_called f (AList n) m st k = invoked f _ m st k
@@ -297,7 +297,7 @@ module _ (rows : RowsKeepVariables) (P : Tables) where
   finished true st = tt
   finished false st = tt
 
-  returned : (o : Option Frames) (go : Frames → Store Frames → State Frames Frames) (st : Store Frames) → K st → ((m : Frames) (s : Store Frames) → K s → G (go m s)) → G (S.returned o go st)
+  returned : (o : Option Frames) (go : Frames → Store Frames → State Frames Frames) (st : Store Frames) → K st → ((m : Frames) (s : Store Frames) → K s → G (go m s)) → G (S.return_to o go st)
   returned (Some m) go st k f = f m st k
   returned None go st k f = finished (S.is_main st.active) st
 
@@ -307,15 +307,15 @@ module _ (rows : RowsKeepVariables) (P : Tables) where
   -- Failing
 
   without_mark : (m : Frames) (st : Store Frames) → K st → G (S.without_mark flat P m st)
-  without_mark m st k = either (S.is_create_body flat m st) (S.exhausted flat P m st) (S.proc_fails flat m st) (exhausted m st k) (proc_fails m st k)
+  without_mark m st k = either (S.is_create_body flat m st) (S.exhaust_active flat P m st) (S.proc_fails flat m st) (exhausted m st k) (proc_fails m st k)
 
-  dropped : (m : Frames) (st : Store Frames) (d : Dropped Frames) → K st → G (S.mark_dropped flat P m st d)
+  dropped : (m : Frames) (st : Store Frames) (d : MarkDrop Frames) → K st → G (S.mark_dropped flat P m st d)
   dropped m st NoMark k = without_mark m st k
   dropped m st (Goes a) k = k
   dropped m st (Repeats a) k = turn st (running a) k (λ s k. k)
   dropped m st (WithoutLabel a) k = k
 
-  resumed : (why : Why) (m : Frames) (st : Store Frames) → K st → G (S.resumed flat P why m st)
+  resumed : (why : Why) (m : Frames) (st : Store Frames) → K st → G (S.resume_by flat P why m st)
   resumed Alt m st k = k
   resumed (Operating r) m st k = turn st (λ st. S.outcome flat (again r (S.here flat m st)) m st) k
       (λ st k. outcome (again r (S.here flat m st)) m st (kept (rows.resumed r (S.here flat m st)) k))
@@ -334,20 +334,20 @@ module _ (rows : RowsKeepVariables) (P : Tables) where
   -- Instructions
 
   popped : (m : Frames) (go : Item → Frames → State Frames Frames) → ((x : Item) (m : Frames) → G (go x m)) → G (S.with_popped flat m go)
-  popped m go f = found (flats.pop m) (S.parted go) (λ x. f x.0 x.1)
+  popped m go f = found (flats.pop m) (S.on_pair go) (λ x. f x.0 x.1)
 
   taken : (n : ℕ) (m : Frames) (go : List Item → Frames → State Frames Frames) → ((xs : List Item) (m : Frames) → G (go xs m)) → G (S.with_taken flat n m go)
-  taken n m go f = found (flats.take n m) (S.parted go) (λ x. f x.0 x.1)
+  taken n m go f = found (flats.take n m) (S.on_pair go) (λ x. f x.0 x.1)
 
-  limited : (v : Value) (o : Option ℤ) (m : Frames) (st : Store Frames) → K st → G (S.limited flat v o m st)
+  limited : (v : Value) (o : Option ℤ) (m : Frames) (st : Store Frames) → K st → G (S.limit_results flat v o m st)
   limited v None m st k = tt
   limited v (Some (negsuc n)) m st k = tt
   limited v (Some (pos zero)) m st k = k
   limited v (Some (pos (suc n))) m st k = k
 
   limited_result : (x : Item) (n : ℕ) (m : Frames) (st : Store Frames) → K st → G (S.limited_result flat x n m st)
-  limited_result x zero m st k = unmarked m st (S.pushed flat x) k (λ m s k. k)
-  limited_result x (suc n) m st k = found (flats.suspend_mark m) (λ after. S.pushed flat x after st) (λ m. k)
+  limited_result x zero m st k = unmarked m st (S.push_item flat x) k (λ m s k. k)
+  limited_result x (suc n) m st k = found (flats.suspend_mark m) (λ after. S.push_item flat x after st) (λ m. k)
 
   scan_opened : (v : Value) (m : Frames) (st : Store Frames) → K st → G (S.scan_opened flat v m st)
   scan_opened Null m st k = k
@@ -380,9 +380,9 @@ module _ (rows : RowsKeepVariables) (P : Tables) where
   field_applied field (x ∷ xs) m st k = value x m st (λ value. S.field_of flat P field value m st) k (λ v. field_of field v m st k)
   field_applied field [] m st k = tt
 
-  operated : (op : Op) (xs : List Item) (m : Frames) (st : Store Frames) → K st → G (S.operated flat op xs m st)
+  operated : (op : Op) (xs : List Item) (m : Frames) (st : Store Frames) → K st → G (S.operate flat op xs m st)
   operated Ops.Refresh [] m st k = operates Ops.Refresh [] m st k
-  operated Ops.Refresh (x ∷ xs) m st k = value x m st (λ value. S.refreshed flat value m st) k (λ v. refreshed v m st k)
+  operated Ops.Refresh (x ∷ xs) m st k = value x m st (λ value. S.refresh flat value m st) k (λ v. refreshed v m st k)
   operated Ops.IsNull xs m st k = operates Ops.IsNull xs m st k
   operated Ops.IsNotNull xs m st k = operates Ops.IsNotNull xs m st k
   operated Ops.Dereference xs m st k = operates Ops.Dereference xs m st k
@@ -430,56 +430,56 @@ module _ (rows : RowsKeepVariables) (P : Tables) where
 
   instruction : (i : Instr) (m : Frames) (st : Store Frames) → K st → G (S.instruction flat P i m st)
   instruction I.Pnull m st k = k
-  instruction (I.Int n) m st k = found (slice_get P.integers n) (λ n. S.pushed flat (Val (Integer n)) m st) (λ x. k)
-  instruction (I.Str n) m st k = found (slice_get P.strings n) (λ bytes. S.pushed flat (Val (Text bytes)) m st) (λ x. k)
-  instruction (I.Cset n) m st k = found (slice_get P.csets n) (λ set. S.pushed flat (Val (Chars (S.members_of set))) m st) (λ x. k)
+  instruction (I.Int n) m st k = found (slice_get P.integers n) (λ n. S.push_item flat (Val (Integer n)) m st) (λ x. k)
+  instruction (I.Str n) m st k = found (slice_get P.strings n) (λ bytes. S.push_item flat (Val (Text bytes)) m st) (λ x. k)
+  instruction (I.Cset n) m st k = found (slice_get P.csets n) (λ set. S.push_item flat (Val (Chars (S.members_of set))) m st) (λ x. k)
   instruction (I.Local n) m st k = k
   instruction (I.Static n) m st k = k
   instruction (I.Global n) m st k = k
-  instruction (I.Keywd word) m st k = pushed_or_fails (keyword_item (S.standing flat m st) word) m st k
+  instruction (I.Keywd word) m st k = pushed_or_fails (keyword_item (S.standing_of flat m st) word) m st k
   instruction I.Pop m st k = popped m (λ item m. running m st) (λ x m. k)
-  instruction I.Dup m st k = popped m (λ item below. S.pushed flat item m st) (λ x b. k)
-  instruction (I.Op op) m st k = taken (arity op) m (λ items m. S.turn P st (S.operated flat op items m)) (λ xs m. turn st (S.operated flat op xs m) k (λ st k. operated op xs m st k))
-  instruction (I.Llist n) m st k = taken n m (λ items m. S.turn P st (λ st. S.with_values flat items m st (λ values. S.list_made flat values m st (λ list m st. S.pushed flat (Val list) m st))))
-      (λ xs m. turn st (λ st. S.with_values flat xs m st (λ values. S.list_made flat values m st (λ list m st. S.pushed flat (Val list) m st))) k
-      (λ st k. values xs m st (λ values. S.list_made flat values m st (λ list m st. S.pushed flat (Val list) m st)) k (λ vs. list_made vs m st (λ list m st. S.pushed flat (Val list) m st) k (λ v m s k. k))))
+  instruction I.Dup m st k = popped m (λ item below. S.push_item flat item m st) (λ x b. k)
+  instruction (I.Op op) m st k = taken (arity op) m (λ items m. S.turn P st (S.operate flat op items m)) (λ xs m. turn st (S.operate flat op xs m) k (λ st k. operated op xs m st k))
+  instruction (I.Llist n) m st k = taken n m (λ items m. S.turn P st (λ st. S.with_values flat items m st (λ values. S.list_made flat values m st (λ list m st. S.push_item flat (Val list) m st))))
+      (λ xs m. turn st (λ st. S.with_values flat xs m st (λ values. S.list_made flat values m st (λ list m st. S.push_item flat (Val list) m st))) k
+      (λ st k. values xs m st (λ values. S.list_made flat values m st (λ list m st. S.push_item flat (Val list) m st)) k (λ vs. list_made vs m st (λ list m st. S.push_item flat (Val list) m st) k (λ v m s k. k))))
   instruction (I.Field n) m st k = taken 1 m (λ items m. S.turn P st (S.field_applied flat P n items m)) (λ xs m. turn st (S.field_applied flat P n xs m) k (λ st k. field_applied n xs m st k))
   instruction (I.Invoke n) m st k = taken (suc n) m (λ items m. S.turn P st (S.invoked_with flat P items m)) (λ xs m. turn st (S.invoked_with flat P xs m) k (λ st k. invoked_with xs m st k))
   instruction I.Appl m st k = taken 2 m (λ items m. S.turn P st (S.applied_to_elements flat P items m)) (λ xs m. turn st (S.applied_to_elements flat P xs m) k (λ st k. applied xs m st k))
   instruction (I.Mark l) m st k = k
   instruction I.Mark0 m st k = k
   instruction I.Unmark m st k = unmarked m st running k (λ m s k. k)
-  instruction I.Eret m st k = popped m (λ item m. S.with_value flat item m st (λ value. S.unmarked flat m st (S.pushed flat (Val value))))
-      (λ x m. value x m st (λ value. S.unmarked flat m st (S.pushed flat (Val value))) k (λ v. unmarked m st (S.pushed flat (Val v)) k (λ m s k. k)))
-  instruction I.Esusp m st k = popped m (λ item m. S.with_found (flats.suspend_mark m) (λ m. S.pushed flat item m st)) (λ x m. found (flats.suspend_mark m) (λ m. S.pushed flat x m st) (λ m. k))
-  instruction I.Limit m st k = popped m (λ item m. S.with_value flat item m st (λ value. S.limited flat value (integer_of value) m st))
-      (λ x m. value x m st (λ value. S.limited flat value (integer_of value) m st) k (λ v. limited v (integer_of v) m st k))
-  instruction I.Lsusp m st k = popped m (λ item m. S.with_found (flats.count_down m) (S.parted (λ count m. S.limited_result flat item count m st)))
-      (λ x m. found (flats.count_down m) (S.parted (λ count m. S.limited_result flat x count m st)) (λ y. limited_result x y.0 y.1 st k))
+  instruction I.Eret m st k = popped m (λ item m. S.with_value flat item m st (λ value. S.unmark_then flat m st (S.push_item flat (Val value))))
+      (λ x m. value x m st (λ value. S.unmark_then flat m st (S.push_item flat (Val value))) k (λ v. unmarked m st (S.push_item flat (Val v)) k (λ m s k. k)))
+  instruction I.Esusp m st k = popped m (λ item m. S.with_found (flats.suspend_mark m) (λ m. S.push_item flat item m st)) (λ x m. found (flats.suspend_mark m) (λ m. S.push_item flat x m st) (λ m. k))
+  instruction I.Limit m st k = popped m (λ item m. S.with_value flat item m st (λ value. S.limit_results flat value (integer_of value) m st))
+      (λ x m. value x m st (λ value. S.limit_results flat value (integer_of value) m st) k (λ v. limited v (integer_of v) m st k))
+  instruction I.Lsusp m st k = popped m (λ item m. S.with_found (flats.count_down m) (S.on_pair (λ count m. S.limited_result flat item count m st)))
+      (λ x m. found (flats.count_down m) (S.on_pair (λ count m. S.limited_result flat x count m st)) (λ y. limited_result x y.0 y.1 st k))
   instruction I.Efail m st k = k
   instruction (I.Chfail l) m st k = found (flats.relabel l m) (λ m. running m st) (λ m. k)
   instruction (I.Goto l) m st k = k
   instruction (I.Loop l) m st k = turn st (running (flats.go l m)) k (λ s k. k)
-  instruction I.Bscan m st k = popped m (λ item m. S.with_value flat item m st (λ value. S.made flat (text_row value (S.here flat m st)) m st (S.scan_opened flat)))
-      (λ x m. value x m st (λ value. S.made flat (text_row value (S.here flat m st)) m st (S.scan_opened flat)) k
+  instruction I.Bscan m st k = popped m (λ item m. S.with_value flat item m st (λ value. S.with_made flat (text_row value (S.here flat m st)) m st (S.scan_opened flat)))
+      (λ x m. value x m st (λ value. S.with_made flat (text_row value (S.here flat m st)) m st (S.scan_opened flat)) k
       (λ v. made (text_row v (S.here flat m st)) m st (S.scan_opened flat) (kept (rows.texts v (S.here flat m st)) k) k (λ v m s k. scan_opened v m s k)))
-  instruction I.Escan m st k = popped m (λ item m. S.exchanged (flats.swap_newest (S.pair_now st) m) (λ m. S.pushed flat item (flats.suspend Escan m)) st)
-      (λ x m. exchanged (flats.swap_newest (S.pair_now st) m) (λ m. S.pushed flat x (flats.suspend Escan m)) st k (λ m s k. k))
-  instruction I.Ccase m st k = found (flats.below m) (λ item. S.pushed flat item m st) (λ x. k)
+  instruction I.Escan m st k = popped m (λ item m. S.with_exchange (flats.swap_newest (S.pair_now st) m) (λ m. S.push_item flat item (flats.suspend Escan m)) st)
+      (λ x m. exchanged (flats.swap_newest (S.pair_now st) m) (λ m. S.push_item flat x (flats.suspend Escan m)) st k (λ m s k. k))
+  instruction I.Ccase m st k = found (flats.below m) (λ item. S.push_item flat item m st) (λ x. k)
   instruction (I.Init l) m st k = initial (slice_index_or st.begun (flats.proc m) true) l m st k
-  instruction I.Psusp m st k = popped m (λ item below. S.with_result flat item m st (λ result. S.maybe_exchanged (flats.swap_oldest (S.pair_now st) m) m st (λ m. S.returned (flats.suspend_proc m) (S.pushed flat result))))
-      (λ x below. result x m st (λ result. S.maybe_exchanged (flats.swap_oldest (S.pair_now st) m) m st (λ m. S.returned (flats.suspend_proc m) (S.pushed flat result))) k
-      (λ x. maybe_exchanged (flats.swap_oldest (S.pair_now st) m) m st (λ m. S.returned (flats.suspend_proc m) (S.pushed flat x)) k
-      (λ m s k. returned (flats.suspend_proc m) (S.pushed flat x) s k (λ m s k. k))))
-  instruction I.Pret m st k = popped m (λ item m. S.with_result flat item m st (λ result. S.returned (flats.leave m) (S.pushed flat result) (S.all_left flat m st)))
-      (λ x m. result x m st (λ result. S.returned (flats.leave m) (S.pushed flat result) (S.all_left flat m st)) k (λ x. returned (flats.leave m) (S.pushed flat x) (S.all_left flat m st) (all_left m st k) (λ m s k. k)))
+  instruction I.Psusp m st k = popped m (λ item below. S.with_result flat item m st (λ result. S.maybe_exchanged (flats.swap_oldest (S.pair_now st) m) m st (λ m. S.return_to (flats.suspend_proc m) (S.push_item flat result))))
+      (λ x below. result x m st (λ result. S.maybe_exchanged (flats.swap_oldest (S.pair_now st) m) m st (λ m. S.return_to (flats.suspend_proc m) (S.push_item flat result))) k
+      (λ x. maybe_exchanged (flats.swap_oldest (S.pair_now st) m) m st (λ m. S.return_to (flats.suspend_proc m) (S.push_item flat x)) k
+      (λ m s k. returned (flats.suspend_proc m) (S.push_item flat x) s k (λ m s k. k))))
+  instruction I.Pret m st k = popped m (λ item m. S.with_result flat item m st (λ result. S.return_to (flats.leave m) (S.push_item flat result) (S.all_left flat m st)))
+      (λ x m. result x m st (λ result. S.return_to (flats.leave m) (S.push_item flat result) (S.all_left flat m st)) k (λ x. returned (flats.leave m) (S.push_item flat x) (S.all_left flat m st) (all_left m st k) (λ m s k. k)))
   instruction I.Pfail m st k = either (S.is_create_body flat m st) stuck (S.proc_fails flat m st) tt (proc_fails m st k)
   instruction (I.Create l) m st k = turn st (S.coexp_made flat (flats.locals m) (flats.proc m) m.place (flats.go l m)) k (λ st k. coexp_made (flats.locals m) (flats.proc m) m.place (flats.go l m) st k)
   instruction I.Coact m st k = taken 2 m (λ items m. S.turn P st (S.activation_of flat items m)) (λ xs m. turn st (S.activation_of flat xs m) k (λ st k. activation_of xs m st k))
   instruction I.Coret m st k = either (S.is_create_body flat m st) (S.with_popped flat m (λ item m. S.turn P st (λ st. S.with_value flat item m st (λ value. S.result_given flat value m st)))) stuck
       (popped m (λ item m. S.turn P st (λ st. S.with_value flat item m st (λ value. S.result_given flat value m st)))
       (λ x m. turn st (λ st. S.with_value flat x m st (λ value. S.result_given flat value m st)) k (λ st k. value x m st (λ value. S.result_given flat value m st) k (λ v. result_given v m st k)))) tt
-  instruction I.Cofail m st k = either (S.is_create_body flat m st) (S.exhausted flat P m st) stuck (exhausted m st k) tt
+  instruction I.Cofail m st k = either (S.is_create_body flat m st) (S.exhaust_active flat P m st) stuck (exhausted m st k) tt
 
   step : (state : State Frames Frames) → G state → G (S.step flat P state)
   step (running m st) k = found (S.instruction_at flat P m) (λ instr. S.instruction flat P instr (flats.go (suc m.place) m) st) (λ i. instruction i (flats.go (suc m.place) m) st k)
@@ -505,7 +505,7 @@ module _ (rows : RowsKeepVariables) (P : Tables) where
   starts : (words : List (List ℕ)) (m : Frames) (st : Store Frames) (o : Option ℕ) → K st → G (S.start_of flat P words m st o)
   starts words m st None k = tt
   starts words m st (Some main) k =
-      found (slice_get P.procs main) (λ entry. S.made flat (words_row words (S.here flat m st)) m st (λ list m st. S.begun_if flat (nat_le 1 st.world.heap.bounds.levels) main entry (list ∷ []) m st))
+      found (slice_get P.procs main) (λ entry. S.with_made flat (words_row words (S.here flat m st)) m st (λ list m st. S.begun_if flat (nat_le 1 st.world.heap.bounds.levels) main entry (list ∷ []) m st))
       (λ entry. made (words_row words (S.here flat m st)) m st (λ list m st. S.begun_if flat (nat_le 1 st.world.heap.bounds.levels) main entry (list ∷ []) m st)
       (kept (rows.words words (S.here flat m st)) k) k (λ v m s k. begins (nat_le 1 s.world.heap.bounds.levels) main entry (v ∷ []) m s k))
 

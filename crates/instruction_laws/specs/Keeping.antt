@@ -14,7 +14,7 @@ use Rattle.icn_code.specs.Codes.{Tables}
 use Rattle.icn_run.specs.Calls.{Why}
 use Rattle.icn_run.specs.FlatStep.{start}
 use Rattle.icn_run.specs.Stacks.{Frames, flat}
-use Rattle.icn_run.specs.Step.{State, Store, failing, fails, hop, hopping, instruction, over, resumed, running, step, stuck}
+use Rattle.icn_run.specs.Step.{State, Store, failing, fails, hop, hopping, instruction, over, resume_by, running, step, stuck}
 use Rattle.icn_run_safe.specs.AnyOutside.{over_outside}
 use Rattle.icn_instructions.specs.Ranges.{HasVariables}
 
@@ -59,5 +59,5 @@ pub record StatesHaveVariables : Type 0 where
   pub elsewhere : (tables : Tables) (outside : Outside) (state : State Frames Frames) → StateHasVariables tables state → StateHasVariables tables (over_outside outside state)
   pub instructions : (tables : Tables) (instr : Instr) (m : Frames) (st : Store Frames) → HasVariables tables st → StateHasVariables tables (instruction flat tables instr m st)
   pub failures : (tables : Tables) (m : Frames) (st : Store Frames) → HasVariables tables st → StateHasVariables tables (fails flat tables m st)
-  pub resuming : (tables : Tables) (why : Why) (m : Frames) (st : Store Frames) → HasVariables tables st → StateHasVariables tables (resumed flat tables why m st)
+  pub resuming : (tables : Tables) (why : Why) (m : Frames) (st : Store Frames) → HasVariables tables st → StateHasVariables tables (resume_by flat tables why m st)
   pub hops : (tables : Tables) (m : Frames) (st : Store Frames) → HasVariables tables st → StateHasVariables tables (hop flat tables m st)

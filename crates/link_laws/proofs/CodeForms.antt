@@ -275,7 +275,7 @@ module _ {S : Scope} {N : X.Names} {F : List (List ℕ)} (agree : AgreeOn S N F)
         ⨾ other_creations_give D es (none_behind _ _ x) R) refl (λ p. refl)))
         (ap (λ b. if b then 0 else X.size [] e + 5 + X.creates_size D es) same)
         (λ p. (let begins : p + (X.size [] e + 5) ≡ p + X.size [] e + 5 = omega arith in
-        let first : List Instr = X.created p (X.size [] e) (X.code N [] [] (p + 2) e) in
+        let first : List Instr = X.create_code p (X.size [] e) (X.code N [] [] (p + 2) e) in
         ap (λ b. if b then [] else first ++ X.creates N (p + (X.size [] e + 5)) es) same
         ∙ ap (λ q. if X.is_no_element (More e es) then [] else first ++ X.creates N q es) begins))
 
@@ -286,7 +286,7 @@ module _ {S : Scope} {N : X.Names} {F : List (List ℕ)} (agree : AgreeOn S N F)
         plainly (created_gives (tree_gives Outermost created_context e (none_before _ _ x) [] R (refl, refl))
         ⨾ other_creations_give D es (none_behind _ _ x) R) refl
         (λ p. (let begins : p + (X.size [] e + 5) ≡ p + X.size [] e + 5 = omega arith in
-        ap (λ q. X.created p (X.size [] e) (X.code N [] [] (p + 2) e) ++ X.creates N q es) begins))
+        ap (λ q. X.create_code p (X.size [] e) (X.code N [] [] (p + 2) e) ++ X.creates N q es) begins))
 
     subscripts_give : (o : Open) (c : Context) (es : Trees) → all_faults c es ≡ [] → (V R : List X.Ways) → Within o c V → {E : List ℕ}
         → Gives S F (V ++ R) E (subscripts o es) (X.subscripts_size (depths o) es) (λ p. X.subscripts N (depths o) V p es) none

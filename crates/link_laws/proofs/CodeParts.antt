@@ -31,7 +31,7 @@ module _ {S : Scope} {F : List (List ℕ)} {W : List X.Ways} {E : List ℕ} wher
       (ap (λ k. I.Mark k ∷ c (p + 1) ++ (I.Coret ∷ I.Efail ∷ I.Cofail ∷ [])) at, end))
 
   pub created_gives : {s : Draft → Draft} {n : ℕ} {c : ℕ → List Instr} → Gives S F W E s n c none
-      → Gives S F W E (create_code s) (n + 5) (λ p. X.created p n (c (p + 2))) none
+      → Gives S F W E (create_code s) (n + 5) (λ p. X.create_code p n (c (p + 2))) none
   created_gives {n = n} {c = c} x =
       given_numbered (λ l. numbered_then (puts (U.Create l) refl ⨾ behind_gives l x)) (omega arith)
       (λ l p f.
@@ -40,7 +40,7 @@ module _ {S : Scope} {F : List (List ℕ)} {W : List X.Ways} {E : List ℕ} wher
       let begins : p + 1 + 1 ≡ p + 2 = omega arith in (
         ap (λ k. I.Create k ∷ I.Mark (p + 1 + n + 3) ∷ c (p + 1 + 1) ++ (I.Coret ∷ I.Efail ∷ I.Cofail ∷ [])) at
             ∙ ap (λ k. I.Create (p + n + 5) ∷ I.Mark k ∷ c (p + 1 + 1) ++ (I.Coret ∷ I.Efail ∷ I.Cofail ∷ [])) first
-            ∙ ap (λ q. X.created p n (c q)) begins,
+            ∙ ap (λ q. X.create_code p n (c q)) begins,
         tt,
       ))
 

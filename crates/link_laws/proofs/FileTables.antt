@@ -22,7 +22,7 @@ use Rattle.icn_unit.specs.PlainUnits.{Global as GlobalLine, Link as LinkLine}
 use Rattle.icn_link.specs.Gathering.{with_texts}
 use Rattle.icn_link.specs.Mentions as Unit
 use Rattle.icn_link.specs.Mentions.{mention_of, mentioned_in, mentioned_by, global_in, fields_in, record_name_in, record_names, function_by, function_in, functions_in, declared_names}
-use Rattle.icn_meaning.specs.Program.{texts, added, without, only, global_names, procedures_of, kinds_of, kind_names, routine_names, routines_of, function_among, function_named, is_there, names_function, used_names, undeclared_names, globals_of, statics_among}
+use Rattle.icn_meaning.specs.Program.{texts, with_more_names, without_names, only, global_names, procedures_of, kinds_of, kind_names, routine_names, routines_of, function_among, function_named, is_there, names_function, used_names, undeclared_names, globals_of, statics_among}
 use Rattle.icn_simulation.specs.Mentions.{Mention, AnInteger, AText, ASet, AField, integers_among, texts_among, sets_among, fields_among, firsts, initial_mentions, all_mentions}
 use Rattle.icn_simulation.specs.Joined.{routines, routine_mentions, code_mentions, record_fields, fields_of, strings_of, integers_of, sets_of}
 use Rattle.icn_translate.specs.FileUnits.{proc_codes, item_text, lines_in, unit_decls}
@@ -309,15 +309,15 @@ module _ (file : List Declaration) (fit : Fit (procedures_of file)) where
       let functions_of : flat_map functions_in (proc_codes file) ≡ filter names_function used =
       ap (flat_map functions_in) (codes_same file) ∙ functions_used (procedures_of file) fit in
       let new : List ℕ → Bool = λ y. not (list_any (bytes_eq y) D) in
-      let others = added [] (only names_function used) in
-      let later : without D others ≡ filter new (firsts bytes_eq (filter names_function used)) =
+      let others = with_more_names [] (only names_function used) in
+      let later : without_names D others ≡ filter new (firsts bytes_eq (filter names_function used)) =
       without_kept D others
       ∙ ap (filter new) (added_firsts (only names_function used) ∙ ap (firsts bytes_eq) (only_kept names_function used)) in
       ap (λ l. with_texts l (flat_map functions_in (proc_codes file))) declared_same
       ∙ ap (with_texts D) functions_of
       ∙ texts_all D (filter names_function used)
       ∙ ap (λ l. D ++ l) (sym later)
-      ∙ ap (λ l. l ++ without l others) (sym (added_firsts (global_names file)))
+      ∙ ap (λ l. l ++ without_names l others) (sym (added_firsts (global_names file)))
 
   pub table_fields : Unit.fields (unit_decls file) (proc_codes file) ≡ fields_of file
   unfolding field_sort

@@ -9,7 +9,7 @@ use Rattle.std.proofs.lemmas.Bool.Decides.{Decides-int_eq}
 use Rattle.std.proofs.lemmas.List.Folds.{list_any-append}
 use Rattle.std.proofs.lemmas.Slice.Eq.{bytes_eq-Decides}
 use Rattle.icn_link.specs.Gathering.{with_texts, with_integers}
-use Rattle.icn_meaning.specs.Program.{added, has_name, only, without, with_name}
+use Rattle.icn_meaning.specs.Program.{with_more_names, has_name, only, without_names, with_name}
 use Rattle.icn_simulation.specs.Mentions.{firsts}
 use Rattle.icn_translate.specs.Drafts.{with_names}
 
@@ -224,25 +224,25 @@ added_step : (known names : List (List ℕ)) (name : List ℕ) (b : Bool)
 added_step known names name true = append-nil known
 added_step known names name false = refl
 
-added_gathered : (known names : List (List ℕ)) → added known names ≡ gathered bytes_eq bytes_eq-Decides known names
+added_gathered : (known names : List (List ℕ)) → with_more_names known names ≡ gathered bytes_eq bytes_eq-Decides known names
 added_gathered known [] = refl
 added_gathered known (name ∷ names) =
-    ap (λ k. added k names) (added_step known names name (has_name name known)
+    ap (λ k. with_more_names k names) (added_step known names name (has_name name known)
     ∙ ap (λ b. if b then known else known ++ name ∷ []) (has_any name known))
     ∙ added_gathered (if list_any (bytes_eq name) known then known else known ++ name ∷ []) names
 
-pub added_firsts : (names : List (List ℕ)) → added [] names ≡ firsts bytes_eq names
+pub added_firsts : (names : List (List ℕ)) → with_more_names [] names ≡ firsts bytes_eq names
 added_firsts names = added_gathered [] names ∙ gathered_firsts bytes_eq bytes_eq-Decides names
 
 with_by : (name : List ℕ) (names : List (List ℕ)) (b : Bool) → with_name b name names ≡ cond b (name ∷ names) names
 with_by name names true = refl
 with_by name names false = refl
 
-pub without_kept : (known names : List (List ℕ)) → without known names ≡ filter (λ y. not (list_any (bytes_eq y) known)) names
+pub without_kept : (known names : List (List ℕ)) → without_names known names ≡ filter (λ y. not (list_any (bytes_eq y) known)) names
 without_kept known [] = refl
 without_kept known (name ∷ names) =
-    with_by name (without known names) (not (has_name name known))
-    ∙ ap (λ b. cond (not b) (name ∷ without known names) (without known names)) (has_any name known)
+    with_by name (without_names known names) (not (has_name name known))
+    ∙ ap (λ b. cond (not b) (name ∷ without_names known names) (without_names known names)) (has_any name known)
     ∙ ap (λ ys. cond (not (list_any (bytes_eq name) known)) (name ∷ ys) ys) (without_kept known names)
 
 pub only_kept : (test : List ℕ → Bool) (names : List (List ℕ)) → only test names ≡ filter test names

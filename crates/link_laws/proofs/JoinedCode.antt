@@ -27,7 +27,7 @@ use Rattle.icn_link.specs.Joined.{records_in, proc_entry, cset_of, joined_of, sc
 use Rattle.icn_link.specs.Mentions.{AllMentions, all_mentions, mention_of, mentioned_in, mentioned_by, set_in, global_in, record_names, declared_names}
 use Rattle.icn_link.specs.Mentions as Mentions
 use Rattle.icn_link.specs.Units.{all_decls, all_procs}
-use Rattle.icn_meaning.specs.Program.{joined, texts, has_name, global_names, procedures_of, kinds_of, kind_names, routine_names, routine_of, routines_of, function_named, globals_of, statics_among, place_of, later}
+use Rattle.icn_meaning.specs.Program.{joined_declarations, texts, has_name, global_names, procedures_of, kinds_of, kind_names, routine_names, routine_of, routines_of, function_named, globals_of, statics_among, place_of, later}
 use Rattle.icn_run.specs.Step.{members_of}
 use Rattle.icn_simulation.specs.Faultless.{IsFaultless}
 use Rattle.icn_simulation.specs.Joined as Law
@@ -289,57 +289,57 @@ fit_both (Invocable place items ∷ rest) others h g = fit_both rest others h g
 fit_both (Record place name fields ∷ rest) others h g = fit_both rest others h g
 fit_both (ProcedureOf p ∷ rest) others h g = (h.0, fit_both rest others h.1 g)
 
-files_fit : (files : List (List Declaration)) → All IsFaultless files → Fit (procedures_of (joined files))
+files_fit : (files : List (List Declaration)) → All IsFaultless files → Fit (procedures_of (joined_declarations files))
 files_fit [] h = tt
 files_fit (file ∷ files) h =
-    fit_both file (joined files) (faultless_fit file (h 0 file (omega arith))) (files_fit files (λ k d l. h (suc k) d (omega arith)))
+    fit_both file (joined_declarations files) (faultless_fit file (h 0 file (omega arith))) (files_fit files (λ k d l. h (suc k) d (omega arith)))
 
 files_sets : (files : List (List Declaration)) → All IsFaultless files
-    → list_all set_fits (mentioned_by set_in (proc_codes (joined files))) ≡ true
+    → list_all set_fits (mentioned_by set_in (proc_codes (joined_declarations files))) ≡ true
 files_sets [] h = refl
 files_sets (file ∷ files) h =
     let first = h 0 file (omega arith) in
-    ap (list_all set_fits) (ap (mentioned_by set_in) (flat_map-append codes_in file (joined files))
-    ∙ flat_map-append (mentioned_in set_in) (proc_codes file) (proc_codes (joined files)))
-    ∙ list_all-append set_fits (mentioned_by set_in (proc_codes file)) (mentioned_by set_in (proc_codes (joined files)))
+    ap (list_all set_fits) (ap (mentioned_by set_in) (flat_map-append codes_in file (joined_declarations files))
+    ∙ flat_map-append (mentioned_in set_in) (proc_codes file) (proc_codes (joined_declarations files)))
+    ∙ list_all-append set_fits (mentioned_by set_in (proc_codes file)) (mentioned_by set_in (proc_codes (joined_declarations files)))
     ∙ both (file_sets none_met file first.context (written file first)) (files_sets files (λ k d l. h (suc k) d (omega arith)))
 
 files_join : (files : List (List Declaration)) → All IsFaultless files
-    → IsCodeOf (joined files) (joined_of (unit_decls (joined files)) (proc_codes (joined files)))
+    → IsCodeOf (joined_declarations files) (joined_of (unit_decls (joined_declarations files)) (proc_codes (joined_declarations files)))
 files_join files h =
     let fit = files_fit files h in
-    let mentions = mentioned_by set_in (proc_codes (joined files)) in
+    let mentions = mentioned_by set_in (proc_codes (joined_declarations files)) in
     record {
       csets = sets_back (with_texts [] mentions)
           (ap (list_all set_fits) (texts_firsts mentions) ∙ firsts_fit set_fits mentions (files_sets files h))
-          ∙ table_sets (joined files) fit;
-      others = tables_same (joined files) fit;
+          ∙ table_sets (joined_declarations files) fit;
+      others = tables_same (joined_declarations files) fit;
     }
 
 -- Their units
 
 decls_joined : (names : List (List ℕ)) (files : List (List Declaration)) → length names ≡ length files
-    → all_decls (translated_units names files) ≡ unit_decls (joined files)
+    → all_decls (translated_units names files) ≡ unit_decls (joined_declarations files)
 decls_joined [] [] e = refl
 decls_joined [] (file ∷ files) e = absurd (omega (arith, e))
 decls_joined (name ∷ names) [] e = absurd (omega (arith, e))
 decls_joined (name ∷ names) (file ∷ files) e =
-    ap (λ l. unit_decls file ++ l) (decls_joined names files (omega (arith, e))) ∙ sym (flat_map-append lines_in file (joined files))
+    ap (λ l. unit_decls file ++ l) (decls_joined names files (omega (arith, e))) ∙ sym (flat_map-append lines_in file (joined_declarations files))
 
 procs_joined : (names : List (List ℕ)) (files : List (List Declaration)) → length names ≡ length files
-    → all_procs (translated_units names files) ≡ proc_codes (joined files)
+    → all_procs (translated_units names files) ≡ proc_codes (joined_declarations files)
 procs_joined [] [] e = refl
 procs_joined [] (file ∷ files) e = absurd (omega (arith, e))
 procs_joined (name ∷ names) [] e = absurd (omega (arith, e))
 procs_joined (name ∷ names) (file ∷ files) e =
-    ap (λ l. proc_codes file ++ l) (procs_joined names files (omega (arith, e))) ∙ sym (flat_map-append codes_in file (joined files))
+    ap (λ l. proc_codes file ++ l) (procs_joined names files (omega (arith, e))) ∙ sym (flat_map-append codes_in file (joined_declarations files))
 
 pub units_join : (names : List (List ℕ)) (files : List (List Declaration)) → length names ≡ length files → All IsFaultless files
     → Joined files (Linked.joined (translated_units names files))
 units_join names files same h =
     let decls = decls_joined names files same in
     let procs = procs_joined names files same in
-    subst (λ (tables : Tables). IsCodeOf (joined files) tables) (λ i. joined_of (sym decls i) (sym procs i)) (files_join files h)
+    subst (λ (tables : Tables). IsCodeOf (joined_declarations files) tables) (λ i. joined_of (sym decls i) (sym procs i)) (files_join files h)
 
 -- one file
 pub unit_joins : (name : List ℕ) (file : List Declaration) → IsFaultless file → Joined (file ∷ []) (Linked.joined (translated_unit name file ∷ []))

@@ -22,7 +22,7 @@ use Rattle.icn_unit.specs.UnitOperands.{keyword_of}
 use Rattle.icn_link.specs.Mentions as Unit
 use Rattle.icn_meaning.specs.Program.{names_in, names_in_all, names_in_maybe, names_in_guarded, names_in_default, names_in_initial}
 use Rattle.icn_simulation.specs.Mentions.{Mention, AnInteger, AText, ASet, AField, literal_mention, mentions, all_mentions, maybe_mentions, step_mentions, guarded_mentions, default_mentions, initial_mentions}
-use Rattle.icn_simulation.proofs.Formed.{IsInfix, Formed, FormedMaybe, FormedSome, FormedAll, FormedClauses, FormedInitial}
+use Rattle.icn_simulation.proofs.TreeForms.{IsInfix, Formed, FormedMaybe, FormedSome, FormedAll, FormedClauses, FormedInitial}
 use Rattle.icn_translate.specs.declared.builder.Ways.{Ways}
 use Rattle.icn_translate.specs.declared.forms.InfixForm.{InfixForm}
 use Rattle.icn_translate.specs.declared.forms.InfixForm.TheVariants.{Both, Scanning, Either, Limiting, Activating, Spreading, Operating}

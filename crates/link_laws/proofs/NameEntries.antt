@@ -26,10 +26,10 @@ use Rattle.icn_link.specs.declared.variable.Variable.{Variable}
 use Rattle.icn_link.specs.declared.variable.Variable.TheVariants.{Local, Static, Global}
 use Rattle.icn_link.specs.Gathering.{text_place}
 use Rattle.icn_link.specs.Joined.{is_among, variable_by as variable_of_kind, variable_of, variable_instr, locals_behind, statics_behind, variables, variable_at, is_local, is_static, locals_in, statics_in}
-use Rattle.icn_meaning.specs.Program.{place_of, later, texts, locals_among, statics_among, own_names, undeclared_names, without, names_in_initial, names_in_all}
+use Rattle.icn_meaning.specs.Program.{place_of, later, texts, locals_among, statics_among, own_names, undeclared_names, without_names, names_in_initial, names_in_all}
 use Rattle.icn_simulation.specs.Joined.{variable_by}
 use Rattle.icn_simulation.specs.Mentions.{firsts}
-use Rattle.icn_simulation.proofs.Formed.{FormedInitial, FormedAll}
+use Rattle.icn_simulation.proofs.TreeForms.{FormedInitial, FormedAll}
 use Rattle.icn_translate.specs.ProcCodes.{entry_of, texts_of, kind_of, local_entries, local_texts, declared_texts, first_draft, draft_of, undeclared, proc_code}
 use Rattle.icn_units.proofs.EntryNames.{begun_names, code_names, code_names_differ, names_length}
 use Rattle.icn_units.proofs.Naming.{both_of, neither_of, was_not}
@@ -441,10 +441,10 @@ undeclared_same procedure h =
     ∙ filter_by (λ y. not (list_any (bytes_eq y) B)) (λ y. not (list_any (bytes_eq y) K)) (λ y. ap not (same y)) (firsts bytes_eq (uses procedure))
     ∙ sym (firsts_kept bytes_eq bytes_eq-Decides (λ y. not (list_any (bytes_eq y) K)) (uses procedure))
     ∙ ap (firsts bytes_eq) (sym (without_kept K (uses procedure)))
-    ∙ sym (added_firsts (without K (uses procedure)))
+    ∙ sym (added_firsts (without_names K (uses procedure)))
 
 pub locals_same : (globals : List (List ℕ)) (procedure : Procedure) → IsFit procedure
-    → local_names globals (proc_code procedure).names ≡ own_names procedure ++ without globals (undeclared_names procedure)
+    → local_names globals (proc_code procedure).names ≡ own_names procedure ++ without_names globals (undeclared_names procedure)
 locals_same globals procedure h =
     let test = is_local_in globals in
     let parameters = map (λ (name : Name). entry_of Kinds.Parameter name.text) procedure.parameters in
@@ -455,7 +455,7 @@ locals_same globals procedure h =
     ∙ ap (λ l. l ++ entry_names (filter test locals)) (all_pass test Kinds.Parameter procedure.parameters (λ text. refl))
     ∙ ap (λ l. texts procedure.parameters ++ l) (declared_locals globals procedure.locals))
     ∙ ap (λ l. own_names procedure ++ l) (others_pass test (λ y. not (list_any (bytes_eq y) globals)) (undeclared procedure) (local_test globals)
-    ∙ sym (without_kept globals (undeclared procedure)) ∙ ap (without globals) (undeclared_same procedure h))
+    ∙ sym (without_kept globals (undeclared procedure)) ∙ ap (without_names globals) (undeclared_same procedure h))
 
 pub statics_same : (globals : List (List ℕ)) (procedure : Procedure)
     → static_names globals (proc_code procedure).names ≡ statics_among procedure.locals
@@ -475,7 +475,7 @@ statics_same globals procedure =
 pub variable_same : (globals : List (List ℕ)) (procedure : Procedure) (h : IsFit procedure) (name : List ℕ)
     → list_any (bytes_eq name) (draft_of procedure).names ≡ true
     → variable_at (variables globals 0 0 (proc_code procedure).names) (position_or_len (bytes_eq name) (draft_of procedure).names)
-    ≡ variable_by (place_of name (own_names procedure ++ without globals (undeclared_names procedure)))
+    ≡ variable_by (place_of name (own_names procedure ++ without_names globals (undeclared_names procedure)))
     (place_of name (statics_among procedure.locals)) (place_of name globals)
 variable_same globals procedure h name among =
     let entries = (proc_code procedure).names in
@@ -485,5 +485,5 @@ variable_same globals procedure h name among =
     ∙ stands globals name entries 0 0 (there, code_names_differ h.met procedure h.faultless)
     ∙ ap (λ o. variable_by o (shifted 0 (place_of name (static_names globals entries))) (place_of name globals))
     (unshifted (place_of name (local_names globals entries)) ∙ ap (place_of name) (locals_same globals procedure h))
-    ∙ ap (λ o. variable_by (place_of name (own_names procedure ++ without globals (undeclared_names procedure))) o (place_of name globals))
+    ∙ ap (λ o. variable_by (place_of name (own_names procedure ++ without_names globals (undeclared_names procedure))) o (place_of name globals))
     (unshifted (place_of name (static_names globals entries)) ∙ ap (place_of name) (statics_same globals procedure))

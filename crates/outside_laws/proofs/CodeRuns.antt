@@ -16,7 +16,7 @@ use Rattle.icn_defs.specs.Keywords.{keyword_item}
 use Rattle.icn_defs.specs.Rows.{Outcome, Fails, Gives, Suspends, Error, Ends}
 use Rattle.icn_defs.specs.Running.{Pair, Ending, Done, bound_report, Launch, Observed, words_row, number_of, after_steps}
 use Rattle.icn_defs.specs.StepRows.{Operation, Function, apply, value_row, list_row, text_row, record_row, coexpression_row}
-use Rattle.icn_run.specs.Calls.{Why, Alt, Op as Operating, Scan, Escan, Proc, Dropped, NoMark, Goes, Repeats, Outside as WithoutLabel, Calls}
+use Rattle.icn_run.specs.Calls.{Why, Alt, Op as Operating, Scan, Escan, Proc, MarkDrop, NoMark, Goes, Repeats, Outside as WithoutLabel, Calls}
 use Rattle.icn_run.specs.Step as S
 use Rattle.icn_run.specs.Step.{Program, Status, Fresh, Active, Waiting, Exhausted, Coexp, Store, State, running, failing, hopping, over, stuck, Callee, IsProc, IsRecord, IsFunc, IsNothing}
 use Rattle.outside_laws.specs.Outsides.{LeavesOutside}
@@ -40,7 +40,7 @@ module _ {H M : Type 0} (C : Calls H M) (P : Program) (b : Lasting) where
   found None go f = tt
 
   -- what comes in pairs
-  parted : {A B : Type 0} (o : Option (A × B)) (go : A → B → State H M) → ((x : A) (y : B) → G (go x y)) → G (S.with_found o (S.parted go))
+  parted : {A B : Type 0} (o : Option (A × B)) (go : A → B → State H M) → ((x : A) (y : B) → G (go x y)) → G (S.with_found o (S.on_pair go))
   parted (Some x) go f = f x.0 x.1
   parted None go f = tt
 
@@ -56,7 +56,7 @@ module _ {H M : Type 0} (C : Calls H M) (P : Program) (b : Lasting) where
   turn : (st : Store H) (go : Store H → State H M) → K st → ((s : Store H) → K s → G (go s)) → G (S.turn P st go)
   turn st go k f = turn_if (nat_lt st.turns st.world.heap.bounds.turns) st go k f
 
-  valued : (o : Outcome) (m : M) (st : Store H) (go : Value → State H M) → K st → ((v : Value) → G (go v)) → G (S.valued o m st go)
+  valued : (o : Outcome) (m : M) (st : Store H) (go : Value → State H M) → K st → ((v : Value) → G (go v)) → G (S.with_given o m st go)
   valued (Gives (Val v) s) m st go k f = f v
   valued (Gives (Var x) s) m st go k f = k
   valued (Error n v s) m st go k f = errs n v st k
@@ -64,7 +64,7 @@ module _ {H M : Type 0} (C : Calls H M) (P : Program) (b : Lasting) where
   valued (Suspends x r s) m st go k f = k
   valued (Ends n s) m st go k f = k
 
-  made : (o : Outcome) (m : M) (st : Store H) (go : Value → M → Store H → State H M) → K st → LeavesOutside b.is o → ((v : Value) (m : M) (s : Store H) → K s → G (go v m s)) → G (S.made C o m st go)
+  made : (o : Outcome) (m : M) (st : Store H) (go : Value → M → Store H → State H M) → K st → LeavesOutside b.is o → ((v : Value) (m : M) (s : Store H) → K s → G (go v m s)) → G (S.with_made C o m st go)
   made (Gives (Val v) s) m st go k l f = f v (C.set_locals s.locals m) (S.with_at s st) l
   made (Gives (Var x) s) m st go k l f = k
   made (Error n v s) m st go k l f = errs n v (S.with_at s st) l
@@ -91,7 +91,7 @@ module _ {H M : Type 0} (C : Calls H M) (P : Program) (b : Lasting) where
 
   -- Scans
 
-  exchanged : (o : Option (Pair × M)) (go : M → Store H → State H M) (st : Store H) → K st → ((m : M) (s : Store H) → K s → G (go m s)) → G (S.exchanged o go st)
+  exchanged : (o : Option (Pair × M)) (go : M → Store H → State H M) (st : Store H) → K st → ((m : M) (s : Store H) → K s → G (go m s)) → G (S.with_exchange o go st)
   exchanged (Some x) go st k f = f x.1 (S.with_pair x.0 st) k
   exchanged None go st k f = tt
 
@@ -110,7 +110,7 @@ module _ {H M : Type 0} (C : Calls H M) (P : Program) (b : Lasting) where
   all_left : (m : M) (st : Store H) → K st → K (S.all_left C m st)
   all_left m st k = swapped_back (C.swap_oldest (S.pair_now st) m) st k
 
-  unmarked : (m : M) (st : Store H) (go : M → Store H → State H M) → K st → ((m : M) (s : Store H) → K s → G (go m s)) → G (S.unmarked C m st go)
+  unmarked : (m : M) (st : Store H) (go : M → Store H → State H M) → K st → ((m : M) (s : Store H) → K s → G (go m s)) → G (S.unmark_then C m st go)
   unmarked m st go k f = parted (C.unmark m) (λ outside pair. go outside (S.scans_left pair st)) (λ m pair. f m (S.scans_left pair st) (left pair st k))
 
   -- Co-expressions
@@ -133,20 +133,20 @@ module _ {H M : Type 0} (C : Calls H M) (P : Program) (b : Lasting) where
   hop : (m : M) (st : Store H) → K st → G (S.hop C P m st)
   hop m st k = turn st (λ st. S.passed_failure C (S.activator_of st.active st) m st) k (λ st k. to_activator (S.activator_of st.active st) m st k)
 
-  exhausted : (m : M) (st : Store H) → K st → G (S.exhausted C P m st)
+  exhausted : (m : M) (st : Store H) → K st → G (S.exhaust_active C P m st)
   exhausted m st k = turn st (λ st. S.passed_failure C (S.activator_of st.active st) m (S.with_status st.active Exhausted st)) k (λ st k. to_activator (S.activator_of st.active st) m (S.with_status st.active Exhausted st) k)
 
   result_given : (v : Value) (m : M) (st : Store H) → K st → G (S.result_given C v m st)
   result_given v m st k = let s = S.counted_result st.active (S.with_status st.active (Waiting (C.kept m)) st) in let n = S.activator_of st.active st in give_by (S.status_of n s) n v m s k
 
   coexp_made : (vs : List Value) (proc place : ℕ) (m : M) (st : Store H) → K st → G (S.coexp_made C vs proc place m st)
-  coexp_made vs proc place m st k = made (coexpression_row (length vs) (S.here C m st)) m st (λ value m st. S.pushed C (Val value) m (S.with_new vs proc place st)) k (coexpression_leaves b (length vs) (S.here C m st) k) (λ v m s k. k)
+  coexp_made vs proc place m st k = made (coexpression_row (length vs) (S.here C m st)) m st (λ value m st. S.push_item C (Val value) m (S.with_new vs proc place st)) k (coexpression_leaves b (length vs) (S.here C m st) k) (λ v m s k. k)
 
   refreshed_from : (o : Option (Coexp H)) (m : M) (st : Store H) → K st → G (S.refreshed_from C o m st)
   refreshed_from (Some co) m st k = coexp_made co.values co.proc co.place m st k
   refreshed_from None m st k = tt
 
-  refreshed : (v : Value) (m : M) (st : Store H) → K st → G (S.refreshed C v m st)
+  refreshed : (v : Value) (m : M) (st : Store H) → K st → G (S.refresh C v m st)
   refreshed (ACoexp zero) m st k = errs 215 (Some (ACoexp zero)) st k
   refreshed (ACoexp (suc n)) m st k = refreshed_from (slice_get st.coexps (suc n)) m st k
   refreshed v m st k = errs 118 (Some v) st k
@@ -162,38 +162,38 @@ module _ {H M : Type 0} (C : Calls H M) (P : Program) (b : Lasting) where
 
   -- Procedures
 
-  collected : (t : Bool) (n : ℕ) (vs : List Value) (m : M) (st : Store H) (go : List Value → M → Store H → State H M) → K st → ((vs : List Value) (m : M) (s : Store H) → K s → G (go vs m s)) → G (S.collected C t n vs m st go)
-  collected false n vs m st go k f = f (S.filled n vs) m st k
-  collected true n vs m st go k f = list_made (drop (n - 1) vs) m st (λ rest m st. go (S.filled (n - 1) vs ++ rest ∷ []) m st) k (λ rest m st k. f (S.filled (n - 1) vs ++ rest ∷ []) m st k)
+  collected : (t : Bool) (n : ℕ) (vs : List Value) (m : M) (st : Store H) (go : List Value → M → Store H → State H M) → K st → ((vs : List Value) (m : M) (s : Store H) → K s → G (go vs m s)) → G (S.collect_rest C t n vs m st go)
+  collected false n vs m st go k f = f (S.fill_nulls n vs) m st k
+  collected true n vs m st go k f = list_made (drop (n - 1) vs) m st (λ rest m st. go (S.fill_nulls (n - 1) vs ++ rest ∷ []) m st) k (λ rest m st k. f (S.fill_nulls (n - 1) vs ++ rest ∷ []) m st k)
 
   called_if : (t : Bool) (n : ℕ) (entry : Procedure) (vs : List Value) (m : M) (st : Store H) → K st → G (S.called_if C t n entry vs m st)
-  called_if true n entry vs m st k = collected entry.collects entry.parameters vs m st (λ parameters m st. S.entered C n entry parameters m st) k (λ vs m st k. k)
+  called_if true n entry vs m st k = collected entry.collects entry.parameters vs m st (λ parameters m st. S.enter_procedure C n entry parameters m st) k (λ vs m st k. k)
   called_if false n entry vs m st k = errs 301 None st k
 
-  constructed : (n : ℕ) (entry : RecordType) (vs : List Value) (m : M) (st : Store H) → K st → G (S.constructed C n entry vs m st)
-  constructed n entry vs m st k = let fs = S.filled (length entry.fields) vs in made (record_row n fs (S.here C m st)) m st (λ value m st. S.pushed C (Val value) m st) k (record_leaves b n fs (S.here C m st) k) (λ v m s k. k)
+  constructed : (n : ℕ) (entry : RecordType) (vs : List Value) (m : M) (st : Store H) → K st → G (S.construct_record C n entry vs m st)
+  constructed n entry vs m st k = let fs = S.fill_nulls (length entry.fields) vs in made (record_row n fs (S.here C m st)) m st (λ value m st. S.push_item C (Val value) m st) k (record_leaves b n fs (S.here C m st) k) (λ v m s k. k)
 
   pushed_or_fails : (o : Option Item) (m : M) (st : Store H) → K st → G (S.pushed_or_fails C o m st)
   pushed_or_fails (Some x) m st k = k
   pushed_or_fails None m st k = k
 
   integer_called : (f : Value) (o : Option ℤ) (xs : List Item) (m : M) (st : Store H) → K st → G (S.integer_called C f o xs m st)
-  integer_called f (Some n) xs m st k = pushed_or_fails (S.chosen n xs) m st k
+  integer_called f (Some n) xs m st k = pushed_or_fails (S.choose_item n xs) m st k
   integer_called f None xs m st k = errs 106 (Some f) st k
 
   callee_called : (c : Callee) (n : ℕ) (xs : List Item) (m : M) (st : Store H) → K st → G (S.callee_called C c n xs m st)
-  callee_called (IsProc entry) n xs m st k = values xs m st (λ arguments. S.called C n entry arguments m st) k (λ vs. called_if (nat_le (suc (C.level m)) st.world.heap.bounds.levels) n entry vs m st k)
-  callee_called (IsRecord kind entry) n xs m st k = values xs m st (λ arguments. S.constructed C kind entry arguments m st) k (λ vs. constructed kind entry vs m st k)
+  callee_called (IsProc entry) n xs m st k = values xs m st (λ arguments. S.call_procedure C n entry arguments m st) k (λ vs. called_if (nat_le (suc (C.level m)) st.world.heap.bounds.levels) n entry vs m st k)
+  callee_called (IsRecord kind entry) n xs m st k = values xs m st (λ arguments. S.construct_record C kind entry arguments m st) k (λ vs. constructed kind entry vs m st k)
   callee_called (IsFunc func) n xs m st k = outcome (apply st.names (Function func) xs (S.here C m st)) m st (function_leaves b st.names func xs (S.here C m st) k)
   callee_called IsNothing n xs m st k = errs 106 (Some (ProcedureValue n)) st k
 
-  invoked : (f : Value) (xs : List Item) (m : M) (st : Store H) → K st → G (S.invoked C P f xs m st)
+  invoked : (f : Value) (xs : List Item) (m : M) (st : Store H) → K st → G (S.invoke_value C P f xs m st)
   invoked (ProcedureValue n) xs m st k = callee_called (S.callee_of P n) n xs m st k
   invoked f xs m st k = integer_called f (number_of f) xs m st k
 
   invoked_with : (xs : List Item) (m : M) (st : Store H) → K st → G (S.invoked_with C P xs m st)
   invoked_with [] m st k = tt
-  invoked_with (x ∷ xs) m st k = value x m st (λ value. S.invoked C P value xs m st) k (λ f. invoked f xs m st k)
+  invoked_with (x ∷ xs) m st k = value x m st (λ value. S.invoke_value C P value xs m st) k (λ f. invoked f xs m st k)
 
   elements_called : (f from : Value) (m : M) (st : Store H) → K st → G (S.elements_called C P f from m st)
   elements_called f (AList n) m st k = invoked f (map S.plain (list_at st.world.heap n).items) m st k
@@ -223,7 +223,7 @@ module _ {H M : Type 0} (C : Calls H M) (P : Program) (b : Lasting) where
   finished true st k = k
   finished false st k = tt
 
-  returned : (o : Option M) (go : M → Store H → State H M) (st : Store H) → K st → ((m : M) (s : Store H) → K s → G (go m s)) → G (S.returned o go st)
+  returned : (o : Option M) (go : M → Store H → State H M) (st : Store H) → K st → ((m : M) (s : Store H) → K s → G (go m s)) → G (S.return_to o go st)
   returned (Some m) go st k f = f m st k
   returned None go st k f = finished (S.is_main st.active) st k
 
@@ -237,15 +237,15 @@ module _ {H M : Type 0} (C : Calls H M) (P : Program) (b : Lasting) where
   either false x y f g = g
 
   without_mark : (m : M) (st : Store H) → K st → G (S.without_mark C P m st)
-  without_mark m st k = either (S.is_create_body C m st) (S.exhausted C P m st) (S.proc_fails C m st) (exhausted m st k) (proc_fails m st k)
+  without_mark m st k = either (S.is_create_body C m st) (S.exhaust_active C P m st) (S.proc_fails C m st) (exhausted m st k) (proc_fails m st k)
 
-  dropped : (m : M) (st : Store H) (d : Dropped M) → K st → G (S.mark_dropped C P m st d)
+  dropped : (m : M) (st : Store H) (d : MarkDrop M) → K st → G (S.mark_dropped C P m st d)
   dropped m st NoMark k = without_mark m st k
   dropped m st (Goes a) k = k
   dropped m st (Repeats a) k = turn st (running a) k (λ s k. k)
   dropped m st (WithoutLabel a) k = k
 
-  resumed : (why : Why) (m : M) (st : Store H) → K st → G (S.resumed C P why m st)
+  resumed : (why : Why) (m : M) (st : Store H) → K st → G (S.resume_by C P why m st)
   resumed Alt m st k = k
   resumed (Operating r) m st k = turn st (λ st. S.outcome C (again r (S.here C m st)) m st) k (λ st k. outcome (again r (S.here C m st)) m st (again_leaves b r (S.here C m st) k))
   resumed (Scan pair) m st k = k
@@ -264,15 +264,15 @@ module _ {H M : Type 0} (C : Calls H M) (P : Program) (b : Lasting) where
   taken : (n : ℕ) (m : M) (go : List Item → M → State H M) → ((xs : List Item) (m : M) → G (go xs m)) → G (S.with_taken C n m go)
   taken n m go f = parted (C.take n m) go f
 
-  limited : (v : Value) (o : Option ℤ) (m : M) (st : Store H) → K st → G (S.limited C v o m st)
+  limited : (v : Value) (o : Option ℤ) (m : M) (st : Store H) → K st → G (S.limit_results C v o m st)
   limited v None m st k = errs 101 (Some v) st k
   limited v (Some (negsuc n)) m st k = errs 205 (Some v) st k
   limited v (Some (pos zero)) m st k = k
   limited v (Some (pos (suc n))) m st k = k
 
   limited_result : (x : Item) (n : ℕ) (m : M) (st : Store H) → K st → G (S.limited_result C x n m st)
-  limited_result x zero m st k = unmarked m st (S.pushed C x) k (λ m s k. k)
-  limited_result x (suc n) m st k = found (C.suspend_mark m) (λ after. S.pushed C x after st) (λ m. k)
+  limited_result x zero m st k = unmarked m st (S.push_item C x) k (λ m s k. k)
+  limited_result x (suc n) m st k = found (C.suspend_mark m) (λ after. S.push_item C x after st) (λ m. k)
 
   scan_opened : (v : Value) (m : M) (st : Store H) → K st → G (S.scan_opened C v m st)
   scan_opened (Text text) m st k = k
@@ -288,8 +288,8 @@ module _ {H M : Type 0} (C : Calls H M) (P : Program) (b : Lasting) where
   activation_of (x ∷ y ∷ []) m st k = value x m st (λ value. S.with_value C y m st (λ other. S.activation C value other m st)) k (λ v. value y m st (λ other. S.activation C v other m st) k (λ to. activation v to m st k))
   activation_of (x ∷ y ∷ z ∷ xs) m st k = tt
 
-  operated : (op : Op) (xs : List Item) (m : M) (st : Store H) → K st → G (S.operated C op xs m st)
-  operated Ops.Refresh (x ∷ xs) m st k = value x m st (λ value. S.refreshed C value m st) k (λ v. refreshed v m st k)
+  operated : (op : Op) (xs : List Item) (m : M) (st : Store H) → K st → G (S.operate C op xs m st)
+  operated Ops.Refresh (x ∷ xs) m st k = value x m st (λ value. S.refresh C value m st) k (λ v. refreshed v m st k)
   operated op xs m st k = outcome (apply st.names (Operation op) xs (S.here C m st)) m st (operation_leaves b op xs (S.here C m st) k)
 
   field_applied : (field : ℕ) (xs : List Item) (m : M) (st : Store H) → K st → G (S.field_applied C P field xs m st)
@@ -298,50 +298,50 @@ module _ {H M : Type 0} (C : Calls H M) (P : Program) (b : Lasting) where
 
   instruction : (i : Instr) (m : M) (st : Store H) → K st → G (S.instruction C P i m st)
   instruction I.Pnull m st k = k
-  instruction (I.Int n) m st k = found (slice_get P.integers n) (λ n. S.pushed C (Val (Integer n)) m st) (λ x. k)
-  instruction (I.Str n) m st k = found (slice_get P.strings n) (λ bytes. S.pushed C (Val (Text bytes)) m st) (λ x. k)
-  instruction (I.Cset n) m st k = found (slice_get P.csets n) (λ set. S.pushed C (Val (Chars (S.members_of set))) m st) (λ x. k)
+  instruction (I.Int n) m st k = found (slice_get P.integers n) (λ n. S.push_item C (Val (Integer n)) m st) (λ x. k)
+  instruction (I.Str n) m st k = found (slice_get P.strings n) (λ bytes. S.push_item C (Val (Text bytes)) m st) (λ x. k)
+  instruction (I.Cset n) m st k = found (slice_get P.csets n) (λ set. S.push_item C (Val (Chars (S.members_of set))) m st) (λ x. k)
   instruction (I.Local n) m st k = k
   instruction (I.Static n) m st k = k
   instruction (I.Global n) m st k = k
-  instruction (I.Keywd word) m st k = pushed_or_fails (keyword_item (S.standing C m st) word) m st k
+  instruction (I.Keywd word) m st k = pushed_or_fails (keyword_item (S.standing_of C m st) word) m st k
   instruction I.Pop m st k = popped m (λ item m. running m st) (λ x m. k)
-  instruction I.Dup m st k = popped m (λ item below. S.pushed C item m st) (λ x m. k)
-  instruction (I.Op op) m st k = taken (arity op) m (λ items m. S.turn P st (S.operated C op items m)) (λ xs m. turn st (S.operated C op xs m) k (λ st k. operated op xs m st k))
-  instruction (I.Llist n) m st k = taken n m (λ items m. S.turn P st (λ st. S.with_values C items m st (λ values. S.list_made C values m st (λ list m st. S.pushed C (Val list) m st))))
-      (λ xs m. turn st (λ st. S.with_values C xs m st (λ values. S.list_made C values m st (λ list m st. S.pushed C (Val list) m st))) k
-      (λ st k. values xs m st (λ values. S.list_made C values m st (λ list m st. S.pushed C (Val list) m st)) k (λ vs. list_made vs m st (λ list m st. S.pushed C (Val list) m st) k (λ v m s k. k))))
+  instruction I.Dup m st k = popped m (λ item below. S.push_item C item m st) (λ x m. k)
+  instruction (I.Op op) m st k = taken (arity op) m (λ items m. S.turn P st (S.operate C op items m)) (λ xs m. turn st (S.operate C op xs m) k (λ st k. operated op xs m st k))
+  instruction (I.Llist n) m st k = taken n m (λ items m. S.turn P st (λ st. S.with_values C items m st (λ values. S.list_made C values m st (λ list m st. S.push_item C (Val list) m st))))
+      (λ xs m. turn st (λ st. S.with_values C xs m st (λ values. S.list_made C values m st (λ list m st. S.push_item C (Val list) m st))) k
+      (λ st k. values xs m st (λ values. S.list_made C values m st (λ list m st. S.push_item C (Val list) m st)) k (λ vs. list_made vs m st (λ list m st. S.push_item C (Val list) m st) k (λ v m s k. k))))
   instruction (I.Field n) m st k = taken 1 m (λ items m. S.turn P st (S.field_applied C P n items m)) (λ xs m. turn st (S.field_applied C P n xs m) k (λ st k. field_applied n xs m st k))
   instruction (I.Invoke n) m st k = taken (suc n) m (λ items m. S.turn P st (S.invoked_with C P items m)) (λ xs m. turn st (S.invoked_with C P xs m) k (λ st k. invoked_with xs m st k))
   instruction I.Appl m st k = taken 2 m (λ items m. S.turn P st (S.applied_to_elements C P items m)) (λ xs m. turn st (S.applied_to_elements C P xs m) k (λ st k. applied xs m st k))
   instruction (I.Mark l) m st k = k
   instruction I.Mark0 m st k = k
   instruction I.Unmark m st k = unmarked m st running k (λ m s k. k)
-  instruction I.Eret m st k = popped m (λ item m. S.with_value C item m st (λ value. S.unmarked C m st (S.pushed C (Val value))))
-      (λ x m. value x m st (λ value. S.unmarked C m st (S.pushed C (Val value))) k (λ v. unmarked m st (S.pushed C (Val v)) k (λ m s k. k)))
-  instruction I.Esusp m st k = popped m (λ item m. S.with_found (C.suspend_mark m) (λ m. S.pushed C item m st)) (λ x m. found (C.suspend_mark m) (λ m. S.pushed C x m st) (λ m. k))
-  instruction I.Limit m st k = popped m (λ item m. S.with_value C item m st (λ value. S.limited C value (integer_of value) m st)) (λ x m. value x m st (λ value. S.limited C value (integer_of value) m st) k (λ v. limited v (integer_of v) m st k))
-  instruction I.Lsusp m st k = popped m (λ item m. S.with_found (C.count_down m) (S.parted (λ count m. S.limited_result C item count m st))) (λ x m. parted (C.count_down m) (λ count m. S.limited_result C x count m st) (λ n m. limited_result x n m st k))
+  instruction I.Eret m st k = popped m (λ item m. S.with_value C item m st (λ value. S.unmark_then C m st (S.push_item C (Val value))))
+      (λ x m. value x m st (λ value. S.unmark_then C m st (S.push_item C (Val value))) k (λ v. unmarked m st (S.push_item C (Val v)) k (λ m s k. k)))
+  instruction I.Esusp m st k = popped m (λ item m. S.with_found (C.suspend_mark m) (λ m. S.push_item C item m st)) (λ x m. found (C.suspend_mark m) (λ m. S.push_item C x m st) (λ m. k))
+  instruction I.Limit m st k = popped m (λ item m. S.with_value C item m st (λ value. S.limit_results C value (integer_of value) m st)) (λ x m. value x m st (λ value. S.limit_results C value (integer_of value) m st) k (λ v. limited v (integer_of v) m st k))
+  instruction I.Lsusp m st k = popped m (λ item m. S.with_found (C.count_down m) (S.on_pair (λ count m. S.limited_result C item count m st))) (λ x m. parted (C.count_down m) (λ count m. S.limited_result C x count m st) (λ n m. limited_result x n m st k))
   instruction I.Efail m st k = k
   instruction (I.Chfail l) m st k = found (C.relabel l m) (λ m. running m st) (λ m. k)
   instruction (I.Goto l) m st k = k
   instruction (I.Loop l) m st k = turn st (running (C.go l m)) k (λ s k. k)
-  instruction I.Bscan m st k = popped m (λ item m. S.with_value C item m st (λ value. S.made C (text_row value (S.here C m st)) m st (S.scan_opened C)))
-      (λ x m. value x m st (λ value. S.made C (text_row value (S.here C m st)) m st (S.scan_opened C)) k (λ v. made (text_row v (S.here C m st)) m st (S.scan_opened C) k (text_leaves b v (S.here C m st) k) (λ v m s k. scan_opened v m s k)))
-  instruction I.Escan m st k = popped m (λ item m. S.exchanged (C.swap_newest (S.pair_now st) m) (λ m. S.pushed C item (C.suspend Escan m)) st) (λ x m. exchanged (C.swap_newest (S.pair_now st) m) (λ m. S.pushed C x (C.suspend Escan m)) st k (λ m s k. k))
-  instruction I.Ccase m st k = found (C.below m) (λ item. S.pushed C item m st) (λ x. k)
+  instruction I.Bscan m st k = popped m (λ item m. S.with_value C item m st (λ value. S.with_made C (text_row value (S.here C m st)) m st (S.scan_opened C)))
+      (λ x m. value x m st (λ value. S.with_made C (text_row value (S.here C m st)) m st (S.scan_opened C)) k (λ v. made (text_row v (S.here C m st)) m st (S.scan_opened C) k (text_leaves b v (S.here C m st) k) (λ v m s k. scan_opened v m s k)))
+  instruction I.Escan m st k = popped m (λ item m. S.with_exchange (C.swap_newest (S.pair_now st) m) (λ m. S.push_item C item (C.suspend Escan m)) st) (λ x m. exchanged (C.swap_newest (S.pair_now st) m) (λ m. S.push_item C x (C.suspend Escan m)) st k (λ m s k. k))
+  instruction I.Ccase m st k = found (C.below m) (λ item. S.push_item C item m st) (λ x. k)
   instruction (I.Init l) m st k = initial (slice_index_or st.begun (C.proc m) true) l m st k
-  instruction I.Psusp m st k = popped m (λ item below. S.with_result C item m st (λ result. S.maybe_exchanged (C.swap_oldest (S.pair_now st) m) m st (λ m. S.returned (C.suspend_proc m) (S.pushed C result))))
-      (λ x below. result x m st (λ result. S.maybe_exchanged (C.swap_oldest (S.pair_now st) m) m st (λ m. S.returned (C.suspend_proc m) (S.pushed C result))) k
-      (λ x. maybe_exchanged (C.swap_oldest (S.pair_now st) m) m st (λ m. S.returned (C.suspend_proc m) (S.pushed C x)) k (λ m s k. returned (C.suspend_proc m) (S.pushed C x) s k (λ m s k. k))))
-  instruction I.Pret m st k = popped m (λ item m. S.with_result C item m st (λ result. S.returned (C.leave m) (S.pushed C result) (S.all_left C m st)))
-      (λ x m. result x m st (λ result. S.returned (C.leave m) (S.pushed C result) (S.all_left C m st)) k (λ x. returned (C.leave m) (S.pushed C x) (S.all_left C m st) (all_left m st k) (λ m s k. k)))
+  instruction I.Psusp m st k = popped m (λ item below. S.with_result C item m st (λ result. S.maybe_exchanged (C.swap_oldest (S.pair_now st) m) m st (λ m. S.return_to (C.suspend_proc m) (S.push_item C result))))
+      (λ x below. result x m st (λ result. S.maybe_exchanged (C.swap_oldest (S.pair_now st) m) m st (λ m. S.return_to (C.suspend_proc m) (S.push_item C result))) k
+      (λ x. maybe_exchanged (C.swap_oldest (S.pair_now st) m) m st (λ m. S.return_to (C.suspend_proc m) (S.push_item C x)) k (λ m s k. returned (C.suspend_proc m) (S.push_item C x) s k (λ m s k. k))))
+  instruction I.Pret m st k = popped m (λ item m. S.with_result C item m st (λ result. S.return_to (C.leave m) (S.push_item C result) (S.all_left C m st)))
+      (λ x m. result x m st (λ result. S.return_to (C.leave m) (S.push_item C result) (S.all_left C m st)) k (λ x. returned (C.leave m) (S.push_item C x) (S.all_left C m st) (all_left m st k) (λ m s k. k)))
   instruction I.Pfail m st k = either (S.is_create_body C m st) stuck (S.proc_fails C m st) tt (proc_fails m st k)
   instruction (I.Create l) m st k = turn st (S.coexp_made C (C.locals m) (C.proc m) (C.place m) (C.go l m)) k (λ st k. coexp_made (C.locals m) (C.proc m) (C.place m) (C.go l m) st k)
   instruction I.Coact m st k = taken 2 m (λ items m. S.turn P st (S.activation_of C items m)) (λ xs m. turn st (S.activation_of C xs m) k (λ st k. activation_of xs m st k))
   instruction I.Coret m st k = either (S.is_create_body C m st) (S.with_popped C m (λ item m. S.turn P st (λ st. S.with_value C item m st (λ value. S.result_given C value m st)))) stuck
       (popped m (λ item m. S.turn P st (λ st. S.with_value C item m st (λ value. S.result_given C value m st))) (λ x m. turn st (λ st. S.with_value C x m st (λ value. S.result_given C value m st)) k (λ st k. value x m st (λ value. S.result_given C value m st) k (λ v. result_given v m st k)))) tt
-  instruction I.Cofail m st k = either (S.is_create_body C m st) (S.exhausted C P m st) stuck (exhausted m st k) tt
+  instruction I.Cofail m st k = either (S.is_create_body C m st) (S.exhaust_active C P m st) stuck (exhausted m st k) tt
 
   -- Runs
 
@@ -362,7 +362,7 @@ module _ {H M : Type 0} (C : Calls H M) (P : Program) (b : Lasting) where
 
   pub start_of : (lines : List (List ℕ)) (m : M) (st : Store H) (o : Option ℕ) → K st → G (S.start_of C P lines m st o)
   start_of lines m st None k = errs 117 None st k
-  start_of lines m st (Some main) k = found (slice_get P.procs main) (λ (entry : Procedure). S.made C (words_row lines (S.here C m st)) m st (λ list m st. S.begun_if C (nat_le 1 st.world.heap.bounds.levels) main entry (list ∷ []) m st))
+  start_of lines m st (Some main) k = found (slice_get P.procs main) (λ (entry : Procedure). S.with_made C (words_row lines (S.here C m st)) m st (λ list m st. S.begun_if C (nat_le 1 st.world.heap.bounds.levels) main entry (list ∷ []) m st))
       (λ entry. made (words_row lines (S.here C m st)) m st (λ list m st. S.begun_if C (nat_le 1 st.world.heap.bounds.levels) main entry (list ∷ []) m st) k (words_leave b lines (S.here C m st) k)
       (λ list m st k. begun_if (nat_le 1 st.world.heap.bounds.levels) main entry (list ∷ []) m st k))
 

@@ -53,7 +53,7 @@ module _ (b : Lasting) where
 
   -- Ends, turns and rows
 
-  ended : (e : Ending) (text : List ℕ) (st : Store) → K st → G (U.ended e text st)
+  ended : (e : Ending) (text : List ℕ) (st : Store) → K st → G (U.end_run e text st)
   ended e text st k = b.put st.outside Errout text k
 
   errs : (n : ℕ) (v : Option Value) (r : Choices) (st : Store) → K st → G (U.errs n v r st)
@@ -66,7 +66,7 @@ module _ (b : Lasting) where
   turn : (st : Store) (go : Store → State) → K st → ((s : Store) → K s → G (go s)) → G (U.turn st go)
   turn st go k f = turn_if (nat_lt st.turns st.world.heap.bounds.turns) st go k f
 
-  valued : (o : Outcome) (r : Choices) (st : Store) (go : Value → State) → K st → ((v : Value) → G (go v)) → G (U.valued o r st go)
+  valued : (o : Outcome) (r : Choices) (st : Store) (go : Value → State) → K st → ((v : Value) → G (go v)) → G (U.with_given o r st go)
   valued (Gives (Val v) s) r st go k f = f v
   valued (Gives (Var x) s) r st go k f = k
   valued (Error n v s) r st go k f = errs n v r st k
@@ -74,7 +74,7 @@ module _ (b : Lasting) where
   valued (Suspends x m s) r st go k f = k
   valued (Ends n s) r st go k f = k
 
-  made : (o : Outcome) (a : ℕ) (r : Choices) (st : Store) (go : Value → Store → State) → K st → LeavesOutside b.is o → ((v : Value) (s : Store) → K s → G (go v s)) → G (U.made o a r st go)
+  made : (o : Outcome) (a : ℕ) (r : Choices) (st : Store) (go : Value → Store → State) → K st → LeavesOutside b.is o → ((v : Value) (s : Store) → K s → G (go v s)) → G (U.with_made o a r st go)
   made (Gives (Val v) s) a r st go k l f = f v (U.after a s st) l
   made (Gives (Var x) s) a r st go k l f = k
   made (Error n v s) a r st go k l f = errs n v r (U.after a s st) l
@@ -90,7 +90,7 @@ module _ (b : Lasting) where
   answer (Ends n s) a w r st l = l
 
   value : (x : Item) (a : ℕ) (r : Choices) (st : Store) (go : Value → State) → K st → ((v : Value) → G (go v)) → G (U.value x a r st go)
-  value x a r st go k f = valued (value_row x (U.within a st)) r st go k f
+  value x a r st go k f = valued (value_row x (U.setting_in a st)) r st go k f
 
   values : (xs : List Item) (a : ℕ) (r : Choices) (st : Store) (go : List Value → State) → K st → ((vs : List Value) → G (go vs)) → G (U.values xs a r st go)
   values [] a r st go k f = f []
@@ -115,7 +115,7 @@ module _ (b : Lasting) where
 
   off : (s : Surroundings) (st : Store) → K st → G (A.off s st)
   off (InCall frame w r) st k = k
-  off (InScan p s) st k = off s (S.restored p st) k
+  off (InScan p s) st k = off s (S.restore_pair p st) k
   off (InLoop s w r a rn) st k = off s st k
 
   rest : (es : Trees) (s : Surroundings) (r : Choices) (st : Store) → K st → G (A.rest es s r st)
@@ -145,24 +145,24 @@ module _ (b : Lasting) where
 
   break : (e : Tree) (s : Surroundings) (st : Store) → K st → G (A.break e s st)
   break e (InCall frame w r) st k = tt
-  break e (InScan p s) st k = break e s (S.restored p st) k
+  break e (InScan p s) st k = break e s (S.restore_pair p st) k
   break e (InLoop s w r a rn) st k = k
 
   next : (s : Surroundings) (st : Store) → K st → G (A.next s st)
   next (InCall frame w r) st k = tt
-  next (InScan p s) st k = next s (S.restored p st) k
+  next (InScan p s) st k = next s (S.restore_pair p st) k
   next (InLoop s w r a rn) st k = act a rn st k
 
   -- Co-expressions
 
   fresh : (e : Tree) (n : ℕ) (vs : List Value) (a : ℕ) (w : Works) (r : Choices) (st : Store) → K st → G (X.fresh e n vs a w r st)
-  fresh e n vs a w r st k = made (coexpression_row (length vs) (U.within a st)) a r st _ k (coexpression_leaves b (length vs) (U.within a st) k) (λ v s k. k)
+  fresh e n vs a w r st k = made (coexpression_row (length vs) (U.setting_in a st)) a r st _ k (coexpression_leaves b (length vs) (U.setting_in a st) k) (λ v s k. k)
 
   refreshed_from : (o : Option Coexpression) (a : ℕ) (w : Works) (r : Choices) (st : Store) → K st → G (X.refreshed_from o a w r st)
   refreshed_from (Some co) a w r st k = fresh co.body co.procedure co.values a w r st k
   refreshed_from None a w r st k = tt
 
-  refreshed : (v : Value) (a : ℕ) (w : Works) (r : Choices) (st : Store) → K st → G (X.refreshed v a w r st)
+  refreshed : (v : Value) (a : ℕ) (w : Works) (r : Choices) (st : Store) → K st → G (X.refresh v a w r st)
   refreshed (ACoexp zero) a w r st k = errs 215 (Some (ACoexp zero)) r st k
   refreshed (ACoexp (suc n)) a w r st k = refreshed_from (slice_get st.coexpressions (suc n)) a w r st k
   refreshed v a w r st k = errs 118 (Some v) r st k
@@ -191,16 +191,16 @@ module _ (b : Lasting) where
   activate v to w r st k = errs 118 (Some to) r st k
 
   gives : (v : Value) (r : Choices) (st : Store) → K st → G (X.gives v r st)
-  gives v r st k = let s = X.counted st.active (X.with_status st.active (AfterResult r) st) in let c = X.activator_of st.active st in entered_in (X.status_of c s) c v s k
+  gives v r st k = let s = X.count_result st.active (X.with_status st.active (AfterResult r) st) in let c = X.activator_of st.active st in entered_in (X.status_of c s) c v s k
 
   result : (x : Item) (a : ℕ) (r : Choices) (st : Store) → K st → G (X.result x a r st)
   result x a r st k = turn st (λ st. U.value x a r st (λ v. X.gives v r st)) k (λ st k. value x a r st (λ v. X.gives v r st) k (λ v. gives v r st k))
 
   exhaust : (st : Store) → K st → G (X.exhaust st)
-  exhaust st k = turn st (λ st. X.failed (X.activator_of st.active st) (X.with_status st.active Exhausted st)) k (λ st k. let s = X.with_status st.active Exhausted st in let c = X.activator_of st.active st in failed_in (X.status_of c s) c s k)
+  exhaust st k = turn st (λ st. X.fail_coexp (X.activator_of st.active st) (X.with_status st.active Exhausted st)) k (λ st k. let s = X.with_status st.active Exhausted st in let c = X.activator_of st.active st in failed_in (X.status_of c s) c s k)
 
-  hopped : (c : ℕ) (st : Store) → K st → G (X.hopped c st)
-  hopped c st k = turn st (λ st. X.failed (X.activator_of c st) st) k (λ st k. let d = X.activator_of c st in failed_in (X.status_of d st) d st k)
+  hopped : (c : ℕ) (st : Store) → K st → G (X.pass_failure c st)
+  hopped c st k = turn st (λ st. X.fail_coexp (X.activator_of c st) st) k (λ st k. let d = X.activator_of c st in failed_in (X.status_of d st) d st k)
 
   -- Calls
 
@@ -213,9 +213,9 @@ module _ (b : Lasting) where
   enter n routine vs level w r st k = begun_if (slice_index_or st.begun n true) n routine.initial routine.body _ r _ k
 
   collect : (t : Bool) (n : ℕ) (routine : Routine) (vs : List Value) (level a : ℕ) (w : Works) (r : Choices) (st : Store) → K st → G (L.collect t n routine vs level a w r st)
-  collect false n routine vs level a w r st k = enter n routine (L.fitted routine.parameters vs) level w r st k
-  collect true n routine vs level a w r st k = made (list_row (drop (routine.parameters - 1) vs) (U.within a st)) a r st _ k (list_leaves b (drop (routine.parameters - 1) vs) (U.within a st) k)
-      (λ list st k. enter n routine (L.fitted (routine.parameters - 1) vs ++ list ∷ []) level w r st k)
+  collect false n routine vs level a w r st k = enter n routine (L.fit_count routine.parameters vs) level w r st k
+  collect true n routine vs level a w r st k = made (list_row (drop (routine.parameters - 1) vs) (U.setting_in a st)) a r st _ k (list_leaves b (drop (routine.parameters - 1) vs) (U.setting_in a st) k)
+      (λ list st k. enter n routine (L.fit_count (routine.parameters - 1) vs ++ list ∷ []) level w r st k)
 
   call_if : (t : Bool) (n : ℕ) (routine : Routine) (vs : List Value) (level a : ℕ) (w : Works) (r : Choices) (st : Store) → K st → G (L.call_if t n routine vs level a w r st)
   call_if true n routine vs level a w r st k = collect routine.collects n routine vs level a w r st k
@@ -225,15 +225,15 @@ module _ (b : Lasting) where
   call n routine vs level a w r st k = call_if (nat_le level st.world.heap.bounds.levels) n routine vs level a w r st k
 
   construct : (n : ℕ) (kind : Kind) (vs : List Value) (a : ℕ) (w : Works) (r : Choices) (st : Store) → K st → G (L.construct n kind vs a w r st)
-  construct n kind vs a w r st k = let fs = L.fitted (length kind.fields) vs in made (record_row n fs (U.within a st)) a r st _ k (record_leaves b n fs (U.within a st) k) (λ v s k. k)
+  construct n kind vs a w r st k = let fs = L.fit_count (length kind.fields) vs in made (record_row n fs (U.setting_in a st)) a r st _ k (record_leaves b n fs (U.setting_in a st) k) (λ v s k. k)
 
   invoke_callee : (c : Callee) (n : ℕ) (xs : List Item) (s : Surroundings) (w : Works) (r : Choices) (st : Store) → K st → G (L.invoke_callee c n xs s w r st)
   invoke_callee (IsRoutine routine) n xs s w r st k = values xs (activation_of s) r st _ k (λ vs. call n routine vs (suc (frame_of s).level) (activation_of s) w r st k)
   invoke_callee (IsKind m kind) n xs s w r st k = values xs (activation_of s) r st _ k (λ vs. construct m kind vs (activation_of s) w r st k)
-  invoke_callee (IsFunction f) n xs s w r st k = answer (apply st.names (Function f) xs (U.within (activation_of s) st)) (activation_of s) w r st (function_leaves b st.names f xs (U.within (activation_of s) st) k)
+  invoke_callee (IsFunction f) n xs s w r st k = answer (apply st.names (Function f) xs (U.setting_in (activation_of s) st)) (activation_of s) w r st (function_leaves b st.names f xs (U.setting_in (activation_of s) st) k)
   invoke_callee IsNothing n xs s w r st k = errs 106 (Some (Procedure n)) r st k
 
-  chosen : (o : Option Item) (w : Works) (r : Choices) (st : Store) → K st → G (L.chosen o w r st)
+  chosen : (o : Option Item) (w : Works) (r : Choices) (st : Store) → K st → G (L.choose_item o w r st)
   chosen (Some x) w r st k = k
   chosen None w r st k = k
 
@@ -246,7 +246,7 @@ module _ (b : Lasting) where
     invoke (Procedure n) xs s w r st k = invoke_callee (callee_of p n) n xs s w r st k
     invoke v xs s w r st k = choose (number_of v) v xs w r st k
 
-    spread : (f v : Value) (s : Surroundings) (w : Works) (r : Choices) (st : Store) → K st → G (L.spread p f v s w r st)
+    spread : (f v : Value) (s : Surroundings) (w : Works) (r : Choices) (st : Store) → K st → G (L.apply_to_list p f v s w r st)
     spread f (AList l) s w r st k = invoke f (L.items (list_at st.world.heap l).items) s w r st k
     spread f (ARecord n) s w r st k = invoke f (L.items (record_at st.world.heap n).fields) s w r st k
     spread f v s w r st k = errs 126 (Some v) r st k
@@ -259,12 +259,12 @@ module _ (b : Lasting) where
     take_field name (ARecord x) w r st k = field_at _ x w r st k
     take_field name v w r st k = errs 107 (Some v) r st k
 
-    listed : (vs : List Value) (a : ℕ) (w : Works) (r : Choices) (st : Store) → K st → G (L.listed vs a w r st)
-    listed vs a w r st k = made (list_row vs (U.within a st)) a r st _ k (list_leaves b vs (U.within a st) k) (λ v s k. k)
+    listed : (vs : List Value) (a : ℕ) (w : Works) (r : Choices) (st : Store) → K st → G (L.make_list vs a w r st)
+    listed vs a w r st k = made (list_row vs (U.setting_in a st)) a r st _ k (list_leaves b vs (U.setting_in a st) k) (λ v s k. k)
 
-    applied : (form : Form) (xs : List Item) (s : Surroundings) (w : Works) (r : Choices) (st : Store) → K st → G (L.applied p form xs s w r st)
+    applied : (form : Form) (xs : List Item) (s : Surroundings) (w : Works) (r : Choices) (st : Store) → K st → G (L.apply_form p form xs s w r st)
     applied (Operating Ops.Refresh) (x ∷ xs) s w r st k = value x (activation_of s) r st _ k (λ v. refreshed v (activation_of s) w r st k)
-    applied (Operating o) xs s w r st k = answer (apply st.names (Operation o) xs (U.within (activation_of s) st)) (activation_of s) w r st (operation_leaves b o xs (U.within (activation_of s) st) k)
+    applied (Operating o) xs s w r st k = answer (apply st.names (Operation o) xs (U.setting_in (activation_of s) st)) (activation_of s) w r st (operation_leaves b o xs (U.setting_in (activation_of s) st) k)
     applied Calling [] s w r st k = tt
     applied Calling (x ∷ xs) s w r st k = value x (activation_of s) r st _ k (λ v. invoke v xs s w r st k)
     applied Spreading [] s w r st k = tt
@@ -281,12 +281,12 @@ module _ (b : Lasting) where
     operands form xs (More e es) s w r st k = k
     operands form xs NoTrees s w r st k = turn st _ k (λ st k. applied form (reverse xs) s w r st k)
 
-    returned : (x : Item) (s : Surroundings) (st : Store) → K st → G (L.returned x s st)
+    returned : (x : Item) (s : Surroundings) (st : Store) → K st → G (L.return_item x s st)
     returned x (InCall frame w r) st k = k
-    returned x (InScan q s) st k = returned x s (S.restored q st) k
+    returned x (InScan q s) st k = returned x s (S.restore_pair q st) k
     returned x (InLoop s w r a rn) st k = returned x s st k
 
-    suspended : (x : Item) (m : MaybeTree) (s around : Surroundings) (r : Choices) (st : Store) → K st → G (L.suspended x m s around r st)
+    suspended : (x : Item) (m : MaybeTree) (s around : Surroundings) (r : Choices) (st : Store) → K st → G (L.suspend_call x m s around r st)
     suspended x m s (InCall frame w r0) r st k = k
     suspended x m s (InScan q around) r st k = suspended x m s around r st k
     suspended x m s (InLoop around w r0 a rn) r st k = suspended x m s around r st k
@@ -298,7 +298,7 @@ module _ (b : Lasting) where
     keyword_or None w r st k = k
 
     keyword : (o : Option KeywordName) (s : Surroundings) (w : Works) (r : Choices) (st : Store) → K st → G (E.keyword o s w r st)
-    keyword (Some word) s w r st k = keyword_or (keyword_item (E.standing s st) word) w r st k
+    keyword (Some word) s w r st k = keyword_or (keyword_item (E.standing_of s st) word) w r st k
     keyword None s w r st k = tt
 
     compound : (place : Place) (es : Trees) (s : Surroundings) (w : Works) (r : Choices) (st : Store) → K st → G (E.compound place es s w r st)
@@ -382,7 +382,7 @@ module _ (b : Lasting) where
     scan_in q v e s w r st k = k
 
     scan : (x : Item) (e : Tree) (s : Surroundings) (w : Works) (r : Choices) (st : Store) → K st → G (W.scan x e s w r st)
-    scan x e s w r st k = value x (activation_of s) r st _ k (λ v. made (text_row v (U.within (activation_of s) st)) (activation_of s) r st _ k (text_leaves b v (U.within (activation_of s) st) k)
+    scan x e s w r st k = value x (activation_of s) r st _ k (λ v. made (text_row v (U.setting_in (activation_of s) st)) (activation_of s) r st _ k (text_leaves b v (U.setting_in (activation_of s) st) k)
         (λ text st k. scan_in (S.new_cell st) text e s w r st k))
 
     update : (o : Operator) (x : Item) (e : Tree) (s : Surroundings) (w : Works) (r : Choices) (st : Store) → K st → G (W.update o x e s w r st)
@@ -426,7 +426,7 @@ module _ (b : Lasting) where
     on_fail NoChoice st k = k
     on_fail (Do a or_else r) st k = act a r st k
     on_fail (Again e s flag w or_else r) st k = again_if (slice_index_or st.flags flag false) e s flag w r st k
-    on_fail (Resume a m w or_else r) st k = turn st _ k (λ st k. answer (again m (U.within a st)) a w r st (again_leaves b m (U.within a st) k))
+    on_fail (Resume a m w or_else r) st k = turn st _ k (λ st k. answer (again m (U.setting_in a st)) a w r st (again_leaves b m (U.setting_in a st) k))
     on_fail (Restore q or_else r) st k = k
     on_fail (Reenter q or_else r) st k = k
     on_fail (Back m s or_else r) st k = turn st _ k (λ st k. back m s r (S.exchanged_oldest s st) (swapped s st k))
@@ -447,7 +447,7 @@ module _ (b : Lasting) where
     steps (suc n) s k = steps n (M.step p s) (step s k)
 
     main_in : (o : Option Routine) (n : ℕ) (lines : List (List ℕ)) (st : Store) → K st → G (M.main_in o n lines st)
-    main_in (Some routine) n lines st k = made (words_row lines (U.within zero st)) zero NoChoice st _ k (words_leave b lines (U.within zero st) k) (λ list st k. call n routine (list ∷ []) 1 zero Nothing NoChoice st k)
+    main_in (Some routine) n lines st k = made (words_row lines (U.setting_in zero st)) zero NoChoice st _ k (words_leave b lines (U.setting_in zero st) k) (λ list st k. call n routine (list ∷ []) 1 zero Nothing NoChoice st k)
     main_in None n lines st k = errs 117 None NoChoice st k
 
     main_at : (o : Option ℕ) (lines : List (List ℕ)) (st : Store) → K st → G (M.main_at p o lines st)

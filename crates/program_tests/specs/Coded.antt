@@ -4,7 +4,7 @@ use Rattle.std.specs.List.{sum_by, range_with_len}
 use Rattle.icn_tree.specs.Trees.{Declaration}
 use Rattle.icn_value.specs.declared.cset.Cset.{Cset}
 use Rattle.icn_code.specs.Codes.{Tables}
-use Rattle.icn_meaning.specs.Program.{joined}
+use Rattle.icn_meaning.specs.Program.{joined_declarations}
 use Rattle.icn_simulation.specs.Joined.{sets_of, code_with}
 
 -- the bit of a member in the byte of this number
@@ -16,4 +16,4 @@ cset_of members = record { bits = map (λ i. sum_by (bit_in i) members) (range_w
 
 -- the tables of a program's files
 abbrev pub tables_of : List (List Declaration) → Tables
-tables_of files = let declarations = joined files in code_with declarations (map cset_of (sets_of declarations))
+tables_of files = let declarations = joined_declarations files in code_with declarations (map cset_of (sets_of declarations))

@@ -1,5 +1,5 @@
 use Rattle.icn_verify.proofs.Deciding.{shapes_given}
-use Rattle.icn_run_safe.proofs.Ended.{are_over}
+use Rattle.icn_run_safe.proofs.Observations.{are_over}
 use Rattle.icn_run_safe.proofs.TablesKept.{tables_ok}
 use Rattle.icn_run_safe.proofs.RowsWithin.{rows_stay_within}
 use Rattle.icn_run_safe.proofs.runs_end.Goals as goal

@@ -8,7 +8,7 @@ use Rattle.icn_heap.specs.Heaps.{extent_of, heap_of}
 use Rattle.icn_vars.specs.Stops.{halt_of}
 use Rattle.icn_vars.specs.Worlds.{reach_of, world_of}
 use Rattle.icn_run.specs.Stacks.{flat}
-use Rattle.icn_run.specs.Step.{called, running, with_world}
+use Rattle.icn_run.specs.Step.{call_procedure, running, with_world}
 use Rattle.icn_control.specs.Parts.{HaltsWith}
 use Rattle.icn_control.specs.Standing.{stack_in}
 use Rattle.icn_frames.specs.Stacks as held
@@ -49,7 +49,7 @@ returns-in_err-take_parameters-clause-step g c entry at st same =
     ∙ may_call (held.level m) c.args.limits.now.levels c.level.result c.level.ensures c.if-level-limits.false in
     at_halt c.from_residual.result (halt_of stop) _ _ c.from_residual.ensures.1
     (subst
-    (λ (e : Proc). HaltsWith (called flat c.args.number e (map (value_in (extent_of w.heap)) c.args.vals.now.items) (stack_in (extent_of w.heap) m) st)
+    (λ (e : Proc). HaltsWith (call_procedure flat c.args.number e (map (value_in (extent_of w.heap)) c.args.vals.now.items) (stack_in (extent_of w.heap) m) st)
     st v (halt_of stop))
     (same_Some _ _ here)
     (called_halts w v m c.args.number (proc_of c.index-entry.result.now) c.args.vals.now.items stop more c.in_err-take_parameters.ensures.step st same))
@@ -65,7 +65,7 @@ returns-in-Ok-clause-step g c entry at st same =
     let more : nat_le (suc (held.level m)) (heap_of w.heap).bounds.levels ≡ true
     = ap (λ (x : Bounds). nat_le (suc (held.level m)) x.levels) c.requires.bounds
     ∙ may_call (held.level m) c.args.limits.now.levels c.level.result c.level.ensures c.if-level-limits.false in
-    subst (λ (e : Proc). called flat c.args.number e (map (value_in (extent_of w.heap)) c.args.vals.now.items) (stack_in (extent_of w.heap) m) st
+    subst (λ (e : Proc). call_procedure flat c.args.number e (map (value_in (extent_of w.heap)) c.args.vals.now.items) (stack_in (extent_of w.heap) m) st
     ≡ running (stack_in (extent_of v.heap) n) (with_world (world_of v) st))
     (same_Some _ _ here)
     (called_runs w v m c.take_parameters.new.frames.flat n c.args.number (proc_of c.index-entry.result.now) c.args.vals.now.items

@@ -4,7 +4,7 @@ use Rattle.icn_defs.specs.Running.{number_of}
 use Rattle.icn_heap.specs.Extents.{value_in}
 use Rattle.icn_heap.specs.Heaps.{extent_of}
 use Rattle.icn_vars.specs.Worlds.{item_in}
-use Rattle.icn_run.specs.Step.{chosen}
+use Rattle.icn_run.specs.Step.{choose_item}
 use Rattle.icn_calls.proofs.InvokeSteps.{none_runs}
 use Rattle.icn_calls.proofs.integers.call_integer.Goals as goal
 
@@ -15,4 +15,4 @@ returns-in-None-clause-step g c =
     let items = map (item_in all) c.args.items.now in
     let fits : FitsSigned w64 c.in-Some.n = search rules in
     none_runs c.args.world.now value (number_of value) c.in-Some.n items c.args.frames.now.flat c.chosen.result (sym c.number_of.ensures ∙ c.in-Some.is)
-    (c.chosen.ensures.item all ∙ ap (λ (k : ℤ). chosen k items) (to_z-of_z w64 c.in-Some.n fits)) c.in-None.is
+    (c.chosen.ensures.item all ∙ ap (λ (k : ℤ). choose_item k items) (to_z-of_z w64 c.in-Some.n fits)) c.in-None.is

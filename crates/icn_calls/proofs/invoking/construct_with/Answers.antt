@@ -5,7 +5,7 @@ use Rattle.icn_vars.specs.Worlds.{reach_of}
 use Rattle.icn_vars.proofs.KeptItems.{items_all}
 use Rattle.icn_frames.specs.Stacks.{FlatStack}
 use Rattle.icn_run.specs.Stacks.{flat}
-use Rattle.icn_run.specs.Step.{constructed}
+use Rattle.icn_run.specs.Step.{construct_record}
 use Rattle.icn_control.specs.Living.{IsLiveStack}
 use Rattle.icn_control.specs.Standing.{stack_in}
 use Rattle.icn_control.proofs.PartSteps.{at_halt}
@@ -16,7 +16,7 @@ pub returns-in_err-values_of-clause-step : goal.returns-in_err-values_of-clause-
 returns-in_err-values_of-clause-step g c entry at st same =
     at_halt c.from_residual.result (halt_of c.in_err-values_of.field-0.0) _ _ c.from_residual.ensures.1
     (c.in_err-values_of.ensures.values st
-    (λ values. constructed flat c.args.kind entry values (stack_in (extent_of c.args.world.now.heap) c.args.frames.now.flat) st) same)
+    (λ values. construct_record flat c.args.kind entry values (stack_in (extent_of c.args.world.now.heap) c.args.frames.now.flat) st) same)
 
 pub returns-in_err-values_of-clause-kept : goal.returns-in_err-values_of-clause-kept
 returns-in_err-values_of-clause-kept g c = items_all (reach_of c.args.world.now [])
@@ -31,7 +31,7 @@ construct-requires-clause-stack g c = (
 pub returns-in-Ok-clause-step : goal.returns-in-Ok-clause-step
 returns-in-Ok-clause-step g c entry at =
     values_run c.args.world.now c.construct.new.world c.args.frames.now.flat c.values_of.new.frames.flat c.construct.new.frames.flat c.args.items.now
-    c.values_of.new.vals.items (λ values a s. constructed flat c.args.kind entry values a s)
+    c.values_of.new.vals.items (λ values a s. construct_record flat c.args.kind entry values a s)
     c.values_of.ensures.same c.in_ok-values_of.ensures.values (c.in-Ok.ensures.step entry at)
 
 pub returns-in-Ok-clause-live : goal.returns-in-Ok-clause-live
@@ -41,5 +41,5 @@ returns-in-Ok-clause-live g c t k =
 pub returns-in-Err-clause-step : goal.returns-in-Err-clause-step
 returns-in-Err-clause-step g c entry at =
     values_halt c.args.world.now c.construct.new.world c.args.frames.now.flat c.values_of.new.frames.flat c.args.items.now c.values_of.new.vals.items
-    c.in-Err.halt (λ values a s. constructed flat c.args.kind entry values a s)
+    c.in-Err.halt (λ values a s. construct_record flat c.args.kind entry values a s)
     c.values_of.ensures.same c.in_ok-values_of.ensures.values (c.in-Err.ensures.step entry at)

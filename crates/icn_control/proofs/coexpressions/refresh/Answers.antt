@@ -9,7 +9,7 @@ use Rattle.icn_frames.specs.Stacks as held
 use Rattle.icn_frames.specs.Stacks.{FlatStack}
 use Rattle.icn_run.specs.Rows.{ACoexp}
 use Rattle.icn_run.specs.Stacks.{Frames, flat}
-use Rattle.icn_run.specs.Step.{State, Store, all_names, refreshed}
+use Rattle.icn_run.specs.Step.{State, Store, all_names, refresh}
 use Rattle.icn_control.specs.Machines.{ComesTo, IsLiveRunning, running_of, store_in}
 use Rattle.icn_control.specs.Operands.{with_top}
 use Rattle.icn_control.specs.Standing.{stack_in}
@@ -46,11 +46,11 @@ returns-in_err-v-clause-step g c tables outside =
     let st : Store Frames = store_in (all_names tables) outside (world_of w) (suc m.turns) m.begun.items (extent_of w.heap) m.stacks.table in
     let more : nat_lt m.turns (heap_of w.heap).bounds.turns ≡ true
     = ap (λ (x : Bounds). nat_lt m.turns x.turns) c.requires.sound.1.bounds ∙ under m.turns m.limits.turns c.if-m.false in
-    let state : State Frames Frames = with_top (stack_in (extent_of w.heap) f) st (λ value n. refreshed flat value n st) in
+    let state : State Frames Frames = with_top (stack_in (extent_of w.heap) f) st (λ value n. refresh flat value n st) in
     at_stopped c.from_residual.result c.in_err-v.field-0.0 _ _ c.from_residual.ensures.1 tt
     (λ number offending e.
     refresh_goes tables (all_names tables) outside w m.turns m.begun.items m.stacks.table f c.frames.ensures.running more
-    ∙ value_error state st w c.in_err-v.field-0.0 number offending (c.in_err-v.ensures.step st (λ value n. refreshed flat value n st) refl) e)
+    ∙ value_error state st w c.in_err-v.field-0.0 number offending (c.in_err-v.ensures.step st (λ value n. refresh flat value n st) refl) e)
 
 pub returns-in_default-clause-step : goal.returns-in_default-clause-step
 returns-in_default-clause-step g c tables outside =
@@ -62,7 +62,7 @@ returns-in_default-clause-step g c tables outside =
     let more : nat_lt m.turns (heap_of w.heap).bounds.turns ≡ true
     = ap (λ (x : Bounds). nat_lt m.turns x.turns) c.requires.sound.1.bounds ∙ under m.turns m.limits.turns c.if-m.false in
     refresh_goes tables (all_names tables) outside w m.turns m.begun.items m.stacks.table f c.frames.ensures.running more
-    ∙ c.in_ok-v.ensures.step st (λ value n. refreshed flat value n st) refl
+    ∙ c.in_ok-v.ensures.step st (λ value n. refresh flat value n st) refl
     ∙ not_refreshed (extent_of w.heap) c.in_ok-v.v (stack_in (extent_of w.heap) n) st (sym c.in_default.is ∙ c.coexp_of.ensures)
 
 pub returns-then-id-eq0-clause-step : goal.returns-then-id-eq0-clause-step
@@ -76,7 +76,7 @@ returns-then-id-eq0-clause-step g c tables outside =
     = ap (λ (x : Bounds). nat_lt m.turns x.turns) c.requires.sound.1.bounds ∙ under m.turns m.limits.turns c.if-m.false in
     let is : c.in_ok-v.v ≡ Vals.Coexp 0 = number_is c.in_ok-v.v c.in-Some.id (sym c.in-Some.is ∙ c.coexp_of.ensures) ∙ ap (λ (k : ℕ). Vals.Coexp k) c.if-id-eq0.true in
     refresh_goes tables (all_names tables) outside w m.turns m.begun.items m.stacks.table f c.frames.ensures.running more
-    ∙ c.in_ok-v.ensures.step st (λ value n. refreshed flat value n st) refl
+    ∙ c.in_ok-v.ensures.step st (λ value n. refresh flat value n st) refl
     ∙ main_refused (extent_of w.heap) c.in_ok-v.v (stack_in (extent_of w.heap) n) st is
 
 pub make_again-requires-clause-other : goal.make_again-requires-clause-other
@@ -116,9 +116,9 @@ returns-clause-step g c tables outside =
     subst (λ (s : State Frames Frames). ComesTo tables outside s c.make_again.new.m c.make_again.result)
     (sym (
     refresh_goes tables (all_names tables) outside w m.turns m.begun.items m.stacks.table f c.frames.ensures.running more
-    ∙ c.in_ok-v.ensures.step st (λ value n. refreshed flat value n st) refl
-    ∙ ap (λ (x : Val). refreshed flat (value_in (extent_of w.heap) x) (stack_in (extent_of w.heap) n) st) is
-    ∙ ap (λ (k : ℕ). refreshed flat (ACoexp c.in-Some.id) (stack_in (extent_of w.heap) n) (at k)) (sym (add-one m.turns))
+    ∙ c.in_ok-v.ensures.step st (λ value n. refresh flat value n st) refl
+    ∙ ap (λ (x : Val). refresh flat (value_in (extent_of w.heap) x) (stack_in (extent_of w.heap) n) st) is
+    ∙ ap (λ (k : ℕ). refresh flat (ACoexp c.in-Some.id) (stack_in (extent_of w.heap) n) (at k)) (sym (add-one m.turns))
     ))
     (c.make_again.ensures.step tables outside)
 

@@ -5,7 +5,7 @@ use Rattle.icn_vars.specs.Worlds.{world_of}
 use Rattle.icn_vars.specs.Outcomes.{residual_in}
 use Rattle.icn_run.specs.Calls.{Op as Operation}
 use Rattle.icn_run.specs.Stacks.{flat}
-use Rattle.icn_run.specs.Step.{all_names, resumed, without_mark}
+use Rattle.icn_run.specs.Step.{all_names, resume_by, without_mark}
 use Rattle.icn_run_named.specs.StateNames.{StackNamed}
 use Rattle.icn_control.specs.Machines.{HasStack, IsSound, extent, stack_seen, store_seen}
 use Rattle.icn_control.specs.declared.failing.Due.TheVariants as Dues
@@ -214,7 +214,7 @@ returns-in-Leaving-clause-limits g c = c.end_failing.ensures.limits ∙ c.fail_o
 pub returns-in-Resuming-clause-steps : goal.returns-in-Resuming-clause-steps
 returns-in-Resuming-clause-steps g c tables named ready =
     failed_performing tables
-    (λ (o : Outside). resumed flat tables (Operation (residual_in (extent c.fail_once.new.m) c.in-Resuming.rest)) (stack_seen c.fail_once.new.m)
+    (λ (o : Outside). resume_by flat tables (Operation (residual_in (extent c.fail_once.new.m) c.in-Resuming.rest)) (stack_seen c.fail_once.new.m)
     (store_seen tables o c.fail_once.new.m))
     c.args.m.now _ c.resume.new.m _ c.resume.result
     (λ o. at_due tables o (failed tables c.args.m.now o) c.fail_once.new.m c.fail_once.result (Dues.Resuming c.in-Resuming.rest) c.in-Resuming.is
@@ -225,7 +225,7 @@ pub returns-in-Resuming-clause-ready : goal.returns-in-Resuming-clause-ready
 returns-in-Resuming-clause-ready g c tables named ready =
     let lands : IfOk c.resume.result (Lands tables c.args.m.now c.resume.new.m)
     = lands_performing tables
-    (λ (o : Outside). resumed flat tables (Operation (residual_in (extent c.fail_once.new.m) c.in-Resuming.rest)) (stack_seen c.fail_once.new.m)
+    (λ (o : Outside). resume_by flat tables (Operation (residual_in (extent c.fail_once.new.m) c.in-Resuming.rest)) (stack_seen c.fail_once.new.m)
     (store_seen tables o c.fail_once.new.m))
     c.args.m.now _ c.resume.new.m _ c.resume.result
     (λ o. at_due tables o (failed tables c.args.m.now o) c.fail_once.new.m c.fail_once.result (Dues.Resuming c.in-Resuming.rest) c.in-Resuming.is
@@ -250,7 +250,7 @@ returns-in-Resuming-clause-further g c =
     if_so c.resume.result (Lands tables c.args.m.now c.resume.new.m) (FailsFurther c.args.m.now c.resume.new.m)
     (λ stage q. failed_further tables c.args.m.now c.resume.new.m stage c.requires.ready.1.1.sound.bounds q)
     (lands_performing tables
-    (λ (o : Outside). resumed flat tables (Operation (residual_in (extent c.fail_once.new.m) c.in-Resuming.rest)) (stack_seen c.fail_once.new.m)
+    (λ (o : Outside). resume_by flat tables (Operation (residual_in (extent c.fail_once.new.m) c.in-Resuming.rest)) (stack_seen c.fail_once.new.m)
     (store_seen tables o c.fail_once.new.m))
     c.args.m.now _ c.resume.new.m _ c.resume.result
     (λ o. at_due tables o (failed tables c.args.m.now o) c.fail_once.new.m c.fail_once.result (Dues.Resuming c.in-Resuming.rest) c.in-Resuming.is

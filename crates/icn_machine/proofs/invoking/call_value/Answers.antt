@@ -4,7 +4,7 @@ use Rattle.icn_heap.specs.Heaps.{extent_of}
 use Rattle.icn_vars.specs.Worlds.{item_in}
 use Rattle.icn_code.specs.Seen.{tables_of}
 use Rattle.icn_run.specs.Stacks.{flat}
-use Rattle.icn_run.specs.Step.{all_names, invoked}
+use Rattle.icn_run.specs.Step.{all_names, invoke_value}
 use Rattle.icn_run_named.specs.KeepingSizes.{field_count}
 use Rattle.icn_heap.specs.Extents.{value_in}
 use Rattle.icn_control.specs.Standing.{stack_in}
@@ -39,7 +39,7 @@ returns-in-None-clause-step g c =
     let w = c.args.world.now in
     let all = extent_of w.heap in
     still_event (all_names (tables_of c.args.code.now))
-    (λ st. invoked flat (tables_of c.args.code.now) (value_in all c.args.callee) (map (item_in all) c.args.items.now) (stack_in all c.args.frames.now.flat) st)
+    (λ st. invoke_value flat (tables_of c.args.code.now) (value_in all c.args.callee) (map (item_in all) c.args.items.now) (stack_in all c.args.frames.now.flat) st)
     w c.invoke.new.world c.invoke.new.frames.flat _ c.invoke.result c.invoke.ensures.step
 
 pub returns-in-None-clause-named : goal.returns-in-None-clause-named

@@ -8,7 +8,7 @@ use Rattle.icn_named.specs.Named.{ItemNamed}
 use Rattle.icn_vars.specs.Worlds.{item_in, reach_of, world_of}
 use Rattle.icn_coexp.specs.Transfers.{with_stack}
 use Rattle.icn_run.specs.Stacks.{flat}
-use Rattle.icn_run.specs.Step.{all_names, operated}
+use Rattle.icn_run.specs.Step.{all_names, operate}
 use Rattle.icn_run_named.proofs.CallsNamed as named
 use Rattle.icn_control.specs.Machines.{store_in, store_seen}
 use Rattle.icn_control.specs.Standing.{stack_in}
@@ -37,7 +37,7 @@ returns-then-m-clause-step g c tables names =
     (λ was. op_is all tables m.stacks.table c.frames.result.now.flat k items c.args.op (store_seen tables was m) c.frames.ensures.running taken
     ∙ turn_bound tables (store_seen tables was m)
     (store_in (all_names tables) was (world_of m.world) m.turns m.begun.items all (record m.stacks.table { running = Some k }))
-    (operated flat c.args.op (map (item_in all) items) (stack_in all k)) none refl)
+    (operate flat c.args.op (map (item_in all) items) (stack_in all k)) none refl)
 
 pub returns-then-m-clause-sound : goal.returns-then-m-clause-sound
 returns-then-m-clause-sound g c tables s =

@@ -21,7 +21,7 @@ use Rattle.icn_meaning.specs.Turns as MT
 use Rattle.icn_meaning.specs.Coexpressions as MX
 use Rattle.icn_meaning.specs.Calls as MC
 use Rattle.icn_defs.specs.Running.{number_of}
-use Rattle.icn_run.specs.Chains.{chain, Suspensions, none, Outer, call, Parked, Linked, taken, with_chain}
+use Rattle.icn_run.specs.Chains.{chain, Suspensions, none, Outer, call, Parked, Linked, take_top, with_chain}
 use Rattle.icn_run.specs.Step as S
 use Rattle.icn_simulation.specs.Linkage.{Applies, f_operation, f_call, f_spread, f_list, f_field, f_activate}
 use Rattle.icn_simulation.specs.Standing.{Nest, StandsCreate, StandsRoutine, e_plain, e_initial}
@@ -32,14 +32,14 @@ use Rattle.icn_simulation.proofs.Leaving.{level_in, same_activation, same_level}
 use Rattle.icn_simulation.proofs.Acts.{on_rest}
 use Rattle.icn_simulation.proofs.Coexps.{look, Made, not_made, was_made, find_made, all_more, status_all, activator_all, on_entered}
 
-fitted_of : (n m : ℕ) (vs : List Value) → n ≤ m → MC.fitted n vs ≡ take n (vs ++ replicate m Null)
+fitted_of : (n m : ℕ) (vs : List Value) → n ≤ m → MC.fit_count n vs ≡ take n (vs ++ replicate m Null)
 fitted_of zero m [] h = refl
 fitted_of zero m (v ∷ vs) h = refl
 fitted_of (suc n) zero vs h = absurd (omega arith)
 fitted_of (suc n) (suc m) [] h = ap (λ l. Null ∷ l) (fitted_of n m [] (omega arith))
 fitted_of (suc n) (suc m) (v ∷ vs) h = ap (λ l. v ∷ l) (fitted_of n (suc m) vs (omega arith))
 
-pub fitted_filled : (n : ℕ) (vs : List Value) → MC.fitted n vs ≡ S.filled n vs
+pub fitted_filled : (n : ℕ) (vs : List Value) → MC.fit_count n vs ≡ S.fill_nulls n vs
 fitted_filled n vs = fitted_of n n vs (omega arith)
 
 same_items : (vs : List Value) → MC.items vs ≡ map S.plain vs
@@ -89,8 +89,8 @@ module _ (G : Ground) where
       {z : List ℕ} {o : Outer} (v : Value) (p : ℕ) (st : M.Store) (ls : List (S.Coexp Parked))
       → Live G first st.active st.coexpressions ls → a ≡ activation_in o → OfWorks G.L first k p xs z o
       → OfChoices G.L first r s z o →
-      Reach G (MX.refreshed v a k r st)
-      (S.refreshed (machine G) v (linked_of (chain xs s z o) p st) (store_of st ls))
+      Reach G (MX.refresh v a k r st)
+      (S.refresh (machine G) v (linked_of (chain xs s z o) p st) (store_of st ls))
   on_refreshed {r = r'} (V.ACoexp zero) p st ls live e k r = errored G r' 215 (Some (V.ACoexp zero)) st ls
   on_refreshed (V.ACoexp (suc n)) p st ls live e k r = refreshed_by p st ls live e (made_at live.1 n) k r
   on_refreshed {r = r'} v p st ls live e k r = errored G r' 118 (Some v) st ls
@@ -100,7 +100,7 @@ module _ (G : Ground) where
       {o : Outer} (v : Value) (c p : ℕ) (st : M.Store) (ls : List (S.Coexp Parked))
       → Live G first st.active st.coexpressions ls → OfWorks G.L first k p xs z o
       → OfChoices G.L first r s z o →
-      Reach G (MX.sent v c k r st) (S.entered_by (machine G) c v (linked_of (chain xs s z o) p st)
+      Reach G (MX.transmit v c k r st) (S.entered_by (machine G) c v (linked_of (chain xs s z o) p st)
       (store_of st ls))
   on_sent {k = k'} {r = r'} {xs = xs} {s = s} {z = z} {o = o} v c p st ls live k r =
       on_entered G c v (chain xs s z o) p
@@ -173,11 +173,11 @@ module _ (G : Ground) where
       → StandsRoutine G.L n routine.initial routine.body → OfWorks G.L first k p xs z o
       → OfChoices G.L first r s z o →
       Reach G (MC.enter n routine ps (suc (level_in o)) k r st)
-      (S.entered (machine G) n entry ps' (linked_of (chain xs s z o) p st) (store_of st ls))
+      (S.enter_procedure (machine G) n entry ps' (linked_of (chain xs s z o) p st) (store_of st ls))
   on_enter {k = k'} {r = r'} {xs = xs} {s = s} {z = z} {o = o} n routine entry ps ps' p st ls live ep el
       stands k r =
       subst (λ ps'. Reach G (MC.enter n routine ps (suc (level_in o)) k' r' st)
-      (S.entered (machine G) n entry ps' (linked_of (chain xs s z o) p st) (store_of st ls))) ep
+      (S.enter_procedure (machine G) n entry ps' (linked_of (chain xs s z o) p st) (store_of st ls))) ep
       (subst (λ w. Reach G (MC.enter n routine ps (suc (level_in o)) k' r' st)
       (run (chain [] none [] (call n (length st.activations) (suc (level_in o)) p (chain xs s z o))) 0
       (record st { activations = st.activations ++ (ps ++ replicate w Null) ∷ [] }) ls)) el
@@ -196,8 +196,8 @@ module _ (G : Ground) where
       → StandsRoutine G.L n routine.initial routine.body → OfWorks G.L first k p xs z o
       → OfChoices G.L first r s z o →
       Reach G (MC.collect b n routine vs (suc (level_in o)) a k r st)
-      (S.collected (machine G) b routine.parameters vs (linked_of (chain xs s z o) p st)
-      (store_of st ls) (λ ps m st. S.entered (machine G) n entry ps m st))
+      (S.collect_rest (machine G) b routine.parameters vs (linked_of (chain xs s z o) p st)
+      (store_of st ls) (λ ps m st. S.enter_procedure (machine G) n entry ps m st))
   on_collect false n routine entry vs p st ls live e el stands k r =
       on_enter n routine entry _ _ p st ls live (fitted_filled routine.parameters vs) el stands k r
   on_collect {xs = xs} true n routine entry vs p st ls live e el stands k r =
@@ -218,11 +218,11 @@ module _ (G : Ground) where
   call_by {k = k'} {r = r'} {a = a} {xs = xs} {s = s} {z = z} {o = o} true n routine entry vs p st ls live e
       ep ec el stands k r =
       subst (λ b. Reach G (MC.collect routine.collects n routine vs (suc (level_in o)) a k' r' st)
-      (S.collected (machine G) b entry.parameters vs (linked_of (chain xs s z o) p st) (store_of st ls)
-      (λ ps m st. S.entered (machine G) n entry ps m st))) ec
+      (S.collect_rest (machine G) b entry.parameters vs (linked_of (chain xs s z o) p st) (store_of st ls)
+      (λ ps m st. S.enter_procedure (machine G) n entry ps m st))) ec
       (subst (λ w. Reach G (MC.collect routine.collects n routine vs (suc (level_in o)) a k' r' st)
-      (S.collected (machine G) routine.collects w vs (linked_of (chain xs s z o) p st) (store_of st ls)
-      (λ ps m st. S.entered (machine G) n entry ps m st))) ep
+      (S.collect_rest (machine G) routine.collects w vs (linked_of (chain xs s z o) p st) (store_of st ls)
+      (λ ps m st. S.enter_procedure (machine G) n entry ps m st))) ep
       (on_collect routine.collects n routine entry vs p st ls live e el stands k r))
 
   on_call : {first : Bool} {k : Works} {r : Choices} {a level : ℕ} {xs : List Item} {s : Suspensions}
@@ -233,11 +233,11 @@ module _ (G : Ground) where
       → StandsRoutine G.L n routine.initial routine.body → OfWorks G.L first k p xs z o
       → OfChoices G.L first r s z o →
       Reach G (MC.call n routine vs (suc level) a k r st)
-      (S.called (machine G) n entry vs (linked_of (chain xs s z o) p st) (store_of st ls))
+      (S.call_procedure (machine G) n entry vs (linked_of (chain xs s z o) p st) (store_of st ls))
   on_call {k = k'} {r = r'} {a = a} {xs = xs} {s = s} {z = z} {o = o} n routine entry vs p st ls live e el'
       ep ec el stands k r =
       subst (λ level. Reach G (MC.call n routine vs (suc level) a k' r' st)
-      (S.called (machine G) n entry vs (linked_of (chain xs s z o) p st) (store_of st ls))) (sym el')
+      (S.call_procedure (machine G) n entry vs (linked_of (chain xs s z o) p st) (store_of st ls))) (sym el')
       (call_by (nat_le (suc (level_in o)) st.world.heap.bounds.levels) n routine entry vs p st ls live e ep
       ec el stands k r)
 
@@ -256,25 +256,25 @@ module _ (G : Ground) where
       (o_kind {number = number} {kind = kind} {entry = entry} e) v k r =
       on_values G p xs items st ls _ _ (same_activation G v) live r (λ vs.
       subst (λ fields. Reach G (MC.construct number kind vs (M.activation_of v') k' r' st)
-      (S.made (machine G) (record_row number fields
+      (S.with_made (machine G) (record_row number fields
       (S.here (machine G) (linked_of (chain xs s z o) p st) (store_of st ls)))
       (linked_of (chain xs s z o) p st) (store_of st ls)
-      (λ value m st. S.pushed (machine G) (Val value) m st)))
-      (fitted_filled (length kind.fields) vs ∙ ap (λ w. S.filled w vs) e)
-      (on_made G p xs (record_row number (MC.fitted (length kind.fields) vs)) st ls _ _
+      (λ value m st. S.push_item (machine G) (Val value) m st)))
+      (fitted_filled (length kind.fields) vs ∙ ap (λ w. S.fill_nulls w vs) e)
+      (on_made G p xs (record_row number (MC.fit_count (length kind.fields) vs)) st ls _ _
       (same_activation G v) live r (λ v seen. stay G (at_succeed live.0 live.1 k r))))
   on_callee {k = k'} {r = r'} {xs = xs} {s = s} {z = z} {o = o} n items p st ls live (o_function {f = f}) v
-      k r = subst (λ a. Reach G (MT.answer (apply st.names (Function f) items (MT.within a st)) a k' r' st)
+      k r = subst (λ a. Reach G (MT.answer (apply st.names (Function f) items (MT.setting_in a st)) a k' r' st)
       (S.callee_called (machine G) (S.IsFunc f) n items (linked_of (chain xs s z o) p st) (store_of st ls)))
       (sym (same_activation G v)) (on_answer G
-      (apply st.names (Function f) items (MT.within (activation_in o) st)) st ls live k r)
+      (apply st.names (Function f) items (MT.setting_in (activation_in o) st)) st ls live k r)
   on_callee {r = r'} n items p st ls live o_nothing v k r = errored G r' 106 (Some (V.Procedure n)) st ls
 
   on_chosen : {first : Bool} {k : Works} {r : Choices} {xs : List Item} {s : Suspensions} {z : List ℕ}
       {o : Outer} (x : Option Item) (p : ℕ) (st : M.Store) (ls : List (S.Coexp Parked))
       → Live G first st.active st.coexpressions ls → OfWorks G.L first k p xs z o
       → OfChoices G.L first r s z o →
-      Reach G (MC.chosen x k r st) (S.pushed_or_fails (machine G) x (linked_of (chain xs s z o) p st)
+      Reach G (MC.choose_item x k r st) (S.pushed_or_fails (machine G) x (linked_of (chain xs s z o) p st)
       (store_of st ls))
   on_chosen (Some x) p st ls live k r = stay G (at_succeed live.0 live.1 k r)
   on_chosen None p st ls live k r = stay G (at_fail live.0 live.1 r)
@@ -286,7 +286,7 @@ module _ (G : Ground) where
       Reach G (MC.choose i v items k r st)
       (S.integer_called (machine G) v i items (linked_of (chain xs s z o) p st) (store_of st ls))
   on_choose {k = k'} {r = r'} {xs = xs} {s = s} {z = z} {o = o} (Some i) v items p st ls live k r =
-      subst (λ x. Reach G (MC.chosen (MC.argument_at (place_of i (length items)) items) k' r' st)
+      subst (λ x. Reach G (MC.choose_item (MC.argument_at (place_of i (length items)) items) k' r' st)
       (S.pushed_or_fails (machine G) x (linked_of (chain xs s z o) p st) (store_of st ls)))
       (same_argument (place_of i (length items)) items)
       (on_chosen (MC.argument_at (place_of i (length items)) items) p st ls live k r)
@@ -297,7 +297,7 @@ module _ (G : Ground) where
       (ls : List (S.Coexp Parked)) → Live G first st.active st.coexpressions ls
       → OfSurroundings G.L first n' v z o → OfWorks G.L first k p xs z o → OfChoices G.L first r s z o →
       Reach G (MC.invoke G.L.program f items v k r st)
-      (S.invoked (machine G) (code_of G) f items (linked_of (chain xs s z o) p st) (store_of st ls))
+      (S.invoke_value (machine G) (code_of G) f items (linked_of (chain xs s z o) p st) (store_of st ls))
   on_invoke (V.Procedure n) items p st ls live v k r = on_callee n items p st ls live (G.callees n) v k r
   on_invoke f items p st ls live v k r = on_choose (number_of f) f items p st ls live k r
 
@@ -305,24 +305,24 @@ module _ (G : Ground) where
       {s : Suspensions} {z : List ℕ} {o : Outer} (f from : Value) (p : ℕ) (st : M.Store)
       (ls : List (S.Coexp Parked)) → Live G first st.active st.coexpressions ls
       → OfSurroundings G.L first n' v z o → OfWorks G.L first k p xs z o → OfChoices G.L first r s z o →
-      Reach G (MC.spread G.L.program f from v k r st)
+      Reach G (MC.apply_to_list G.L.program f from v k r st)
       (S.elements_called (machine G) (code_of G) f from (linked_of (chain xs s z o) p st)
       (store_of st ls))
   on_spread {v = v'} {k = k'} {r = r'} {xs = xs} {s = s} {z = z} {o = o} f (V.AList l) p st ls live v k r =
       let vs = (list_at st.world.heap l).items in
       subst (λ items. Reach G (MC.invoke G.L.program f (MC.items vs) v' k' r' st)
-      (S.invoked (machine G) (code_of G) f items (linked_of (chain xs s z o) p st) (store_of st ls)))
+      (S.invoke_value (machine G) (code_of G) f items (linked_of (chain xs s z o) p st) (store_of st ls)))
       (same_items vs) (on_invoke f (MC.items vs) p st ls live v k r)
   on_spread {v = v'} {k = k'} {r = r'} {xs = xs} {s = s} {z = z} {o = o} f (V.ARecord l) p st ls live v k
       r = let vs = (record_at st.world.heap l).fields in
       subst (λ items. Reach G (MC.invoke G.L.program f (MC.items vs) v' k' r' st)
-      (S.invoked (machine G) (code_of G) f items (linked_of (chain xs s z o) p st) (store_of st ls)))
+      (S.invoke_value (machine G) (code_of G) f items (linked_of (chain xs s z o) p st) (store_of st ls)))
       (same_items vs) (on_invoke f (MC.items vs) p st ls live v k r)
   on_spread {r = r'} f from p st ls live v k r = errored G r' 126 (Some from) st ls
 
   -- The operands that an instruction takes
 
-  taken_of : (xs ys found : List Item) → taken (length xs) (xs ++ ys) found ≡ Some (reverse_aux xs found, ys)
+  taken_of : (xs ys found : List Item) → take_top (length xs) (xs ++ ys) found ≡ Some (reverse_aux xs found, ys)
   taken_of [] [] found = refl
   taken_of [] (y ∷ ys) found = refl
   taken_of (x ∷ xs) ys found = taken_of xs ys (x ∷ found)
@@ -337,29 +337,29 @@ module _ (G : Ground) where
       ∙ ap (λ found. S.with_found (option_map
       (λ (parts : List Item × List Item).
       (parts.0, with_chain (chain parts.1 s z o) (linked_of (chain (xs ++ ys) s z o) p st))) found)
-      (S.parted next)) (taken_of xs ys [])
+      (S.on_pair next)) (taken_of xs ys [])
 
   on_operated : {first : Bool} {n' : Nest} {v : Surroundings} {k : Works} {r : Choices} {xs : List Item}
       {s : Suspensions} {z : List ℕ} {o : Outer} (op : Op) (items : List Item) (p : ℕ) (st : M.Store)
       (ls : List (S.Coexp Parked)) → Live G first st.active st.coexpressions ls
       → OfSurroundings G.L first n' v z o → OfWorks G.L first k p xs z o → OfChoices G.L first r s z o →
-      Reach G (MC.applied G.L.program (Operating op) items v k r st)
-      (S.operated (machine G) op items (linked_of (chain xs s z o) p st) (store_of st ls))
+      Reach G (MC.apply_form G.L.program (Operating op) items v k r st)
+      (S.operate (machine G) op items (linked_of (chain xs s z o) p st) (store_of st ls))
   on_operated {xs = xs} Ops.Refresh (x ∷ items) p st ls live v k r =
       on_value G p xs x st ls _ _ (same_activation G v) live r
       (λ v1. on_refreshed v1 p st ls live (same_activation G v) k r)
   on_operated {k = k'} {r = r'} {xs = xs} {s = s} {z = z} {o = o} op items p st ls live v k r =
-      subst (λ a. Reach G (MT.answer (apply st.names (Operation op) items (MT.within a st)) a k' r' st)
+      subst (λ a. Reach G (MT.answer (apply st.names (Operation op) items (MT.setting_in a st)) a k' r' st)
       (S.outcome (machine G) (apply st.names (Operation op) items
       (S.here (machine G) (linked_of (chain xs s z o) p st) (store_of st ls)))
       (linked_of (chain xs s z o) p st) (store_of st ls))) (sym (same_activation G v))
-      (on_answer G (apply st.names (Operation op) items (MT.within (activation_in o) st)) st ls live k r)
+      (on_answer G (apply st.names (Operation op) items (MT.setting_in (activation_in o) st)) st ls live k r)
 
   on_calling : {first : Bool} {n' : Nest} {v : Surroundings} {k : Works} {r : Choices} {n : ℕ}
       {xs : List Item} {s : Suspensions} {z : List ℕ} {o : Outer} (items : List Item) (p : ℕ) (st : M.Store)
       (ls : List (S.Coexp Parked)) → suc n ≡ length items → Live G first st.active st.coexpressions ls
       → OfSurroundings G.L first n' v z o → OfWorks G.L first k p xs z o → OfChoices G.L first r s z o →
-      Reach G (MC.applied G.L.program Calling items v k r st)
+      Reach G (MC.apply_form G.L.program Calling items v k r st)
       (S.invoked_with (machine G) (code_of G) items (linked_of (chain xs s z o) p st) (store_of st ls))
   on_calling [] p st ls e live v k r = absurd (omega arith)
   on_calling {xs = xs} (x ∷ items) p st ls e live v k r =
@@ -369,7 +369,7 @@ module _ (G : Ground) where
       {s : Suspensions} {z : List ℕ} {o : Outer} (items : List Item) (p : ℕ) (st : M.Store)
       (ls : List (S.Coexp Parked)) → 2 ≡ length items → Live G first st.active st.coexpressions ls
       → OfSurroundings G.L first n' v z o → OfWorks G.L first k p xs z o → OfChoices G.L first r s z o →
-      Reach G (MC.applied G.L.program Spreading items v k r st)
+      Reach G (MC.apply_form G.L.program Spreading items v k r st)
       (S.applied_to_elements (machine G) (code_of G) items (linked_of (chain xs s z o) p st)
       (store_of st ls))
   on_spreading [] p st ls e live v k r = absurd (omega arith)
@@ -384,7 +384,7 @@ module _ (G : Ground) where
       {s : Suspensions} {z : List ℕ} {o : Outer} (items : List Item) (p : ℕ) (st : M.Store)
       (ls : List (S.Coexp Parked)) → 2 ≡ length items → Live G first st.active st.coexpressions ls
       → OfSurroundings G.L first n' v z o → OfWorks G.L first k p xs z o → OfChoices G.L first r s z o →
-      Reach G (MC.applied G.L.program Activating items v k r st)
+      Reach G (MC.apply_form G.L.program Activating items v k r st)
       (S.activation_of (machine G) items (linked_of (chain xs s z o) p st) (store_of st ls))
   on_activating [] p st ls e live v k r = absurd (omega arith)
   on_activating (x ∷ []) p st ls e live v k r = absurd (omega arith)
@@ -424,7 +424,7 @@ module _ (G : Ground) where
       → ((kind : ℕ) → MP.place_of name (MC.fields_in (slice_get G.L.program.kinds kind)) ≡ S.field_place
       G.L.tables field kind) → Live G first st.active st.coexpressions ls
       → OfSurroundings G.L first n' v z o → OfWorks G.L first k p xs z o → OfChoices G.L first r s z o →
-      Reach G (MC.applied G.L.program (Taking name) items v k r st)
+      Reach G (MC.apply_form G.L.program (Taking name) items v k r st)
       (S.field_applied (machine G) (code_of G) field items (linked_of (chain xs s z o) p st)
       (store_of st ls))
   on_taking name field [] p st ls e f live v k r = absurd (omega arith)
@@ -435,10 +435,10 @@ module _ (G : Ground) where
       {s : Suspensions} {z : List ℕ} {o : Outer} (items : List Item) (p : ℕ) (st : M.Store)
       (ls : List (S.Coexp Parked)) → Live G first st.active st.coexpressions ls
       → OfSurroundings G.L first n' v z o → OfWorks G.L first k p xs z o → OfChoices G.L first r s z o →
-      Reach G (MC.applied G.L.program Collecting items v k r st)
+      Reach G (MC.apply_form G.L.program Collecting items v k r st)
       (S.with_values (machine G) items (linked_of (chain xs s z o) p st) (store_of st ls)
       (λ values. S.list_made (machine G) values (linked_of (chain xs s z o) p st) (store_of st ls)
-      (λ list m st. S.pushed (machine G) (Val list) m st)))
+      (λ list m st. S.push_item (machine G) (Val list) m st)))
   on_collecting {xs = xs} items p st ls live v k r =
       on_values G p xs items st ls _ _ (same_activation G v) live r
       (λ vs. on_made G p xs (list_row vs) st ls _ _ (same_activation G v) live r
@@ -458,7 +458,7 @@ module _ (G : Ground) where
       k r = goes G w (record {
         by = stepped G q (chain zs s z o) st ls h
             ∙ takes xs ys (suc q) st (λ items m.
-            S.turn (code_of G) (store_of st ls) (S.operated (machine G) op items m)) en ez;
+            S.turn (code_of G) (store_of st ls) (S.operate (machine G) op items m)) en ez;
         whole = sets_none G q (chain zs s z o) st ls h refl;
       })
       (on_turn G st ls _ _ (on_operated op (reverse xs) (suc q) _ ls live v k r))
@@ -484,7 +484,7 @@ module _ (G : Ground) where
             ∙ takes xs ys (suc q) st (λ items m.
             S.turn (code_of G) (store_of st ls)
             (λ st. S.with_values (machine G) items m st
-            (λ values. S.list_made (machine G) values m st (λ list m st. S.pushed (machine G) (Val list) m st))))
+            (λ values. S.list_made (machine G) values m st (λ list m st. S.push_item (machine G) (Val list) m st))))
             en ez;
         whole = sets_none G q (chain zs s z o) st ls h refl;
       })

@@ -35,12 +35,12 @@ blank F (n_limit n r ∷ z) b = tt
 blank F (n_suspension (because w) r q ∷ z) b = tt
 blank F (n_suspension (scanning n) r q ∷ z) b = tt
 
-pub popped_blank : (m : Frames) (z : List Cell) → Blank z → S.popped m z ≡ None
+pub popped_blank : (m : Frames) (z : List Cell) → Blank z → S.pop_from m z ≡ None
 popped_blank m [] b = refl
 popped_blank m (S.operand x ∷ z) b = absurd b
 popped_blank m (_ ∷ z) b = refl
 
-pub taken_blank : (n : ℕ) (m : Frames) (z : List Cell) (found : List Item) → Blank z → S.taken (suc n) m z found ≡ None
+pub taken_blank : (n : ℕ) (m : Frames) (z : List Cell) (found : List Item) → Blank z → S.take_top (suc n) m z found ≡ None
 taken_blank n m [] found b = refl
 taken_blank n m (S.operand x ∷ z) found b = absurd b
 taken_blank n m (_ ∷ z) found b = refl
@@ -155,7 +155,7 @@ module _ (repeats : ℕ → ℕ → Bool) (Opens : ℕ → ℕ → Option ℕ �
   -- a suspension on cells that stand above those of a chain
   pub suspended_on : {k inside : Chain} {below cells : List NCell} {r r' : Registers} (reason : Reason) (q h : ℕ) (xs : List NCell) → IsFlat repeats Opens k below r' → IsFlat repeats Opens inside cells r → cells ≡ xs ++ below → h ≡ suc (length cells)
       → (F : Memory) (y : List NCell) → y ≡ n_suspension reason r q ∷ cells
-      → (new : List NCell) × IsFlat repeats Opens (L.suspended (L.suspension reason q inside) k) new (record r' { newest = Some h }) × (S.copy_up (render F below) (render F y) ≡ render F new)
+      → (new : List NCell) × IsFlat repeats Opens (L.suspend_in (L.suspension reason q inside) k) new (record r' { newest = Some h }) × (S.copy_up (render F below) (render F y) ≡ render F new)
       × ((w : World) (s : ℕ) → AllOk w s y → AllOk w s new)
   suspended_on {cells = cells} {r = r} reason q h xs (f_chain {items = items} z e bare out su sc) i f g F y d =
       let top = n_suspension reason r q in
