@@ -1,4 +1,4 @@
 pub mod Puts
 pub mod Moves
-pub mod Added
+pub mod Additions
 pub mod Others

@@ -14,7 +14,7 @@ use Rattle.icn_coexp.specs.declared.entries.Status.{Status}
 use Rattle.icn_coexp.specs.declared.entries.Status.TheVariants.{Fresh, Active, Waiting, Exhausted}
 use Rattle.icn_coexp.specs.declared.entries.Running.{Running}
 use Rattle.icn_coexp.specs.declared.entries.Running.TheVariants.{On, HopDue}
-use Rattle.icn_coexp.specs.Transfers.{Coexp, Table, give, exhaust, enter_other, with_activator, source, activator_in, status_in, status_of, waiting, enter_with, give_by, begin_by, on_stack, enter_failing, fail_by, exhausted_of}
+use Rattle.icn_coexp.specs.Transfers.{Coexp, Table, give, exhaust, enter_other, with_activator, source, activator_in, status_in, status_of, with_waiting, enter_with, give_by, begin_by, on_stack, enter_failing, fail_by, exhausted_of}
 use Rattle.icn_coexp.specs.Keeping.{status_seen, coexp_seen, running_seen, room_of, table_seen, status_put, status_put_in, activator_put, status_at, HasBegun, IsBegun, StatusFits, Fits, AllFit, RunsAs, IsHere, Kept, CanBeGiven, IsGiven, CanFail, Comes, WaitsIn}
 use Rattle.icn_coexp.proofs.Puts.{live_entry, put_here, put_other, activator_put_is, activator_fits, seen_activator, begun_put, status_put_is, entry_after, wait_fits, exhausted_fits, active_fits, none_fits, seen_status}
 
@@ -60,7 +60,7 @@ left_begun K es es' a i (On stack) k w b =
     let e = here_entry K (On stack) (slice_get es a) k.here in
     subst (λ (v : List (Entry K)). IsBegun (slice_get v i)) (sym w) (begun_after K es a i (Waiting stack) e.0 e.1 tt b)
 
-pub left_seen : (K : Type 0) (es es' : List (Entry K)) (a : ℕ) (running : Running K) → WaitsIn a running es es' → waiting (table_seen es a running) ≡ record { coexps = map coexp_seen es'; active = a; running = running_seen running }
+pub left_seen : (K : Type 0) (es es' : List (Entry K)) (a : ℕ) (running : Running K) → WaitsIn a running es es' → with_waiting (table_seen es a running) ≡ record { coexps = map coexp_seen es'; active = a; running = running_seen running }
 left_seen K es es' a HopDue w = absurd w
 left_seen K es es' a (On stack) w =
     let F : List Coexp → Table = λ v. record { coexps = v; active = a; running = Some stack.flat } in

@@ -10,7 +10,7 @@ use Rattle.icn_coexp.specs.declared.entries.Status.{Status}
 use Rattle.icn_coexp.specs.declared.entries.Status.TheVariants.{Fresh, Active, Waiting, Exhausted}
 use Rattle.icn_coexp.specs.declared.entries.Running.{Running}
 use Rattle.icn_coexp.specs.declared.entries.Running.TheVariants.{On, HopDue}
-use Rattle.icn_coexp.specs.Transfers.{Coexp, Table, status_in, status_of, source, with_status, with_status_in, with_activator, with_activator_in, waiting, wait_on, begin_by, give_by, fail_by, enter_other, enter_with, give, exhaust, exhausted_of, active_status, OneIsActive, KeepsOthers}
+use Rattle.icn_coexp.specs.Transfers.{Coexp, Table, status_in, status_of, source, with_status, with_status_in, with_activator, with_activator_in, with_waiting, wait_on, begin_by, give_by, fail_by, enter_other, enter_with, give, exhaust, exhausted_of, active_status, OneIsActive, KeepsOthers}
 use Rattle.icn_coexp.specs.Keeping.{status_seen, coexp_seen, running_seen, table_seen, StatusFits, RunsAs, IsHere, Kept}
 use Rattle.icn_coexp.proofs.Puts.{put_other}
 use Rattle.icn_coexp.proofs.Moves.{here_entry}
@@ -60,12 +60,12 @@ fail_others n i t u code.Exhausted e d = ap (λ (w : List Coexp). slice_get w i)
 
 pub enter_keeps : (n : ℕ) (v : Val) (t u : Table) → enter_other n v t ≡ Some u → KeepsOthers t.active n t.coexps u.coexps
 enter_keeps n v t u e = λ i d f.
-    let left : Table = waiting t in
+    let left : Table = with_waiting t in
     let next : Table = record left { coexps = with_activator n t.active left.coexps } in
     give_others n i v next u (status_of n next) e f ∙ activator_others n i t.active left.coexps f ∙ wait_others t i t.running d
 
 pub give_keeps : (v : Val) (t u : Table) → give v t ≡ Some u → KeepsOthers t.active (source t) t.coexps u.coexps
-give_keeps v t u e = λ i d f. let left : Table = waiting t in give_others (source t) i v left u (status_of (source t) left) e f ∙ wait_others t i t.running d
+give_keeps v t u e = λ i d f. let left : Table = with_waiting t in give_others (source t) i v left u (status_of (source t) left) e f ∙ wait_others t i t.running d
 
 pub exhaust_keeps : (t u : Table) → exhaust t ≡ Some u → KeepsOthers t.active (source t) t.coexps u.coexps
 exhaust_keeps t u e = λ i d f.
@@ -150,7 +150,7 @@ given_runs n v t u code.Exhausted h e x = cc
 
 pub entered_runs : (n : ℕ) (v : Val) (t u : Table) → enter_other n v t ≡ Some u → n ≢ t.active → exhausted_of (status_of n t) ≡ false → IsSome u.running
 entered_runs n v t u e d x =
-    let left : Table = waiting t in
+    let left : Table = with_waiting t in
     let next : Table = record left { coexps = with_activator n t.active left.coexps } in
     let same : status_of n next ≡ status_of n t = activator_status n t.active n left.coexps ∙ ap status_in (wait_others t n t.running d) in
     given_runs n v next u (status_of n next) refl e (ap exhausted_of same ∙ x)

@@ -132,18 +132,18 @@ abbrev pub wait_on : Table → Option FlatStack → Table
 wait_on t (Some m) = record t { coexps = with_status t.active (Waiting m) t.coexps }
 wait_on t None = t
 
-abbrev pub waiting : Table → Table
-waiting t = wait_on t t.running
+abbrev pub with_waiting : Table → Table
+with_waiting t = wait_on t t.running
 
 -- The transfers
 
 -- another one is entered with a value: the active one waits, and becomes its activator
 abbrev pub enter_other : ℕ → Val → Table → Option Table
-enter_other n value t = let left = waiting t in enter_with n value (record left { coexps = with_activator n t.active left.coexps })
+enter_other n value t = let left = with_waiting t in enter_with n value (record left { coexps = with_activator n t.active left.coexps })
 
 -- the active one gives a value to its activator, and waits
 abbrev pub give : Val → Table → Option Table
-give value t = enter_with (source t) value (waiting t)
+give value t = enter_with (source t) value (with_waiting t)
 
 -- the active one is exhausted, and its activator is entered with failure
 abbrev pub exhaust : Table → Option Table

@@ -33,8 +33,8 @@ use Rattle.icn_run.specs.Rows.{Val as ItemVal, ACoexp, coexpression_row}
 use Rattle.icn_run.specs.Stacks.{Frames, flat}
 use Rattle.icn_run.specs.Step as code
 use Rattle.icn_run.specs.Step.{State, Store, Status, Fresh, Active, Waiting, Exhausted, errs, running, failing, hopping, instruction, turn_if, turn, activation, activation_of, operate, refresh, result_given, counted_result, passed_value, passed_failure, activator_of, entered_if, entered_by, exhaust_active, hop, with_popped, with_status, with_value, with_world, at_bound, is_main, stuck}
-use Rattle.icn_control.specs.Creations.{charged_and_made, copied, copied_on}
-use Rattle.icn_control.specs.Landing.{Beside, is_moved, landed, store_with}
+use Rattle.icn_control.specs.Creations.{charged_and_made, copy_entry, copied_on}
+use Rattle.icn_control.specs.Landing.{Beside, is_moved, land, store_with}
 use Rattle.icn_control.specs.Living.{IsLiveStack}
 use Rattle.icn_control.specs.Machines.{running_of, status_in, store_in}
 use Rattle.icn_control.specs.Operands.{having_result, with_top, with_two}
@@ -52,24 +52,24 @@ use Rattle.icn_control.proofs.TransferSteps.{are_read, status_at, status_put}
 
 -- Where a transfer leads
 
-pub lands_runs : (beside : Beside) (m : Frames) (u : Table) (went : Went) → went ≡ went_by u.running → is_moved went ≡ true → landed beside running m u u.running ≡ running (stack_in beside.all (running_of u.running)) (store_with beside u)
+pub lands_runs : (beside : Beside) (m : Frames) (u : Table) (went : Went) → went ≡ went_by u.running → is_moved went ≡ true → land beside running m u u.running ≡ running (stack_in beside.all (running_of u.running)) (store_with beside u)
 lands_runs beside m u went e w = by_running u.running (sym (ap is_moved e) ∙ w)
   where
-    by_running : (o : Option FlatStack) → is_moved (went_by o) ≡ true → landed beside running m u o ≡ running (stack_in beside.all (running_of o)) (store_with beside u)
+    by_running : (o : Option FlatStack) → is_moved (went_by o) ≡ true → land beside running m u o ≡ running (stack_in beside.all (running_of o)) (store_with beside u)
     by_running (Some n) q = refl
     by_running None q = cc
 
-pub lands_hops : (beside : Beside) (m : Frames) (u : Table) (went : Went) → went ≡ went_by u.running → is_moved went ≡ false → landed beside running m u u.running ≡ hopping m (store_with beside u)
+pub lands_hops : (beside : Beside) (m : Frames) (u : Table) (went : Went) → went ≡ went_by u.running → is_moved went ≡ false → land beside running m u u.running ≡ hopping m (store_with beside u)
 lands_hops beside m u went e w = by_running u.running (sym (ap is_moved e) ∙ w)
   where
-    by_running : (o : Option FlatStack) → is_moved (went_by o) ≡ false → landed beside running m u o ≡ hopping m (store_with beside u)
+    by_running : (o : Option FlatStack) → is_moved (went_by o) ≡ false → land beside running m u o ≡ hopping m (store_with beside u)
     by_running (Some n) q = cc
     by_running None q = refl
 
-lands_some : (beside : Beside) (m : Frames) (u : Table) → IsSome u.running → landed beside running m u u.running ≡ running (stack_in beside.all (running_of u.running)) (store_with beside u)
+lands_some : (beside : Beside) (m : Frames) (u : Table) → IsSome u.running → land beside running m u u.running ≡ running (stack_in beside.all (running_of u.running)) (store_with beside u)
 lands_some beside m u k = by_running u.running k
   where
-    by_running : (o : Option FlatStack) → IsSome o → landed beside running m u o ≡ running (stack_in beside.all (running_of o)) (store_with beside u)
+    by_running : (o : Option FlatStack) → IsSome o → land beside running m u o ≡ running (stack_in beside.all (running_of o)) (store_with beside u)
     by_running (Some n) q = refl
     by_running None q = cc
 
@@ -245,7 +245,7 @@ counted_world w v n st same c =
 pub result_passes : (t : Tables) (names : Names) (outside : Outside) (w v : World) (turns : ℕ) (begun : List Bool) (table u : Table) (k : FlatStack) (val : Val) → table.running ≡ Some k → give val table ≡ Some u
     → KeepsItems (reach_of w []) (reach_of v []) → world_of v ≡ having_result table.active (world_of w) → IsLive (extent_of w.heap) val → IsLiveStack t (reach_of w []) k → AllLive t (reach_of w []) table.coexps
     → result_given flat (value_in (extent_of w.heap) val) (stack_in (extent_of w.heap) k) (store_in names outside (world_of w) turns begun (extent_of w.heap) table)
-    ≡ landed (beside_in names outside v turns begun v) running (stack_in (extent_of v.heap) k) u u.running
+    ≡ land (beside_in names outside v turns begun v) running (stack_in (extent_of v.heap) k) u u.running
 result_passes t names outside w v turns begun table u k val e g keeps c value live all =
     let st : Store Frames = store_in names outside (world_of w) turns begun (extent_of v.heap) table in
     let K : Frames = stack_in (extent_of v.heap) k in
@@ -322,7 +322,7 @@ copy_goes t w v m (suc k) names outside turns begun table e p l keeps live all =
     ∙ (creations_are (beside_in names outside w turns begun v) table (stack_in (extent_of v.heap) m)).refreshes k l
 
 -- what is copied, by its number
-pub copied_is : (table u : Table) (m : FlatStack) (id number : ℕ) → table.running ≡ Some m → u ≡ copied id table → number ≡ length table.coexps
+pub copied_is : (table u : Table) (m : FlatStack) (id number : ℕ) → table.running ≡ Some m → u ≡ copy_entry id table → number ≡ length table.coexps
     → record (with_copy table (slice_get table.coexps id)) { running = Some (held.push (HeldVal (HeldCoexp number)) m) } ≡ u
 copied_is table u m id number e c n =
     let F : ℕ → Table = λ k. record (with_copy table (slice_get table.coexps id)) { running = Some (held.push (HeldVal (HeldCoexp k)) m) } in
@@ -332,7 +332,7 @@ copied_is table u m id number e c n =
 
 pub copy_runs : (t : Tables) (w v : World) (m : FlatStack) (id count number : ℕ) (names : Names) (outside : Outside) (turns : ℕ) (begun : List Bool) (table u : Table) → table.running ≡ Some m → 0 < id → id < length table.coexps
     → KeepsItems (reach_of w []) (reach_of v []) → IsLiveStack t (reach_of w []) m → AllLive t (reach_of w []) table.coexps → held.set_locals (held.locals m) m ≡ m → count ≡ length (values_of id table)
-    → coexpression_row count (setting_of outside w (held.locals m)) ≡ Gives (ItemVal (ACoexp number)) (setting_of outside v (held.locals m)) → number ≡ length table.coexps → u ≡ copied id (record table { running = Some m })
+    → coexpression_row count (setting_of outside w (held.locals m)) ≡ Gives (ItemVal (ACoexp number)) (setting_of outside v (held.locals m)) → number ≡ length table.coexps → u ≡ copy_entry id (record table { running = Some m })
     → refresh flat (ACoexp id) (stack_in (extent_of w.heap) (running_of table.running)) (store_in names outside (world_of w) turns begun (extent_of w.heap) table)
     ≡ running (stack_in (extent_of v.heap) (running_of u.running)) (store_in names outside (world_of v) turns begun (extent_of v.heap) u)
 copy_runs t w v m id count number names outside turns begun table u e p l keeps live all same c row n made =

@@ -11,7 +11,7 @@ use Rattle.icn_coexp.specs.Transfers as table
 use Rattle.icn_coexp.specs.Transfers.{Coexp, Table, activator_in, enter_other, exhaust, give, source, with_new, with_copy}
 use Rattle.icn_run.specs.Step.{Status, Fresh, Active, Waiting, Exhausted}
 use Rattle.icn_control.specs.Counting.{FitTurns, EnterOthers}
-use Rattle.icn_control.specs.Creations.{copied, copied_on}
+use Rattle.icn_control.specs.Creations.{copy_entry, copied_on}
 
 -- Activators
 
@@ -69,11 +69,11 @@ waits_others tab None k = k
 waits_others tab (Some m) k = status_others tab.coexps tab.active (Waiting m) k
 
 pub give_others : (v : Val) (tab u : Table) → give v tab ≡ Some u → EnterOthers tab.coexps → EnterOthers u.coexps
-give_others v tab u e k = let left : Table = table.waiting tab in give_by_others left u (source tab) v (table.status_of (source tab) left) e (waits_others tab tab.running k)
+give_others v tab u e k = let left : Table = table.with_waiting tab in give_by_others left u (source tab) v (table.status_of (source tab) left) e (waits_others tab tab.running k)
 
 pub entered_others : (n : ℕ) (v : Val) (tab u : Table) → enter_other n v tab ≡ Some u → n ≢ tab.active → EnterOthers tab.coexps → EnterOthers u.coexps
 entered_others n v tab u e d k =
-    let left : Table = table.waiting tab in
+    let left : Table = table.with_waiting tab in
     let next : Table = record left { coexps = table.with_activator n tab.active left.coexps } in
     give_by_others next u n v (table.status_of n next) e (enter_others left.coexps n tab.active (λ q. d (sym q)) (waits_others tab tab.running k))
 
@@ -116,11 +116,11 @@ fail_by_active tab u n (Waiting m) e = ap (λ (w : Table). w.active) (sym (same_
 fail_by_active tab u n Exhausted e = ap (λ (w : Table). w.active) (sym (same_Some _ _ e))
 
 pub give_active : (v : Val) (tab u : Table) → give v tab ≡ Some u → u.active ≡ source tab
-give_active v tab u e = let left : Table = table.waiting tab in give_by_active left u (source tab) v (table.status_of (source tab) left) refl e
+give_active v tab u e = let left : Table = table.with_waiting tab in give_by_active left u (source tab) v (table.status_of (source tab) left) refl e
 
 pub enter_active : (n : ℕ) (v : Val) (tab u : Table) → enter_other n v tab ≡ Some u → u.active ≡ n
 enter_active n v tab u e =
-    let left : Table = table.waiting tab in
+    let left : Table = table.with_waiting tab in
     let next : Table = record left { coexps = table.with_activator n tab.active left.coexps } in
     give_by_active next u n v (table.status_of n next) refl e
 
@@ -204,8 +204,8 @@ copy_active : (tab : Table) (o : Option Coexp) → (with_copy tab o).active ≡ 
 copy_active tab None = refl
 copy_active tab (Some c) = refl
 
-pub copied_active : (tab u : Table) (m : FlatStack) (id : ℕ) → tab.running ≡ Some m → u ≡ copied id tab → u.active ≡ tab.active
+pub copied_active : (tab u : Table) (m : FlatStack) (id : ℕ) → tab.running ≡ Some m → u ≡ copy_entry id tab → u.active ≡ tab.active
 copied_active tab u m id e c = ap (λ (w : Table). w.active) (c ∙ ap (copied_on id tab) e) ∙ copy_active tab (slice_get tab.coexps id)
 
-pub copied_others : (tab u : Table) (m : FlatStack) (id : ℕ) → tab.running ≡ Some m → u ≡ copied id tab → EnterOthers tab.coexps → EnterOthers u.coexps
+pub copied_others : (tab u : Table) (m : FlatStack) (id : ℕ) → tab.running ≡ Some m → u ≡ copy_entry id tab → EnterOthers tab.coexps → EnterOthers u.coexps
 copied_others tab u m id e c k = subst (λ (w : Table). EnterOthers w.coexps) (sym (c ∙ ap (copied_on id tab) e)) (copy_others tab (slice_get tab.coexps id) k)

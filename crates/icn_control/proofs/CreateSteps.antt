@@ -31,7 +31,7 @@ use Rattle.icn_control.specs.Living.{IsLiveStack}
 use Rattle.icn_control.specs.Landing.{Beside, store_with}
 use Rattle.icn_control.specs.Machines.{store_in, running_of}
 use Rattle.icn_control.specs.Standing.{stack_in, reading_of}
-use Rattle.icn_control.specs.Creations.{with_coexps, charged_and_made, copied, copied_on, created, created_on}
+use Rattle.icn_control.specs.Creations.{with_coexps, charged_and_made, copy_entry, copied_on, create_entry, created_on}
 use Rattle.icn_control.proofs.CreationSteps.{creations_are}
 use Rattle.icn_control.proofs.Deref.{live_locals}
 use Rattle.icn_control.proofs.Halts.{row_error}
@@ -101,7 +101,7 @@ create_goes t tables w v m label names outside turns begun table e b keeps live 
     ∙ (creations_are beside table (stack_in (extent_of v.heap) (held.go label m))).creates m
 
 -- what is created, by its number
-pub created_is : (table u : Table) (m : FlatStack) (label number : ℕ) → table.running ≡ Some m → u ≡ created label table → number ≡ length table.coexps
+pub created_is : (table u : Table) (m : FlatStack) (label number : ℕ) → table.running ≡ Some m → u ≡ create_entry label table → number ≡ length table.coexps
     → record (with_new (held.locals m) (held.proc m) m.place table) { running = Some (held.push (HeldVal (HeldCoexp number)) (held.go label m)) } ≡ u
 created_is table u m label number e c n =
     let F : ℕ → Table = λ k. record (with_new (held.locals m) (held.proc m) m.place table) { running = Some (held.push (HeldVal (HeldCoexp k)) (held.go label m)) } in
@@ -110,7 +110,7 @@ created_is table u m label number e c n =
 -- what the table comes to whose stack was read, then grew, and went on
 pub adds_here : (table t u : Table) (f e k n : FlatStack) (values : List Val) (proc place id label : ℕ) → table.running ≡ Some f → e ≡ f → values ≡ held.locals f → proc ≡ held.proc f → place ≡ f.place
     → t ≡ with_new values proc place (record table { running = Some e }) → id ≡ length table.coexps → t.running ≡ Some k → n ≡ held.push (HeldVal (HeldCoexp id)) (held.go label k) → u ≡ record t { running = Some n }
-    → u ≡ created label table
+    → u ≡ create_entry label table
 adds_here table t u f e k n values proc place id label r same v p q made i g push there =
     let back : k ≡ f = same_Some k f (sym g ∙ ap (λ (x : Table). x.running) made ∙ ap (λ (x : FlatStack). Some x) same) in
     let F : Table → FlatStack → Table = λ x y. record x { running = Some y } in
@@ -129,7 +129,7 @@ copy_running t (Some c) = refl
 
 -- the same of a copy
 pub adds_copy : (table t u : Table) (f k n : FlatStack) (id number : ℕ) → table.running ≡ Some f → t ≡ with_copy table (slice_get table.coexps id) → number ≡ length table.coexps → t.running ≡ Some k
-    → n ≡ held.push (HeldVal (HeldCoexp number)) k → u ≡ record t { running = Some n } → u ≡ copied id table
+    → n ≡ held.push (HeldVal (HeldCoexp number)) k → u ≡ record t { running = Some n } → u ≡ copy_entry id table
 adds_copy table t u f k n id number r made i g push there =
     let back : k ≡ f = same_Some k f (sym g ∙ ap (λ (x : Table). x.running) made ∙ copy_running table (slice_get table.coexps id) ∙ r) in
     let F : Table → FlatStack → Table = λ x y. record x { running = Some y } in
@@ -142,7 +142,7 @@ adds_copy table t u f k n id number r made i g push there =
 
 pub create_runs : (t tables : Tables) (w v : World) (m : FlatStack) (label count number : ℕ) (names : Names) (outside : Outside) (turns more : ℕ) (begun : List Bool) (table u : Table) → table.running ≡ Some m
     → nat_lt turns (heap_of w.heap).bounds.turns ≡ true → KeepsItems (reach_of w []) (reach_of v []) → IsLiveStack t (reach_of w []) m → AllLive t (reach_of w []) table.coexps → held.set_locals (held.locals m) m ≡ m → count ≡ length (held.locals m)
-    → coexpression_row count (setting_of outside w (held.locals m)) ≡ Gives (ItemVal (ACoexp number)) (setting_of outside v (held.locals m)) → number ≡ length table.coexps → u ≡ created label (record table { running = Some m }) → more ≡ suc turns
+    → coexpression_row count (setting_of outside w (held.locals m)) ≡ Gives (ItemVal (ACoexp number)) (setting_of outside v (held.locals m)) → number ≡ length table.coexps → u ≡ create_entry label (record table { running = Some m }) → more ≡ suc turns
     → instruction flat tables (Instrs.Create label) (stack_in (extent_of w.heap) (running_of table.running)) (store_in names outside (world_of w) turns begun (extent_of w.heap) table)
     ≡ running (stack_in (extent_of v.heap) (running_of u.running)) (store_in names outside (world_of v) more begun (extent_of v.heap) u)
 create_runs t tables w v m label count number names outside turns more begun table u e b keeps live all same c row n made k =

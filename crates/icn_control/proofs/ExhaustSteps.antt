@@ -9,7 +9,7 @@ use Rattle.icn_run.specs.Stacks.{Frames, flat}
 use Rattle.icn_run.specs.Step.{State, Store, failing, hopping, turn_if, exhaust_active, passed_failure, activator_of, with_status, Exhausted}
 use Rattle.icn_control.specs.Machines.{running_of}
 use Rattle.icn_control.specs.Standing.{stack_in}
-use Rattle.icn_control.specs.Landing.{Beside, is_moved, store_with, landed}
+use Rattle.icn_control.specs.Landing.{Beside, is_moved, store_with, land}
 use Rattle.icn_control.proofs.TransferSteps.{are_read}
 
 -- the same beside, with a turn more
@@ -17,7 +17,7 @@ abbrev pub turned : Beside → Beside
 turned beside = record beside { turns = suc beside.turns }
 
 pub exhausts : (beside : Beside) (tables : Tables) (t u : Table) (m : Frames) → nat_lt beside.turns beside.world.heap.bounds.turns ≡ true → exhaust t ≡ Some u
-    → exhaust_active flat tables m (store_with beside t) ≡ landed (turned beside) failing m u u.running
+    → exhaust_active flat tables m (store_with beside t) ≡ land (turned beside) failing m u u.running
 exhausts beside tables t u m b e =
     let event : Store Frames → State Frames Frames = λ st. passed_failure flat (activator_of st.active st) m (with_status st.active Exhausted st) in
     ap (λ (x : Bool). turn_if x (store_with beside t) event) b ∙ (are_read (turned beside) t u m).exhausts e
@@ -25,16 +25,16 @@ exhausts beside tables t u m b e =
 pub under : (m n : ℕ) → m < n → nat_lt m n ≡ true
 under m n p = grind (arith, nat_tests)
 
-pub lands_failing : (beside : Beside) (m : Frames) (u : Table) (went : Went) → went ≡ went_by u.running → is_moved went ≡ true → landed beside failing m u u.running ≡ failing (stack_in beside.all (running_of u.running)) (store_with beside u)
+pub lands_failing : (beside : Beside) (m : Frames) (u : Table) (went : Went) → went ≡ went_by u.running → is_moved went ≡ true → land beside failing m u u.running ≡ failing (stack_in beside.all (running_of u.running)) (store_with beside u)
 lands_failing beside m u went e w = by_running u.running (sym (ap is_moved e) ∙ w)
   where
-    by_running : (o : Option FlatStack) → is_moved (went_by o) ≡ true → landed beside failing m u o ≡ failing (stack_in beside.all (running_of o)) (store_with beside u)
+    by_running : (o : Option FlatStack) → is_moved (went_by o) ≡ true → land beside failing m u o ≡ failing (stack_in beside.all (running_of o)) (store_with beside u)
     by_running (Some n) q = refl
     by_running None q = cc
 
-pub lands_hopping : (beside : Beside) (m : Frames) (u : Table) (went : Went) → went ≡ went_by u.running → is_moved went ≡ false → landed beside failing m u u.running ≡ hopping m (store_with beside u)
+pub lands_hopping : (beside : Beside) (m : Frames) (u : Table) (went : Went) → went ≡ went_by u.running → is_moved went ≡ false → land beside failing m u u.running ≡ hopping m (store_with beside u)
 lands_hopping beside m u went e w = by_running u.running (sym (ap is_moved e) ∙ w)
   where
-    by_running : (o : Option FlatStack) → is_moved (went_by o) ≡ false → landed beside failing m u o ≡ hopping m (store_with beside u)
+    by_running : (o : Option FlatStack) → is_moved (went_by o) ≡ false → land beside failing m u o ≡ hopping m (store_with beside u)
     by_running (Some n) q = cc
     by_running None q = refl

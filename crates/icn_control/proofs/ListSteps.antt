@@ -29,7 +29,7 @@ use Rattle.icn_control.specs.Machines.{store_in, running_of, HaltsAt, AreLiveSta
 use Rattle.icn_control.specs.declared.machine.Machine.{Machine}
 use Rattle.icn_control.specs.Parts.{RunsWith, HaltsWith}
 use Rattle.icn_control.specs.Standing.{stack_in}
-use Rattle.icn_control.specs.Taking.{taken, with_values_in, MakesValue, listed}
+use Rattle.icn_control.specs.Taking.{take_operands, with_values_in, MakesValue, push_list}
 use Rattle.icn_control.proofs.GrowthSteps.{grown}
 use Rattle.icn_control.proofs.KeptItems.{stack_stays}
 use Rattle.icn_control.proofs.LiveCalls.{own, live_push}
@@ -74,7 +74,7 @@ halts_is m tables outside halt a b e h = subst (λ (x : State Frames Frames). Ha
 
 pub list_runs : (w v : World) (m k l n : FlatStack) (items : List Item) (vals : List Val) (val : Val)
     → ((st : Store Frames) (next : List Value → State Frames Frames) → st.world ≡ world_of w → with_values_in w m items st next ≡ next (map (value_in (extent_of w.heap)) vals)) → k ≡ m
-    → MakesValue (list_row (map (value_in (extent_of w.heap)) vals)) w k v (Ok val) → l ≡ k → n ≡ held.push (HeldVal val) l → (st : Store Frames) → st.world ≡ world_of w → RunsWith (listed w m items st) st v n
+    → MakesValue (list_row (map (value_in (extent_of w.heap)) vals)) w k v (Ok val) → l ≡ k → n ≡ held.push (HeldVal val) l → (st : Store Frames) → st.world ≡ world_of w → RunsWith (push_list w m items st) st v n
 list_runs w v m k l n items vals val f p g q r st same =
     let pushes : Value → Frames → Store Frames → State Frames Frames = λ list a after. push_item flat (rows.Val list) a after in
     let here : MakesValue (list_row (map (value_in (extent_of w.heap)) vals)) w m v (Ok val) = subst (λ (x : FlatStack). MakesValue (list_row (map (value_in (extent_of w.heap)) vals)) w x v (Ok val)) p g in
@@ -85,19 +85,19 @@ list_runs w v m k l n items vals val f p g q r st same =
 
 pub list_unfound : {A : Type 0} (result : Result A Halt) (w : World) (m n : FlatStack) (items : List Item) (stop : Stop) → IsErrAnd result (λ h. h ≡ halt_of stop)
     → ((st : Store Frames) (next : List Value → State Frames Frames) → st.world ≡ world_of w → HaltsWith (with_values_in w m items st next) st w (halt_of stop)) → (st : Store Frames) → st.world ≡ world_of w
-    → MatchResult result (λ (x : A). RunsWith (listed w m items st) st w n) (HaltsWith (listed w m items st) st w)
+    → MatchResult result (λ (x : A). RunsWith (push_list w m items st) st w n) (HaltsWith (push_list w m items st) st w)
 list_unfound {A} result w m n items stop err f st same =
-    at_halt result (halt_of stop) (λ (x : A). RunsWith (listed w m items st) st w n) (HaltsWith (listed w m items st) st w) err
+    at_halt result (halt_of stop) (λ (x : A). RunsWith (push_list w m items st) st w n) (HaltsWith (push_list w m items st) st w) err
     (f st (λ values. list_made flat values (stack_in (extent_of w.heap) m) st (λ list a after. push_item flat (rows.Val list) a after)) same)
 
 pub list_unmade : {A : Type 0} (result : Result A Halt) (w v : World) (m k n : FlatStack) (items : List Item) (vals : List Val) (stop : Stop) → IsErrAnd result (λ h. h ≡ halt_of stop)
     → ((st : Store Frames) (next : List Value → State Frames Frames) → st.world ≡ world_of w → with_values_in w m items st next ≡ next (map (value_in (extent_of w.heap)) vals)) → k ≡ m
     → MakesValue (list_row (map (value_in (extent_of w.heap)) vals)) w k v (Err stop) → (st : Store Frames) → st.world ≡ world_of w
-    → MatchResult result (λ (x : A). RunsWith (listed w m items st) st v n) (HaltsWith (listed w m items st) st v)
+    → MatchResult result (λ (x : A). RunsWith (push_list w m items st) st v n) (HaltsWith (push_list w m items st) st v)
 list_unmade {A} result w v m k n items vals stop err f p g st same =
     let pushes : Value → Frames → Store Frames → State Frames Frames = λ list a after. push_item flat (rows.Val list) a after in
     let here : MakesValue (list_row (map (value_in (extent_of w.heap)) vals)) w m v (Err stop) = subst (λ (x : FlatStack). MakesValue (list_row (map (value_in (extent_of w.heap)) vals)) w x v (Err stop)) p g in
-    at_halt result (halt_of stop) (λ (x : A). RunsWith (listed w m items st) st v n) (HaltsWith (listed w m items st) st v) err
+    at_halt result (halt_of stop) (λ (x : A). RunsWith (push_list w m items st) st v n) (HaltsWith (push_list w m items st) st v) err
     (subst (λ (x : State Frames Frames). HaltsWith x st v (halt_of stop)) (sym (f st (λ values. list_made flat values (stack_in (extent_of w.heap) m) st pushes) same)) (here st pushes same))
 
 pub list_live : (t : Tables) (w v : World) (m n : FlatStack) (val : Val) → n ≡ held.push (HeldVal val) m → KeepsItems (reach_of w []) (reach_of v []) → IsLive (extent_of v.heap) val → IsLiveStack t (reach_of w []) m → IsLiveStack t (reach_of v []) n
@@ -106,7 +106,7 @@ list_live t w v m n val e k i l =
     subst (λ (x : FlatStack). IsLiveStack t (reach_of v []) x) (sym e) (live_push t (reach_of v []) m (HeldVal val) (stack_stays t (reach_of w []) (reach_of v []) m k l) item)
 
 -- what the instruction is once its operands are taken
-pub llist_is : (all : Extent) (tables : Tables) (table : Table) (m k : FlatStack) (items : List Item) (count : ℕ) (st : Store Frames) → table.running ≡ Some m → taken count m ≡ Some (items, k)
+pub llist_is : (all : Extent) (tables : Tables) (table : Table) (m k : FlatStack) (items : List Item) (count : ℕ) (st : Store Frames) → table.running ≡ Some m → take_operands count m ≡ Some (items, k)
     → instruction flat tables (Instrs.Llist count) (stack_in all (running_of table.running)) st
     ≡ turn tables st (λ s. with_values flat (map (item_in all) items) (stack_in all k) s (λ values. list_made flat values (stack_in all k) s (λ list a after. push_item flat (rows.Val list) a after)))
 llist_is all tables table m k items count st e p =
@@ -115,13 +115,13 @@ llist_is all tables table m k items count st e p =
 
 -- the same on a stack and of operands that are the same
 
-pub listed_halts : (w v : World) (k f : FlatStack) (items xs : List Item) (halt : Halt) → k ≡ f → xs ≡ items → ((st : Store Frames) → st.world ≡ world_of w → HaltsWith (listed w f xs st) st v halt) → (st : Store Frames) → st.world ≡ world_of w
-    → HaltsWith (listed w k items st) st v halt
+pub listed_halts : (w v : World) (k f : FlatStack) (items xs : List Item) (halt : Halt) → k ≡ f → xs ≡ items → ((st : Store Frames) → st.world ≡ world_of w → HaltsWith (push_list w f xs st) st v halt) → (st : Store Frames) → st.world ≡ world_of w
+    → HaltsWith (push_list w k items st) st v halt
 listed_halts w v k f items xs halt e d h =
-    subst (λ (x : FlatStack). (st : Store Frames) → st.world ≡ world_of w → HaltsWith (listed w x items st) st v halt) (sym e)
-    (subst (λ (ys : List Item). (st : Store Frames) → st.world ≡ world_of w → HaltsWith (listed w f ys st) st v halt) d h)
+    subst (λ (x : FlatStack). (st : Store Frames) → st.world ≡ world_of w → HaltsWith (push_list w x items st) st v halt) (sym e)
+    (subst (λ (ys : List Item). (st : Store Frames) → st.world ≡ world_of w → HaltsWith (push_list w f ys st) st v halt) d h)
 
-pub listed_runs : (w v : World) (k f n : FlatStack) (items xs : List Item) → k ≡ f → xs ≡ items → ((st : Store Frames) → st.world ≡ world_of w → RunsWith (listed w f xs st) st v n) → (st : Store Frames) → st.world ≡ world_of w → RunsWith (listed w k items st) st v n
+pub listed_runs : (w v : World) (k f n : FlatStack) (items xs : List Item) → k ≡ f → xs ≡ items → ((st : Store Frames) → st.world ≡ world_of w → RunsWith (push_list w f xs st) st v n) → (st : Store Frames) → st.world ≡ world_of w → RunsWith (push_list w k items st) st v n
 listed_runs w v k f n items xs e d h =
-    subst (λ (x : FlatStack). (st : Store Frames) → st.world ≡ world_of w → RunsWith (listed w x items st) st v n) (sym e)
-    (subst (λ (ys : List Item). (st : Store Frames) → st.world ≡ world_of w → RunsWith (listed w f ys st) st v n) d h)
+    subst (λ (x : FlatStack). (st : Store Frames) → st.world ≡ world_of w → RunsWith (push_list w x items st) st v n) (sym e)
+    (subst (λ (ys : List Item). (st : Store Frames) → st.world ≡ world_of w → RunsWith (push_list w f ys st) st v n) d h)

@@ -18,7 +18,7 @@ use Rattle.icn_coexp.specs.Transfers as table
 use Rattle.icn_coexp.specs.Transfers.{Coexp, Table, enter_other, give, source, with_new, with_copy}
 use Rattle.icn_code.specs.Codes.{Tables}
 use Rattle.icn_run.specs.Step.{Status, Fresh, Active, Waiting, Exhausted}
-use Rattle.icn_control.specs.Creations.{copied, copied_on, created, created_on}
+use Rattle.icn_control.specs.Creations.{copy_entry, copied_on, create_entry, created_on}
 use Rattle.icn_control.specs.Living.{with_locals, IsLiveStack, variable_count}
 use Rattle.icn_control.specs.Machines.{IsLiveStatus, IsLiveCoexp, IsLiveRunning, AreLiveStacks}
 use Rattle.icn_control.proofs.Deref.{live_locals}
@@ -112,14 +112,14 @@ above_first cs (suc n) d e = omega arith
 
 pub give_live : (t : Tables) (r : Reach) (v : Val) (tab u : Table) → give v tab ≡ Some u → table.status_of 0 tab ≢ Fresh → IsLive r.extent v → AreLiveStacks t r tab → AreLiveStacks t r u
 give_live t r v tab u e d i k =
-    let left : Table = table.waiting tab in
+    let left : Table = table.with_waiting tab in
     let all : AllLive t r left.coexps = waits_live t r tab tab.running k.coexps k.runs in
     let first : table.status_of 0 left ≢ Fresh = λ f. d (fresh_waiting tab tab.running f) in
     gives_live t r left u (source tab) v (table.status_of (source tab) left) refl (above_first left.coexps (source tab) first) e all (live_waiting t r left.coexps (source tab) (slice_get left.coexps (source tab)) refl all) i
 
 pub enter_live : (t : Tables) (r : Reach) (n : ℕ) (v : Val) (tab u : Table) → enter_other n v tab ≡ Some u → table.status_of 0 tab ≢ Fresh → IsLive r.extent v → AreLiveStacks t r tab → AreLiveStacks t r u
 enter_live t r n v tab u e d i k =
-    let left : Table = table.waiting tab in
+    let left : Table = table.with_waiting tab in
     let next : Table = record left { coexps = table.with_activator n tab.active left.coexps } in
     let waits : AllLive t r left.coexps = waits_live t r tab tab.running k.coexps k.runs in
     let all : AllLive t r next.coexps = activator_live t r left.coexps n tab.active waits in
@@ -152,12 +152,12 @@ waits_length tab (Some m) = status_length tab.coexps tab.active (Waiting m) (sli
 
 pub give_length : (v : Val) (tab u : Table) → give v tab ≡ Some u → length u.coexps ≡ length tab.coexps
 give_length v tab u e =
-    let left : Table = table.waiting tab in
+    let left : Table = table.with_waiting tab in
     gives_length left u (source tab) v (table.status_of (source tab) left) e ∙ waits_length tab tab.running
 
 pub enter_length : (n : ℕ) (v : Val) (tab u : Table) → enter_other n v tab ≡ Some u → length u.coexps ≡ length tab.coexps
 enter_length n v tab u e =
-    let left : Table = table.waiting tab in
+    let left : Table = table.with_waiting tab in
     let next : Table = record left { coexps = table.with_activator n tab.active left.coexps } in
     gives_length next u n v (table.status_of n next) e ∙ activator_length left.coexps n tab.active (slice_get left.coexps n) ∙ waits_length tab tab.running
 
@@ -189,7 +189,7 @@ pub copy_length : (tab : Table) (o : Option Coexp) (c : Coexp) → o ≡ Some c 
 copy_length tab o c e = ap (λ (w : Option Coexp). length (with_copy tab w).coexps) e ∙ new_length tab c.values c.proc c.place
 
 -- what is created
-pub created_live : (t : Tables) (old new : Reach) (tab u : Table) (m : FlatStack) (label : ℕ) → tab.running ≡ Some m → u ≡ created label tab → KeepsItems old new → held.local_count m ≡ length (held.locals m)
+pub created_live : (t : Tables) (old new : Reach) (tab u : Table) (m : FlatStack) (label : ℕ) → tab.running ≡ Some m → u ≡ create_entry label tab → KeepsItems old new → held.local_count m ≡ length (held.locals m)
     → IsLive new.extent (HeldCoexp (length tab.coexps)) → AreLiveStacks t old tab → AreLiveStacks t new u
 created_live t old new tab u m label e c keeps count value k =
     let live : IsLiveStack t old m = subst (λ (o : Option FlatStack). IsLiveRunning t old o) e k.runs in
@@ -203,11 +203,11 @@ created_live t old new tab u m label e c keeps count value k =
     } in
     subst (λ (w : Table). AreLiveStacks t new w) (sym (c ∙ ap (created_on label tab) e)) made
 
-pub created_length : (tab u : Table) (m : FlatStack) (label : ℕ) → tab.running ≡ Some m → u ≡ created label tab → length u.coexps ≡ suc (length tab.coexps)
+pub created_length : (tab u : Table) (m : FlatStack) (label : ℕ) → tab.running ≡ Some m → u ≡ create_entry label tab → length u.coexps ≡ suc (length tab.coexps)
 created_length tab u m label e c = ap (λ (w : Table). length w.coexps) (c ∙ ap (created_on label tab) e) ∙ new_length tab (held.locals m) (held.proc m) m.place
 
 -- what is copied
-pub copied_live : (t : Tables) (old new : Reach) (tab u : Table) (m : FlatStack) (id : ℕ) → tab.running ≡ Some m → u ≡ copied id tab → 0 < id → KeepsItems old new → IsLive new.extent (HeldCoexp (length tab.coexps)) → AreLiveStacks t old tab
+pub copied_live : (t : Tables) (old new : Reach) (tab u : Table) (m : FlatStack) (id : ℕ) → tab.running ≡ Some m → u ≡ copy_entry id tab → 0 < id → KeepsItems old new → IsLive new.extent (HeldCoexp (length tab.coexps)) → AreLiveStacks t old tab
     → AreLiveStacks t new u
 copied_live t old new tab u m id e c p keeps value k =
     let live : IsLiveStack t old m = subst (λ (o : Option FlatStack). IsLiveRunning t old o) e k.runs in
@@ -219,7 +219,7 @@ copied_live t old new tab u m id e c p keeps value k =
     } in
     subst (λ (w : Table). AreLiveStacks t new w) (sym (c ∙ ap (copied_on id tab) e)) made
 
-pub copied_length : (tab u : Table) (m : FlatStack) (id : ℕ) → tab.running ≡ Some m → u ≡ copied id tab → id < length tab.coexps → length u.coexps ≡ suc (length tab.coexps)
+pub copied_length : (tab u : Table) (m : FlatStack) (id : ℕ) → tab.running ≡ Some m → u ≡ copy_entry id tab → id < length tab.coexps → length u.coexps ≡ suc (length tab.coexps)
 copied_length tab u m id e c p =
     let there = live_entry Coexp tab.coexps id p in
     ap (λ (w : Table). length w.coexps) (c ∙ ap (copied_on id tab) e) ∙ copy_length tab (slice_get tab.coexps id) there.0 there.1

@@ -34,7 +34,7 @@ use Rattle.icn_run.specs.Step.{State, Store, running, here, with_made, with_pair
 use Rattle.icn_control.specs.Living.{IsLivePair, IsLiveStack}
 use Rattle.icn_control.specs.Pairs.{paired}
 use Rattle.icn_control.specs.Parts.{RunsWith, HaltsWith}
-use Rattle.icn_control.specs.Standing.{done, stack_in, reading_of, pair_in}
+use Rattle.icn_control.specs.Standing.{instruction_state, stack_in, reading_of, pair_in}
 use Rattle.icn_control.specs.Taking.{made_in, MakesValue}
 use Rattle.icn_control.proofs.Deref.{present_live}
 use Rattle.icn_control.proofs.LiveCalls.{live_suspend}
@@ -132,7 +132,7 @@ opens_live t w m n e l = subst (λ (x : FlatStack). IsLiveStack t (reach_of w []
 
 pub bscan_runs : (w v u : World) (m k l n : FlatStack) (item : Item) (val : Val) (span : Span) → held.pop m ≡ Some (item, k) → FindsItem w k item (Ok val) → MakesValue (text_row (value_in (extent_of w.heap) val)) w k v (Ok (TextVal span)) → l ≡ k
     → ((st : Store Frames) → st.world ≡ world_of v → RunsWith (scan_opened flat (Text (text_in (extent_of v.heap) span)) (stack_in (extent_of v.heap) l) st) st u n)
-    → (tables : Tables) (st : Store Frames) → st.world ≡ world_of w → RunsWith (done (extent_of w.heap) tables Instrs.Bscan m st) st u n
+    → (tables : Tables) (st : Store Frames) → st.world ≡ world_of w → RunsWith (instruction_state (extent_of w.heap) tables Instrs.Bscan m st) st u n
 bscan_runs w v u m k l n item val span e f made_so p o tables st same =
     popped_value w m k item val e st (f st same) (λ value a. with_made flat (text_row value (here flat a st)) a st (scan_opened flat))
     ∙ made_so st (scan_opened flat) same
@@ -140,16 +140,16 @@ bscan_runs w v u m k l n item val span e f made_so p o tables st same =
     ∙ o (with_world (world_of v) st) refl
 
 pub bscan_err : {A : Type 0} (result : Result A Halt) (w : World) (m k n : FlatStack) (item : Item) (stop : Stop) → IsErrAnd result (λ h. h ≡ halt_of stop) → held.pop m ≡ Some (item, k) → FindsItem w k item (Err stop) → (tables : Tables) (st : Store Frames) → st.world ≡ world_of w
-    → MatchResult result (λ (x : A). RunsWith (done (extent_of w.heap) tables Instrs.Bscan m st) st w n) (HaltsWith (done (extent_of w.heap) tables Instrs.Bscan m st) st w)
+    → MatchResult result (λ (x : A). RunsWith (instruction_state (extent_of w.heap) tables Instrs.Bscan m st) st w n) (HaltsWith (instruction_state (extent_of w.heap) tables Instrs.Bscan m st) st w)
 bscan_err {A} result w m k n item stop err e f tables st same =
-    at_halt result (halt_of stop) (λ (x : A). RunsWith (done (extent_of w.heap) tables Instrs.Bscan m st) st w n) (HaltsWith (done (extent_of w.heap) tables Instrs.Bscan m st) st w) err
+    at_halt result (halt_of stop) (λ (x : A). RunsWith (instruction_state (extent_of w.heap) tables Instrs.Bscan m st) st w n) (HaltsWith (instruction_state (extent_of w.heap) tables Instrs.Bscan m st) st w) err
     (popped_halts w m k item stop e st same (f st same) (λ value a. with_made flat (text_row value (here flat a st)) a st (scan_opened flat)))
 
 pub bscan_unmade : {A : Type 0} (result : Result A Halt) (w v : World) (m k n : FlatStack) (item : Item) (val : Val) (stop : Stop) → IsErrAnd result (λ h. h ≡ halt_of stop) → held.pop m ≡ Some (item, k) → FindsItem w k item (Ok val)
     → MakesValue (text_row (value_in (extent_of w.heap) val)) w k v (Err stop) → (tables : Tables) (st : Store Frames) → st.world ≡ world_of w
-    → MatchResult result (λ (x : A). RunsWith (done (extent_of w.heap) tables Instrs.Bscan m st) st v n) (HaltsWith (done (extent_of w.heap) tables Instrs.Bscan m st) st v)
+    → MatchResult result (λ (x : A). RunsWith (instruction_state (extent_of w.heap) tables Instrs.Bscan m st) st v n) (HaltsWith (instruction_state (extent_of w.heap) tables Instrs.Bscan m st) st v)
 bscan_unmade {A} result w v m k n item val stop err e f made_so tables st same =
-    let go : done (extent_of w.heap) tables Instrs.Bscan m st ≡ made_in (text_row (value_in (extent_of w.heap) val)) w k st (scan_opened flat)
+    let go : instruction_state (extent_of w.heap) tables Instrs.Bscan m st ≡ made_in (text_row (value_in (extent_of w.heap) val)) w k st (scan_opened flat)
     = popped_value w m k item val e st (f st same) (λ value a. with_made flat (text_row value (here flat a st)) a st (scan_opened flat)) in
-    at_halt result (halt_of stop) (λ (x : A). RunsWith (done (extent_of w.heap) tables Instrs.Bscan m st) st v n) (HaltsWith (done (extent_of w.heap) tables Instrs.Bscan m st) st v) err
+    at_halt result (halt_of stop) (λ (x : A). RunsWith (instruction_state (extent_of w.heap) tables Instrs.Bscan m st) st v n) (HaltsWith (instruction_state (extent_of w.heap) tables Instrs.Bscan m st) st v) err
     (subst (λ (x : State Frames Frames). HaltsWith x st v (halt_of stop)) (sym go) (made_so st (scan_opened flat) same))

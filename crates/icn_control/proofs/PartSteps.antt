@@ -27,7 +27,7 @@ use Rattle.icn_code.specs.Codes.{Tables}
 use Rattle.icn_run.specs.Rows as rows
 use Rattle.icn_run.specs.Stacks.{Frames, flat}
 use Rattle.icn_run.specs.Step.{State, Store, running, failing, errs, with_value, with_given, with_world, with_popped, here, scans_left, unmark_then, push_item, limit_results}
-use Rattle.icn_control.specs.Standing.{done, stack_in, reading_of, maybe_pair_in}
+use Rattle.icn_control.specs.Standing.{instruction_state, stack_in, reading_of, maybe_pair_in}
 use Rattle.icn_control.specs.Pairs.{maybe_paired}
 use Rattle.icn_control.specs.Parts.{RunsWith, FailsWith, StandsWith, HaltsWith, FindsValue, natural_of}
 use Rattle.icn_control.specs.declared.machine.Stage.{Stage}
@@ -76,7 +76,7 @@ popped_halts w m k item stop e st same h next =
 pub eret_runs : (w v : World) (m k l n : FlatStack) (item : Item) (val : Val) (pair : Option HeldPair) → held.pop m ≡ Some (item, k)
     → ((st : Store Frames) → st.world ≡ world_of w → FindsValue (extent_of w.heap) (item_in (extent_of w.heap) item) (here flat (stack_in (extent_of w.heap) k) st) (Ok val)) → held.unmark k ≡ Some (l, pair) → v.heap ≡ w.heap
     → world_of v ≡ maybe_paired (maybe_pair_in (extent_of w.heap) pair) (world_of w) → n ≡ held.push (HeldVal val) l → (tables : Tables) (st : Store Frames) → st.world ≡ world_of w
-    → RunsWith (done (extent_of w.heap) tables Instrs.Eret m st) st v n
+    → RunsWith (instruction_state (extent_of w.heap) tables Instrs.Eret m st) st v n
 eret_runs w v m k l n item val pair e h u same back p tables st here_in =
     let all : Extent = extent_of w.heap in
     let F : HeldHeap → State Frames Frames = λ x. running (stack_in (extent_of x) n) (with_world (world_of v) st) in
@@ -88,7 +88,7 @@ eret_runs w v m k l n item val pair e h u same back p tables st here_in =
 
 pub eret_halts : (w : World) (m k : FlatStack) (item : Item) (stop : Stop) → held.pop m ≡ Some (item, k)
     → ((st : Store Frames) → st.world ≡ world_of w → FindsValue (extent_of w.heap) (item_in (extent_of w.heap) item) (here flat (stack_in (extent_of w.heap) k) st) (Err stop)) → (tables : Tables) (st : Store Frames)
-    → st.world ≡ world_of w → HaltsWith (done (extent_of w.heap) tables Instrs.Eret m st) st w (halt_of stop)
+    → st.world ≡ world_of w → HaltsWith (instruction_state (extent_of w.heap) tables Instrs.Eret m st) st w (halt_of stop)
 eret_halts w m k item stop e h tables st same = popped_halts w m k item stop e st same (h st same) (λ value a. unmark_then flat a st (push_item flat (rows.Val value)))
 
 -- an answer that halts
@@ -98,29 +98,29 @@ at_halt (Ok a) halt P Q e q = absurd e
 
 pub eret_err : {A : Type 0} (result : Result A Halt) (w : World) (m k n : FlatStack) (item : Item) (stop : Stop) → IsErrAnd result (λ h. h ≡ halt_of stop) → held.pop m ≡ Some (item, k)
     → ((st : Store Frames) → st.world ≡ world_of w → FindsValue (extent_of w.heap) (item_in (extent_of w.heap) item) (here flat (stack_in (extent_of w.heap) k) st) (Err stop)) → (tables : Tables) (st : Store Frames)
-    → st.world ≡ world_of w → MatchResult result (λ (x : A). RunsWith (done (extent_of w.heap) tables Instrs.Eret m st) st w n) (HaltsWith (done (extent_of w.heap) tables Instrs.Eret m st) st w)
+    → st.world ≡ world_of w → MatchResult result (λ (x : A). RunsWith (instruction_state (extent_of w.heap) tables Instrs.Eret m st) st w n) (HaltsWith (instruction_state (extent_of w.heap) tables Instrs.Eret m st) st w)
 eret_err {A} result w m k n item stop err e h tables st same =
-    at_halt result (halt_of stop) (λ (x : A). RunsWith (done (extent_of w.heap) tables Instrs.Eret m st) st w n) (HaltsWith (done (extent_of w.heap) tables Instrs.Eret m st) st w) err (eret_halts w m k item stop e h tables st same)
+    at_halt result (halt_of stop) (λ (x : A). RunsWith (instruction_state (extent_of w.heap) tables Instrs.Eret m st) st w n) (HaltsWith (instruction_state (extent_of w.heap) tables Instrs.Eret m st) st w) err (eret_halts w m k item stop e h tables st same)
 
 -- The limit of a limitation
 
 pub limit_goes : (w : World) (m k : FlatStack) (item : Item) (val : Val) → held.pop m ≡ Some (item, k)
     → ((st : Store Frames) → st.world ≡ world_of w → FindsValue (extent_of w.heap) (item_in (extent_of w.heap) item) (here flat (stack_in (extent_of w.heap) k) st) (Ok val)) → (n : Option ℤ) → n ≡ integer_of (value_in (extent_of w.heap) val)
-    → (tables : Tables) (st : Store Frames) → st.world ≡ world_of w → done (extent_of w.heap) tables Instrs.Limit m st ≡ limit_results flat (value_in (extent_of w.heap) val) n (stack_in (extent_of w.heap) k) st
+    → (tables : Tables) (st : Store Frames) → st.world ≡ world_of w → instruction_state (extent_of w.heap) tables Instrs.Limit m st ≡ limit_results flat (value_in (extent_of w.heap) val) n (stack_in (extent_of w.heap) k) st
 limit_goes w m k item val e h n i tables st same =
     popped_value w m k item val e st (h st same) (λ value a. limit_results flat value (integer_of value) a st)
     ∙ ap (λ (x : Option ℤ). limit_results flat (value_in (extent_of w.heap) val) x (stack_in (extent_of w.heap) k) st) (sym i)
 
 pub limit_halts : (w : World) (m k : FlatStack) (item : Item) (stop : Stop) → held.pop m ≡ Some (item, k)
     → ((st : Store Frames) → st.world ≡ world_of w → FindsValue (extent_of w.heap) (item_in (extent_of w.heap) item) (here flat (stack_in (extent_of w.heap) k) st) (Err stop)) → (tables : Tables) (st : Store Frames)
-    → st.world ≡ world_of w → HaltsWith (done (extent_of w.heap) tables Instrs.Limit m st) st w (halt_of stop)
+    → st.world ≡ world_of w → HaltsWith (instruction_state (extent_of w.heap) tables Instrs.Limit m st) st w (halt_of stop)
 limit_halts w m k item stop e h tables st same = popped_halts w m k item stop e st same (h st same) (λ value a. limit_results flat value (integer_of value) a st)
 
 pub limit_err : (result : Result Stage Halt) (w : World) (m k n : FlatStack) (item : Item) (stop : Stop) → IsErrAnd result (λ h. h ≡ halt_of stop) → held.pop m ≡ Some (item, k)
     → ((st : Store Frames) → st.world ≡ world_of w → FindsValue (extent_of w.heap) (item_in (extent_of w.heap) item) (here flat (stack_in (extent_of w.heap) k) st) (Err stop)) → (tables : Tables) (st : Store Frames)
-    → st.world ≡ world_of w → MatchResult result (StandsWith (done (extent_of w.heap) tables Instrs.Limit m st) st w n) (HaltsWith (done (extent_of w.heap) tables Instrs.Limit m st) st w)
+    → st.world ≡ world_of w → MatchResult result (StandsWith (instruction_state (extent_of w.heap) tables Instrs.Limit m st) st w n) (HaltsWith (instruction_state (extent_of w.heap) tables Instrs.Limit m st) st w)
 limit_err result w m k n item stop err e h tables st same =
-    at_halt result (halt_of stop) (StandsWith (done (extent_of w.heap) tables Instrs.Limit m st) st w n) (HaltsWith (done (extent_of w.heap) tables Instrs.Limit m st) st w) err (limit_halts w m k item stop e h tables st same)
+    at_halt result (halt_of stop) (StandsWith (instruction_state (extent_of w.heap) tables Instrs.Limit m st) st w n) (HaltsWith (instruction_state (extent_of w.heap) tables Instrs.Limit m st) st w) err (limit_halts w m k item stop e h tables st same)
 
 -- the integer that a count stands for
 count_is : (n : ℤ) (count : ℕ) → natural_of n ≡ Some count → n ≡ pos count
@@ -135,13 +135,13 @@ below_is (negsuc k) e = (k, refl)
 pub limit_none : (w : World) (m k : FlatStack) (item : Item) (val : Val) → held.pop m ≡ Some (item, k)
     → ((st : Store Frames) → st.world ≡ world_of w → FindsValue (extent_of w.heap) (item_in (extent_of w.heap) item) (here flat (stack_in (extent_of w.heap) k) st) (Ok val)) → None ≡ integer_of (value_in (extent_of w.heap) val)
     → (tables : Tables) (st : Store Frames) → st.world ≡ world_of w
-    → done (extent_of w.heap) tables Instrs.Limit m st ≡ errs 101 (Some (value_in (extent_of w.heap) val)) (with_world (world_of w) st)
+    → instruction_state (extent_of w.heap) tables Instrs.Limit m st ≡ errs 101 (Some (value_in (extent_of w.heap) val)) (with_world (world_of w) st)
 limit_none w m k item val e h i tables st same = limit_goes w m k item val e h None i tables st same ∙ ap (errs 101 (Some (value_in (extent_of w.heap) val))) (same_world w st same)
 
 pub limit_below : (w : World) (m k : FlatStack) (item : Item) (val : Val) → held.pop m ≡ Some (item, k)
     → ((st : Store Frames) → st.world ≡ world_of w → FindsValue (extent_of w.heap) (item_in (extent_of w.heap) item) (here flat (stack_in (extent_of w.heap) k) st) (Ok val)) → (n : ℤ) → Some n ≡ integer_of (value_in (extent_of w.heap) val)
     → None ≡ natural_of n → (tables : Tables) (st : Store Frames) → st.world ≡ world_of w
-    → done (extent_of w.heap) tables Instrs.Limit m st ≡ errs 205 (Some (value_in (extent_of w.heap) val)) (with_world (world_of w) st)
+    → instruction_state (extent_of w.heap) tables Instrs.Limit m st ≡ errs 205 (Some (value_in (extent_of w.heap) val)) (with_world (world_of w) st)
 limit_below w m k item val e h n i b tables st same =
     let below = below_is n (sym b) in
     limit_goes w m k item val e h (Some n) i tables st same
@@ -151,14 +151,14 @@ limit_below w m k item val e h n i b tables st same =
 limit_count : (w : World) (m k : FlatStack) (item : Item) (val : Val) → held.pop m ≡ Some (item, k)
     → ((st : Store Frames) → st.world ≡ world_of w → FindsValue (extent_of w.heap) (item_in (extent_of w.heap) item) (here flat (stack_in (extent_of w.heap) k) st) (Ok val)) → (n : ℤ) → Some n ≡ integer_of (value_in (extent_of w.heap) val)
     → (count : ℕ) → Some count ≡ natural_of n → (tables : Tables) (st : Store Frames) → st.world ≡ world_of w
-    → done (extent_of w.heap) tables Instrs.Limit m st ≡ limit_results flat (value_in (extent_of w.heap) val) (Some (pos count)) (stack_in (extent_of w.heap) k) st
+    → instruction_state (extent_of w.heap) tables Instrs.Limit m st ≡ limit_results flat (value_in (extent_of w.heap) val) (Some (pos count)) (stack_in (extent_of w.heap) k) st
 limit_count w m k item val e h n i count b tables st same =
     limit_goes w m k item val e h (Some n) i tables st same
     ∙ ap (λ (x : ℤ). limit_results flat (value_in (extent_of w.heap) val) (Some x) (stack_in (extent_of w.heap) k) st) (count_is n count (sym b))
 
 pub limit_zero : (w : World) (m k n : FlatStack) (item : Item) (val : Val) → held.pop m ≡ Some (item, k)
     → ((st : Store Frames) → st.world ≡ world_of w → FindsValue (extent_of w.heap) (item_in (extent_of w.heap) item) (here flat (stack_in (extent_of w.heap) k) st) (Ok val)) → (i : ℤ) → Some i ≡ integer_of (value_in (extent_of w.heap) val)
-    → (count : ℕ) → Some count ≡ natural_of i → count ≡ 0 → n ≡ k → (tables : Tables) (st : Store Frames) → st.world ≡ world_of w → FailsWith (done (extent_of w.heap) tables Instrs.Limit m st) st w n
+    → (count : ℕ) → Some count ≡ natural_of i → count ≡ 0 → n ≡ k → (tables : Tables) (st : Store Frames) → st.world ≡ world_of w → FailsWith (instruction_state (extent_of w.heap) tables Instrs.Limit m st) st w n
 limit_zero w m k n item val e h i is count b z p tables st same =
     limit_count w m k item val e h i is count b tables st same
     ∙ ap (λ (c : ℕ). limit_results flat (value_in (extent_of w.heap) val) (Some (pos c)) (stack_in (extent_of w.heap) k) st) z
@@ -172,7 +172,7 @@ more_than (suc k) d = (k, refl)
 pub limit_more : (w : World) (m k l n : FlatStack) (item : Item) (val : Val) → held.pop m ≡ Some (item, k)
     → ((st : Store Frames) → st.world ≡ world_of w → FindsValue (extent_of w.heap) (item_in (extent_of w.heap) item) (here flat (stack_in (extent_of w.heap) k) st) (Ok val)) → (i : ℤ) → Some i ≡ integer_of (value_in (extent_of w.heap) val)
     → (count : ℕ) → Some count ≡ natural_of i → (count ≡ 0 → ⊥) → l ≡ k → n ≡ held.open_either None (Some count) l → (tables : Tables) (st : Store Frames) → st.world ≡ world_of w
-    → RunsWith (done (extent_of w.heap) tables Instrs.Limit m st) st w n
+    → RunsWith (instruction_state (extent_of w.heap) tables Instrs.Limit m st) st w n
 limit_more w m k l n item val e h i is count b d p q tables st same =
     let all : Extent = extent_of w.heap in
     let more = more_than count d in

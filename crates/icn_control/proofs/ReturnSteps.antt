@@ -35,7 +35,7 @@ use Rattle.icn_run.specs.Stacks.{Frames, flat}
 use Rattle.icn_run.specs.Step.{State, Store, running, failing, with_value, with_world, with_result, here, scans_left, push_item, pair_now, maybe_exchanged, swapped_back, all_left, return_to, finish_run, proc_fails}
 use Rattle.icn_control.specs.declared.machine.Stage.{Stage}
 use Rattle.icn_control.specs.Living.{with_locals, IsLiveStack}
-use Rattle.icn_control.specs.Standing.{done, stack_in, reading_of, maybe_pair_in, pair_in}
+use Rattle.icn_control.specs.Standing.{instruction_state, stack_in, reading_of, maybe_pair_in, pair_in}
 use Rattle.icn_control.specs.Pairs.{paired, maybe_paired}
 use Rattle.icn_control.specs.Parts.{RunsWith, FailsWith, StandsWith, HaltsWith, FindsValue}
 use Rattle.icn_control.specs.Results.{is_local_item, is_local_root}
@@ -246,7 +246,7 @@ Stops w m item stop = (st : Store Frames) (next : rows.Item → State Frames Fra
 
 pret_goes : (w v : World) (m k l : FlatStack) (item x : Item) (pair : Option HeldPair) → held.pop m ≡ Some (item, k) → Finds w k item x → l ≡ k → pair ≡ held.pair_at l.cells (held.oldest None l)
     → world_of v ≡ maybe_paired (maybe_pair_in (extent_of w.heap) pair) (world_of w) → (tables : Tables) (st : Store Frames) → st.world ≡ world_of w
-    → done (extent_of w.heap) tables Instrs.Pret m st ≡ return_to (flat.leave (stack_in (extent_of w.heap) l)) (push_item flat (item_in (extent_of w.heap) x)) (with_world (world_of v) st)
+    → instruction_state (extent_of w.heap) tables Instrs.Pret m st ≡ return_to (flat.leave (stack_in (extent_of w.heap) l)) (push_item flat (item_in (extent_of w.heap) x)) (with_world (world_of v) st)
 pret_goes w v m k l item x pair e h p q back tables st same =
     let all : Extent = extent_of w.heap in
     popped_runs m k item e all (λ y n. with_result flat y n st (λ result. return_to (flat.leave n) (push_item flat result) (all_left flat n st)))
@@ -256,13 +256,13 @@ pret_goes w v m k l item x pair e h p q back tables st same =
 
 pub pret_over : (w v : World) (m k l : FlatStack) (item x : Item) (pair : Option HeldPair) → held.pop m ≡ Some (item, k) → Finds w k item x → l ≡ k → pair ≡ held.pair_at l.cells (held.oldest None l)
     → world_of v ≡ maybe_paired (maybe_pair_in (extent_of w.heap) pair) (world_of w) → held.is_base l ≡ true → (tables : Tables) (st : Store Frames) → st.world ≡ world_of w
-    → done (extent_of w.heap) tables Instrs.Pret m st ≡ finish_run (with_world (world_of v) st)
+    → instruction_state (extent_of w.heap) tables Instrs.Pret m st ≡ finish_run (with_world (world_of v) st)
 pret_over w v m k l item x pair e h p q back b tables st same =
     pret_goes w v m k l item x pair e h p q back tables st same ∙ leaves_none (extent_of w.heap) l b (push_item flat (item_in (extent_of w.heap) x)) (with_world (world_of v) st)
 
 pub pret_runs : (w v : World) (m k l o n : FlatStack) (item x : Item) (pair : Option HeldPair) → held.pop m ≡ Some (item, k) → Finds w k item x → l ≡ k → pair ≡ held.pair_at l.cells (held.oldest None l)
     → world_of v ≡ maybe_paired (maybe_pair_in (extent_of w.heap) pair) (world_of w) → v.heap ≡ w.heap → held.leave l ≡ Some o → n ≡ held.push x o → (tables : Tables) (st : Store Frames) → st.world ≡ world_of w
-    → RunsWith (done (extent_of w.heap) tables Instrs.Pret m st) st v n
+    → RunsWith (instruction_state (extent_of w.heap) tables Instrs.Pret m st) st v n
 pret_runs w v m k l o n item x pair e h p q back heap b r tables st same =
     let all : Extent = extent_of w.heap in
     let F : HeldHeap → State Frames Frames = λ y. running (stack_in (extent_of y) n) (with_world (world_of v) st) in
@@ -273,11 +273,11 @@ pret_runs w v m k l o n item x pair e h p q back heap b r tables st same =
 
 pub pret_err : (result : Result Stage Halt) (w : World) (m k n : FlatStack) (item : Item) (stop : Stop) → IsErrAnd result (λ h. h ≡ halt_of stop) → held.pop m ≡ Some (item, k) → Stops w k item stop → (tables : Tables)
     (st : Store Frames) → st.world ≡ world_of w
-    → MatchResult result (StandsWith (done (extent_of w.heap) tables Instrs.Pret m st) st w n) (HaltsWith (done (extent_of w.heap) tables Instrs.Pret m st) st w)
+    → MatchResult result (StandsWith (instruction_state (extent_of w.heap) tables Instrs.Pret m st) st w n) (HaltsWith (instruction_state (extent_of w.heap) tables Instrs.Pret m st) st w)
 pret_err result w m k n item stop err e h tables st same =
     let all : Extent = extent_of w.heap in
     let next : rows.Item → State Frames Frames = λ result. return_to (flat.leave (stack_in all k)) (push_item flat result) (all_left flat (stack_in all k) st) in
-    at_halt result (halt_of stop) (StandsWith (done all tables Instrs.Pret m st) st w n) (HaltsWith (done all tables Instrs.Pret m st) st w) err
+    at_halt result (halt_of stop) (StandsWith (instruction_state all tables Instrs.Pret m st) st w n) (HaltsWith (instruction_state all tables Instrs.Pret m st) st w) err
     (subst (λ (s : State Frames Frames). HaltsWith s st w (halt_of stop)) (sym (popped_runs m k item e all (λ y n. with_result flat y n st (λ result. return_to (flat.leave n) (push_item flat result) (all_left flat n st))))) (h st next same))
 
 -- Suspending
@@ -288,7 +288,7 @@ Swaps w m v n = (st : Store Frames) (next : Frames → Store Frames → State Fr
 
 psusp_goes : (w v : World) (m k a l o : FlatStack) (item x : Item) → held.pop m ≡ Some (item, k) → a ≡ held.push item k → Finds w a item x → l ≡ a → Swaps w l v o → v.heap ≡ w.heap → (tables : Tables) (st : Store Frames)
     → st.world ≡ world_of w
-    → done (extent_of w.heap) tables Instrs.Psusp m st ≡ return_to (flat.suspend_proc (stack_in (extent_of v.heap) o)) (push_item flat (item_in (extent_of v.heap) x)) (with_world (world_of v) st)
+    → instruction_state (extent_of w.heap) tables Instrs.Psusp m st ≡ return_to (flat.suspend_proc (stack_in (extent_of v.heap) o)) (push_item flat (item_in (extent_of v.heap) x)) (with_world (world_of v) st)
 psusp_goes w v m k a l o item x e b h p s heap tables st same =
     let all : Extent = extent_of w.heap in
     let back : a ≡ m = b ∙ pushed_back m k item e in
@@ -303,7 +303,7 @@ psusp_goes w v m k a l o item x e b h p s heap tables st same =
     ∙ ap F (sym heap)
 
 pub psusp_over : (w v : World) (m k a l o : FlatStack) (item x : Item) → held.pop m ≡ Some (item, k) → a ≡ held.push item k → Finds w a item x → l ≡ a → Swaps w l v o → v.heap ≡ w.heap → held.is_base o ≡ true → (tables : Tables) (st : Store Frames)
-    → st.world ≡ world_of w → done (extent_of w.heap) tables Instrs.Psusp m st ≡ finish_run (with_world (world_of v) st)
+    → st.world ≡ world_of w → instruction_state (extent_of w.heap) tables Instrs.Psusp m st ≡ finish_run (with_world (world_of v) st)
 psusp_over w v m k a l o item x e c h p s heap b tables st same =
     psusp_goes w v m k a l o item x e c h p s heap tables st same
     ∙ ap (λ (y : Option Frames). return_to y (push_item flat (item_in (extent_of v.heap) x)) (with_world (world_of v) st)) (suspend_proc_read (reading_of (extent_of v.heap)) o ∙ ap (option_map (stack_in (extent_of v.heap))) (suspend_none o b))
@@ -313,7 +313,7 @@ given_split item (Some k) n e = (k, (refl, same_Some _ _ e))
 given_split item None n e = cc
 
 pub psusp_runs : (w v : World) (m k a l o n : FlatStack) (item x : Item) → held.pop m ≡ Some (item, k) → a ≡ held.push item k → Finds w a item x → l ≡ a → Swaps w l v o → v.heap ≡ w.heap → held.given_to (Some x) (held.suspend_proc o) ≡ Some n
-    → (tables : Tables) (st : Store Frames) → st.world ≡ world_of w → RunsWith (done (extent_of w.heap) tables Instrs.Psusp m st) st v n
+    → (tables : Tables) (st : Store Frames) → st.world ≡ world_of w → RunsWith (instruction_state (extent_of w.heap) tables Instrs.Psusp m st) st v n
 psusp_runs w v m k a l o n item x e c h p s heap b tables st same =
     let all : Extent = extent_of v.heap in
     let split = given_split x (held.suspend_proc o) n b in
@@ -323,14 +323,14 @@ psusp_runs w v m k a l o n item x e c h p s heap b tables st same =
 
 pub psusp_err : (result : Result Stage Halt) (w : World) (m k a n : FlatStack) (item : Item) (stop : Stop) → IsErrAnd result (λ h. h ≡ halt_of stop) → held.pop m ≡ Some (item, k) → a ≡ held.push item k → Stops w a item stop
     → (tables : Tables) (st : Store Frames) → st.world ≡ world_of w
-    → MatchResult result (StandsWith (done (extent_of w.heap) tables Instrs.Psusp m st) st w n) (HaltsWith (done (extent_of w.heap) tables Instrs.Psusp m st) st w)
+    → MatchResult result (StandsWith (instruction_state (extent_of w.heap) tables Instrs.Psusp m st) st w n) (HaltsWith (instruction_state (extent_of w.heap) tables Instrs.Psusp m st) st w)
 psusp_err result w m k a n item stop err e b h tables st same =
     let all : Extent = extent_of w.heap in
     let back : a ≡ m = b ∙ pushed_back m k item e in
     let next : rows.Item → Frames → Store Frames → State Frames Frames = λ result n. return_to (flat.suspend_proc n) (push_item flat result) in
     let after : rows.Item → State Frames Frames = λ result. maybe_exchanged (flat.swap_oldest (pair_now st) (stack_in all m)) (stack_in all m) st (next result) in
     let found : Stops w m item stop = subst (λ (y : FlatStack). Stops w y item stop) back h in
-    at_halt result (halt_of stop) (StandsWith (done all tables Instrs.Psusp m st) st w n) (HaltsWith (done all tables Instrs.Psusp m st) st w) err
+    at_halt result (halt_of stop) (StandsWith (instruction_state all tables Instrs.Psusp m st) st w n) (HaltsWith (instruction_state all tables Instrs.Psusp m st) st w) err
     (subst (λ (s : State Frames Frames). HaltsWith s st w (halt_of stop)) (sym (popped_runs m k item e all (λ y n. with_result flat y (stack_in all m) st after))) (found st after same))
 
 -- an item that is put where the procedure is left or suspended

@@ -24,7 +24,7 @@ use Rattle.icn_run.specs.Calls as calls
 use Rattle.icn_run.specs.Stacks.{Frames, flat}
 use Rattle.icn_run.specs.Step.{State, Store, running, with_world, pair_now, with_exchange, push_item}
 use Rattle.icn_control.specs.Living.{with_locals, IsLiveStack}
-use Rattle.icn_control.specs.Standing.{done, stack_in, reading_of, pair_in}
+use Rattle.icn_control.specs.Standing.{instruction_state, stack_in, reading_of, pair_in}
 use Rattle.icn_control.specs.Pairs.{paired}
 use Rattle.icn_control.specs.Parts.{RunsWith}
 use Rattle.icn_control.proofs.LiveCalls.{own, live_pop, live_push, live_suspend, suspend_owner}
@@ -51,7 +51,7 @@ pub open_after : (m n : FlatStack) (item : Item) → held.pop m ≡ Some (item, 
 open_after m n item e k = subst (λ (r : Registers). IsSome r.scan) (pop_registers m n item e) k
 
 pub escan_runs : (w v : World) (m k l n : FlatStack) (item : Item) → held.pop m ≡ Some (item, k) → held.swap_by false w.pair k ≡ Some (v.pair, l) → world_of v ≡ paired (pair_in (extent_of w.heap) v.pair) (world_of w) → v.heap ≡ w.heap
-    → held.given_to (Some item) (held.suspend_by Escan l) ≡ Some n → (tables : Tables) (st : Store Frames) → st.world ≡ world_of w → RunsWith (done (extent_of w.heap) tables Instrs.Escan m st) st v n
+    → held.given_to (Some item) (held.suspend_by Escan l) ≡ Some n → (tables : Tables) (st : Store Frames) → st.world ≡ world_of w → RunsWith (instruction_state (extent_of w.heap) tables Instrs.Escan m st) st v n
 escan_runs w v m k l n item e f back heap g tables st same =
     let all : Extent = extent_of w.heap in
     let x : rows.Item = item_in all item in

@@ -6,7 +6,7 @@ use Rattle.icn_coexp.specs.declared.table.Went.{Went}
 use Rattle.icn_coexp.specs.Transfers.{Table, went_by}
 use Rattle.icn_run.specs.Stacks.{Frames}
 use Rattle.icn_run.specs.Step.{State, Store}
-use Rattle.icn_control.specs.Creations.{copied, copied_on, created, created_on}
+use Rattle.icn_control.specs.Creations.{copy_entry, copied_on, create_entry, created_on}
 use Rattle.icn_control.specs.Landing.{is_moved}
 use Rattle.icn_control.specs.Machines.{HasStack}
 use Rattle.icn_control.specs.Parts.{StandsWith}
@@ -22,14 +22,14 @@ pub not_moved_waits : (running : Option FlatStack) (went : Went) → went ≡ we
 not_moved_waits None went e f = refl
 not_moved_waits (Some m) went e f = let moves : is_moved went ≡ true = ap is_moved e in cc
 
-pub created_runs : (label : _) (t u : Table) → IsSome t.running → u ≡ created label t → IsSome u.running
+pub created_runs : (label : _) (t u : Table) → IsSome t.running → u ≡ create_entry label t → IsSome u.running
 created_runs label t u r e = subst (λ (x : Table). IsSome x.running) (sym e) (by_running t.running r)
   where
     by_running : (o : Option FlatStack) → IsSome o → IsSome (created_on label t o).running
     by_running (Some m) q = refl
     by_running None q = cc
 
-pub copied_runs : (id : _) (t u : Table) → IsSome t.running → u ≡ copied id t → IsSome u.running
+pub copied_runs : (id : _) (t u : Table) → IsSome t.running → u ≡ copy_entry id t → IsSome u.running
 copied_runs id t u r e = subst (λ (x : Table). IsSome x.running) (sym e) (by_running t.running r)
   where
     by_running : (o : Option FlatStack) → IsSome o → IsSome (copied_on id t o).running

@@ -31,7 +31,7 @@ use Rattle.icn_run.specs.Step.{State, Store, errs, here, with_made, on_pair, wit
 use Rattle.icn_control.specs.Living.{with_locals, IsLiveStack}
 use Rattle.icn_control.specs.Parts.{FindsValue, HaltsWith}
 use Rattle.icn_control.specs.Standing.{stack_in, reading_of}
-use Rattle.icn_control.specs.Taking.{taken_onto, taken, with_values_in, FindsValues, made_in, MakesValue}
+use Rattle.icn_control.specs.Taking.{taken_onto, take_operands, with_values_in, FindsValues, made_in, MakesValue}
 use Rattle.icn_control.proofs.Deref.{here_is}
 use Rattle.icn_control.proofs.KeptItems.{stack_same}
 use Rattle.icn_control.proofs.LiveCalls.{own, live_pop, pop_owner}
@@ -57,7 +57,7 @@ take_onto_read all (suc n) m items =
     ∙ over_pop all n items (take_onto_read all n) (held.pop m)
 
 -- what is taken off a stack, with the rest of the instruction
-pub taken_runs : (all : Extent) (n : ℕ) (m k : FlatStack) (items : List Item) (next : List rows.Item → Frames → State Frames Frames) → taken n m ≡ Some (items, k)
+pub taken_runs : (all : Extent) (n : ℕ) (m k : FlatStack) (items : List Item) (next : List rows.Item → Frames → State Frames Frames) → take_operands n m ≡ Some (items, k)
     → with_found (flat.take n (stack_in all m)) (on_pair next) ≡ next (map (item_in all) items) (stack_in all k)
 taken_runs all n m k items next e =
     ap (λ (o : Option (List rows.Item × Frames)). with_found o (on_pair next)) (take_onto_read all n m [] ∙ ap (option_map (taken_read all)) e)
@@ -85,7 +85,7 @@ live_onto t reach (suc n) m k xs items e a l = by_pop (held.pop m) refl e (live_
         let rest = f popped.1 k (popped.0 ∷ xs) items q (All-cons (IsLiveItem (with_locals (own popped.1) reach)) popped.0 xs back.item_live others) back.rest in
         record { items_live = rest.items_live; rest = rest.rest; same = same ∙ rest.same }
 
-pub live_taken : (t : Tables) (reach : Reach) (n : ℕ) (m k : FlatStack) (items : List Item) → taken n m ≡ Some (items, k) → IsLiveStack t reach m → TakesLive t reach (own m) items k
+pub live_taken : (t : Tables) (reach : Reach) (n : ℕ) (m k : FlatStack) (items : List Item) → take_operands n m ≡ Some (items, k) → IsLiveStack t reach m → TakesLive t reach (own m) items k
 live_taken t reach n m k items e l = live_onto t reach n m k [] items e (All-nil (IsLiveItem (with_locals (own m) reach))) l
 
 -- places that are filled from the last one on
@@ -100,7 +100,7 @@ drop_set zero (y ∷ s) x p = refl
 drop_set (suc k) [] x p = absurd (omega arith)
 drop_set (suc k) (y ∷ s) x p = drop_set k s x (omega arith)
 
-pub none_taken : (m : FlatStack) (items : List Item) → taken (length items) m ≡ taken_onto (length items) m (drop (length items) items)
+pub none_taken : (m : FlatStack) (items : List Item) → take_operands (length items) m ≡ taken_onto (length items) m (drop (length items) items)
 none_taken m items = ap (taken_onto (length items) m) (sym (drop_all items))
 
 -- an operand is there where more are to be taken

@@ -23,7 +23,7 @@ use Rattle.icn_run.specs.Rows as rows
 use Rattle.icn_run.specs.Stacks.{Frames, flat}
 use Rattle.icn_run.specs.Step.{Store, running, with_found, push_item}
 use Rattle.icn_control.specs.Living.{with_locals, IsLiveStack}
-use Rattle.icn_control.specs.Standing.{done, stack_in}
+use Rattle.icn_control.specs.Standing.{instruction_state, stack_in}
 use Rattle.icn_control.specs.Parts.{RunsWith}
 use Rattle.icn_control.proofs.LiveCalls.{own, live_push}
 use Rattle.icn_control.proofs.KeptItems.{stack_stays, stack_same}
@@ -37,7 +37,7 @@ world_same old new pair random globals statics keeps same sound =
 
 pub string_runs : (w v : World) (t tables : Tables) (m n : FlatStack) (k : ℕ) (bytes : List ℕ) (span : Span) → slice_get tables.strings k ≡ Some bytes → text_in (extent_of v.heap) span ≡ bytes → world_of v ≡ world_of w
     → KeepsItems (reach_of w []) (reach_of v []) → IsLiveStack t (reach_of w []) m → n ≡ held.push (HeldVal (TextVal span)) m → (st : Store Frames) → st.world ≡ world_of w
-    → RunsWith (done (extent_of w.heap) tables (Instrs.Str k) m st) st v n
+    → RunsWith (instruction_state (extent_of w.heap) tables (Instrs.Str k) m st) st v n
 string_runs w v t tables m n k bytes span s b world keeps live p st same =
     ap (λ (o : Option (List ℕ)). with_found o (λ text. push_item flat (rows.Val (rows.Text text)) (stack_in (extent_of w.heap) m) st)) s
     ∙ ap (λ (a : Frames). push_item flat (rows.Val (rows.Text bytes)) a st) (sym (stack_same t (reach_of w []) (reach_of v []) m keeps live))

@@ -49,8 +49,8 @@ created_on label t (Some m) =
     record (with_new (held.locals m) (held.proc m) m.place t) { running = Some (held.push (HeldVal (HeldCoexp (length t.coexps))) (held.go label m)) }
 created_on label t None = t
 
-abbrev pub created : ℕ → Table → Table
-created label t = created_on label t t.running
+abbrev pub create_entry : ℕ → Table → Table
+create_entry label t = created_on label t t.running
 
 -- The stack that runs gets the value of a co-expression that is made as another one was.
 
@@ -58,8 +58,8 @@ abbrev pub copied_on : ℕ → Table → Option FlatStack → Table
 copied_on id t (Some m) = record (with_copy t (slice_get t.coexps id)) { running = Some (held.push (HeldVal (HeldCoexp (length t.coexps))) m) }
 copied_on id t None = t
 
-abbrev pub copied : ℕ → Table → Table
-copied id t = copied_on id t t.running
+abbrev pub copy_entry : ℕ → Table → Table
+copy_entry id t = copied_on id t t.running
 
 -- A co-expression of so many locals is charged, and is the next one of the heap; or why it is not.
 abbrev pub MakesCoexp : {A : Type 0} → ℕ → World → World → Result A Stop → Type 0

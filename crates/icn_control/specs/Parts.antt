@@ -18,7 +18,7 @@ use Rattle.icn_run.specs.Rows.{Item, Val as ItemVal, Gives, Error, value_row}
 use Rattle.icn_run.specs.Calls.{Pair}
 use Rattle.icn_run.specs.Stacks.{Frames, swap_newest, swap_oldest}
 use Rattle.icn_run.specs.Step.{State, Store, running, failing, finish_run, errs, with_world}
-use Rattle.icn_control.specs.Standing.{done, stack_in}
+use Rattle.icn_control.specs.Standing.{instruction_state, stack_in}
 use Rattle.icn_control.specs.declared.machine.Stage.{Stage}
 use Rattle.icn_control.specs.declared.machine.Stage.TheVariants as Stages
 
@@ -49,12 +49,12 @@ HaltsWith state st w Halts.NoMemory = ⊤
 -- The instruction, done on a stack in a world, goes on with another stack in another world, or halts there.
 abbrev pub DoesWith : {A : Type 0} → Instr → World → FlatStack → World → FlatStack → Result A Halt → Type 0
 DoesWith instr w m v n result = (tables : Tables) (st : Store Frames) → st.world ≡ world_of w
-    → MatchResult result (λ _. RunsWith (done (extent_of w.heap) tables instr m st) st v n) (HaltsWith (done (extent_of w.heap) tables instr m st) st v)
+    → MatchResult result (λ _. RunsWith (instruction_state (extent_of w.heap) tables instr m st) st v n) (HaltsWith (instruction_state (extent_of w.heap) tables instr m st) st v)
 
 -- The same where the instruction may fail.
 abbrev pub ComesWith : Instr → World → FlatStack → World → FlatStack → Result Stage Halt → Type 0
 ComesWith instr w m v n result = (tables : Tables) (st : Store Frames) → st.world ≡ world_of w
-    → MatchResult result (StandsWith (done (extent_of w.heap) tables instr m st) st v n) (HaltsWith (done (extent_of w.heap) tables instr m st) st v)
+    → MatchResult result (StandsWith (instruction_state (extent_of w.heap) tables instr m st) st v n) (HaltsWith (instruction_state (extent_of w.heap) tables instr m st) st v)
 
 -- the value of an item, or why there is none
 abbrev pub FindsValue : Extent → Item → Setting → Result Val Stop → Type 0

@@ -5,7 +5,7 @@ use Rattle.icn_heap.specs.Extents.{Extent, text_in, value_in}
 use Rattle.icn_vars.specs.Outcomes.{residual_in}
 use Rattle.icn_vars.specs.Worlds.{item_in}
 use Rattle.icn_frames.specs.Stacks.{FlatStack}
-use Rattle.icn_frames_laws.specs.Readings.{Reading, stack_read, maybe_pair_read}
+use Rattle.icn_frames_laws.specs.Readings.{Interpretation, stack_read, maybe_pair_read}
 use Rattle.icn_code.specs.declared.instr.Instr.{Instr}
 use Rattle.icn_code.specs.declared.instr.Instr.TheVariants.{Mark, Mark0}
 use Rattle.icn_code.specs.Codes.{Tables}
@@ -18,7 +18,7 @@ abbrev pub pair_in : Extent → HeldPair → Pair
 pair_in all pair = record { subject = text_in all pair.subject; position = pair.position }
 
 -- what the cells of a stack stand for, by the texts of a heap
-abbrev pub reading_of : Extent → Reading
+abbrev pub reading_of : Extent → Interpretation
 reading_of all = record { value = value_in all; item = item_in all; residual = residual_in all; pair = pair_in all }
 
 -- the stack that a machine's stack stands for
@@ -30,25 +30,25 @@ abbrev pub maybe_pair_in : Extent → Option HeldPair → Option Pair
 maybe_pair_in all pair = maybe_pair_read (reading_of all) pair
 
 -- what an instruction comes to on this stack
-abbrev pub done : Extent → Tables → Instr → FlatStack → Store Frames → State Frames Frames
-done all tables instr m st = instruction flat tables instr (stack_in all m) st
+abbrev pub instruction_state : Extent → Tables → Instr → FlatStack → Store Frames → State Frames Frames
+instruction_state all tables instr m st = instruction flat tables instr (stack_in all m) st
 
 -- The instruction goes on with another stack and changes nothing else, in these tables, or in any.
 
 abbrev pub GoesOnIn : Tables → Instr → FlatStack → FlatStack → Type 0
-GoesOnIn tables instr m n = (all : Extent) (st : Store Frames) → done all tables instr m st ≡ running (stack_in all n) st
+GoesOnIn tables instr m n = (all : Extent) (st : Store Frames) → instruction_state all tables instr m st ≡ running (stack_in all n) st
 
 abbrev pub GoesOn : Instr → FlatStack → FlatStack → Type 0
-GoesOn instr m n = (all : Extent) (tables : Tables) (st : Store Frames) → done all tables instr m st ≡ running (stack_in all n) st
+GoesOn instr m n = (all : Extent) (tables : Tables) (st : Store Frames) → instruction_state all tables instr m st ≡ running (stack_in all n) st
 
 -- It goes on with another stack, and the pair comes back that was saved, if one was.
 abbrev pub GoesOnLeaving : Instr → FlatStack → Option HeldPair → FlatStack → Type 0
 GoesOnLeaving instr m pair n =
-    (all : Extent) (tables : Tables) (st : Store Frames) → done all tables instr m st ≡ running (stack_in all n) (scans_left (maybe_pair_in all pair) st)
+    (all : Extent) (tables : Tables) (st : Store Frames) → instruction_state all tables instr m st ≡ running (stack_in all n) (scans_left (maybe_pair_in all pair) st)
 
 -- It fails with this stack.
 abbrev pub IsFailing : Instr → FlatStack → Type 0
-IsFailing instr m = (all : Extent) (tables : Tables) (st : Store Frames) → done all tables instr m st ≡ failing (stack_in all m) st
+IsFailing instr m = (all : Extent) (tables : Tables) (st : Store Frames) → instruction_state all tables instr m st ≡ failing (stack_in all m) st
 
 -- the instruction that opens a plain mark with this label, or without one
 abbrev pub mark_of : Option ℕ → Instr

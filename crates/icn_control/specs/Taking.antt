@@ -24,8 +24,8 @@ taken_onto zero m items = Some (items, m)
 taken_onto (suc n) m items = option_and_then (λ (popped : Item × FlatStack). taken_onto n popped.1 (popped.0 ∷ items)) (pop m)
 
 -- so many operands, the top one last, and the stack without them
-abbrev pub taken : ℕ → FlatStack → Option (List Item × FlatStack)
-taken n m = taken_onto n m []
+abbrev pub take_operands : ℕ → FlatStack → Option (List Item × FlatStack)
+take_operands n m = taken_onto n m []
 
 -- what comes of the values of items
 abbrev pub with_values_in : World → FlatStack → List Item → Store Frames → (List Value → State Frames Frames) → State Frames Frames
@@ -51,5 +51,5 @@ pub record KeepsCounts (w v : World) : Type 0 where
   pub coexps : (heap_of v.heap).coexps ≡ (heap_of w.heap).coexps
 
 -- what comes of a list that is made of the values of items, and pushed
-abbrev pub listed : World → FlatStack → List Item → Store Frames → State Frames Frames
-listed w m items st = with_values_in w m items st (λ values. list_made flat values (stack_in (extent_of w.heap) m) st (λ list a after. push_item flat (ItemVal list) a after))
+abbrev pub push_list : World → FlatStack → List Item → Store Frames → State Frames Frames
+push_list w m items st = with_values_in w m items st (λ values. list_made flat values (stack_in (extent_of w.heap) m) st (λ list a after. push_item flat (ItemVal list) a after))

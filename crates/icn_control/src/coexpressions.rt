@@ -14,7 +14,7 @@ ghost use Rattle.icn_code.specs.declared.instr.Instr.TheVariants as Instrs;
 ghost use Rattle.icn_run.specs.Rows.{ACoexp};
 ghost use Rattle.icn_run.specs.Stacks.{flat as calls};
 ghost use Rattle.icn_run.specs.Step.{refresh};
-ghost use Rattle.icn_control.specs.Creations.{MakesCoexp, copied, created};
+ghost use Rattle.icn_control.specs.Creations.{MakesCoexp, copy_entry, create_entry};
 ghost use Rattle.icn_control.specs.Machines.{HasStack, ComesTo, IsSound, does, stack_of, stack_seen, store_seen, world_reach};
 
 use crate::machine::{Machine, Stage};
@@ -128,7 +128,7 @@ fn add_here<K: Stack<Cell> + Drop>(
 ) -> Result<(), AllocError>
     requires runs { IsSome stacks.old.table.running }
     requires few { length stacks.old.table.coexps < 2 ^ 32 }
-    ensures { OnOk result (stacks.new.table ≡ created label stacks.old.table) }
+    ensures { OnOk result (stacks.new.table ≡ create_entry label stacks.old.table) }
 {
     let frames = stacks.frames();
     let locals = locals_of(frames, alloc)?;
@@ -152,7 +152,7 @@ fn add_copy<K: Stack<Cell> + Drop>(
     requires other { 0 < id }
     requires there { id < length stacks.old.table.coexps }
     requires few { length stacks.old.table.coexps < 2 ^ 32 }
-    ensures { OnOk result (stacks.new.table ≡ copied id stacks.old.table) }
+    ensures { OnOk result (stacks.new.table ≡ copy_entry id stacks.old.table) }
 {
     let new = stacks.refresh(alloc, id)?;
     put(stacks.frames(), Item::Val(Val::Coexp(new)));

@@ -12,7 +12,7 @@ ghost use Rattle.icn_run.specs.Step.{Store};
 ghost use Rattle.icn_control.specs.Living.{IsLiveStack, with_locals};
 ghost use Rattle.icn_control.specs.Machines.{HasStack, ComesTo, IsSound, does, stack_of, world_reach};
 ghost use Rattle.icn_control.specs.Parts.{HaltsWith, RunsWith};
-ghost use Rattle.icn_control.specs.Taking.{KeepsCounts, listed, taken};
+ghost use Rattle.icn_control.specs.Taking.{KeepsCounts, push_list, take_operands};
 
 use crate::machine::{Machine, Stage};
 use crate::operands::take_operands;
@@ -33,7 +33,7 @@ pub fn push_list<K: Stack<Cell> + Drop>(
 ) -> Result<(), Halt>
     requires stack { (tables : Tables) × IsLiveStack tables (reach_of world.old []) frames.old.flat }
     requires items { All (IsLiveItem (with_locals (flat.local_count frames.old.flat) (reach_of world.old []))) items.now }
-    ensures step { (st : Store FramesRead) → st.world ≡ world_of world.old → MatchResult result (λ _. RunsWith (listed world.old frames.old.flat items.now st) st world.new frames.new.flat) (HaltsWith (listed world.old frames.old.flat items.now st) st world.new) }
+    ensures step { (st : Store FramesRead) → st.world ≡ world_of world.old → MatchResult result (λ _. RunsWith (push_list world.old frames.old.flat items.now st) st world.new frames.new.flat) (HaltsWith (push_list world.old frames.old.flat items.now st) st world.new) }
     ensures live { (tables : Tables) → IsLiveStack tables (reach_of world.old []) frames.old.flat → OnOk result (IsLiveStack tables (reach_of world.new []) frames.new.flat) }
     ensures halt { IfErr result (IsLiveHalt (reach_of world.new [])) }
     ensures kept { KeepsItems (reach_of world.old []) (reach_of world.new []) }
@@ -58,7 +58,7 @@ pub fn make_list<K: Stack<Cell> + Drop>(
     count: u32,
 ) -> Result<Stage, Halt>
     requires runs { IsSome m.old.stacks.table.running }
-    requires operands { IsSome (taken count (stack_of m.old)) }
+    requires operands { IsSome (take_operands count (stack_of m.old)) }
     requires sound { (tables : Tables) × IsSound tables m.old }
     ensures step { (tables : Tables) (outside : Outside) → ComesTo tables outside (does tables outside (Instrs.Llist count) m.old) m.new result }
     ensures sound { (tables : Tables) → IsSound tables m.old → OnOk result (IsSound tables m.new) }

@@ -1,7 +1,7 @@
 // Operands that are taken together.
 ghost use Rattle.std.specs.Prelude.{◌≡◌, ◌+◌, Some, IsSome, OnOk, length};
 ghost use Rattle.icn_frames.specs.Stacks as flat;
-ghost use Rattle.icn_control.specs.Taking.{taken};
+ghost use Rattle.icn_control.specs.Taking.{take_operands};
 
 use icn_cells::Stack;
 use icn_frames::{Cell, Frames};
@@ -16,8 +16,8 @@ pub fn take_operands<K: Stack<Cell> + Drop>(
     items: &mut Vec<Item>,
     count: usize,
 ) -> Result<(), AllocError>
-    requires { IsSome (taken count frames.old.flat) }
-    ensures taken { OnOk result (taken count frames.old.flat ≡ Some (items.new.items, frames.new.flat)) }
+    requires { IsSome (take_operands count frames.old.flat) }
+    ensures taken { OnOk result (take_operands count frames.old.flat ≡ Some (items.new.items, frames.new.flat)) }
     ensures spare { OnOk result (frames.new.spare ≡ frames.old.spare + count) }
 {
     items.resize(count, Item::Val(Val::Null))?;
@@ -27,8 +27,8 @@ pub fn take_operands<K: Stack<Cell> + Drop>(
 
 // Takes as many operands as there are places for.
 fn fill_with_operands<K: Stack<Cell> + Drop>(frames: &mut Frames<K>, items: &mut [Item])
-    requires { IsSome (taken (length items.old) frames.old.flat) }
-    ensures taken { taken (length items.old) frames.old.flat ≡ Some (items.new, frames.new.flat) }
+    requires { IsSome (take_operands (length items.old) frames.old.flat) }
+    ensures taken { take_operands (length items.old) frames.old.flat ≡ Some (items.new, frames.new.flat) }
     ensures spare { frames.new.spare ≡ frames.old.spare + length items.old }
 {
     let mut left = items.len();

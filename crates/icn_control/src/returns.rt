@@ -13,7 +13,7 @@ ghost use Rattle.icn_run.specs.Step.{State, Store, proc_fails, with_result};
 ghost use Rattle.icn_control.specs.Living.{IsLiveStack, with_locals};
 ghost use Rattle.icn_control.specs.Parts.{ComesWith, HaltsWith, StandsWith};
 ghost use Rattle.icn_control.specs.Results.{is_local_item, is_local_root};
-ghost use Rattle.icn_control.specs.Standing.{done, stack_in};
+ghost use Rattle.icn_control.specs.Standing.{instruction_state, stack_in};
 
 use crate::machine::Stage;
 use crate::on_stack::put;
@@ -92,7 +92,7 @@ pub fn leave_failing<K: Stack<Cell> + Drop>(frames: &mut Frames<K>, world: &mut 
 /// Ends the procedure, which fails, as it has no more instructions. It takes no memory.
 pub fn fail_procedure<K: Stack<Cell> + Drop>(frames: &mut Frames<K>, world: &mut World) -> Stage
     requires live { (tables : Tables) × IsLiveStack tables (reach_of world.old []) frames.old.flat }
-    ensures step { (tables : Tables) (st : Store FramesRead) → st.world ≡ world_of world.old → StandsWith (done (extent_of world.old.heap) tables Instrs.Pfail frames.old.flat st) st world.new frames.new.flat result }
+    ensures step { (tables : Tables) (st : Store FramesRead) → st.world ≡ world_of world.old → StandsWith (instruction_state (extent_of world.old.heap) tables Instrs.Pfail frames.old.flat st) st world.new frames.new.flat result }
     ensures live { (tables : Tables) → IsLiveStack tables (reach_of world.old []) frames.old.flat → IsLiveStack tables (reach_of world.new []) frames.new.flat }
     ensures heap { world.new.heap ≡ world.old.heap }
     ensures reach { reach_of world.new [] ≡ reach_of world.old [] }

@@ -10,7 +10,7 @@ ghost use Rattle.icn_run.specs.Stacks.{Frames as FramesRead};
 ghost use Rattle.icn_run.specs.Step.{Store};
 ghost use Rattle.icn_control.specs.Living.{IsLiveStack};
 ghost use Rattle.icn_control.specs.Parts.{RunsWith};
-ghost use Rattle.icn_control.specs.Standing.{done};
+ghost use Rattle.icn_control.specs.Standing.{instruction_state};
 
 use icn_cells::Stack;
 use icn_code::Code;
@@ -28,7 +28,7 @@ pub fn push_string<K: Stack<Cell> + Drop>(
 ) -> Result<(), AllocError>
     requires place { place < length (tables_of code.now).strings }
     requires live { (tables : Tables) × IsLiveStack tables (reach_of world.old []) frames.old.flat }
-    ensures step { OnOk result ((st : Store FramesRead) → st.world ≡ world_of world.old → RunsWith (done (extent_of world.old.heap) (tables_of code.now) (Instrs.Str place) frames.old.flat st) st world.new frames.new.flat) }
+    ensures step { OnOk result ((st : Store FramesRead) → st.world ≡ world_of world.old → RunsWith (instruction_state (extent_of world.old.heap) (tables_of code.now) (Instrs.Str place) frames.old.flat st) st world.new frames.new.flat) }
     ensures live { (tables : Tables) → IsLiveStack tables (reach_of world.old []) frames.old.flat → OnOk result (IsLiveStack tables (reach_of world.new []) frames.new.flat) }
     ensures kept { KeepsItems (reach_of world.old []) (reach_of world.new []) }
     ensures heap { heap_of world.new.heap ≡ heap_of world.old.heap }

@@ -12,7 +12,7 @@ use Rattle.icn_frames.specs.declared.layout.Cell.TheVariants.{Base, Call, Local,
 use Rattle.icn_frames.specs.Stacks.{FlatStack, copy_up, with_given, given_to, suspend, suspend_mark, suspend_mark_from, suspend_onto, suspend_proc, suspend_proc_from, older_scan, scan_of, scan_by}
 use Rattle.icn_frames.specs.Shapes.{Shape, AMark, ASuspension, shape, IsMarked, IsScan, bottom, bottom_from, count_of, KindAt, MayBeAt, MarkOr, Leads, Sound}
 use Rattle.icn_frames.proofs.Fits.{cell_at_top, leads_above, bottom_on, maybe_on, map_drop, sound_suspend, sound_push, copied_is, cut_at, base_within, at_height, shape_at}
-use Rattle.icn_frames.proofs.Gotten.{sound_cut, within, kind_of}
+use Rattle.icn_frames.proofs.CellFacts.{sound_cut, within, kind_of}
 
 -- what a lower part leads to, the whole leads to
 

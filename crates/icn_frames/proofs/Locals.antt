@@ -11,7 +11,7 @@ use Rattle.icn_frames.specs.declared.layout.Cell.TheVariants.{Base, Call, Local,
 use Rattle.icn_frames.specs.Stacks.{FlatStack, frame, locals, locals_of, locals_down, set_from, set_local, set_locals}
 use Rattle.icn_frames.specs.Shapes.{Shape, ALocal, shape, count_of, FrameAt, Sound}
 use Rattle.icn_frames.proofs.Fits.{map_drop}
-use Rattle.icn_frames.proofs.Gotten.{count_at, get_drop, set_same}
+use Rattle.icn_frames.proofs.CellFacts.{count_at, get_drop, set_same}
 
 abbrev pub Slots : ℕ → List Cell → Type 0
 Slots n cells = (k : ℕ) → k < n → slice_get (map shape cells) k ≡ Some ALocal

@@ -8,7 +8,7 @@ use Rattle.icn_frames.specs.declared.layout.Cell.{Cell}
 use Rattle.icn_frames.specs.declared.layout.Cell.TheVariants.{Local}
 use Rattle.icn_frames.specs.Stacks.{FlatStack, frame, locals, locals_of}
 use Rattle.icn_frames.specs.Shapes.{shape, count_of, Sound}
-use Rattle.icn_frames.proofs.Gotten.{count_at}
+use Rattle.icn_frames.proofs.CellFacts.{count_at}
 use Rattle.icn_frames.proofs.Locals.{locals_length, slots_are, local_is, holds_locals, get_other}
 
 same_lists : (a b : List Val) → ((k : ℕ) → slice_get a k ≡ slice_get b k) → a ≡ b

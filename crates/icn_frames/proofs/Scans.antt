@@ -9,7 +9,7 @@ use Rattle.icn_frames.specs.declared.layout.Cell.TheVariants.{Base, Call, Local,
 use Rattle.icn_frames.specs.Stacks.{FlatStack, older_scan, scan_of, is_same, oldest_from, oldest, pair_at, unmark_from, unmark, scan_chosen, swap_by, swap_at, with_pair, SwapsAt}
 use Rattle.icn_frames.specs.Shapes.{AMark, shape, outer_of, IsScan, KindAt, MayBeAt, Leads, Stands, Fit, Sound, MaySave}
 use Rattle.icn_frames.proofs.Fits.{map_drop, fit_drop, cut_at}
-use Rattle.icn_frames.proofs.Gotten.{within}
+use Rattle.icn_frames.proofs.CellFacts.{within}
 use Rattle.icn_frames.proofs.Hung.{leads_lower}
 
 abbrev pub height_of : Option ℕ → ℕ

@@ -8,7 +8,7 @@ use Rattle.icn_frames.specs.Stacks as flat
 use Rattle.icn_frames.specs.Stacks.{FlatStack}
 use Rattle.icn_run.specs.Calls as calls
 use Rattle.icn_run.specs.Stacks as code
-use Rattle.icn_frames_laws.specs.Readings.{Reading, cell_read, stack_read}
+use Rattle.icn_frames_laws.specs.Readings.{Interpretation, cell_read, stack_read}
 use Rattle.icn_frames_laws.specs.Agreement.{drop_by}
 use Rattle.icn_frames_laws.proofs.CellsRead.{cut_read}
 
@@ -21,7 +21,7 @@ outside_is : (m n k : FlatStack) (p q : Option Pair) → (let u : FlatStack × O
 unfolding outside
 outside_is m n k p q e = ap (λ (w : Option (FlatStack × Option Pair)). outside w k) e
 
-by_head : (read : Reading) (m n : FlatStack) (s : List Cell) (pair : Option Pair) → flat.unmark_from m s ≡ Some (n, pair)
+by_head : (read : Interpretation) (m n : FlatStack) (s : List Cell) (pair : Option Pair) → flat.unmark_from m s ≡ Some (n, pair)
     → code.drop_from (stack_read read m) (map (cell_read read) s) ≡ drop_by read (flat.label_in (slice_get s 0)) (flat.is_relabelled_in (slice_get s 0)) n
 by_head read m n (Mark (Some place) true r ∷ s) pair e = ap (λ (w : FlatStack). calls.Repeats (stack_read read (flat.go place w))) (outside_is _ n m _ pair e)
 by_head read m n (Mark (Some place) false r ∷ s) pair e = ap (λ (w : FlatStack). calls.Goes (stack_read read (flat.go place w))) (outside_is _ n m _ pair e)
@@ -34,7 +34,7 @@ by_head read m n (Local value ∷ s) pair e = cc
 by_head read m n (Suspension why registers place ∷ s) pair e = cc
 by_head read m n (Operand item ∷ s) pair e = cc
 
-by_none : (read : Reading) (m : FlatStack) (s : List Cell) → flat.unmark_from m s ≡ None → code.drop_from (stack_read read m) (map (cell_read read) s) ≡ calls.NoMark
+by_none : (read : Interpretation) (m : FlatStack) (s : List Cell) → flat.unmark_from m s ≡ None → code.drop_from (stack_read read m) (map (cell_read read) s) ≡ calls.NoMark
 by_none read m (Mark label again r ∷ s) e = cc
 by_none read m (Limit count r ∷ s) e = cc
 by_none read m [] e = refl
@@ -49,11 +49,11 @@ first_drop zero s = refl
 first_drop (suc n) [] = refl
 first_drop (suc n) (x ∷ s) = first_drop n s
 
-pub drop_read : (read : Reading) (m n : FlatStack) (pair : Option Pair) → flat.unmark m ≡ Some (n, pair) → code.drop_mark (stack_read read m) ≡ drop_by read (flat.label m) (flat.is_relabelled m) n
+pub drop_read : (read : Interpretation) (m n : FlatStack) (pair : Option Pair) → flat.unmark m ≡ Some (n, pair) → code.drop_mark (stack_read read m) ≡ drop_by read (flat.label m) (flat.is_relabelled m) n
 drop_read read m n pair e =
     ap (code.drop_from (stack_read read m)) (cut_read read m.registers.mark m.cells)
     ∙ by_head read m n (cut m.registers.mark m.cells) pair e
     ∙ ap (λ (w : Option Cell). drop_by read (flat.label_in w) (flat.is_relabelled_in w) n) (first_drop (length m.cells - m.registers.mark) m.cells)
 
-pub drop_none_read : (read : Reading) (m : FlatStack) → flat.unmark m ≡ None → code.drop_mark (stack_read read m) ≡ calls.NoMark
+pub drop_none_read : (read : Interpretation) (m : FlatStack) → flat.unmark m ≡ None → code.drop_mark (stack_read read m) ≡ calls.NoMark
 drop_none_read read m e = ap (code.drop_from (stack_read read m)) (cut_read read m.registers.mark m.cells) ∙ by_none read m (cut m.registers.mark m.cells) e

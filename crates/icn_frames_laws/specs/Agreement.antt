@@ -10,16 +10,16 @@ use Rattle.icn_frames.specs.Stacks.{FlatStack}
 use Rattle.icn_run.specs.Rows as rows
 use Rattle.icn_run.specs.Calls as calls
 use Rattle.icn_run.specs.Stacks as code
-use Rattle.icn_frames_laws.specs.Readings.{Reading, why_read, stack_read, popped_read, resumed_read, swapped_read, unmarked_read, counted_read}
+use Rattle.icn_frames_laws.specs.Readings.{Interpretation, why_read, stack_read, popped_read, resumed_read, swapped_read, unmarked_read, counted_read}
 
 -- what is left where the innermost mark is dropped, by its label and by whether that was set anew
-abbrev pub drop_by : Reading → Option ℕ → Bool → FlatStack → calls.MarkDrop code.Frames
+abbrev pub drop_by : Interpretation → Option ℕ → Bool → FlatStack → calls.MarkDrop code.Frames
 drop_by read (Some place) true m = calls.Repeats (stack_read read (flat.go place m))
 drop_by read (Some place) false m = calls.Goes (stack_read read (flat.go place m))
 drop_by read None again m = calls.Outside (stack_read read m)
 
 -- What a stack that is read tells is what the stack tells, read.
-pub record SameToRead (read : Reading) (m : FlatStack) : Type 0 where
+pub record SameToRead (read : Interpretation) (m : FlatStack) : Type 0 where
   pub proc : code.proc (stack_read read m) ≡ flat.proc m
   pub level : code.level (stack_read read m) ≡ flat.level m
   pub is_base : code.is_base (stack_read read m) ≡ flat.is_base m
@@ -27,7 +27,7 @@ pub record SameToRead (read : Reading) (m : FlatStack) : Type 0 where
   pub below : code.below (stack_read read m) ≡ option_map read.item (flat.below m)
 
 -- A call on a stack that is read leaves what the call leaves, read.
-pub record SameToCall (read : Reading) (m : FlatStack) : Type 0 where
+pub record SameToCall (read : Interpretation) (m : FlatStack) : Type 0 where
   pub set_locals : (values : List Val) → code.set_locals (map read.value values) (stack_read read m) ≡ stack_read read (flat.set_locals values m)
   pub go : (place : ℕ) → code.go place (stack_read read m) ≡ stack_read read (flat.go place m)
   pub push : (item : Item) → code.push (read.item item) (stack_read read m) ≡ stack_read read (flat.push item m)
@@ -49,7 +49,7 @@ pub record SameToCall (read : Reading) (m : FlatStack) : Type 0 where
   pub leave : code.leave (stack_read read m) ≡ option_map (stack_read read) (flat.leave m)
 
 -- A stack that is begun with values that are read is the one that is begun with the values, read.
-abbrev pub SameToBegin : Reading → Type 0
+abbrev pub SameToBegin : Interpretation → Type 0
 SameToBegin read = (proc : ℕ) (values : List Val) (place : ℕ) (m : code.Frames) → code.begin proc (map read.value values) place m ≡ stack_read read (flat.begin proc values place)
 
 -- To take operands is to pop them one by one, the last one first.

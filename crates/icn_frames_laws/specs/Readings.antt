@@ -15,13 +15,13 @@ use Rattle.icn_run.specs.Calls as calls
 use Rattle.icn_run.specs.Stacks as code
 
 -- What a machine's values, items, residuals and pairs stand for. A heap gives one, since it has the bytes of their texts.
-pub record Reading : Type 0 where
+pub record Interpretation : Type 0 where
   pub value : Val → rows.Value
   pub item : Item → rows.Item
   pub residual : Residual → rows.Residual
   pub pair : Pair → calls.Pair
 
-abbrev pub why_read : Reading → Why → calls.Why
+abbrev pub why_read : Interpretation → Why → calls.Why
 why_read read Alt = calls.Alt
 why_read read (Op residual) = calls.Op (read.residual residual)
 why_read read (Scan pair) = calls.Scan (read.pair pair)
@@ -31,7 +31,7 @@ why_read read Proc = calls.Proc
 abbrev pub registers_read : Registers → code.Registers
 registers_read r = record { base = r.base; mark = r.mark; newest = r.newest; scan = r.scan }
 
-abbrev pub cell_read : Reading → Cell → code.Cell
+abbrev pub cell_read : Interpretation → Cell → code.Cell
 cell_read read (Base proc locals) = code.base proc locals
 cell_read read (Call proc locals level registers place) = code.call proc locals level (registers_read registers) place
 cell_read read (Local value) = code.local (read.value value)
@@ -41,25 +41,25 @@ cell_read read (Suspension why registers place) = code.suspension (why_read read
 cell_read read (Operand item) = code.operand (read.item item)
 
 -- the stack that a machine's stack stands for
-abbrev pub stack_read : Reading → FlatStack → code.Frames
+abbrev pub stack_read : Interpretation → FlatStack → code.Frames
 stack_read read m = record { cells = map (cell_read read) m.cells; registers = registers_read m.registers; place = m.place }
 
 -- what a call gives beside the stack
-abbrev pub popped_read : Reading → Item × FlatStack → rows.Item × code.Frames
+abbrev pub popped_read : Interpretation → Item × FlatStack → rows.Item × code.Frames
 popped_read read pair = (read.item pair.0, stack_read read pair.1)
 
-abbrev pub resumed_read : Reading → Why × FlatStack → calls.Why × code.Frames
+abbrev pub resumed_read : Interpretation → Why × FlatStack → calls.Why × code.Frames
 resumed_read read pair = (why_read read pair.0, stack_read read pair.1)
 
-abbrev pub swapped_read : Reading → Pair × FlatStack → calls.Pair × code.Frames
+abbrev pub swapped_read : Interpretation → Pair × FlatStack → calls.Pair × code.Frames
 swapped_read read pair = (read.pair pair.0, stack_read read pair.1)
 
-abbrev pub maybe_pair_read : Reading → Option Pair → Option calls.Pair
+abbrev pub maybe_pair_read : Interpretation → Option Pair → Option calls.Pair
 maybe_pair_read read None = None
 maybe_pair_read read (Some pair) = Some (read.pair pair)
 
-abbrev pub unmarked_read : Reading → FlatStack × Option Pair → code.Frames × Option calls.Pair
+abbrev pub unmarked_read : Interpretation → FlatStack × Option Pair → code.Frames × Option calls.Pair
 unmarked_read read pair = (stack_read read pair.0, maybe_pair_read read pair.1)
 
-abbrev pub counted_read : Reading → ℕ × FlatStack → ℕ × code.Frames
+abbrev pub counted_read : Interpretation → ℕ × FlatStack → ℕ × code.Frames
 counted_read read pair = (pair.0, stack_read read pair.1)

@@ -2,15 +2,15 @@
 #![tactic(auto)]
 
 ghost use Rattle.icn_frames.specs.Stacks.{FlatStack};
-ghost use Rattle.icn_frames_laws.specs.Readings.{Reading};
+ghost use Rattle.icn_frames_laws.specs.Readings.{Interpretation};
 ghost use Rattle.icn_frames_laws.specs.Agreement.{SameToRead, SameToCall, SameToBegin, TakesByPops};
 
 /// What a machine's stack stands for hangs on what its values, items, residuals and pairs stand for, and on nothing else:
 /// for each such reading, each call is that of the definitions.
 pub fn calls_are_read()
-    ensures begins { (read : Reading) → SameToBegin read }
-    ensures reads { (read : Reading) (m : FlatStack) → SameToRead read m }
-    ensures calls { (read : Reading) (m : FlatStack) → SameToCall read m }
+    ensures begins { (read : Interpretation) → SameToBegin read }
+    ensures reads { (read : Interpretation) (m : FlatStack) → SameToRead read m }
+    ensures calls { (read : Interpretation) (m : FlatStack) → SameToCall read m }
 {}
 
 /// Several operands are taken by taking them one by one.

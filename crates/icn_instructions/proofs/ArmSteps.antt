@@ -13,7 +13,7 @@ use Rattle.icn_run.specs.Step.{Store, stuck}
 use Rattle.icn_control.specs.Machines.{ComesTo, does}
 use Rattle.icn_control.specs.declared.machine.Machine.{Machine}
 use Rattle.icn_control.specs.declared.machine.Stage.{Stage}
-use Rattle.icn_control.specs.Standing.{done, GoesOn, GoesOnIn}
+use Rattle.icn_control.specs.Standing.{instruction_state, GoesOn, GoesOnIn}
 use Rattle.icn_instructions.specs.Doing.{ComesIn, HasMemory}
 use Rattle.icn_instructions.specs.Groups.{takes_no_memory}
 use Rattle.icn_instructions.specs.Ranges.{HasCaseMark}
@@ -22,15 +22,15 @@ pub on_ok : {A E : Type 0} (result : Result A E) (P Q : Type 0) → (P → Q) �
 on_ok (Ok x) P Q f h = f h
 on_ok (Err e) P Q f h = tt
 
-pub lacks_as : (all : Extent) (tables : Tables) (i j : Instr) (m : FlatStack) (st : Store Frames) → i ≡ j → done all tables i m st ≢ stuck
-    → done all tables j m st ≢ stuck
-lacks_as all tables i j m st e d = λ q. d (ap (λ (x : Instr). done all tables x m st) e ∙ q)
+pub lacks_as : (all : Extent) (tables : Tables) (i j : Instr) (m : FlatStack) (st : Store Frames) → i ≡ j → instruction_state all tables i m st ≢ stuck
+    → instruction_state all tables j m st ≢ stuck
+lacks_as all tables i j m st e d = λ q. d (ap (λ (x : Instr). instruction_state all tables x m st) e ∙ q)
 
 pub goes_in : (tables : Tables) (i j : Instr) (m n : FlatStack) → i ≡ j → GoesOn j m n → GoesOnIn tables i m n
-goes_in tables i j m n e h all st = ap (λ (x : Instr). done all tables x m st) e ∙ h all tables st
+goes_in tables i j m n e h all st = ap (λ (x : Instr). instruction_state all tables x m st) e ∙ h all tables st
 
 pub goes_as : (tables : Tables) (i j : Instr) (m n : FlatStack) → i ≡ j → GoesOnIn tables j m n → GoesOnIn tables i m n
-goes_as tables i j m n e h all st = ap (λ (x : Instr). done all tables x m st) e ∙ h all st
+goes_as tables i j m n e h all st = ap (λ (x : Instr). instruction_state all tables x m st) e ∙ h all st
 
 pub case_as : (i : Instr) (m : Frames) → i ≡ Ccase → HasCaseMark i m → HasCaseMark Ccase m
 case_as i m e h = subst (λ (x : Instr). HasCaseMark x m) e h

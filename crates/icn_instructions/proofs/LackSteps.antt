@@ -26,8 +26,8 @@ use Rattle.icn_run.specs.Stacks.{Frames, flat}
 use Rattle.icn_run.specs.Step.{State, Store, stuck, on_pair, with_found, with_popped, with_taken, with_exchange, exhaust_active, here, is_main, pair_now, push_item, unmark_then}
 use Rattle.icn_control.specs.Living.{IsFrame, IsRooted, IsLiveStack}
 use Rattle.icn_control.specs.Parts.{FindsValue}
-use Rattle.icn_control.specs.Standing.{done, reading_of, stack_in}
-use Rattle.icn_control.specs.Taking.{taken, taken_onto}
+use Rattle.icn_control.specs.Standing.{instruction_state, reading_of, stack_in}
+use Rattle.icn_control.specs.Taking.{take_operands, taken_onto}
 use Rattle.icn_control.proofs.LiveCalls.{live_pop}
 use Rattle.icn_control.proofs.LiveCells.{first_cut, live_cut}
 use Rattle.icn_control.proofs.PartSteps.{popped_value}
@@ -85,10 +85,10 @@ take_onto_there all (suc n) m items h =
     (pop_read (reading_of all) m)) h)
 
 pub take_there : (all : Extent) (n : ℕ) (m : FlatStack) (next : List rows.Item → Frames → State Frames Frames)
-    → with_taken flat n (stack_in all m) next ≢ stuck → IsSome (taken n m)
+    → with_taken flat n (stack_in all m) next ≢ stuck → IsSome (take_operands n m)
 take_there all n m next d = take_onto_there all n m [] (found_there (flat.take n (stack_in all m)) (on_pair next) d)
 
-pub one_there : (m : FlatStack) → IsSome (taken 1 m) → IsSome (held.pop m)
+pub one_there : (m : FlatStack) → IsSome (take_operands 1 m) → IsSome (held.pop m)
 one_there m h = by_pop (held.pop m) h
   where
     by_pop : (o : Option (Item × FlatStack)) → IsSome (option_and_then (λ (popped : Item × FlatStack). taken_onto 0 popped.1 (popped.0 ∷ [])) o) → IsSome o
@@ -109,10 +109,10 @@ two_second (Some popped) h = by_pop (held.pop popped.1) h
     by_pop (Some next) q = refl
     by_pop None q = q
 
-pub upper_there : (m : FlatStack) → IsSome (taken 2 m) → IsSome (held.pop m)
+pub upper_there : (m : FlatStack) → IsSome (take_operands 2 m) → IsSome (held.pop m)
 upper_there m h = two_first (held.pop m) h
 
-pub lower_there : (m : FlatStack) → IsSome (taken 2 m) → IfSome (held.pop m) (λ popped. IsSome (held.pop popped.1))
+pub lower_there : (m : FlatStack) → IsSome (take_operands 2 m) → IfSome (held.pop m) (λ popped. IsSome (held.pop popped.1))
 lower_there m h = two_second (held.pop m) h
 
 -- Marks
@@ -207,21 +207,21 @@ get_within {A} xs n h = by_entry (slice_get xs n) refl h
     by_entry (Some x) e q = slice_get_within xs n x e
     by_entry None e q = cc
 
-pub string_lacks : (all : Extent) (tables : Tables) (m : FlatStack) (k : ℕ) (st : Store Frames) → done all tables (Instrs.Str k) m st ≢ stuck
+pub string_lacks : (all : Extent) (tables : Tables) (m : FlatStack) (k : ℕ) (st : Store Frames) → instruction_state all tables (Instrs.Str k) m st ≢ stuck
     → k < length tables.strings
 string_lacks all tables m k st d = get_within tables.strings k (found_there (slice_get tables.strings k) _ d)
 
 pub unmark_lacks : (all : Extent) (tables : Tables) (reach : Reach) (m : FlatStack) (st : Store Frames) → IsLiveStack tables reach m
-    → done all tables Instrs.Unmark m st ≢ stuck → held.at_base m ≡ false
+    → instruction_state all tables Instrs.Unmark m st ≢ stuck → held.at_base m ≡ false
 unmark_lacks all tables reach m st k d = unmarks_off m k.root
     (read_there (unmarked_read (reading_of all)) (held.unmark m) (there_as _ _ (unmark_read (reading_of all) m)
     (found_there (flat.unmark (stack_in all m)) _ d)))
 
-pub esusp_operand : (all : Extent) (tables : Tables) (m : FlatStack) (st : Store Frames) → done all tables Instrs.Esusp m st ≢ stuck → IsSome (held.pop m)
+pub esusp_operand : (all : Extent) (tables : Tables) (m : FlatStack) (st : Store Frames) → instruction_state all tables Instrs.Esusp m st ≢ stuck → IsSome (held.pop m)
 esusp_operand all tables m st d = pop_there all m _ d
 
 pub esusp_mark : (all : Extent) (tables : Tables) (reach : Reach) (m : FlatStack) (st : Store Frames) → IsLiveStack tables reach m
-    → done all tables Instrs.Esusp m st ≢ stuck → IfSome (held.pop m) (λ popped. held.at_base popped.1 ≡ false)
+    → instruction_state all tables Instrs.Esusp m st ≢ stuck → IfSome (held.pop m) (λ popped. held.at_base popped.1 ≡ false)
 esusp_mark all tables reach m st k d =
     if_some (held.pop m) (λ popped. held.at_base popped.1 ≡ false)
     (λ popped e. suspends_off popped.1 (live_pop tables reach m popped.1 popped.0 e k).rest.root
@@ -229,26 +229,26 @@ esusp_mark all tables reach m st k d =
     (found_there (flat.suspend_mark (stack_in all popped.1)) _ (pop_on all m popped.1 popped.0 _ e d)))))
 
 pub lsusp_count : (all : Extent) (tables : Tables) (reach : Reach) (m : FlatStack) (st : Store Frames) → IsLiveStack tables reach m
-    → done all tables Instrs.Lsusp m st ≢ stuck → IfSome (held.pop m) (λ popped. IsSome (held.count_down popped.1))
+    → instruction_state all tables Instrs.Lsusp m st ≢ stuck → IfSome (held.pop m) (λ popped. IsSome (held.count_down popped.1))
 lsusp_count all tables reach m st k d =
     if_some (held.pop m) (λ popped. IsSome (held.count_down popped.1))
     (λ popped e. counts_there tables reach all popped.1 (live_pop tables reach m popped.1 popped.0 e k).rest
     (found_there (flat.count_down (stack_in all popped.1)) _ (pop_on all m popped.1 popped.0 _ e d)))
 
 pub lsusp_mark : (all : Extent) (tables : Tables) (reach : Reach) (m : FlatStack) (st : Store Frames) → IsLiveStack tables reach m
-    → done all tables Instrs.Lsusp m st ≢ stuck → IfSome (held.pop m) (λ popped. held.at_base popped.1 ≡ false)
+    → instruction_state all tables Instrs.Lsusp m st ≢ stuck → IfSome (held.pop m) (λ popped. held.at_base popped.1 ≡ false)
 lsusp_mark all tables reach m st k d =
     if_some (held.pop m) (λ popped. held.at_base popped.1 ≡ false)
     (λ popped e. let rest : IsLiveStack tables reach popped.1 = (live_pop tables reach m popped.1 popped.0 e k).rest in
     counts_off popped.1 rest.root
     (counts_there tables reach all popped.1 rest (found_there (flat.count_down (stack_in all popped.1)) _ (pop_on all m popped.1 popped.0 _ e d))))
 
-pub chfail_lacks : (all : Extent) (tables : Tables) (m : FlatStack) (label : ℕ) (st : Store Frames) → done all tables (Instrs.Chfail label) m st ≢ stuck
+pub chfail_lacks : (all : Extent) (tables : Tables) (m : FlatStack) (label : ℕ) (st : Store Frames) → instruction_state all tables (Instrs.Chfail label) m st ≢ stuck
     → IsSome (held.relabel label m)
 chfail_lacks all tables m label st d = read_there (stack_in all) (held.relabel label m)
     (there_as _ _ (relabel_read (reading_of all) label m) (found_there (flat.relabel label (stack_in all m)) _ d))
 
-pub ccase_operand : (all : Extent) (tables : Tables) (m : FlatStack) (st : Store Frames) → done all tables Instrs.Ccase m st ≢ stuck → IsSome (held.below m)
+pub ccase_operand : (all : Extent) (tables : Tables) (m : FlatStack) (st : Store Frames) → instruction_state all tables Instrs.Ccase m st ≢ stuck → IsSome (held.below m)
 ccase_operand all tables m st d = read_there (item_in all) (held.below m)
     (there_as _ _ (below_read (reading_of all) m) (found_there (flat.below (stack_in all m)) _ d))
 
@@ -260,13 +260,13 @@ pub ccase_mark : (all : Extent) (m : FlatStack) → IsSome (code.unmark (stack_i
 ccase_mark all m h = not_none (held.unmark m) (read_there (unmarked_read (reading_of all)) (held.unmark m) (there_as _ _ (unmark_read (reading_of all) m) h))
 
 -- the value that is given out comes before its mark is asked for
-pub eret_operand : (all : Extent) (tables : Tables) (m : FlatStack) (st : Store Frames) → done all tables Instrs.Eret m st ≢ stuck → IsSome (held.pop m)
+pub eret_operand : (all : Extent) (tables : Tables) (m : FlatStack) (st : Store Frames) → instruction_state all tables Instrs.Eret m st ≢ stuck → IsSome (held.pop m)
 eret_operand all tables m st d = pop_there all m _ d
 
 pub eret_mark : (w : World) (tables t : Tables) (reach : Reach) (m k : FlatStack) (item : Item) (val : Val) (st : Store Frames)
     → held.pop m ≡ Some (item, k) → IsLiveStack t reach m
     → FindsValue (extent_of w.heap) (item_in (extent_of w.heap) item) (here flat (stack_in (extent_of w.heap) k) st) (Ok val)
-    → done (extent_of w.heap) tables Instrs.Eret m st ≢ stuck → held.at_base k ≡ false
+    → instruction_state (extent_of w.heap) tables Instrs.Eret m st ≢ stuck → held.at_base k ≡ false
 eret_mark w tables t reach m k item val st e l h d =
     let all : Extent = extent_of w.heap in
     let found = not_as _ _ (popped_value w m k item val e st h (λ value a. unmark_then flat a st (push_item flat (rows.Val value)))) d in
@@ -278,7 +278,7 @@ exchanged_lacks : (all : Extent) (k : FlatStack) (next : Frames → Store Frames
     → with_exchange (flat.swap_newest (pair_now st) (stack_in all k)) next st ≡ stuck
 exchanged_lacks all k next st q = ap (λ (scan : Option ℕ). with_exchange (code.swap_at (pair_now st) (stack_in all k) scan) next st) q
 
-pub escan_scan : (all : Extent) (tables : Tables) (m : FlatStack) (st : Store Frames) → done all tables Instrs.Escan m st ≢ stuck → IsSome m.registers.scan
+pub escan_scan : (all : Extent) (tables : Tables) (m : FlatStack) (st : Store Frames) → instruction_state all tables Instrs.Escan m st ≢ stuck → IsSome m.registers.scan
 escan_scan all tables m st d = by_pop (held.pop m) refl (pop_there all m _ d)
   where
     by_scan : (k : FlatStack) (item : Item) → held.pop m ≡ Some (item, k) → (scan : Option ℕ) → m.registers.scan ≡ scan → IsSome scan
@@ -309,20 +309,20 @@ body_is true active given d = by_main (not (is_main active)) refl
     by_main true e = ((refl, above_main active e), λ q. d (ap F e ∙ q))
     by_main false e = absurd (d (ap F e))
 
-pub coret_body : (all : Extent) (tables : Tables) (m : FlatStack) (st : Store Frames) → done all tables Instrs.Coret m st ≢ stuck
+pub coret_body : (all : Extent) (tables : Tables) (m : FlatStack) (st : Store Frames) → instruction_state all tables Instrs.Coret m st ≢ stuck
     → (held.is_base m ≡ true) × (0 < st.active)
 coret_body all tables m st d = let is = (body_is (flat.is_base (stack_in all m)) st.active _ d).0 in (sym (is_base_read (reading_of all) m) ∙ is.0, is.1)
 
-pub coret_operand : (all : Extent) (tables : Tables) (m : FlatStack) (st : Store Frames) → done all tables Instrs.Coret m st ≢ stuck → IsSome (held.pop m)
+pub coret_operand : (all : Extent) (tables : Tables) (m : FlatStack) (st : Store Frames) → instruction_state all tables Instrs.Coret m st ≢ stuck → IsSome (held.pop m)
 coret_operand all tables m st d = pop_there all m _ (body_is (flat.is_base (stack_in all m)) st.active _ d).1
 
-pub cofail_body : (all : Extent) (tables : Tables) (m : FlatStack) (st : Store Frames) → done all tables Instrs.Cofail m st ≢ stuck
+pub cofail_body : (all : Extent) (tables : Tables) (m : FlatStack) (st : Store Frames) → instruction_state all tables Instrs.Cofail m st ≢ stuck
     → (held.is_base m ≡ true) × (0 < st.active)
 cofail_body all tables m st d = let is = (body_is (flat.is_base (stack_in all m)) st.active _ d).0 in (sym (is_base_read (reading_of all) m) ∙ is.0, is.1)
 
 -- a create body that fails is exhausted
 pub cofail_is : (all : Extent) (tables : Tables) (m : FlatStack) (st : Store Frames) → held.is_base m ≡ true → 0 < st.active
-    → done all tables Instrs.Cofail m st ≡ exhaust_active flat tables (stack_in all m) st
+    → instruction_state all tables Instrs.Cofail m st ≡ exhaust_active flat tables (stack_in all m) st
 cofail_is all tables m st e p =
     let F : Bool → State Frames Frames = λ x. if x then exhaust_active flat tables (stack_in all m) st else stuck in
     ap (λ (x : Bool). F (x && not (is_main st.active))) (is_base_read (reading_of all) m ∙ e) ∙ ap F (not_main st.active p)

@@ -21,7 +21,7 @@ use Rattle.icn_control.specs.declared.machine.Machine.{Machine}
 use Rattle.icn_control.specs.declared.machine.Stage.{Stage}
 use Rattle.icn_control.specs.declared.machine.Stage.TheVariants as Stages
 use Rattle.icn_control.specs.Parts.{StandsWith, HaltsWith}
-use Rattle.icn_control.specs.Standing.{done, stack_in, GoesOnIn}
+use Rattle.icn_control.specs.Standing.{instruction_state, stack_in, GoesOnIn}
 use Rattle.icn_control.specs.Taking.{KeepsCounts}
 use Rattle.icn_control.proofs.GrowthSteps.{grown}
 use Rattle.icn_control.proofs.Lifting.{over_is_main}
@@ -41,11 +41,11 @@ runs_as table f r = ap running_of r
 
 -- the instruction of a machine is done on the stack that runs
 pub done_is : (tables : Tables) (all : Extent) (table : Table) (f : FlatStack) (instr : Instr) (st : Store Frames) → table.running ≡ Some f
-    → instruction flat tables instr (stack_in all (running_of table.running)) st ≡ done all tables instr f st
+    → instruction flat tables instr (stack_in all (running_of table.running)) st ≡ instruction_state all tables instr f st
 done_is tables all table f instr st r = ap (λ (o : Option FlatStack). instruction flat tables instr (stack_in all (running_of o)) st) r
 
 pub done_lacks : (tables : Tables) (all : Extent) (table : Table) (f : FlatStack) (instr : Instr) (st : Store Frames) → table.running ≡ Some f
-    → instruction flat tables instr (stack_in all (running_of table.running)) st ≢ stuck → done all tables instr f st ≢ stuck
+    → instruction flat tables instr (stack_in all (running_of table.running)) st ≢ stuck → instruction_state all tables instr f st ≢ stuck
 done_lacks tables all table f instr st r d = λ q. d (done_is tables all table f instr st r ∙ q)
 
 -- a stack that goes on
@@ -105,16 +105,16 @@ world_comes m tables elsewhere outside w table f n instr (Ok stage) t kept live 
     let there : Store Frames = store_was tables elsewhere w table m in
     let here : Store Frames = store_was tables outside w table m in
     let main : stage ≡ Stages.Over → table.active ≡ 0
-    = λ e. over_is_main table.active elsewhere (done all tables instr f there)
-    (subst (λ (z : Stage). StandsWith (done all tables instr f there) there m.world n z) e (h there refl))
+    = λ e. over_is_main table.active elsewhere (instruction_state all tables instr f there)
+    (subst (λ (z : Stage). StandsWith (instruction_state all tables instr f there) there m.world n z) e (h there refl))
     (done_lacks tables all table f instr there r d) in
     subst (λ (s : State Frames Frames). StandsAt tables outside s m stage) (sym (done_is tables all table f instr here r))
-    (world_stands m tables outside w table n t kept live (done all tables instr f here) stage (h here refl) main)
+    (world_stands m tables outside w table n t kept live (instruction_state all tables instr f here) stage (h here refl) main)
 world_comes m tables elsewhere outside w table f n instr (Err halt) t kept live r h d =
     let all : Extent = extent_of w.heap in
     let here : Store Frames = store_was tables outside w table m in
     subst (λ (s : State Frames Frames). HaltsAt tables outside s m halt) (sym (done_is tables all table f instr here r))
-    (world_halts m tables outside w table n t kept live (done all tables instr f here) halt (h here refl))
+    (world_halts m tables outside w table n t kept live (instruction_state all tables instr f here) halt (h here refl))
 
 -- a stack runs after it, as it enters no co-expression
 pub world_stack : {K : Type 0} (m : Machine K) (tables : Tables) (instr : Instr) (w : World) (f : FlatStack) (v : World) (n : FlatStack)

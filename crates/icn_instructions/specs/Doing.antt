@@ -12,21 +12,21 @@ use Rattle.icn_code.specs.Codes.{Tables}
 use Rattle.icn_run.specs.Stacks.{Frames}
 use Rattle.icn_run.specs.Step.{Store, stuck}
 use Rattle.icn_control.specs.Parts.{HaltsWith, StandsWith}
-use Rattle.icn_control.specs.Standing.{done}
+use Rattle.icn_control.specs.Standing.{instruction_state}
 use Rattle.icn_control.specs.declared.machine.Stage.{Stage}
 
 -- The instruction lacks nothing on this stack, with some store.
 abbrev pub LacksNothing : Tables → Instr → FlatStack → Type 0
-LacksNothing tables instr m = (all : Extent) × ((st : Store Frames) × (done all tables instr m st ≢ stuck))
+LacksNothing tables instr m = (all : Extent) × ((st : Store Frames) × (instruction_state all tables instr m st ≢ stuck))
 
 -- The same in a world.
 abbrev pub LacksNothingIn : Tables → Instr → World → FlatStack → Type 0
-LacksNothingIn tables instr w m = (st : Store Frames) × ((st.world ≡ world_of w) × (done (extent_of w.heap) tables instr m st ≢ stuck))
+LacksNothingIn tables instr w m = (st : Store Frames) × ((st.world ≡ world_of w) × (instruction_state (extent_of w.heap) tables instr m st ≢ stuck))
 
 -- The instruction, done on a stack in a world, stands at a stage with another stack in another world, or halts there.
 abbrev pub ComesIn : Tables → Instr → World → FlatStack → World → FlatStack → Result Stage Halt → Type 0
 ComesIn tables instr w m v n result = (st : Store Frames) → st.world ≡ world_of w
-    → MatchResult result (StandsWith (done (extent_of w.heap) tables instr m st) st v n) (HaltsWith (done (extent_of w.heap) tables instr m st) st v)
+    → MatchResult result (StandsWith (instruction_state (extent_of w.heap) tables instr m st) st v n) (HaltsWith (instruction_state (extent_of w.heap) tables instr m st) st v)
 
 -- It is no want of memory.
 abbrev pub HasMemory : Result Stage Halt → Type 0

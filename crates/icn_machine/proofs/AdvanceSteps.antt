@@ -15,7 +15,7 @@ use Rattle.icn_control.specs.Machines.{ComesTo, StandsAt, stack_seen, store_seen
 use Rattle.icn_control.specs.declared.machine.Machine.{Machine}
 use Rattle.icn_control.specs.declared.machine.Stage.{Stage}
 use Rattle.icn_control.specs.declared.machine.Stage.TheVariants as Stages
-use Rattle.icn_machine.specs.Answering.{AnswersStep, IsCause, having, idle}
+use Rattle.icn_machine.specs.Answering.{AnswersStep, IsCause, with_left, idle}
 use Rattle.icn_machine.specs.Performing.{PerformsOn}
 use Rattle.icn_machine.specs.Stepping.{Advances, IsAt, IsFirstFault, Leads, OutputFails, StandsBy, errors_fail, goes_on, output_fails, outside_at}
 
@@ -223,7 +223,7 @@ performed_step tables leads m stage before n after result is p = record {
       let first : Outside = outside_of p.had in
       let same : step flat tables (over_outside first state) ≡ leads first
       = is first (over_outside first state) (at_elsewhere tables was first state m stage at) in
-      let there = meant_at tables (leads first) n first (having p.had before) (having p.has after) result (p.meant first refl) in
+      let there = meant_at tables (leads first) n first (with_left p.had before) (with_left p.has after) result (p.meant first refl) in
       record {
         first = first;
         later = [];
@@ -295,6 +295,6 @@ quietly_performs tables leads n h result comes = record {
   answers = λ was told. quiet_answer tables (leads was) n h was result told (comes was);
   had = [];
   has = [];
-  meant = λ was left. quiet_answer tables (leads was) n (having [] h) was result (ap Some (sym left)) (comes was);
+  meant = λ was left. quiet_answer tables (leads was) n (with_left [] h) was result (ap Some (sym left)) (comes was);
   caused = quiet_so tables (leads (outside_of [])) n h (outside_of []) result (comes (outside_of []));
 }

@@ -34,7 +34,7 @@ use Rattle.icn_instructions.specs.Doing.{HasMemory}
 use Rattle.icn_instructions.specs.Groups.{takes_no_memory}
 use Rattle.icn_instructions.specs.Ranges.{HasCaseMark, HasVariables, IsInRange}
 use Rattle.icn_machine.specs.Performing.{PerformsOn}
-use Rattle.icn_machine.specs.Steps.{staged}
+use Rattle.icn_machine.specs.Steps.{stage_result}
 use Rattle.icn_machine.specs.declared.stepping.Stepped.{Stepped}
 use Rattle.icn_machine.specs.Stepping.{Advances, AlwaysOver, EndsWhole, GoesOn, IsDoing, IsReady, LacksNothing, advances, goes_on, is_failing, is_whole, stays}
 use Rattle.icn_machine.proofs.AdvanceSteps.{advances_then}
@@ -193,14 +193,14 @@ calls_as instr j e h k = h (subst MayCall e k)
 pub staged_err : {K : Type 0} (tables : Tables) (m : Machine K) (stage : Stage) (a : CallStreams) (n : Machine K) (b : CallStreams) (halt : Halt)
     (result : Result Stepped Halt)
     → IsErrAnd result (λ h. h ≡ halt) → GoesOn tables m stage a n b (Err halt)
-    → GoesOn tables m stage a n b (staged result)
+    → GoesOn tables m stage a n b (stage_result result)
 staged_err tables m stage a n b halt (Err h) e p = subst (λ (x : Halt). GoesOn tables m stage a n b (Err x)) (sym e) p
 staged_err tables m stage a n b halt (Ok s) e p = absurd e
 
 pub advanced_err : {K : Type 0} (tables : Tables) (m : Machine K) (stage : Stage) (a : CallStreams) (n : Machine K) (b : CallStreams) (halt : Halt)
     (result : Result Stepped Halt)
     → IsErrAnd result (λ h. h ≡ halt) → Advances tables m stage a n b (Err halt)
-    → Advances tables m stage a n b (staged result)
+    → Advances tables m stage a n b (stage_result result)
 advanced_err tables m stage a n b halt (Err h) e p = subst (λ (x : Halt). Advances tables m stage a n b (Err x)) (sym e) p
 advanced_err tables m stage a n b halt (Ok s) e p = absurd e
 

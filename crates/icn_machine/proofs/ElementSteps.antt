@@ -32,7 +32,7 @@ use Rattle.icn_run_named.proofs.CallsNamed.{Maybe, each_get, each_of}
 use Rattle.icn_streams.specs.Handed.{CallStreams}
 use Rattle.icn_control.specs.Parts.{HaltsWith, StandsWith}
 use Rattle.icn_control.specs.Standing.{stack_in}
-use Rattle.icn_control.specs.Taking.{taken, taken_onto}
+use Rattle.icn_control.specs.Taking.{take_operands, taken_onto}
 use Rattle.icn_control.specs.declared.machine.Stage.{Stage}
 use Rattle.icn_control.proofs.PartSteps.{at_halt, same_world, value_goes, value_halts}
 use Rattle.icn_control.proofs.TakeSteps.{FindsItem}
@@ -232,12 +232,12 @@ elements_stop tables names w m n callee from value other items halt before resul
 -- Two operands
 
 pub two_taken : (m k n : FlatStack) (upper lower : Item) → held.pop m ≡ Some (upper, k) → held.pop k ≡ Some (lower, n)
-    → taken 2 m ≡ Some (lower ∷ upper ∷ [], n)
+    → take_operands 2 m ≡ Some (lower ∷ upper ∷ [], n)
 two_taken m k n upper lower e f =
     ap (option_and_then (λ (popped : Item × FlatStack). taken_onto 1 popped.1 (popped.0 ∷ []))) e
     ∙ ap (option_and_then (λ (popped : Item × FlatStack). taken_onto 0 popped.1 (popped.0 ∷ upper ∷ []))) f
 
-pub second_pops : (m k : FlatStack) (upper : Item) → held.pop m ≡ Some (upper, k) → IsSome (taken 2 m) → IsSome (held.pop k)
+pub second_pops : (m k : FlatStack) (upper : Item) → held.pop m ≡ Some (upper, k) → IsSome (take_operands 2 m) → IsSome (held.pop k)
 second_pops m k upper e h =
     let there : IsSome (taken_onto 1 k (upper ∷ []))
     = subst (λ (o : Option (List Item × FlatStack)). IsSome o)

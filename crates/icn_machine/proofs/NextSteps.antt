@@ -27,7 +27,7 @@ use Rattle.icn_run_named.specs.KeepingSizes.{StateFits, StepsKeepSizes, StoreFit
 use Rattle.icn_streams.specs.Handed.{CallStreams}
 use Rattle.icn_control.specs.Machines.{ComesTo, HasStack, IsSound, StandsAt, does, extent, stack_of, stack_seen, store_seen}
 use Rattle.icn_control.specs.Standing.{reading_of, stack_in}
-use Rattle.icn_control.specs.Taking.{taken}
+use Rattle.icn_control.specs.Taking.{take_operands}
 use Rattle.icn_control.specs.declared.machine.Machine.{Machine}
 use Rattle.icn_control.specs.declared.machine.Stage.{Stage}
 use Rattle.icn_control.specs.declared.machine.Stage.TheVariants as Stages
@@ -120,15 +120,15 @@ pub doing_not_stuck : {K : Type 0} (tables : Tables) (m : Machine K) (instr j : 
 doing_not_stuck tables m instr j e d outside = subst (λ (x : Instr). does tables outside x m ≢ stuck) e ((d.always outside []).goes_on)
 
 pub op_operands : {K : Type 0} (tables : Tables) (m : Machine K) (instr : Instr) (op : Op) → instr ≡ Instrs.Op op → IsDoing tables m instr
-    → IsSome (taken (arity op) (stack_of m))
+    → IsSome (take_operands (arity op) (stack_of m))
 op_operands tables m instr op e d = take_there (extent m) (arity op) (stack_of m) _ (doing_not_stuck tables m instr (Instrs.Op op) e d (outside_of []))
 
 pub invoke_operands : {K : Type 0} (tables : Tables) (m : Machine K) (instr : Instr) (n : ℕ) → instr ≡ Instrs.Invoke n → IsDoing tables m instr
-    → IsSome (taken (suc n) (stack_of m))
+    → IsSome (take_operands (suc n) (stack_of m))
 invoke_operands tables m instr n e d = take_there (extent m) (suc n) (stack_of m) _ (doing_not_stuck tables m instr (Instrs.Invoke n) e d (outside_of []))
 
 pub appl_operands : {K : Type 0} (tables : Tables) (m : Machine K) (instr : Instr) → instr ≡ Instrs.Appl → IsDoing tables m instr
-    → IsSome (taken 2 (stack_of m))
+    → IsSome (take_operands 2 (stack_of m))
 appl_operands tables m instr e d = take_there (extent m) 2 (stack_of m) _ (doing_not_stuck tables m instr Instrs.Appl e d (outside_of []))
 
 pub field_operand : {K : Type 0} (tables : Tables) (m : Machine K) (instr : Instr) (n : ℕ) → instr ≡ Instrs.Field n → IsDoing tables m instr

@@ -34,7 +34,7 @@ use Rattle.icn_control.specs.Living.{IsLiveStack}
 use Rattle.icn_control.specs.Machines.{AreLiveStacks, ComesTo, HasStack, IsSound, does, running_of, store_in, store_seen}
 use Rattle.icn_control.specs.Parts.{HaltsWith, StandsWith}
 use Rattle.icn_control.specs.Standing.{reading_of, stack_in}
-use Rattle.icn_control.specs.Taking.{KeepsCounts, taken, taken_onto}
+use Rattle.icn_control.specs.Taking.{KeepsCounts, take_operands, taken_onto}
 use Rattle.icn_control.specs.declared.machine.Machine.{Machine}
 use Rattle.icn_control.specs.declared.machine.Stage.{Stage}
 use Rattle.icn_control.specs.declared.machine.Stage.TheVariants as Stages
@@ -61,7 +61,7 @@ onto_length (suc n) m k xs items e = by_pop (held.pop m) e (onto_length n)
     by_pop None q f = cc
     by_pop (Some popped) q f = let rest = f popped.1 k (popped.0 ∷ xs) items q in omega (arith, rest)
 
-pub taken_length : (n : ℕ) (m k : FlatStack) (items : List Item) → taken n m ≡ Some (items, k) → length items ≡ n
+pub taken_length : (n : ℕ) (m k : FlatStack) (items : List Item) → take_operands n m ≡ Some (items, k) → length items ≡ n
 taken_length n m k items e = let all = onto_length n m k [] items e in omega (arith, all)
 
 pop_named : (names : Names) (all : Extent) (m n : FlatStack) (item : Item) → held.pop m ≡ Some (item, n) → StackNamed names (stack_in all m)
@@ -93,7 +93,7 @@ onto_named names all (suc n) m k xs items e a h = by_pop (held.pop m) refl e (on
         f popped.1 k (popped.0 ∷ xs) items q (All-cons (ItemNamed names) (item_in all popped.0) (map (item_in all) xs) back.0 a) back.1
 
 -- what is taken off a stack names only what has a name, and so does what is left
-pub taken_named : (names : Names) (all : Extent) (n : ℕ) (m k : FlatStack) (items : List Item) → taken n m ≡ Some (items, k) → StackNamed names (stack_in all m)
+pub taken_named : (names : Names) (all : Extent) (n : ℕ) (m k : FlatStack) (items : List Item) → take_operands n m ≡ Some (items, k) → StackNamed names (stack_in all m)
     → All (ItemNamed names) (map (item_in all) items) × StackNamed names (stack_in all k)
 taken_named names all n m k items e h = onto_named names all n m k [] items e (All-nil (ItemNamed names)) h
 
@@ -106,7 +106,7 @@ TakesTurn tables instr n next =
 -- what it comes to, once its operands are taken
 pub takes_turn : (all : Extent) (tables : Tables) (instr : Instr) (n : ℕ) (next : List rows.Item → Frames → Store Frames → State Frames Frames)
     (running : Option FlatStack) (m k : FlatStack) (items : List Item) (st : Store Frames)
-    → TakesTurn tables instr n next → running ≡ Some m → taken n m ≡ Some (items, k)
+    → TakesTurn tables instr n next → running ≡ Some m → take_operands n m ≡ Some (items, k)
     → instruction flat tables instr (stack_in all (running_of running)) st ≡ turn tables st (next (map (item_in all) items) (stack_in all k))
 takes_turn all tables instr n next running m k items st is e p =
     ap (λ (o : Option FlatStack). instruction flat tables instr (stack_in all (running_of o)) st) e
@@ -115,7 +115,7 @@ takes_turn all tables instr n next running m k items st is e p =
 
 pub operands_perform : {K : Type 0} (m after : Machine K) (t tables : Tables) (instr : Instr) (n : ℕ)
     (next : List rows.Item → Frames → Store Frames → State Frames Frames) (f k g l : FlatStack) (items xs : List Item)
-    (before now : CallStreams) (result : Result Stage Halt) → TakesTurn tables instr n next → m.stacks.table.running ≡ Some f → taken n f ≡ Some (items, k) → k ≡
+    (before now : CallStreams) (result : Result Stage Halt) → TakesTurn tables instr n next → m.stacks.table.running ≡ Some f → take_operands n f ≡ Some (items, k) → k ≡
     g → xs ≡ items
     → nat_lt m.turns (heap_of m.world.heap).bounds.turns ≡ true → KeepsItems (reach_of m.world []) (reach_of after.world [])
     → AreLiveStacks t (reach_of m.world []) m.stacks.table
@@ -137,7 +137,7 @@ operands_perform m after t tables instr n next f k g l items xs before now resul
 -- the same of what neither reads nor puts anything
 pub operands_come : {K : Type 0} (m after : Machine K) (t tables : Tables) (instr : Instr) (n : ℕ)
     (next : List rows.Item → Frames → Store Frames → State Frames Frames) (f k g l : FlatStack) (items xs : List Item)
-    (result : Result Stage Halt) → TakesTurn tables instr n next → m.stacks.table.running ≡ Some f → taken n f ≡ Some (items, k) → k ≡ g → xs ≡ items
+    (result : Result Stage Halt) → TakesTurn tables instr n next → m.stacks.table.running ≡ Some f → take_operands n f ≡ Some (items, k) → k ≡ g → xs ≡ items
     → nat_lt m.turns (heap_of m.world.heap).bounds.turns ≡ true → KeepsItems (reach_of m.world []) (reach_of after.world [])
     → AreLiveStacks t (reach_of m.world []) m.stacks.table
     → after.turns ≡ suc m.turns → after.begun.items ≡ m.begun.items → after.stacks.table ≡ record m.stacks.table { running = Some l } → IfOk result IsGoing
@@ -164,7 +164,7 @@ operands_come m after t tables instr n next f k g l items xs result is e p on of
 
 pub bound_comes : {K : Type 0} (m after : Machine K) (tables : Tables) (instr : Instr) (n : ℕ)
     (next : List rows.Item → Frames → Store Frames → State Frames Frames) (f k : FlatStack) (items : List Item)
-    → TakesTurn tables instr n next → m.stacks.table.running ≡ Some f → taken n f ≡ Some (items, k) → nat_lt m.turns (heap_of m.world.heap).bounds.turns ≡ false
+    → TakesTurn tables instr n next → m.stacks.table.running ≡ Some f → take_operands n f ≡ Some (items, k) → nat_lt m.turns (heap_of m.world.heap).bounds.turns ≡ false
     → ((outside : Outside) → at_bound {K = Frames} {M = Frames} (store_seen tables outside m) ≡ at_bound (store_seen tables outside after))
     → (outside : Outside) → ComesTo tables outside (does tables outside instr m) after (Ok Stages.AtBound)
 bound_comes m after tables instr n next f k items is e p b same outside =
@@ -175,7 +175,7 @@ bound_comes m after tables instr n next f k items is e p b same outside =
 
 pub bound_performs : {K : Type 0} (m after : Machine K) (tables : Tables) (instr : Instr) (n : ℕ)
     (next : List rows.Item → Frames → Store Frames → State Frames Frames) (f k : FlatStack) (items : List Item) (before : CallStreams)
-    → TakesTurn tables instr n next → m.stacks.table.running ≡ Some f → taken n f ≡ Some (items, k) → nat_lt m.turns (heap_of m.world.heap).bounds.turns ≡ false
+    → TakesTurn tables instr n next → m.stacks.table.running ≡ Some f → take_operands n f ≡ Some (items, k) → nat_lt m.turns (heap_of m.world.heap).bounds.turns ≡ false
     → ((outside : Outside) → at_bound {K = Frames} {M = Frames} (store_seen tables outside m) ≡ at_bound (store_seen tables outside after))
     → PerformsOn tables (λ outside. does tables outside instr m) after before before (Ok Stages.AtBound)
 bound_performs m after tables instr n next f k items before is e p b same =
@@ -238,7 +238,7 @@ sound_after m after t n turns limits table kept live counts k =
     }
 
 -- the top operand is one operand that is taken
-pub one_taken : (m n : FlatStack) (item : Item) → held.pop m ≡ Some (item, n) → taken 1 m ≡ Some (item ∷ [], n)
+pub one_taken : (m n : FlatStack) (item : Item) → held.pop m ≡ Some (item, n) → take_operands 1 m ≡ Some (item ∷ [], n)
 one_taken m n item e = ap (option_and_then (λ (popped : Item × FlatStack). taken_onto 0 popped.1 (popped.0 ∷ []))) e
 
 pub not_going : (result : Result Stage Halt) (halt : Halt) → IsErrAnd result (λ h. h ≡ halt) → IfOk result IsGoing

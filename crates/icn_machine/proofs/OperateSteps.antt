@@ -42,7 +42,7 @@ use Rattle.icn_control.specs.Standing.{reading_of, stack_in}
 use Rattle.icn_control.specs.Counting.{EnterOthers, FitTurns}
 use Rattle.icn_control.specs.Living.{IsLiveStack, with_locals}
 use Rattle.icn_control.specs.Taking as counting
-use Rattle.icn_control.specs.Taking.{taken, taken_onto}
+use Rattle.icn_control.specs.Taking.{take_operands, taken_onto}
 use Rattle.icn_control.specs.declared.machine.Machine.{Machine}
 use Rattle.icn_control.specs.declared.machine.Stage.{Stage}
 use Rattle.icn_control.specs.declared.machine.Stage.TheVariants as Stages
@@ -51,7 +51,7 @@ use Rattle.icn_control.proofs.GrowthSteps.{grown, stacks_grow}
 use Rattle.icn_control.proofs.ListSteps.{on_running}
 use Rattle.icn_control.proofs.TakeSteps.{taken_runs}
 use Rattle.icn_machine.specs.Answering as answering
-use Rattle.icn_machine.specs.Answering.{Performs, having}
+use Rattle.icn_machine.specs.Answering.{Performs, with_left}
 use Rattle.icn_machine.specs.Performing.{PerformsRow, StandsOver, row_on}
 use Rattle.icn_machine.proofs.PerformEvents.{performs_as}
 
@@ -77,7 +77,7 @@ performs_still leads C b x h = record {
   answers = λ was told. record { now = was; follows = follows_same b was told; is = h was };
   had = [];
   has = [];
-  meant = λ was left. record { now = was; follows = follows_same (having [] b) was (ap (λ (xs : List ℕ). Some xs) (sym left)); is = h was };
+  meant = λ was left. record { now = was; follows = follows_same (with_left [] b) was (ap (λ (xs : List ℕ). Some xs) (sym left)); is = h was };
   caused = counts_same b;
 }
 
@@ -202,7 +202,7 @@ in_turn tables st event b = ap (λ (x : Bool). turn_if x st event) b
 
 -- what the instruction is once its operands are taken
 pub op_is : (all : Extent) (tables : Tables) (table : Table) (m k : FlatStack) (items : List Item) (op : Op) (st : Store Frames)
-    → table.running ≡ Some m → taken (arity op) m ≡ Some (items, k)
+    → table.running ≡ Some m → take_operands (arity op) m ≡ Some (items, k)
     → instruction flat tables (Instrs.Op op) (stack_in all (running_of table.running)) st
     ≡ turn tables st (operate flat op (map (item_in all) items) (stack_in all k))
 op_is all tables table m k items op st e p =
@@ -212,7 +212,7 @@ op_is all tables table m k items op st e p =
 pub operates : {K : Type 0} (tables : Tables) (names : Names) (w : World) (table : Table) (m k : FlatStack) (items : List Item) (op : Op)
     (after : Machine K) (turns : ℕ) (was : Outside)
     → (op ≡ Ops.Refresh → ⊥)
-    → table.running ≡ Some m → taken (arity op) m ≡ Some (items, k) → nat_lt turns (heap_of w.heap).bounds.turns ≡ true → all_names tables ≡ names
+    → table.running ≡ Some m → take_operands (arity op) m ≡ Some (items, k) → nat_lt turns (heap_of w.heap).bounds.turns ≡ true → all_names tables ≡ names
     → instruction flat tables (Instrs.Op op) (stack_in (extent_of w.heap) (running_of table.running)) (store_in (all_names tables) was (world_of w)
     turns after.begun.items (extent_of w.heap) table)
     ≡ row_on (step_rows.apply names (Operation op) (map (item_in (extent_of w.heap)) items)) w k (store_in_turn tables w turns table after was) was
@@ -254,17 +254,17 @@ taken_length (suc n) m k onto items e = by_pop (held.pop m) e (taken_length n)
         let more : length items ≡ n + suc (length onto) = f popped.1 k (popped.0 ∷ onto) items q in
         omega arith
 
-pub taken_count : (n : ℕ) (m k : FlatStack) (items : List Item) → taken n m ≡ Some (items, k) → length items ≡ n
+pub taken_count : (n : ℕ) (m k : FlatStack) (items : List Item) → take_operands n m ≡ Some (items, k) → length items ≡ n
 taken_count n m k items e =
     let long : length items ≡ n + length {A = Item} [] = taken_length n m k [] items e in
     omega arith
 
 -- the same operands, and the same stack, under other names
-pub taken_as : (n o : ℕ) (m k l : FlatStack) (items xs : List Item) → taken n m ≡ Some (items, k) → n ≡ o → Some k ≡ Some l → xs ≡ items
-    → taken o m ≡ Some (xs, l)
+pub taken_as : (n o : ℕ) (m k l : FlatStack) (items xs : List Item) → take_operands n m ≡ Some (items, k) → n ≡ o → Some k ≡ Some l → xs ≡ items
+    → take_operands o m ≡ Some (xs, l)
 taken_as n o m k l items xs e same kept value =
     let F : List Item → FlatStack → Option (List Item × FlatStack) = λ x y. Some (x, y) in
-    subst (λ (x : ℕ). taken x m ≡ Some (items, k)) same e ∙ ap (λ (x : List Item). F x k) (sym value) ∙ ap (F xs) (same_Some _ _ kept)
+    subst (λ (x : ℕ). take_operands x m ≡ Some (items, k)) same e ∙ ap (λ (x : List Item). F x k) (sym value) ∙ ap (F xs) (same_Some _ _ kept)
 
 -- what is taken, and the stack without it, name only what has a name
 pub record TakesNamed (names : Names) (all : Extent) (items : List Item) (k : FlatStack) : Type 0 where
@@ -296,7 +296,7 @@ named_onto names all (suc n) m k onto items e xs h = by_pop (held.pop m) refl e 
         let back = popped_named names all m popped p h in
         f popped.1 k (popped.0 ∷ onto) items q (back.0, xs) back.1
 
-pub named_taken : (names : Names) (all : Extent) (n : ℕ) (m k : FlatStack) (items : List Item) → taken n m ≡ Some (items, k)
+pub named_taken : (names : Names) (all : Extent) (n : ℕ) (m k : FlatStack) (items : List Item) → take_operands n m ≡ Some (items, k)
     → StackNamed names (stack_in all m) → TakesNamed names all items k
 named_taken names all n m k items e h = named_onto names all n m k [] items e tt (named.stack_in names (stack_in all m) h)
 

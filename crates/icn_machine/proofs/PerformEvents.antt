@@ -24,7 +24,7 @@ use Rattle.icn_control.specs.declared.machine.Stage.{Stage}
 use Rattle.icn_control.specs.declared.machine.Stage.TheVariants as Stages
 use Rattle.icn_control.proofs.GrowthSteps.{grown}
 use Rattle.icn_calls.specs.Calling.{IsGoing}
-use Rattle.icn_machine.specs.Answering.{AnswersStep, BreaksOff, BreaksPutting, BreaksReading, IsCause, Performs, having, idle}
+use Rattle.icn_machine.specs.Answering.{AnswersStep, BreaksOff, BreaksPutting, BreaksReading, IsCause, Performs, with_left, idle}
 use Rattle.icn_machine.specs.Invoking.{PerformsEvent}
 use Rattle.icn_machine.specs.Performing.{PerformsOn, PerformsRow, StandsOver, over_outside, row_on}
 
@@ -50,7 +50,7 @@ performs_as leads others Comes Same before after result e h p = record {
   had = p.had;
   has = p.has;
   meant =
-      λ was left. answers_as (Comes was) (Same was) (leads was) (others was) was (having p.had before) (having p.has after) result (e was) (h was)
+      λ was left. answers_as (Comes was) (Same was) (leads was) (others was) was (with_left p.had before) (with_left p.has after) result (e was) (h was)
       (p.meant was left);
   caused = p.caused;
 }
@@ -94,7 +94,7 @@ still_performs leads Comes before result f h = record {
   answers = λ was told. still_answers (Comes was) (leads was) was before result told f (h was);
   had = [];
   has = [];
-  meant = λ was left. still_answers (Comes was) (leads was) was (having [] before) result (ap (λ (text : List ℕ). Some text) (sym left)) f (h was);
+  meant = λ was left. still_answers (Comes was) (leads was) was (with_left [] before) result (ap (λ (text : List ℕ). Some text) (sym left)) f (h was);
   caused = still_caused before result f;
 }
 

@@ -51,7 +51,7 @@ use Rattle.icn_control.specs.declared.machine.Stage.TheVariants as Stages
 use Rattle.icn_control.proofs.KeptItems.{stack_same, stack_stays}
 use Rattle.icn_control.proofs.LiveSets.{live_replace}
 use Rattle.icn_machine.specs.Answering as answering
-use Rattle.icn_machine.specs.Answering.{AnswersStep, BreaksOff, BreaksPutting, BreaksReading, IsCause, Performs, Tells, behind, having, outside_in}
+use Rattle.icn_machine.specs.Answering.{AnswersStep, BreaksOff, BreaksPutting, BreaksReading, IsCause, Performs, Tells, behind, with_left, outside_in}
 use Rattle.icn_machine.specs.Giving.{GivesOutcome, StandsAs}
 use Rattle.icn_machine.specs.Performing.{LeavesNamed, PerformsRow, StandsOver, over_outside, row_on}
 
@@ -280,7 +280,7 @@ performs_ok w v m k n row b a oc stage s g r st same = record {
   answers = λ was told. tells_ok w v m k n row st was b a oc stage same s g (r.answers was told);
   had = r.meant.had;
   has = r.meant.has;
-  meant = λ was left. tells_ok w v m k n row st was (having r.meant.had b) (having r.meant.has a) oc stage same s g (r.meant.answers was left);
+  meant = λ was left. tells_ok w v m k n row st was (with_left r.meant.had b) (with_left r.meant.has a) oc stage same s g (r.meant.answers was left);
   caused = r.caused;
 }
 
@@ -290,7 +290,7 @@ performs_lack w v m k n row b a oc r st same = record {
   answers = λ was told. breaks_behind w v m k row st was b a oc same (r.answers was told);
   had = r.meant.had;
   has = r.meant.has;
-  meant = λ was left. breaks_behind w v m k row st was (having r.meant.had b) (having r.meant.has a) oc same (r.meant.answers was left);
+  meant = λ was left. breaks_behind w v m k row st was (with_left r.meant.had b) (with_left r.meant.has a) oc same (r.meant.answers was left);
   caused = uncounted r.caused;
 }
 
@@ -300,7 +300,7 @@ performs_halt w v m k n row b a halt r st same = record {
   answers = λ was told. halts w v m k n row st was b a halt same (r.answers was told);
   had = r.meant.had;
   has = r.meant.has;
-  meant = λ was left. halts w v m k n row st was (having r.meant.had b) (having r.meant.has a) halt same (r.meant.answers was left);
+  meant = λ was left. halts w v m k n row st was (with_left r.meant.had b) (with_left r.meant.has a) halt same (r.meant.answers was left);
   caused = cause b a halt r.caused;
 }
 

@@ -63,8 +63,8 @@ IsCause (Err Halts.WriteFault) before after = WritingFails before after
 IsCause (Err Halts.NoMemory) before after = WantsMemory before after
 
 -- the same, had the input told that it has these bytes left
-abbrev pub having : List ℕ → CallStreams → CallStreams
-having left handed = record handed { left = Some left }
+abbrev pub with_left : List ℕ → CallStreams → CallStreams
+with_left left handed = record handed { left = Some left }
 
 -- What a call says of a step, by the state to which the step leads from each outside: over the outside that the input tells, if it does; and in any case
 -- over some input, that has these bytes and leaves those.
@@ -72,5 +72,5 @@ pub record Performs {A : Type 0} (leads : Outside → State Frames Frames) (Come
   pub answers : (was : Outside) → before.left ≡ Some was.left → AnswersStep (Comes was) (leads was) was before after result
   pub had : List ℕ
   pub has : List ℕ
-  pub meant : (was : Outside) → was.left ≡ had → AnswersStep (Comes was) (leads was) was (having had before) (having has after) result
+  pub meant : (was : Outside) → was.left ≡ had → AnswersStep (Comes was) (leads was) was (with_left had before) (with_left has after) result
   pub caused : IsCause result before after

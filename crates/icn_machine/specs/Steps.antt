@@ -12,6 +12,6 @@ stage_of Steppeds.On = Stages.Runs
 stage_of Steppeds.Finished = Stages.Over
 stage_of Steppeds.AtBound = Stages.AtBound
 
-abbrev pub staged : Result Stepped Halt → Result Stage Halt
-staged (Ok stepped) = Ok (stage_of stepped)
-staged (Err halt) = Err halt
+abbrev pub stage_result : Result Stepped Halt → Result Stage Halt
+stage_result (Ok stepped) = Ok (stage_of stepped)
+stage_result (Err halt) = Err halt

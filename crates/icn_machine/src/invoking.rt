@@ -21,7 +21,7 @@ ghost use Rattle.icn_streams.specs.Handed.{call_streams};
 ghost use Rattle.icn_control.specs.Living.{IsLiveStack, with_locals};
 ghost use Rattle.icn_control.specs.Machines.{HasStack, IsSound, does, stack_of, stack_seen, store_seen, world_reach};
 ghost use Rattle.icn_control.specs.Standing.{stack_in};
-ghost use Rattle.icn_control.specs.Taking.{KeepsCounts, taken};
+ghost use Rattle.icn_control.specs.Taking.{KeepsCounts, take_operands};
 ghost use Rattle.icn_calls.specs.Calling.{IsGoing};
 ghost use Rattle.icn_machine.specs.Invoking.{PerformsEvent};
 ghost use Rattle.icn_machine.specs.Performing.{LeavesNamed, PerformsOn};
@@ -157,7 +157,7 @@ pub fn invoke<K: Stack<Cell> + Drop, N: Names, I: Source, O: Sink, E: Sink>(
 ) -> Result<Stage, Halt>
     requires known { N.known names.now ≡ all_names (tables_of code.now) }
     requires runs { IsSome m.old.stacks.table.running }
-    requires operands { IsSome (taken (suc count) (stack_of m.old)) }
+    requires operands { IsSome (take_operands (suc count) (stack_of m.old)) }
     requires sound { (tables : Tables) × IsSound tables m.old }
     requires stack_named { StackNamed (N.known names.now) (stack_seen m.old) }
     requires world_named { WorldNamed (N.known names.now) (world_of m.old.world) }
@@ -253,7 +253,7 @@ pub fn appl<K: Stack<Cell> + Drop, N: Names, I: Source, O: Sink, E: Sink>(
 ) -> Result<Stage, Halt>
     requires known { N.known names.now ≡ all_names (tables_of code.now) }
     requires runs { IsSome m.old.stacks.table.running }
-    requires operands { IsSome (taken 2 (stack_of m.old)) }
+    requires operands { IsSome (take_operands 2 (stack_of m.old)) }
     requires sound { (tables : Tables) × IsSound tables m.old }
     requires stack_named { StackNamed (N.known names.now) (stack_seen m.old) }
     requires world_named { WorldNamed (N.known names.now) (world_of m.old.world) }
@@ -290,8 +290,8 @@ pub fn appl<K: Stack<Cell> + Drop, N: Names, I: Source, O: Sink, E: Sink>(
 
 // Takes two operands, which must be there; the top one comes last.
 fn take_two<K: Stack<Cell> + Drop>(frames: &mut Frames<K>) -> (Item, Item)
-    requires { IsSome (taken 2 frames.old.flat) }
-    ensures { taken 2 frames.old.flat ≡ Some (result.0 ∷ result.1 ∷ [], frames.new.flat) }
+    requires { IsSome (take_operands 2 frames.old.flat) }
+    ensures { take_operands 2 frames.old.flat ≡ Some (result.0 ∷ result.1 ∷ [], frames.new.flat) }
 {
     let upper = frames.pop();
     let lower = frames.pop();

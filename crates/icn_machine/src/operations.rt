@@ -15,7 +15,7 @@ ghost use Rattle.icn_run.specs.Step.{all_names, resume_by};
 ghost use Rattle.icn_streams.specs.Handed.{call_streams};
 ghost use Rattle.icn_control.specs.Living.{with_locals};
 ghost use Rattle.icn_control.specs.Machines.{HasStack, IsSound, does, extent, stack_of, stack_seen, store_seen, world_reach};
-ghost use Rattle.icn_control.specs.Taking.{taken};
+ghost use Rattle.icn_control.specs.Taking.{take_operands};
 ghost use Rattle.icn_run_named.specs.StateNames.{StackNamed};
 ghost use Rattle.icn_machine.specs.Performing.{LeavesNamed, PerformsOn};
 
@@ -45,7 +45,7 @@ pub fn operate<K: Stack<Cell> + Drop, N: Names, I: Source, O: Sink, E: Sink>(
 ) -> Result<Stage, Halt>
     requires runs { IsSome m.old.stacks.table.running }
     requires row { op ≢ Ops.Refresh }
-    requires operands { IsSome (taken (arity op) (stack_of m.old)) }
+    requires operands { IsSome (take_operands (arity op) (stack_of m.old)) }
     requires sound { (tables : Tables) × IsSound tables m.old }
     requires stack_named { StackNamed (N.known names.now) (stack_seen m.old) }
     requires world_named { WorldNamed (N.known names.now) (world_of m.old.world) }

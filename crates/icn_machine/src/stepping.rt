@@ -13,7 +13,7 @@ ghost use Rattle.icn_control.specs.Machines.{ComesTo, does, stack_seen, store_se
 ghost use Rattle.icn_control.specs.declared.machine.Stage.TheVariants as Stages;
 ghost use Rattle.icn_machine.specs.Performing.{PerformsOn};
 ghost use Rattle.icn_machine.specs.Stepping.{Advances, EndsWhole, GoesOn, IsDoing, IsReady, is_applied, is_failing, is_whole};
-ghost use Rattle.icn_machine.specs.Steps.{stage_of, staged};
+ghost use Rattle.icn_machine.specs.Steps.{stage_of, stage_result};
 
 use crate::failing::{fail_through, is_failing as fails_now};
 use crate::fields::field;
@@ -205,7 +205,7 @@ fn fail_to_next<K: Stack<Cell> + Drop, N: Names, I: Source, O: Sink, E: Sink>(
 ) -> Result<Stepped, Halt>
     requires known { N.known names.now ≡ all_names (tables_of code.now) }
     requires ready { IsReady (tables_of code.now) m.old from }
-    ensures steps { GoesOn (tables_of code.now) m.old from (call_streams (I.left input.old) (I.faults input.old) (O.state out.old) (E.state err.old)) m.new (call_streams (I.left input.new) (I.faults input.new) (O.state out.new) (E.state err.new)) (staged result) }
+    ensures steps { GoesOn (tables_of code.now) m.old from (call_streams (I.left input.old) (I.faults input.old) (O.state out.old) (E.state err.old)) m.new (call_streams (I.left input.new) (I.faults input.new) (O.state out.new) (E.state err.new)) (stage_result result) }
     ensures ready { IfOk result (λ stepped. IsReady (tables_of code.now) m.new (stage_of stepped)) }
     ensures halt { IfErr result (IsLiveHalt (world_reach m.new)) }
     ensures limits { m.new.limits ≡ m.old.limits }
@@ -226,7 +226,7 @@ fn step_named<K: Stack<Cell> + Drop, N: Names, I: Source, O: Sink, E: Sink>(
 ) -> Result<Stepped, Halt>
     requires known { N.known names.now ≡ all_names (tables_of code.now) }
     requires ready { IsReady (tables_of code.now) m.old Stages.Runs }
-    ensures steps { Advances (tables_of code.now) m.old Stages.Runs (call_streams (I.left input.old) (I.faults input.old) (O.state out.old) (E.state err.old)) m.new (call_streams (I.left input.new) (I.faults input.new) (O.state out.new) (E.state err.new)) (staged result) }
+    ensures steps { Advances (tables_of code.now) m.old Stages.Runs (call_streams (I.left input.old) (I.faults input.old) (O.state out.old) (E.state err.old)) m.new (call_streams (I.left input.new) (I.faults input.new) (O.state out.new) (E.state err.new)) (stage_result result) }
     ensures ready { IfOk result (λ stepped. IsReady (tables_of code.now) m.new (stage_of stepped)) }
     ensures no_memory { (instr : InstrSeen) → instruction_at calls (tables_of code.now) (stack_seen m.old) ≡ Some instr → is_whole instr ≡ true → result ≢ Err NoMemory }
     ensures halt { IfErr result (IsLiveHalt (world_reach m.new)) }
@@ -256,7 +256,7 @@ pub fn step<K: Stack<Cell> + Drop, I: Source, O: Sink, E: Sink>(
     err: &mut E,
 ) -> Result<Stepped, Halt>
     requires ready { IsReady (tables_of code.now.code) m.old Stages.Runs }
-    ensures steps { Advances (tables_of code.now.code) m.old Stages.Runs (call_streams (I.left input.old) (I.faults input.old) (O.state out.old) (E.state err.old)) m.new (call_streams (I.left input.new) (I.faults input.new) (O.state out.new) (E.state err.new)) (staged result) }
+    ensures steps { Advances (tables_of code.now.code) m.old Stages.Runs (call_streams (I.left input.old) (I.faults input.old) (O.state out.old) (E.state err.old)) m.new (call_streams (I.left input.new) (I.faults input.new) (O.state out.new) (E.state err.new)) (stage_result result) }
     ensures ready { IfOk result (λ stepped. IsReady (tables_of code.now.code) m.new (stage_of stepped)) }
     ensures no_memory { (instr : InstrSeen) → instruction_at calls (tables_of code.now.code) (stack_seen m.old) ≡ Some instr → is_whole instr ≡ true → result ≢ Err NoMemory }
     ensures halt { IfErr result (IsLiveHalt (world_reach m.new)) }

@@ -26,7 +26,7 @@ use Rattle.icn_machine.specs.Answering as Step
 use Rattle.icn_machine.specs.Answering.{BreaksOff, idle, reading, putting, behind, outside_in}
 use Rattle.icn_machine.specs.Stepping.{outside_at}
 use Rattle.icn_running.specs.Runs.{streams_of}
-use Rattle.icn_running.proofs.Observed.{ComesToEnd, then_errors}
+use Rattle.icn_running.proofs.Observations.{ComesToEnd, then_errors}
 
 -- Texts
 

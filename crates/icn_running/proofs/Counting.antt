@@ -17,12 +17,12 @@ use Rattle.icn_control.specs.declared.machine.Stage.{Stage}
 use Rattle.icn_machine.specs.declared.stepping.Stepped.{Stepped}
 use Rattle.icn_machine.specs.declared.stepping.Stepped.TheVariants as Steppeds
 use Rattle.icn_machine.specs.Stepping.{IsFirstFault, errors_fail}
-use Rattle.icn_machine.specs.Steps.{staged}
+use Rattle.icn_machine.specs.Steps.{stage_result}
 use Rattle.icn_running.specs.declared.fault.RunFault.{RunFault}
 use Rattle.icn_running.specs.declared.fault.RunFault.TheVariants.{ReadFault, WriteFault, NoMemory}
 use Rattle.icn_running.specs.Reported.{AnswersEnd, AnswersFault, AnswersHalt, AnswersMachine, AnswersUnbegun}
 use Rattle.icn_running.specs.Runs.{EndsAtFirst}
-use Rattle.icn_running.proofs.Observed.{then_errors}
+use Rattle.icn_running.proofs.Observations.{then_errors}
 
 keeps_then : {a b c : SinkState} → KeepsCounts a b → KeepsCounts b c → KeepsCounts a c
 keeps_then first second = record { faults = second.faults ∙ first.faults; wants = second.wants ∙ first.wants }
@@ -63,7 +63,7 @@ module _ (before between : CallStreams) (errors : SinkState) where
 
 -- of a run whose machine has stopped
 pub machine_counts : {K : Type 0} (names : Names) (n : Machine K) (stopped : Result Stepped Halt) (answered : Result HeldEnding RunFault)
-    (before between : CallStreams) (errors : SinkState) → IsFirstFault (staged stopped) before between
+    (before between : CallStreams) (errors : SinkState) → IsFirstFault (stage_result stopped) before between
     → AnswersMachine names n stopped answered between.errors errors
     → EndsAtFirst answered before (then_errors between errors)
 machine_counts names n (Ok Steppeds.On) answered before between errors first p = absurd p

@@ -4,9 +4,9 @@ mod Images
 mod Lasting
 mod LoopSteps
 mod Naming
-mod Observed
+mod Observations
 mod RecordCounts
 mod RecordNumbers
 mod RunAnswers
 mod Starts
-mod Unbegun
+mod EndsAtStart

@@ -11,7 +11,7 @@ use Rattle.icn_control.specs.declared.machine.Stage.TheVariants as Stages
 use Rattle.icn_machine.specs.declared.stepping.Stepped.{Stepped}
 use Rattle.icn_machine.specs.declared.stepping.Stepped.TheVariants as Steppeds
 use Rattle.icn_machine.specs.Stepping.{Advances, GoesOn, advances, stays}
-use Rattle.icn_machine.specs.Steps.{stage_of, staged}
+use Rattle.icn_machine.specs.Steps.{stage_of, stage_result}
 use Rattle.icn_machine.proofs.LoopSteps.{left_if, loop_err, loop_ok}
 use Rattle.icn_running.specs.Lasting.{Lasts, MadeTurn, left_now}
 use Rattle.icn_running.specs.Ons.{is_on, is_within}
@@ -36,7 +36,7 @@ on_true Steppeds.AtBound e = cc
 pub run_err : {K : Type 0} (tables : Tables) (m : Machine K) (a : CallStreams) (n : Machine K) (stepped : Stepped) (b : CallStreams) (k : Machine K) (c : CallStreams) (halt : Halt) (result : Result Stepped Halt)
     → stepped ≡ Steppeds.On
     → GoesOn tables m Stages.Runs a n b (Ok (stage_of stepped)) → GoesOn tables n Stages.Runs b k c (Err halt) → IsErrAnd result (λ h. h ≡ halt)
-    → GoesOn tables m Stages.Runs a k c (staged result)
+    → GoesOn tables m Stages.Runs a k c (stage_result result)
 run_err tables m a n stepped b k c halt (Err h) on p q r =
     loop_err tables m Stages.Runs a n (stage_of stepped) Stages.Runs b k c halt (Err h) (ap stage_of on) refl p q r
 run_err tables m a n stepped b k c halt (Ok s) on p q r = absurd r
@@ -116,8 +116,8 @@ run_over tables m a n b Steppeds.Finished off (stays e h r) = absurd (cc r)
 run_over tables m a n b Steppeds.AtBound off (stays e h r) = absurd (cc r)
 
 pub stopped_err : {K : Type 0} (tables : Tables) (m : Machine K) (a : CallStreams) (n : Machine K) (b : CallStreams) (halt : Halt) (result : Result Stepped Halt)
-    → GoesOn tables m Stages.Runs a n b (staged result) → IsErrAnd result (λ h. h ≡ halt)
-    → Advances tables m Stages.Runs a n b (staged result)
+    → GoesOn tables m Stages.Runs a n b (stage_result result) → IsErrAnd result (λ h. h ≡ halt)
+    → Advances tables m Stages.Runs a n b (stage_result result)
 stopped_err tables m a n b halt result (advances steps) r = steps
 stopped_err tables m a n b halt (Ok stepped) (stays e h q) r = absurd r
 stopped_err tables m a n b halt (Err other) (stays e h q) r = absurd (cc q)

@@ -27,13 +27,13 @@ use Rattle.icn_machine.specs.declared.stepping.Stepped.{Stepped}
 use Rattle.icn_machine.specs.declared.stepping.Stepped.TheVariants as Steppeds
 use Rattle.icn_machine.specs.Starting.{StartsAs}
 use Rattle.icn_machine.specs.Stepping.{IsAt, Leads}
-use Rattle.icn_machine.specs.Steps.{staged}
+use Rattle.icn_machine.specs.Steps.{stage_result}
 use Rattle.icn_running.specs.declared.fault.RunFault.{RunFault}
 use Rattle.icn_running.specs.declared.fault.RunFault.TheVariants.{ReadFault, WriteFault, NoMemory}
 use Rattle.icn_running.specs.Reported.{AnswersEnd, AnswersFault, AnswersMachine, AnswersUnbegun, IsReportOf, PutsReport, ending_seen}
 use Rattle.icn_running.specs.Runs.{AnswersRun, IsBrokenOff, LeavesBy, RunsTo}
 use Rattle.icn_running.proofs.BrokenOff.{run_breaks_off, run_breaks_putting, run_breaks_reading, run_cut_short, run_not_begun}
-use Rattle.icn_running.proofs.Observed.{ComesToEnd, bounded, ended, erred, finished, run_reported, then_errors}
+use Rattle.icn_running.proofs.Observations.{ComesToEnd, bounded, ended, erred, finished, run_reported, then_errors}
 
 module _ (tables : Tables) (words : List (List ℕ)) (bounds : Bounds) (input : List ℕ) (seen : Observed) (r : Runs tables (launch_of words bounds input) seen)
     (before between : CallStreams) (errors : SinkState) where
@@ -82,7 +82,7 @@ module _ (tables : Tables) (words : List (List ℕ)) (bounds : Bounds) (input : 
 
   -- its machine has stopped
   at_machine : {K : Type 0} (n : Machine K) (stopped : Result Stepped Halt) (answered : Result HeldEnding RunFault)
-      → Leads tables (start tables launch) launch.outside before n between (staged stopped)
+      → Leads tables (start tables launch) launch.outside before n between (stage_result stopped)
       → AnswersMachine (all_names tables) n stopped answered between.errors errors → Answers answered
   at_machine n (Ok Steppeds.On) answered leads p = absurd p
   at_machine n (Ok Steppeds.Finished) answered leads p = at_end Done [] answered refl (finished tables launch n before between leads) p
@@ -104,7 +104,7 @@ pub started_answers : {K : Type 0} (tables : Tables) (m n : Machine K) (before b
     (stopped : Result Stepped Halt) (answered : Result HeldEnding RunFault)
     → ((launch : Launch) → (seen : Observed) × Runs tables launch seen)
     → ((was : Outside) (state : State Frames Frames) → IsAt tables was state m Stages.Runs → before.left ≡ Some was.left
-    → Leads tables state was before n between (staged stopped))
+    → Leads tables state was before n between (stage_result stopped))
     → AnswersMachine (all_names tables) n stopped answered between.errors errors
     → (words : List (List ℕ)) (bounds : Bounds) (input : List ℕ) → before.left ≡ Some input
     → start tables (launch_of words bounds input) ≡ running (stack_seen m) (store_seen tables (outside_of input) m)

@@ -6,7 +6,7 @@ ghost use Rattle.icn_streams.specs.Handed.{call_streams};
 ghost use Rattle.icn_control.specs.Machines.{world_reach};
 ghost use Rattle.icn_control.specs.declared.machine.Stage.TheVariants as Stages;
 ghost use Rattle.icn_machine.specs.Stepping.{Advances, GoesOn, IsReady};
-ghost use Rattle.icn_machine.specs.Steps.{stage_of, staged};
+ghost use Rattle.icn_machine.specs.Steps.{stage_of, stage_result};
 ghost use Rattle.icn_running.specs.Lasting.{Lasts, MadeTurn};
 ghost use Rattle.icn_running.specs.Ons.{is_on, is_within};
 
@@ -51,7 +51,7 @@ pub fn run_on<K: Stack<Cell> + Drop, I: Source, O: Sink, E: Sink>(
 ) -> Result<Stepped, Halt>
     requires ready { IsReady (tables_of code.now.code) m.old Stages.Runs }
     requires lasts { Lasts (tables_of code.now.code) m.old }
-    ensures steps { Advances (tables_of code.now.code) m.old Stages.Runs (call_streams (I.left input.old) (I.faults input.old) (O.state out.old) (E.state err.old)) m.new (call_streams (I.left input.new) (I.faults input.new) (O.state out.new) (E.state err.new)) (staged result) }
+    ensures steps { Advances (tables_of code.now.code) m.old Stages.Runs (call_streams (I.left input.old) (I.faults input.old) (O.state out.old) (E.state err.old)) m.new (call_streams (I.left input.new) (I.faults input.new) (O.state out.new) (E.state err.new)) (stage_result result) }
     ensures stops { IfOk result (λ stepped. is_on stepped ≡ false) }
     ensures halt { IfErr result (IsLiveHalt (world_reach m.new)) }
     ensures limits { m.new.limits ≡ m.old.limits }
@@ -74,7 +74,7 @@ fn run_to_turn<K: Stack<Cell> + Drop, I: Source, O: Sink, E: Sink>(
 ) -> Result<Stepped, Halt>
     requires ready { IsReady (tables_of code.now.code) m.old Stages.Runs }
     requires lasts { Lasts (tables_of code.now.code) m.old }
-    ensures steps { GoesOn (tables_of code.now.code) m.old Stages.Runs (call_streams (I.left input.old) (I.faults input.old) (O.state out.old) (E.state err.old)) m.new (call_streams (I.left input.new) (I.faults input.new) (O.state out.new) (E.state err.new)) (staged result) }
+    ensures steps { GoesOn (tables_of code.now.code) m.old Stages.Runs (call_streams (I.left input.old) (I.faults input.old) (O.state out.old) (E.state err.old)) m.new (call_streams (I.left input.new) (I.faults input.new) (O.state out.new) (E.state err.new)) (stage_result result) }
     ensures ready { IfOk result (λ stepped. IsReady (tables_of code.now.code) m.new (stage_of stepped)) }
     ensures lasts { IfOk result (λ stepped. IsTrue (is_on stepped) → Lasts (tables_of code.now.code) m.new) }
     ensures turn { IfOk result (λ stepped. IsTrue (is_on stepped) → MadeTurn m.old m.new) }

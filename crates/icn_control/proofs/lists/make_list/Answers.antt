@@ -13,7 +13,7 @@ use Rattle.icn_control.specs.Living.{IsLiveStack, with_locals}
 use Rattle.icn_control.specs.Machines.{store_in, store_seen}
 use Rattle.icn_control.specs.declared.machine.Machine.{Machine}
 use Rattle.icn_control.specs.Standing.{stack_in}
-use Rattle.icn_control.specs.Taking.{listed}
+use Rattle.icn_control.specs.Taking.{push_list}
 use Rattle.icn_control.proofs.CountedSteps.{list_counts, turn_more}
 use Rattle.icn_control.proofs.ExhaustSteps.{under}
 use Rattle.icn_control.proofs.GrowthSteps.{stacks_grow}
@@ -31,7 +31,7 @@ returns-then-m-clause-step g c tables outside =
     = ap (λ (x : Bounds). nat_lt m.turns x.turns) c.requires.sound.1.bounds ∙ no_more m.turns m.limits.turns c.if-m.true in
     llist_is (extent_of m.world.heap) tables m.stacks.table c.frames.result.now.flat c.take_operands.new.frames.flat c.take_operands.new.items.items c.args.count (store_seen tables outside m) c.frames.ensures.running c.in-Ok.ensures.taken
     ∙ turn_bound tables (store_seen tables outside m)
-    (store_in (all_names tables) outside (world_of m.world) m.turns m.begun.items (extent_of m.world.heap) (record m.stacks.table { running = Some c.take_operands.new.frames.flat })) (listed m.world c.take_operands.new.frames.flat c.take_operands.new.items.items) none refl
+    (store_in (all_names tables) outside (world_of m.world) m.turns m.begun.items (extent_of m.world.heap) (record m.stacks.table { running = Some c.take_operands.new.frames.flat })) (push_list m.world c.take_operands.new.frames.flat c.take_operands.new.items.items) none refl
 
 pub returns-then-m-clause-sound : goal.returns-then-m-clause-sound
 returns-then-m-clause-sound g c tables k =
@@ -71,7 +71,7 @@ returns-in_err-push_list-clause-step g c tables outside =
     at_halt c.from_residual.result c.in_err-push_list.field-0.0 _ _ c.from_residual.ensures.1
     (halts_is after tables outside c.in_err-push_list.field-0.0 _ _
     (llist_is (extent_of m.world.heap) tables m.stacks.table c.frames.result.now.flat c.take_operands.new.frames.flat c.take_operands.new.items.items c.args.count (store_seen tables outside m) c.frames.ensures.running c.in-Ok.ensures.taken)
-    (turn_halts after tables outside m.world m.turns m.begun.items m.stacks.table (listed m.world c.take_operands.new.frames.flat c.take_operands.new.items.items) c.in_err-push_list.field-0.0 more
+    (turn_halts after tables outside m.world m.turns m.begun.items m.stacks.table (push_list m.world c.take_operands.new.frames.flat c.take_operands.new.items.items) c.in_err-push_list.field-0.0 more
     (listed_halts m.world c.push_list.new.world c.take_operands.new.frames.flat c.frames-2.result.now.flat c.take_operands.new.items.items c.deref.result.now c.in_err-push_list.field-0.0 (same_Some _ _ c.frames-2.ensures.running) c.deref.ensures.value c.in_err-push_list.ensures.step)))
 
 pub returns-clause-step : goal.returns-clause-step
@@ -83,7 +83,7 @@ returns-clause-step g c tables outside =
     = ap (λ (x : Bounds). nat_lt m.turns x.turns) c.requires.sound.1.bounds ∙ under m.turns m.limits.turns c.if-m.false in
     let F : ℕ → State Frames Frames = λ k. running (stack_in (extent_of v.heap) n) (store_in (all_names tables) outside (world_of v) k m.begun.items (extent_of v.heap) (record m.stacks.table { running = Some n })) in
     llist_is (extent_of m.world.heap) tables m.stacks.table c.frames.result.now.flat c.take_operands.new.frames.flat c.take_operands.new.items.items c.args.count (store_seen tables outside m) c.frames.ensures.running c.in-Ok.ensures.taken
-    ∙ turn_runs c.requires.sound.0 tables (all_names tables) outside m.world v m.turns m.begun.items m.stacks.table n (listed m.world c.take_operands.new.frames.flat c.take_operands.new.items.items) more c.push_list.ensures.kept c.requires.sound.1.stacks
+    ∙ turn_runs c.requires.sound.0 tables (all_names tables) outside m.world v m.turns m.begun.items m.stacks.table n (push_list m.world c.take_operands.new.frames.flat c.take_operands.new.items.items) more c.push_list.ensures.kept c.requires.sound.1.stacks
     (listed_runs m.world v c.take_operands.new.frames.flat c.frames-2.result.now.flat n c.take_operands.new.items.items c.deref.result.now (same_Some _ _ c.frames-2.ensures.running) c.deref.ensures.value c.in_ok-push_list.ensures.step)
     ∙ ap F (sym (add-one m.turns))
 

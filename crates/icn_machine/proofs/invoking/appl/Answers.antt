@@ -17,7 +17,7 @@ use Rattle.icn_control.specs.Living.{IsLiveStack, with_locals}
 use Rattle.icn_control.specs.Machines.{IsSound, running_of}
 use Rattle.icn_control.specs.declared.machine.Machine.{Machine}
 use Rattle.icn_control.specs.Standing.{stack_in}
-use Rattle.icn_control.specs.Taking.{KeepsCounts, taken}
+use Rattle.icn_control.specs.Taking.{KeepsCounts, take_operands}
 use Rattle.icn_control.proofs.ExhaustSteps.{under}
 use Rattle.icn_control.proofs.ListSteps.{no_more}
 use Rattle.icn_control.proofs.LiteralSteps.{running_live}
@@ -27,7 +27,7 @@ use Rattle.icn_machine.proofs.OperandCalls.{both_on, bound_performs, going_has_s
 use Rattle.icn_machine.proofs.invoking.appl.Goals as goal
 
 pub take_two-two-requires : goal.take_two-two-requires
-take_two-two-requires g c = subst (λ (o : Option FlatStack). IsSome (taken 2 (running_of o))) c.frames.ensures.running c.requires.operands
+take_two-two-requires g c = subst (λ (o : Option FlatStack). IsSome (take_operands 2 (running_of o))) c.frames.ensures.running c.requires.operands
 
 pub returns-then-m-clause-step : goal.returns-then-m-clause-step
 returns-then-m-clause-step g c =

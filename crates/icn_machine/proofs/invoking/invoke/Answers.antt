@@ -18,7 +18,7 @@ use Rattle.icn_control.specs.Living.{IsLiveStack, with_locals}
 use Rattle.icn_control.specs.Machines.{IsSound, does, running_of}
 use Rattle.icn_control.specs.declared.machine.Machine.{Machine}
 use Rattle.icn_control.specs.Standing.{stack_in}
-use Rattle.icn_control.specs.Taking.{KeepsCounts, taken}
+use Rattle.icn_control.specs.Taking.{KeepsCounts, take_operands}
 use Rattle.icn_control.proofs.ExhaustSteps.{under}
 use Rattle.icn_control.proofs.ListSteps.{no_more}
 use Rattle.icn_control.proofs.LiteralSteps.{running_live}
@@ -29,8 +29,8 @@ use Rattle.icn_machine.proofs.invoking.invoke.Goals as goal
 
 pub take_operands-requires : goal.take_operands-requires
 take_operands-requires g c =
-    subst (λ (n : ℕ). IsSome (taken n c.frames.result.now.flat)) (sym (add-one c.args.count))
-    (subst (λ (o : Option FlatStack). IsSome (taken (suc c.args.count) (running_of o))) c.frames.ensures.running c.requires.operands)
+    subst (λ (n : ℕ). IsSome (take_operands n c.frames.result.now.flat)) (sym (add-one c.args.count))
+    (subst (λ (o : Option FlatStack). IsSome (take_operands (suc c.args.count) (running_of o))) c.frames.ensures.running c.requires.operands)
 
 pub returns-in_default-clause-step : goal.returns-in_default-clause-step
 returns-in_default-clause-step g c =
@@ -51,7 +51,7 @@ returns-then-m-clause-step g c =
     bound_performs m after t (Instrs.Invoke c.args.count) (suc c.args.count) (invoked_with flat t) c.frames.result.now.flat c.take_operands.new.frames.flat
     c.take_operands.new.items.items _
     (λ a st. refl) c.frames.ensures.running
-    (subst (λ (n : ℕ). taken n c.frames.result.now.flat ≡ Some (c.take_operands.new.items.items, c.take_operands.new.frames.flat))
+    (subst (λ (n : ℕ). take_operands n c.frames.result.now.flat ≡ Some (c.take_operands.new.items.items, c.take_operands.new.frames.flat))
     (add-one c.args.count) c.in-Ok.ensures.taken)
     none
     (λ outside. refl)
@@ -159,7 +159,7 @@ returns-clause-step g c =
     operands_perform m after c.requires.sound.0 t (Instrs.Invoke c.args.count) (suc c.args.count) (invoked_with flat t) c.frames.result.now.flat
     c.take_operands.new.frames.flat c.frames-2.result.now.flat c.call_first.new.frames.flat
     c.take_operands.new.items.items c.deref.result.now _ _ c.call_first.result (λ a st. refl) c.frames.ensures.running
-    (subst (λ (n : ℕ). taken n c.frames.result.now.flat ≡ Some (c.take_operands.new.items.items, c.take_operands.new.frames.flat))
+    (subst (λ (n : ℕ). take_operands n c.frames.result.now.flat ≡ Some (c.take_operands.new.items.items, c.take_operands.new.frames.flat))
     (add-one c.args.count) c.in-Ok.ensures.taken)
     (same_Some _ _ c.frames-2.ensures.running) c.deref.ensures.value more c.call_first.ensures.kept c.requires.sound.1.stacks (add-one m.turns) refl refl
     c.call_first.ensures.going c.call_first.ensures.step

@@ -11,7 +11,7 @@ use Rattle.icn_machine.specs.Starting.{StartsAs, launch_with}
 use Rattle.icn_running.proofs.Counting.{unbegun_counts}
 use Rattle.icn_running.proofs.RunAnswers.{run_breaks, run_ends, run_reports, unbegun_answers}
 use Rattle.icn_running.proofs.Starts.{start_lasts, start_ready}
-use Rattle.icn_running.proofs.Unbegun.{start_halts}
+use Rattle.icn_running.proofs.EndsAtStart.{start_halts}
 use Rattle.icn_running.proofs.launching.run.Goals as goal
 
 pub run_started-requires-clause-ready : goal.run_started-requires-clause-ready

@@ -4,7 +4,7 @@ use Rattle.std.proofs.lemmas.Option.{slice_get_read}
 use Rattle.icn_value.specs.declared.val.Val.{Val}
 use Rattle.icn_coexp.specs.Transfers.{SeenStacks, Table}
 use Rattle.icn_coexp.specs.Keeping.{coexp_seen}
-use Rattle.icn_coexp.proofs.Added.{copied_is}
+use Rattle.icn_coexp.proofs.Additions.{copied_is}
 use Rattle.icn_coexp.proofs.table.Stacks.refresh.Goals as goal
 
 pub returns-clause-made : goal.returns-clause-made

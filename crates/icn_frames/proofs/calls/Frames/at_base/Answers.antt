@@ -1,5 +1,5 @@
 use Rattle.icn_frames.specs.Stacks.{FlatStack}
-use Rattle.icn_frames.proofs.Unmarked.{unmark_none}
+use Rattle.icn_frames.proofs.MarkDrops.{unmark_none}
 use Rattle.icn_frames.proofs.calls.Frames.at_base.Goals as goal
 
 pub returns-clause-drops : goal.returns-clause-drops

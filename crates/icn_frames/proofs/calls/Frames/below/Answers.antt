@@ -1,6 +1,6 @@
 use Rattle.std.proofs.Common.{IsSome, subst}
 use Rattle.icn_frames.specs.Stacks.{FlatStack}
-use Rattle.icn_frames.proofs.Gotten.{within, below_high, below_get, operand_is}
+use Rattle.icn_frames.proofs.CellFacts.{within, below_high, below_get, operand_is}
 use Rattle.icn_frames.proofs.calls.Frames.below.Goals as goal
 
 pub overflow_sub-self-inside : goal.overflow_sub-self-inside

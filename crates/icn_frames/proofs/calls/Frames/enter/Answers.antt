@@ -1,5 +1,5 @@
 use Rattle.std.proofs.Common.{refl, ◌∙◌, Some, add-one}
-use Rattle.icn_frames.proofs.Entered.{sound_frame}
+use Rattle.icn_frames.proofs.FrameEntry.{sound_frame}
 use Rattle.icn_frames.proofs.calls.Frames.enter.Goals as goal
 
 pub invariant_of-self-2 : goal.invariant_of-self-2

@@ -1,6 +1,6 @@
 use Rattle.std.proofs.Common.{is_some, sym, ap, ◌∙◌, arith}
 use Rattle.icn_frames.specs.Stacks.{FlatStack}
-use Rattle.icn_frames.proofs.Gotten.{within, below_get, below_low, no_operand}
+use Rattle.icn_frames.proofs.CellFacts.{within, below_get, below_low, no_operand}
 use Rattle.icn_frames.proofs.calls.Frames.has_below.Goals as goal
 
 pub returns-then-self-lt2 : goal.returns-then-self-lt2

@@ -1,6 +1,6 @@
 use Rattle.std.proofs.Common.{refl, sym, ap, ◌∙◌}
 use Rattle.icn_frames.proofs.Fits.{at_height}
-use Rattle.icn_frames.proofs.Gotten.{sound_cut, within, frame_kind, kind_of, call_is, leave_is}
+use Rattle.icn_frames.proofs.CellFacts.{sound_cut, within, frame_kind, kind_of, call_is, leave_is}
 use Rattle.icn_frames.specs.Stacks.{is_base_cell}
 use Rattle.icn_frames.specs.Shapes.{IsFramed}
 use Rattle.icn_frames.proofs.calls.Frames.leave.Goals as goal

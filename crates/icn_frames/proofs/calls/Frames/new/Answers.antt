@@ -2,7 +2,7 @@ use Rattle.std.proofs.Common.{refl, ap, ◌∙◌, List, [], ◌∷◌, length, 
 use Rattle.icn_frames.specs.declared.layout.Cell.{Cell}
 use Rattle.icn_frames.specs.declared.layout.Cell.TheVariants.{Base}
 use Rattle.icn_frames.specs.Stacks.{put_above}
-use Rattle.icn_frames.proofs.Entered.{sound_frame}
+use Rattle.icn_frames.proofs.FrameEntry.{sound_frame}
 use Rattle.icn_frames.proofs.calls.Frames.new.Goals as goal
 
 pub invariant_of-result : goal.invariant_of-result

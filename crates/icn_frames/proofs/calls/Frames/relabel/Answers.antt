@@ -1,5 +1,5 @@
 use Rattle.std.proofs.Common.{refl}
-use Rattle.icn_frames.proofs.Gotten.{sound_set}
+use Rattle.icn_frames.proofs.CellFacts.{sound_set}
 use Rattle.icn_frames.proofs.calls.Frames.relabel.Goals as goal
 
 pub invariant_of-self : goal.invariant_of-self

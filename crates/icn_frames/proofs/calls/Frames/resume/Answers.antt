@@ -1,5 +1,5 @@
 use Rattle.std.proofs.Common.{refl}
-use Rattle.icn_frames.proofs.Gotten.{sound_cut, within, newest_at, kind_of, suspension_is, resume_is}
+use Rattle.icn_frames.proofs.CellFacts.{sound_cut, within, newest_at, kind_of, suspension_is, resume_is}
 use Rattle.icn_frames.specs.Shapes.{IsSuspended}
 use Rattle.icn_frames.proofs.calls.Frames.resume.Goals as goal
 

@@ -1,7 +1,7 @@
 use Rattle.std.proofs.Common.{◌<◌, ℕ, subst, map}
 use Rattle.icn_cells.specs.Heights.{cell_at}
 use Rattle.icn_frames.specs.Shapes.{shape, count_of}
-use Rattle.icn_frames.proofs.Gotten.{sound_set_shape, count_at}
+use Rattle.icn_frames.proofs.CellFacts.{sound_set_shape, count_at}
 use Rattle.icn_frames.specs.Stacks.{FlatStack}
 use Rattle.icn_frames.proofs.Locals.{set_local_is}
 use Rattle.icn_frames.proofs.LocalsSet.{locals_set}

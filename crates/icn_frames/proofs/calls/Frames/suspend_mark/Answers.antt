@@ -3,7 +3,7 @@ use Rattle.icn_cells.specs.Heights.{cut}
 use Rattle.icn_frames.specs.Stacks.{FlatStack}
 use Rattle.icn_frames.specs.Shapes.{Sound, outer_of}
 use Rattle.icn_frames.specs.declared.layout.Why.TheVariants.{Alt}
-use Rattle.icn_frames.proofs.Gotten.{within, sound_cut}
+use Rattle.icn_frames.proofs.CellFacts.{within, sound_cut}
 use Rattle.icn_frames.proofs.Hung.{leads_lower, order_lower, sound_hung, scan_lower, marked_kind, suspend_mark_is}
 use Rattle.icn_frames.proofs.calls.Frames.suspend_mark.Goals as goal
 

@@ -4,7 +4,7 @@ use Rattle.icn_frames.specs.Stacks.{FlatStack, is_base_cell}
 use Rattle.icn_frames.specs.Shapes.{Sound, IsFramed}
 use Rattle.icn_frames.specs.declared.layout.Why.TheVariants.{Proc}
 use Rattle.icn_frames.proofs.Fits.{at_height}
-use Rattle.icn_frames.proofs.Gotten.{within, sound_cut, frame_kind, kind_of, call_is}
+use Rattle.icn_frames.proofs.CellFacts.{within, sound_cut, frame_kind, kind_of, call_is}
 use Rattle.icn_frames.proofs.Hung.{leads_lower, order_lower, sound_hung, scan_lower, suspend_proc_is}
 use Rattle.icn_frames.proofs.calls.Frames.suspend_proc.Goals as goal
 

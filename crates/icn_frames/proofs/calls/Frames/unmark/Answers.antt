@@ -1,7 +1,7 @@
 use Rattle.std.proofs.Common.{◌≡◌, sym, ap, subst}
 use Rattle.icn_frames.specs.Stacks.{FlatStack, oldest, pair_at}
 use Rattle.icn_frames.specs.Shapes.{outer_of, SeenStack}
-use Rattle.icn_frames.proofs.Gotten.{within, sound_cut}
+use Rattle.icn_frames.proofs.CellFacts.{within, sound_cut}
 use Rattle.icn_frames.proofs.Hung.{marked_kind}
 use Rattle.icn_frames.proofs.Scans.{unmark_is}
 use Rattle.icn_frames.proofs.calls.Frames.unmark.Goals as goal

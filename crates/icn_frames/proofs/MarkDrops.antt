@@ -8,7 +8,7 @@ use Rattle.icn_frames.specs.declared.layout.Cell.TheVariants.{Base, Call, Local,
 use Rattle.icn_frames.specs.Stacks.{FlatStack, unmark, unmark_from, at_base}
 use Rattle.icn_frames.specs.Shapes.{Shape, shape, IsFramed, IsMarked, MarkOr, Sound}
 use Rattle.icn_frames.proofs.Fits.{map_drop}
-use Rattle.icn_frames.proofs.Gotten.{get_drop}
+use Rattle.icn_frames.proofs.CellFacts.{get_drop}
 
 -- the first cell of what is cut at a height is the one that stands there
 first_cut : (s : List Cell) (h : ℕ) → slice_get (map shape (cut h s)) 0 ≡ cell_at h (map shape s)
