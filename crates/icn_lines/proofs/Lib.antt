@@ -1,4 +1,4 @@
 pub mod Reports
-pub mod Counted
-pub mod Ended
+pub mod Counts
+pub mod Endings
 pub mod Rising

@@ -9,7 +9,7 @@ use Rattle.source_bytes.specs.Bytes.{are_bytes}
 use Rattle.source_bytes.specs.LineBytes.{lines_are_of_bytes}
 use Rattle.source_bytes.proofs.ByteLists.{AreBytes, bytes_joined}
 use Rattle.source_bytes.proofs.Decimals.{decimal_bytes}
-use Rattle.icont_units.specs.Generated.{numbers, procedure_lines, sum_line, generated, numbered, generated_lines}
+use Rattle.icont_units.specs.Generated.{numbers, procedure_lines, sum_line, program_lines, numbered_from, generated_lines}
 
 all_of : (x : List ℕ) (xs : List (List ℕ)) → AreBytes x → list_all are_bytes xs ≡ true
     → list_all are_bytes (x ∷ xs) ≡ true
@@ -43,7 +43,7 @@ sums_are : (places : List ℕ) → list_all are_bytes (map sum_line places) ≡ 
 sums_are [] = refl
 sums_are (i ∷ places) = all_of (sum_line i) (map sum_line places) (sum_bytes i) (sums_are places)
 
-program_is : (count : ℕ) → list_all are_bytes (generated count) ≡ true
+program_is : (count : ℕ) → list_all are_bytes (program_lines count) ≡ true
 program_is count =
     let procedures = flat_map procedure_lines (numbers count) in
     let sums = codes "procedure main()" ∷ codes "t := 0" ∷ map sum_line (numbers count) in
@@ -51,11 +51,11 @@ program_is count =
     (all_joined procedures sums (procedures_are (numbers count)) (sums_are (numbers count))) refl
 
 numbered_are : (number : ℕ) (lines : List (List ℕ)) → list_all are_bytes lines ≡ true
-    → lines_are_of_bytes (numbered number lines) ≡ true
+    → lines_are_of_bytes (numbered_from number lines) ≡ true
 numbered_are number [] h = refl
 numbered_are number (line ∷ lines) h =
     let parts = and_parts (are_bytes line) (list_all are_bytes lines) h in
     and_from _ _ parts.0 (numbered_are (suc number) lines parts.1)
 
 pub generated_are_bytes : (count : ℕ) → lines_are_of_bytes (generated_lines count) ≡ true
-generated_are_bytes count = numbered_are 1 (generated count) (program_is count)
+generated_are_bytes count = numbered_are 1 (program_lines count) (program_is count)

@@ -11,7 +11,7 @@ use Rattle.icn_running.specs.declared.fault.RunFault.TheVariants as RunFaults
 use Rattle.icn_running.specs.Runs.{LeavesBy}
 use Rattle.icn_lines.specs.declared.answer.Answer.{Answer}
 use Rattle.icont_words.specs.Words.{Run}
-use Rattle.icont_top.specs.Job.{launched}
+use Rattle.icont_top.specs.Job.{run_launch}
 use Rattle.icont_top.specs.Outcomes.{LosesSome}
 use Rattle.icont_top.specs.Running.{HasRun, has_ended, was_broken, was_broken_behind}
 
@@ -40,12 +40,12 @@ broken_lost breaks RunFaults.WriteFault left seen before after rest by = lost_pa
 broken_lost breaks RunFaults.NoMemory left seen before after rest by = lost_part by.left
 
 pub run_lost : Leave → Break → Begin → {tables : Tables} {number : Option ℕ} {answer : Answer} {before after : CallStreams} (run : Run) (left : List ℕ)
-    → HasRun tables (launched run left) number answer before after → LosesSome left after.left
+    → HasRun tables (run_launch run left) number answer before after → LosesSome left after.left
 run_lost leave breaks begin {tables} run left (has_ended seen flat same told out err) =
-    let rest : IsOutsideOf left seen.outside = leave left tables (launched run left) seen (begin left) flat in
+    let rest : IsOutsideOf left seen.outside = leave left tables (run_launch run left) seen (begin left) flat in
     lost_rest rest.taken told rest.left
 run_lost leave breaks begin {tables} run left (was_broken fault between same first off puts) =
-    broken_lost breaks fault left off.0 _ _ (leave left tables (launched run left) off.0 (begin left) off.1.0) off.1.1
+    broken_lost breaks fault left off.0 _ _ (leave left tables (run_launch run left) off.0 (begin left) off.1.0) off.1.1
 run_lost leave breaks begin {tables} run left (was_broken_behind n fault between seen number stops same first flat leaves puts) =
-    let rest : IsOutsideOf left seen.outside = leave left tables (launched run left) seen (begin left) flat in
+    let rest : IsOutsideOf left seen.outside = leave left tables (run_launch run left) seen (begin left) flat in
     lost_rest rest.taken leaves.input rest.left

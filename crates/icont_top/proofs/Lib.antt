@@ -4,8 +4,8 @@ mod FewNumbers
 mod FirstBase
 mod GeneratedBytes
 mod LinkingRules
-mod Loaded
-mod Made
+mod LoadedProgram
+mod UnitPrograms
 mod OneJob
 mod RunsUnder
 mod Sizes

@@ -20,8 +20,8 @@ use Rattle.icont_units.specs.Files.{files_named, first_name, sources_in}
 use Rattle.icont_units.specs.Generated.{GeneratedComes}
 use Rattle.icont_units.specs.Units.{Member, Come, Load, units_of, link_answer}
 use Rattle.icont_units.proofs.OneLoading.{one_come, one_generated, one_load}
-use Rattle.icont_top.specs.Job.{Job, Plan, Plans, IsPlanned, Refuses, IsJob, refusal, writing, running, image_file, ucode_files, launched, behind}
-use Rattle.icont_top.specs.Programs.{Links, linked, link_refusal, first_ucode, files_of, RunsBy, Behaves}
+use Rattle.icont_top.specs.Job.{Job, Plan, Plans, IsPlanned, Refuses, IsJob, refusal, files_job, run_job, image_file, ucode_files, run_launch, behind}
+use Rattle.icont_top.specs.Programs.{Links, linked_code, link_refusal, first_ucode, files_of, RunsBy, Behaves}
 
 -- What units come to
 
@@ -34,15 +34,15 @@ none_refused members answer n e = absurd (none-some answer (sym (ap (option_and_
 
 module _ (one : HaveOneFault) (none : HaveNoFault) (members : List Member) where
   same_unverified : (base other : List ℕ) (rule rule' : Rule) (number place number' place' : ℕ) → first_ucode members ≡ Some base
-      → first_ucode members ≡ Some other → IsFirstFault (linked members).procs rule number place → IsFirstFault (linked members).procs rule' number' place'
+      → first_ucode members ≡ Some other → IsFirstFault (linked_code members).procs rule number place → IsFirstFault (linked_code members).procs rule' number' place'
       → ◌≡◌ {A = Result Tables Answer} (Err (BadUcode (first_name base) rule)) (Err (BadUcode (first_name other) rule'))
   same_unverified base other rule rule' number place number' place' e f x y =
       let bases : base ≡ other = same_Some base other (sym e ∙ f) in
-      let rules : rule ≡ rule' = (one (linked members).procs rule number place rule' number' place' x y).rules in
+      let rules : rule ≡ rule' = (one (linked_code members).procs rule number place rule' number' place' x y).rules in
       ap (λ name. Err (BadUcode (first_name name) rule)) bases ∙ ap (λ broken. Err (BadUcode (first_name other) broken)) rules
 
-  sound_fault : {T : Type 0} (rule : Rule) (number place : ℕ) → IsFirstFault (linked members).procs rule number place → IsVerified (linked members) → T
-  sound_fault rule number place x y = absurd (none (linked members).procs rule number place y x)
+  sound_fault : {T : Type 0} (rule : Rule) (number place : ℕ) → IsFirstFault (linked_code members).procs rule number place → IsVerified (linked_code members) → T
+  sound_fault rule number place x y = absurd (none (linked_code members).procs rule number place y x)
 
   pub one_links : (a b : Result Tables Answer) → Links members a → Links members b → a ≡ b
   one_links _ _ (Links.not_linked a e) (Links.not_linked b f) = ap (λ answer. Err answer) (same_Some a b (sym e ∙ f))
@@ -62,7 +62,7 @@ one_run one (Some files) tables launch a b x y = one (program files) launch a b 
 one_run one None tables launch a b x y = flat_once tables launch a b x y
 
 pub one_behaves : HasOne → (members : List Member) (launch : Launch) (a b : Observed) → Behaves members launch a → Behaves members launch b → a ≡ b
-one_behaves one members launch a b x y = one_run one (files_of members) (linked members) launch a b x y
+one_behaves one members launch a b x y = one_run one (files_of members) (linked_code members) launch a b x y
 
 -- What words ask for
 
@@ -117,13 +117,13 @@ one_plans one words files plan other a b x y =
 -- what the job is where units came to this
 abbrev of_units : List ℕ → Result (List Member) Answer → Job
 of_units left (Err answer) = refusal left answer
-of_units left (Ok members) = writing (ucode_files members) left
+of_units left (Ok members) = files_job (ucode_files members) left
 
 -- where the code came to this, and a run was asked for so
 abbrev OfRun : List ℕ → Plan → Option Run → List Member → Tables → Job → Type 0
-OfRun left plan None members tables job = job ≡ writing (image_file plan.image members tables ∷ []) left
-OfRun left plan (Some run) members tables job = (seen : Observed) × (Behaves members (launched run left) seen)
-    × (job ≡ running (image_file plan.image members tables) seen (behind plan.number seen.ending))
+OfRun left plan None members tables job = job ≡ files_job (image_file plan.image members tables ∷ []) left
+OfRun left plan (Some run) members tables job = (seen : Observed) × (Behaves members (run_launch run left) seen)
+    × (job ≡ run_job (image_file plan.image members tables) seen (behind plan.number seen.ending))
 
 abbrev OfCode : List ℕ → Plan → List Member → Result Tables Answer → Job → Type 0
 OfCode left plan members (Err answer) job = job ≡ refusal left answer
@@ -177,8 +177,8 @@ module _ (observed : HasOne) (fault : HaveOneFault) (sound : HaveNoFault) (files
       → OfRun left plan run members tables b → a ≡ b
   same_run plan None members tables a b x y = x ∙ sym y
   same_run plan (Some run) members tables a b x y =
-      x.2 ∙ (ap (λ (seen : Observed). running (image_file plan.image members tables) seen (behind plan.number seen.ending))
-      (one_behaves observed members (launched run left) x.0 y.0 x.1 y.1) ∙ sym y.2)
+      x.2 ∙ (ap (λ (seen : Observed). run_job (image_file plan.image members tables) seen (behind plan.number seen.ending))
+      (one_behaves observed members (run_launch run left) x.0 y.0 x.1 y.1) ∙ sym y.2)
 
   same_code : (plan : Plan) (members : List Member) (code : Result Tables Answer) (a b : Job) → OfCode left plan members code a
       → OfCode left plan members code b → a ≡ b

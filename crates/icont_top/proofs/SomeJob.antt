@@ -31,8 +31,8 @@ use Rattle.icont_units.specs.Units.{Member, FromSource, FromUcode, Come, Load, u
 use Rattle.icont_units.proofs.ShortTexts.{both_are}
 use Rattle.icont_units.proofs.SomeLoading.{AreSpelled, KeepRules, some_come, some_generated, some_load}
 use Rattle.icont_units.proofs.SoundMembers.{Each, OfAll}
-use Rattle.icont_top.specs.Job.{Job, Plan, Plans, IsPlanned, Refuses, IsJob, launched}
-use Rattle.icont_top.specs.Programs.{Links, linked, first_ucode, files_of, with_file, RunsBy, Behaves}
+use Rattle.icont_top.specs.Job.{Job, Plan, Plans, IsPlanned, Refuses, IsJob, run_launch}
+use Rattle.icont_top.specs.Programs.{Links, linked_code, first_ucode, files_of, with_file, RunsBy, Behaves}
 use Rattle.icont_top.proofs.LinkingRules.{faults_are_rules}
 
 -- Members that are sources alone
@@ -92,7 +92,7 @@ module _ (is_joinable : UnitRead → Bool) (laws : Laws is_joinable) where
 
   -- where all members are sources their code is that of their files
   sources_linked : (members : List Member) (files : List (List Declaration)) → Each (IsSound is_joinable) members → files_of members ≡ Some files
-      → IsLinked files (linked members)
+      → IsLinked files (linked_code members)
   sources_linked members files h e =
       let sources : OfSources members files = subst (OfSourcesBy members) e (of_sources members h) in
       record {
@@ -115,7 +115,7 @@ module _ (is_joinable : UnitRead → Bool) (laws : Laws is_joinable) where
 
   pub data Linking (members : List Member) : Type 0 where
     breaks : (answer : Answer) → Links members (Err answer) → Linking members
-    runs_as : first_fault (units_of members) ≡ None → keeps_rules (linked members) ≡ true → IsVerified (linked members) → Linking members
+    runs_as : first_fault (units_of members) ≡ None → keeps_rules (linked_code members) ≡ true → IsVerified (linked_code members) → Linking members
 
   by_fault : (members : List Member) (fault : LinkFault) → first_fault (units_of members) ≡ Some fault → Linking members
   by_fault members (K1 unit name first second) e = breaks _ (Links.not_linked _ (ap (option_and_then (link_answer (units_of members))) e))
@@ -124,14 +124,14 @@ module _ (is_joinable : UnitRead → Bool) (laws : Laws is_joinable) where
   by_fault members NoMemory e = absurd (faults_are_rules (units_of members) e)
 
   module _ (members : List Member) (sound : Each (IsSound is_joinable) members) (fits : first_fault (units_of members) ≡ None) where
-    keeps : keeps_rules (linked members) ≡ true
+    keeps : keeps_rules (linked_code members) ≡ true
     keeps = laws.kept (units_of members) (all_joinable members sound) fits
 
     by_sources : first_ucode members ≡ None → Linking members
     by_sources e =
-        let sources = all_sources members e in runs_as fits keeps (laws.verified sources.0 (linked members) (sources_linked members sources.0 sound sources.1))
+        let sources = all_sources members e in runs_as fits keeps (laws.verified sources.0 (linked_code members) (sources_linked members sources.0 sound sources.1))
 
-    by_ucode : (first : Option (List ℕ)) → first_ucode members ≡ first → IsSoundOrBroken (linked members).procs → Linking members
+    by_ucode : (first : Option (List ℕ)) → first_ucode members ≡ first → IsSoundOrBroken (linked_code members).procs → Linking members
     by_ucode first e (inl verified) = runs_as fits keeps verified
     by_ucode None e (inr broken) = by_sources e
     by_ucode (Some base) e (inr broken) = breaks _ (Links.unverified base broken.0 broken.1 broken.2 fits e broken.3)
@@ -139,30 +139,30 @@ module _ (is_joinable : UnitRead → Bool) (laws : Laws is_joinable) where
   by_first : (members : List Member) → Each (IsSound is_joinable) members → (fault : Option LinkFault) → first_fault (units_of members) ≡ fault
       → Linking members
   by_first members sound (Some fault) e = by_fault members fault e
-  by_first members sound None e = by_ucode members sound e (first_ucode members) refl (laws.judged (linked members) (keeps members sound e))
+  by_first members sound None e = by_ucode members sound e (first_ucode members) refl (laws.judged (linked_code members) (keeps members sound e))
 
   some_links : (members : List Member) → Each (IsSound is_joinable) members → Linking members
   some_links members sound = by_first members sound (first_fault (units_of members)) refl
 
   -- Runs
 
-  by_files : (members : List Member) (launch : Launch) → Each (IsSound is_joinable) members → keeps_rules (linked members) ≡ true → IsVerified (linked members)
-      → (files : Option (List (List Declaration))) → files_of members ≡ files → (seen : Observed) × RunsBy files (linked members) launch seen
-  by_files members launch sound rules verified (Some files) e = laws.means files (linked members) launch (sources_linked members files sound e) rules
-  by_files members launch sound rules verified None e = (laws.ends (linked members) rules verified).flat launch
+  by_files : (members : List Member) (launch : Launch) → Each (IsSound is_joinable) members → keeps_rules (linked_code members) ≡ true → IsVerified (linked_code members)
+      → (files : Option (List (List Declaration))) → files_of members ≡ files → (seen : Observed) × RunsBy files (linked_code members) launch seen
+  by_files members launch sound rules verified (Some files) e = laws.means files (linked_code members) launch (sources_linked members files sound e) rules
+  by_files members launch sound rules verified None e = (laws.ends (linked_code members) rules verified).flat launch
 
-  some_behaves : (members : List Member) (launch : Launch) → Each (IsSound is_joinable) members → keeps_rules (linked members) ≡ true
-      → IsVerified (linked members) → (seen : Observed) × Behaves members launch seen
+  some_behaves : (members : List Member) (launch : Launch) → Each (IsSound is_joinable) members → keeps_rules (linked_code members) ≡ true
+      → IsVerified (linked_code members) → (seen : Observed) × Behaves members launch seen
   some_behaves members launch sound rules verified = by_files members launch sound rules verified (files_of members) refl
 
   -- Jobs
 
   module _ (words : List (List ℕ)) (files : FileMap) (left : List ℕ) where
-    with_run : (plan : Plan) (members : List Member) → Each (IsSound is_joinable) members → keeps_rules (linked members) ≡ true → IsVerified (linked members)
-        → IsPlanned words files plan members (linked members) → (run : Option Run) → plan.run ≡ run → (job : Job) × IsJob words files left job
-    with_run plan members sound rules verified is None e = (_, IsJob.writes plan members (linked members) is e)
+    with_run : (plan : Plan) (members : List Member) → Each (IsSound is_joinable) members → keeps_rules (linked_code members) ≡ true → IsVerified (linked_code members)
+        → IsPlanned words files plan members (linked_code members) → (run : Option Run) → plan.run ≡ run → (job : Job) × IsJob words files left job
+    with_run plan members sound rules verified is None e = (_, IsJob.writes plan members (linked_code members) is e)
     with_run plan members sound rules verified is (Some run) e =
-        let seen = some_behaves members (launched run left) sound rules verified in (_, IsJob.runs plan members (linked members) run seen.0 is e seen.1)
+        let seen = some_behaves members (run_launch run left) sound rules verified in (_, IsJob.runs plan members (linked_code members) run seen.0 is e seen.1)
 
     with_linking : (plan : Plan) (members : List Member) → Each (IsSound is_joinable) members → Plans words files plan (Ok members) → Linking members
         → (job : Job) × IsJob words files left job

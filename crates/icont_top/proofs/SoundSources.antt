@@ -20,7 +20,7 @@ use Rattle.icont_words.specs.Words.{Reading, Generate, Asks, ComeTo}
 use Rattle.icont_units.specs.Files.{File, files_named, source_name}
 use Rattle.icont_units.specs.Generated.{GeneratedComes, generated_base, generated_lines}
 use Rattle.icont_units.specs.Sources.{Scan, source_read}
-use Rattle.icont_units.specs.Translating.{Become}
+use Rattle.icont_units.specs.Translating.{TokensGive}
 use Rattle.icont_units.specs.Units.{Member, FromSource, Load}
 use Rattle.icont_units.proofs.FaultlessFiles.{faultless_tokens, source_of, tree_of}
 use Rattle.icont_units.proofs.LineSizes.{generated_fits}
@@ -45,7 +45,7 @@ pub record ByteLaws : Type 0 where
 
 module _ (laws : ByteLaws) where
   sound_lines : (base : List ℕ) (lines : List SourceLine) (tokens : List Token) (file : List Declaration) → joined_len lines ≤ 16777216
-      → lines_are_of_bytes lines ≡ true → tokens_of lines ≡ Scanned tokens → Become tokens (Ok file) → IsSound is_joinable (FromSource base file)
+      → lines_are_of_bytes lines ≡ true → tokens_of lines ≡ Scanned tokens → TokensGive tokens (Ok file) → IsSound is_joinable (FromSource base file)
   sound_lines base lines tokens file within bytes e x =
       let faultless = faultless_tokens tokens file (are_scanned lines tokens within e) x in
       let is = tree_of tokens file x in
@@ -54,7 +54,7 @@ module _ (laws : ByteLaws) where
   pub sound_load : (files : FileMap) → HoldBytes files → (named : List File) (found : Result (List Member) Answer) → Load files named found
       → OfAll (IsSound is_joinable) found
   sound_load files hold named found x = load_holds (IsSound is_joinable) files by_source laws.units laws.rules found x where
-    by_source : (base : List ℕ) (scan : Scan) (file : List Declaration) → source_read files (source_name base) ≡ Ok scan → Become scan.tokens (Ok file)
+    by_source : (base : List ℕ) (scan : Scan) (file : List Declaration) → source_read files (source_name base) ≡ Ok scan → TokensGive scan.tokens (Ok file)
         → IsSound is_joinable (FromSource base file)
     by_source base scan file e y =
         let source = source_of files (source_name base) scan e in
@@ -64,7 +64,7 @@ module _ (laws : ByteLaws) where
   pub sound_number : (words : List (List ℕ)) (number turns : ℕ) (found : Result (List Member) Answer) → ComeTo words (Asks (Generate number turns))
       → GeneratedComes number found → OfAll (IsSound is_joinable) found
   sound_number words number turns found asks x = generated_holds (IsSound is_joinable) number by_tokens found x where
-    by_tokens : (tokens : List Token) (file : List Declaration) → tokens_of (generated_lines number) ≡ Scanned tokens → Become tokens (Ok file)
+    by_tokens : (tokens : List Token) (file : List Declaration) → tokens_of (generated_lines number) ≡ Scanned tokens → TokensGive tokens (Ok file)
         → IsSound is_joinable (FromSource generated_base file)
     by_tokens tokens file e y =
         let few = few_asked number turns asks in

@@ -15,7 +15,7 @@ use Rattle.icn_simulation.specs.Law.{IsLinked}
 use Rattle.link_laws.specs.TranslatedUnits.{translated_units}
 use Rattle.icont_units.specs.Loading.{IsFaultlessMember, ucode_place}
 use Rattle.icont_units.specs.Units.{Member, FromSource, FromUcode, unit_named, units_of}
-use Rattle.icont_top.specs.Programs.{files_of, first_ucode, linked, with_file}
+use Rattle.icont_top.specs.Programs.{files_of, first_ucode, linked_code, with_file}
 
 -- Sources
 
@@ -66,7 +66,7 @@ AllJoin = (names : List (List ℕ)) (files : List (List Declaration)) → length
 
 -- where all members are sources their code is that of their files
 pub sources_join : AllJoin → (members : List Member) → All IsFaultlessMember members → (files : List (List Declaration)) → files_of members ≡ Some files
-    → IsLinked files (linked members)
+    → IsLinked files (linked_code members)
 sources_join joins members h files e =
     let sources : OfFiles members files = subst (OfFilesBy members) e (of_files members h) in
     record {

@@ -39,9 +39,9 @@ use Rattle.icont_top.specs.declared.top.Plan.{Plan as PlanHeld}
 use Rattle.icont_top.specs.Answered.{IsAnswered, fault as answered_fault, refused as answered_refused, translated as answered_translated, wrote as answered_wrote, ran as answered_ran}
 use Rattle.icont_top.specs.Answering.{IsDone}
 use Rattle.icont_top.specs.Asking.{IsProgram, IsProgramOf, IsReady, plan_seen}
-use Rattle.icont_top.specs.Job.{IsJob, IsPlanned, IsTranslated, Plan, Plans, Refuses, Written, behind, image_file, image_name, launched, no_members, no_program, no_units, refusal, refuses, running, runs, translates, ucode_files, writes, writing}
+use Rattle.icont_top.specs.Job.{IsJob, IsPlanned, IsTranslated, Plan, Plans, Refuses, WrittenFile, behind, image_file, image_name, run_launch, no_members, no_program, no_units, refusal, refuses, run_job, runs, translates, ucode_files, writes, files_job}
 use Rattle.icont_top.specs.Outcomes.{AreWritten, Begins, HasWritten, HoldsNow, HoldsWritten, IsImage, IsReadBack, Outcome, WritesAll, WritesPart, all_written, broke, broke_behind, done, fault, idle, left_alone, part_written, torn}
-use Rattle.icont_top.specs.Programs.{Behaves, Links, RunsBy, files_of, is_program, linked, not_linked, unverified}
+use Rattle.icont_top.specs.Programs.{Behaves, Links, RunsBy, files_of, is_program, linked_code, not_linked, unverified}
 use Rattle.icont_top.specs.Running.{HasRun, has_ended, was_broken, was_broken_behind}
 use Rattle.icont_top.specs.Usage.{usage}
 use Rattle.icont_top.proofs.LinkingRules.{image_within}
@@ -148,8 +148,8 @@ by_files alike (Some files) tables launch seen joins =
     ((alike files tables launch seen (joins files refl)).0, (alike files tables launch seen (joins files refl)).1)
 
 behaves_alike : EndsAlike → (members : List Member) (program : Program) → IsProgram members program → (launch : Launch) (seen : Observed)
-    → (Behaves members launch seen → RunsFlat (linked members) launch seen) × (RunsFlat (linked members) launch seen → Behaves members launch seen)
-behaves_alike alike members program is launch seen = by_files alike (files_of members) (linked members) launch seen is.made.joins
+    → (Behaves members launch seen → RunsFlat (linked_code members) launch seen) × (RunsFlat (linked_code members) launch seen → Behaves members launch seen)
+behaves_alike alike members program is launch seen = by_files alike (files_of members) (linked_code members) launch seen is.made.joins
 
 behaves : EndsAlike → (members : List Member) (program : Program) → IsProgram members program → (launch : Launch) (seen : Observed)
     → RunsFlat (tables_of program.made.code.code) launch seen → Behaves members launch seen
@@ -168,11 +168,11 @@ ReadBack = (tables : Tables) → keeps_rules tables ≡ true → image_read (ima
 
 -- a program's image is one that `iconx` takes
 is_image : (members : List Member) (program : Program) → ReadBack → EndsAlike → IsProgram members program
-    → IsImage members (image_of (linked members))
+    → IsImage members (image_of (linked_code members))
 is_image members program back alike is = record {
-  tables = linked members;
-  within = image_within (units_of members) (fits_by (Ok (linked members)) is.made.links (linked members) refl);
-  read = back (linked members) (subst (λ t. keeps_rules t ≡ true) is.made.code program.made.code.code.rules);
+  tables = linked_code members;
+  within = image_within (units_of members) (fits_by (Ok (linked_code members)) is.made.links (linked_code members) refl);
+  read = back (linked_code members) (subst (λ t. keeps_rules t ≡ true) is.made.code program.made.code.code.rules);
   verified = subst IsVerified is.made.code program.made.code.verified;
   runs = behaves_alike alike members program is;
 }
@@ -180,27 +180,27 @@ is_image members program back alike is = record {
 -- The image
 
 planned : {words : List (List ℕ)} {files : FileMap} {members : List Member} {plan : PlanHeld} {program : Program}
-    → IsReady words files members plan program → IsPlanned words files (plan_seen plan) members (linked members)
+    → IsReady words files members plan program → IsPlanned words files (plan_seen plan) members (linked_code members)
 planned ready = record { plans = ready.plans; links = ready.is.made.links }
 
 -- the file that the image of a plan is
-abbrev pub plan_file : PlanHeld → List Member → Written
-plan_file plan members = image_file (plan_seen plan).image members (linked members)
+abbrev pub plan_file : PlanHeld → List Member → WrittenFile
+plan_file plan members = image_file (plan_seen plan).image members (linked_code members)
 
 pub writes_image : {held held' : Option FileMap} (name bytes : List ℕ) (plan : PlanHeld) (members : List Member)
-    → name ≡ image_name (plan_seen plan).image members → bytes ≡ image_of (linked members) → Sets held held' name bytes
+    → name ≡ image_name (plan_seen plan).image members → bytes ≡ image_of (linked_code members) → Sets held held' name bytes
     → WritesAll held held' (plan_file plan members ∷ [])
 writes_image name bytes plan members b e sets = let there = rw (b, e) at sets in record { follows = there.follows }
 
 pub writes_part : {held held' : Option FileMap} (name bytes : List ℕ) (plan : PlanHeld) (members : List Member)
-    → name ≡ image_name (plan_seen plan).image members → bytes ≡ image_of (linked members) → SetsPart held held' name bytes
+    → name ≡ image_name (plan_seen plan).image members → bytes ≡ image_of (linked_code members) → SetsPart held held' name bytes
     → WritesPart held held' (plan_file plan members ∷ [])
 writes_part name bytes plan members b e sets =
     let there = rw (b, e) at sets in
     record { whole = []; torn = plan_file plan members; others = []; are = refl; follows = there.follows }
 
 -- the file that was written holds what was written
-written_there : {held held' : Option FileMap} (files : FileMap) (next : Written) → held ≡ Some files → WritesAll held held' (next ∷ []) → HoldsNow held' next
+written_there : {held held' : Option FileMap} (files : FileMap) (next : WrittenFile) → held ≡ Some files → WritesAll held held' (next ∷ []) → HoldsNow held' next
 written_there files next e sets =
     let follows = rw e at sets.follows in
     (follows.0, follows.1, follows.2 next.name ∙ cond-true (bytes_eq next.name next.name) _ _ ((bytes_eq-Decides next.name next.name).1 refl))
@@ -209,7 +209,7 @@ holds_image : {words : List (List ℕ)} {files : FileMap} {held held' : Option F
     → ReadBack → EndsAlike → IsReady words files members plan program → held ≡ Some files
     → WritesAll held held' (plan_file plan members ∷ []) → HoldsWritten words files held'
 holds_image {files = files} members plan program back alike ready e sets =
-    HoldsWritten.image (plan_seen plan) members (linked members) (planned ready) (written_there files (plan_file plan members) e sets)
+    HoldsWritten.image (plan_seen plan) members (linked_code members) (planned ready) (written_there files (plan_file plan members) e sets)
     (is_image members program back alike ready.is)
 
 -- Outcomes of a program
@@ -220,12 +220,12 @@ pub wrote_done : {words : List (List ℕ)} {files : FileMap} {held held' : Optio
 wrote_done members plan program streams back alike ready e sets no_run =
     let none : (plan_seen plan).run ≡ None = ap (option_map run_seen) no_run in
     record {
-      outcome = if_some streams.left _ (λ left d. done (writing (plan_file plan members ∷ []) left)
-          (writes (plan_seen plan) members (linked members) (planned ready) none)
+      outcome = if_some streams.left _ (λ left d. done (files_job (plan_file plan members ∷ []) left)
+          (writes (plan_seen plan) members (linked_code members) (planned ready) none)
           (record { answered = refl; files = sets; left = d; output = gains_nothing streams.output.held; errors = gains_nothing streams.errors.held }));
       headline = λ w. holds_image members plan program back alike ready e sets;
-      leaves = all_written _ (AreWritten.image (plan_seen plan) members (linked members) (planned ready)) (inl tt) sets;
-      answered = answered_wrote (plan_seen plan) members (linked members) (planned ready) none;
+      leaves = all_written _ (AreWritten.image (plan_seen plan) members (linked_code members) (planned ready)) (inl tt) sets;
+      answered = answered_wrote (plan_seen plan) members (linked_code members) (planned ready) none;
     }
 
 -- which answers a run can give
@@ -259,32 +259,32 @@ ran_or_fault FileFault o = absurd o
 ran_outcome : {words : List (List ℕ)} {files : FileMap} {held held' : Option FileMap} (left : List ℕ) (members : List Member) (plan : PlanHeld)
     (program : Program) (run : Run) (answer : Answer) (before after : CallStreams) → EndsAlike → IsReady words files members plan program
     → WritesAll held held' (plan_file plan members ∷ []) → (plan_seen plan).run ≡ Some run
-    → HasRun (tables_of program.made.code.code) (launched run left) (plan_seen plan).number answer before after
+    → HasRun (tables_of program.made.code.code) (run_launch run left) (plan_seen plan).number answer before after
     → Outcome words files left answer (told held before) (told held' after)
 ran_outcome left members plan program run answer before after alike ready sets e (has_ended seen flat same left' out err) =
-    done (running (plan_file plan members) seen (behind (plan_seen plan).number seen.ending))
-    (runs (plan_seen plan) members (linked members) run seen (planned ready) e (behaves alike members program ready.is (launched run left) seen flat))
+    done (run_job (plan_file plan members) seen (behind (plan_seen plan).number seen.ending))
+    (runs (plan_seen plan) members (linked_code members) run seen (planned ready) e (behaves alike members program ready.is (run_launch run left) seen flat))
     (record { answered = same; files = sets; left = left'; output = out; errors = err })
 ran_outcome left members plan program run answer before after alike ready sets e (was_broken wrong between same first off puts) =
     fault (rw same (is_run_fault wrong))
-    (broke (plan_seen plan) members (linked members) run wrong between (planned ready) e sets same first
-    (record { seen = off.0; behaves = behaves alike members program ready.is (launched run left) off.0 off.1.0; leaves = off.1.1 }) puts)
+    (broke (plan_seen plan) members (linked_code members) run wrong between (planned ready) e sets same first
+    (record { seen = off.0; behaves = behaves alike members program ready.is (run_launch run left) off.0 off.1.0; leaves = off.1.1 }) puts)
 ran_outcome left members plan program run answer before after alike ready sets e
     (was_broken_behind n wrong between seen number stops same first flat leaves puts) =
     fault (rw same (is_run_fault wrong))
-    (broke_behind (plan_seen plan) members (linked members) run n wrong between (planned ready) e number sets stops same first
-    (record { seen = seen; behaves = behaves alike members program ready.is (launched run left) seen flat; leaves = leaves }) puts)
+    (broke_behind (plan_seen plan) members (linked_code members) run n wrong between (planned ready) e number sets stops same first
+    (record { seen = seen; behaves = behaves alike members program ready.is (run_launch run left) seen flat; leaves = leaves }) puts)
 
 pub ran_done : {words : List (List ℕ)} {files : FileMap} {held held' : Option FileMap} (members : List Member) (plan : PlanHeld) (program : Program)
     (run : Run) (answer : Answer) (before after : CallStreams) → ReadBack → EndsAlike → IsReady words files members plan program → held ≡ Some files
     → WritesAll held held' (plan_file plan members ∷ []) → (plan_seen plan).run ≡ Some run → IsOfRun answer
-    → IfSome before.left (λ left. HasRun (tables_of program.made.code.code) (launched run left) (plan_seen plan).number answer before after)
+    → IfSome before.left (λ left. HasRun (tables_of program.made.code.code) (run_launch run left) (plan_seen plan).number answer before after)
     → IsDone words files answer (told held before) (told held' after)
 ran_done members plan program run answer before after back alike ready e sets asks o has = record {
   outcome = if_some before.left _ (λ left d. ran_outcome left members plan program run answer before after alike ready sets asks
       (at_some _ before.left left d has));
   headline = λ w. holds_image members plan program back alike ready e sets;
-  leaves = all_written _ (AreWritten.image (plan_seen plan) members (linked members) (planned ready)) (ran_or_fault answer o) sets;
+  leaves = all_written _ (AreWritten.image (plan_seen plan) members (linked_code members) (planned ready)) (ran_or_fault answer o) sets;
   answered = run_answered answer (planned ready) asks o;
 }
 
@@ -298,7 +298,7 @@ torn_no_image : (answer : Answer) → (answer ≡ FileFault) ⊎ (answer ≡ NoM
 torn_no_image answer (inl e) w = rw e at w
 torn_no_image answer (inr e) w = rw e at w
 
-torn_done : {words : List (List ℕ)} {files : FileMap} {held held' : Option FileMap} (written : List Written) (answer : Answer)
+torn_done : {words : List (List ℕ)} {files : FileMap} {held held' : Option FileMap} (written : List WrittenFile) (answer : Answer)
     (left : Option (List ℕ)) (input : ℕ) (out before after : SinkState) → AreWritten words files written → WritesPart held held' written
     → (answer ≡ FileFault) ⊎ (answer ≡ NoMemory) → PutsOwn answer before after
     → IsDone words files answer (told held (call_streams left input out before)) (told held' (call_streams left input out after))
@@ -315,24 +315,24 @@ pub image_torn : {words : List (List ℕ)} {files : FileMap} {held held' : Optio
     → IsDone words files answer (told held (call_streams left input out before)) (told held' (call_streams left input out after))
 image_torn members plan program answer left input out before after ready part is puts =
     torn_done (plan_file plan members ∷ []) answer left input out before after
-    (AreWritten.image (plan_seen plan) members (linked members) (planned ready)) part is puts
+    (AreWritten.image (plan_seen plan) members (linked_code members) (planned ready)) part is puts
 
 -- Units
 
-pub units_done : {words : List (List ℕ)} {files : FileMap} {held held' : Option FileMap} (members : List Member) (texts : List Written)
+pub units_done : {words : List (List ℕ)} {files : FileMap} {held held' : Option FileMap} (members : List Member) (texts : List WrittenFile)
     (streams : CallStreams) → IsTranslated words files (Ok members) → texts ≡ ucode_files members → All IsReadBack members → held ≡ Some files
     → WritesAll held held' texts → IsDone words files Wrote (told held streams) (told held' streams)
 units_done {held = held} {held'} members texts streams is e read h sets =
     let there : WritesAll held held' (ucode_files members) = subst (WritesAll held held') e sets in
     record {
-      outcome = if_some streams.left _ (λ left d. done (writing (ucode_files members) left) (translates members is)
+      outcome = if_some streams.left _ (λ left d. done (files_job (ucode_files members) left) (translates members is)
           (record { answered = refl; files = there; left = d; output = gains_nothing streams.output.held; errors = gains_nothing streams.errors.held }));
       headline = λ w. HoldsWritten.ucode members is (subst (λ (was : Option FileMap). WritesAll was held' (ucode_files members)) h there) read;
       leaves = all_written (ucode_files members) (AreWritten.ucode members is) (inl tt) there;
       answered = answered_translated members is;
     }
 
-pub units_torn : {words : List (List ℕ)} {files : FileMap} {held held' : Option FileMap} (members : List Member) (texts : List Written)
+pub units_torn : {words : List (List ℕ)} {files : FileMap} {held held' : Option FileMap} (members : List Member) (texts : List WrittenFile)
     (answer : Answer) (left : Option (List ℕ)) (input : ℕ) (out before after : SinkState) → IsTranslated words files (Ok members)
     → texts ≡ ucode_files members → WritesPart held held' texts → (answer ≡ FileFault) ⊎ (answer ≡ NoMemory) → PutsOwn answer before after
     → IsDone words files answer (told held (call_streams left input out before)) (told held' (call_streams left input out after))

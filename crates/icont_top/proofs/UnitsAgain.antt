@@ -18,9 +18,9 @@ use Rattle.icont_units.specs.Units.{Member, FromUcode, unit_of, units_of, both_t
 use Rattle.icont_units.proofs.Matching.{same_Ok, ok-err}
 use Rattle.icont_units.proofs.OneLoading.{one_come}
 use Rattle.icont_units.proofs.SomeLoading.{kept_there}
-use Rattle.icont_top.specs.Job.{Written, first_base, image_file}
+use Rattle.icont_top.specs.Job.{WrittenFile, first_base, image_file}
 use Rattle.icont_top.specs.Outcomes.{IsReadBack}
-use Rattle.icont_top.specs.Programs.{Links, linked}
+use Rattle.icont_top.specs.Programs.{Links, linked_code}
 use Rattle.icont_top.specs.Relinking.{AreHeld, GathersAlike, HoldTheOthers, HoldsUnit, LinksAlike, ucode_members, ucode_named}
 
 -- Named units
@@ -115,7 +115,7 @@ gather_again before after a b mentioned more e others x =
 
 -- Code
 
-pub same_linked : (a b : List Member) → units_of a ≡ units_of b → linked a ≡ linked b
+pub same_linked : (a b : List Member) → units_of a ≡ units_of b → linked_code a ≡ linked_code b
 same_linked a b e = ap joined e
 
 program_again : (members other : List Member) (result : Result Tables Answer) (tables : Tables) → units_of other ≡ units_of members → Links members result
@@ -123,8 +123,8 @@ program_again : (members other : List Member) (result : Result Tables Answer) (t
 program_again members other _ tables e (Links.not_linked answer n) same = absurd (ok-err tables answer (sym same))
 program_again members other _ tables e (Links.unverified base rule number place n f x) same = absurd (ok-err tables _ (sym same))
 program_again members other _ tables e (Links.is_program n v) same =
-    let code : linked other ≡ linked members = same_linked other members e in
-    subst (λ t. Links other (Ok t)) (code ∙ same_Ok (linked members) tables same)
+    let code : linked_code other ≡ linked_code members = same_linked other members e in
+    subst (λ t. Links other (Ok t)) (code ∙ same_Ok (linked_code members) tables same)
     (Links.is_program (ap first_fault e ∙ n) (subst IsVerified (sym code) v))
 
 first_name_of : List UnitRead → List ℕ
@@ -139,7 +139,7 @@ names_first (member ∷ members) = refl
 same_image : (a b : List Member) (name : Option (List ℕ)) (tables : Tables) → units_of a ≡ units_of b → image_file name a tables ≡ image_file name b tables
 same_image a b name tables e =
     ap (λ base. image_named (unwrap_or name base) tables) (names_first a ∙ (ap first_name_of e ∙ sym (names_first b))) where
-      image_named : List ℕ → Tables → Written
+      image_named : List ℕ → Tables → WrittenFile
       image_named base code = record { name = base; bytes = image_of code }
 
 -- Programs

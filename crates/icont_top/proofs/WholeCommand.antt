@@ -10,7 +10,7 @@ use Rattle.icn_lines.specs.Causes.{EndsAtFirst, outside}
 use Rattle.icn_lines.specs.Refusing.{Refuses as PutsRefusal}
 use Rattle.icn_lines.specs.Reporting.{Reports}
 use Rattle.icn_lines.specs.Telling.{Told, told}
-use Rattle.icn_lines.proofs.Counted.{no_cause, refused_ends, unmoved}
+use Rattle.icn_lines.proofs.Counts.{no_cause, refused_ends, unmoved}
 use Rattle.icn_lines.proofs.Reports.{reports_of}
 use Rattle.icn_streams.specs.Handed.{call_streams}
 use Rattle.icn_verify.specs.Laws.{HaveOneFault, HaveNoFault}

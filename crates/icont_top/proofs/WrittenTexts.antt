@@ -16,7 +16,7 @@ use Rattle.icn_link.specs.Units.{unit_seen, units_seen}
 use Rattle.icont_units.specs.declared.files.File.{File as HeldFile}
 use Rattle.icont_units.specs.Fetching.{files_seen}
 use Rattle.icont_units.specs.Units.{Member, unit_of, unit_texts, units_of}
-use Rattle.icont_top.specs.Job.{Written, as_written, ucode_files}
+use Rattle.icont_top.specs.Job.{WrittenFile, as_written, ucode_files}
 use Rattle.icont_top.specs.Outcomes.{IsReadBack, WritesAll, WritesPart, written_over}
 use Rattle.icont_top.specs.declared.writing.Text.{Text}
 use Rattle.icont_top.specs.Writing.{bases, text_seen, texts_seen, unit_written, units_written}
@@ -45,7 +45,7 @@ units_from (first ∷ units) zero unit l e = ap (λ u. unit_seen u ∷ units_see
 units_from (first ∷ units) (suc place) unit l e = units_from units place unit (omega (arith, l)) e
 
 -- one more unit
-pub one_more : (names : List (List ℕ)) (units : List HeldUnit) (place : ℕ) (unit : HeldUnit) (done now : List Written) (all : List Written)
+pub one_more : (names : List (List ℕ)) (units : List HeldUnit) (place : ℕ) (unit : HeldUnit) (done now : List WrittenFile) (all : List WrittenFile)
     → done ++ units_written (drop place names) (units_seen (drop place units)) ≡ all
     → place < length units → unit ≡ slice_index_or units place unit
     → now ≡ done ++ unit_written (slice_index_or names place []) (unit_seen unit)
@@ -103,8 +103,8 @@ all_read back (unit ∷ units) (member ∷ members) e =
 -- Writing
 
 -- some first texts were written, and these are left
-pub record WritesSome (before now : Option FileMap) (all rest : List Written) : Type 0 where
-  pub done : List Written
+pub record WritesSome (before now : Option FileMap) (all rest : List WrittenFile) : Type 0 where
+  pub done : List WrittenFile
   pub are : all ≡ done ++ rest
   pub follows : Follows before now (λ old new. (q : List ℕ) → new q ≡ written_over old done q)
 
@@ -112,12 +112,12 @@ pub writes_none : (held held' : Option FileMap) → held' ≡ held → WritesAll
 writes_none None held' e = record { follows = tt }
 writes_none (Some old) held' e = record { follows = (old, e, λ q. refl) }
 
-pub some_none : (held : Option FileMap) (all : List Written) → WritesSome held held all all
+pub some_none : (held : Option FileMap) (all : List WrittenFile) → WritesSome held held all all
 some_none None all = record { done = []; are = refl; follows = tt }
 some_none (Some old) all = record { done = []; are = refl; follows = (old, refl, λ q. refl) }
 
 -- a map over which one more text is written
-over_more : (old : FileMap) (done : List Written) (next : Written)
+over_more : (old : FileMap) (done : List WrittenFile) (next : WrittenFile)
     → written_over old (done ++ next ∷ []) ≡ update bytes_eq (written_over old done) next.name (Some next.bytes)
 over_more old [] next = refl
 over_more old (first ∷ done) next = over_more (update bytes_eq old first.name (Some first.bytes)) done next
@@ -131,7 +131,7 @@ update_alike : (a b : FileMap) (name : List ℕ) (content : Option (List ℕ)) (
     → update bytes_eq a name content q ≡ update bytes_eq b name content q
 update_alike a b name content q e = updated (bytes_eq name q) content (a q) (b q) e
 
-pub wrote_more : {before now after : Option FileMap} {all : List Written} (next : Written) (rest : List Written) → WritesSome before now all (next ∷ rest)
+pub wrote_more : {before now after : Option FileMap} {all : List WrittenFile} (next : WrittenFile) (rest : List WrittenFile) → WritesSome before now all (next ∷ rest)
     → Sets now after next.name next.bytes → WritesSome before after all rest
 wrote_more {before = before} {now} {after} {all} next rest some sets = record {
   done = some.done ++ next ∷ [];
@@ -151,13 +151,13 @@ wrote_more {before = before} {now} {after} {all} next rest some sets = record {
             (ap (λ (m : FileMap). m q) same ∙ f.2 q) ∙ ap (λ (m : FileMap). m q) (sym (over_more old some.done next))),
       )
 
-pub wrote_all : {before now : Option FileMap} {all : List Written} → WritesSome before now all [] → WritesAll before now all
+pub wrote_all : {before now : Option FileMap} {all : List WrittenFile} → WritesSome before now all [] → WritesAll before now all
 wrote_all {before = before} {now} {all} some = record {
   follows = subst (λ texts. Follows before now (λ old new. (q : List ℕ) → new q ≡ written_over old texts q))
       (sym (some.are ∙ append-nil some.done)) some.follows;
 }
 
-pub wrote_part : {before now after : Option FileMap} {all : List Written} (next : Written) (rest : List Written) → WritesSome before now all (next ∷ rest)
+pub wrote_part : {before now after : Option FileMap} {all : List WrittenFile} (next : WrittenFile) (rest : List WrittenFile) → WritesSome before now all (next ∷ rest)
     → SetsPart now after next.name next.bytes → WritesPart before after all
 wrote_part {before = before} {now} {after} {all} next rest some sets = record {
   whole = some.done;
@@ -187,7 +187,7 @@ wrote_part {before = before} {now} {after} {all} next rest some sets = record {
 
 -- a text of a list of texts
 
-pub text_more : {before now after : Option FileMap} {all : List Written} (text : Text) (others rest : List Text) (name bytes : List ℕ)
+pub text_more : {before now after : Option FileMap} {all : List WrittenFile} (text : Text) (others rest : List Text) (name bytes : List ℕ)
     → WritesSome before now all (texts_seen rest) → rest ≡ text ∷ others → name ≡ string_bytes text.name → bytes ≡ text.bytes.items
     → Sets now after name bytes → WritesSome before after all (texts_seen others)
 text_more {before} {now} {after} {all} text others rest name bytes some e n b sets =
@@ -195,7 +195,7 @@ text_more {before} {now} {after} {all} text others rest name bytes some e n b se
     let set : Sets now after (string_bytes text.name) text.bytes.items = rw (n, b) at sets in
     wrote_more (text_seen text) (texts_seen others) from set
 
-pub text_part : {before now after : Option FileMap} {all : List Written} (text : Text) (others rest : List Text) (name bytes : List ℕ)
+pub text_part : {before now after : Option FileMap} {all : List WrittenFile} (text : Text) (others rest : List Text) (name bytes : List ℕ)
     → WritesSome before now all (texts_seen rest) → rest ≡ text ∷ others → name ≡ string_bytes text.name → bytes ≡ text.bytes.items
     → SetsPart now after name bytes → WritesPart before after all
 text_part {before} {now} {after} {all} text others rest name bytes some e n b sets =

@@ -18,7 +18,7 @@ use Rattle.icont_units.specs.Files.{File, file_named, files_named, first_name, i
 use Rattle.icont_units.specs.Units.{Member, both_texts, unit_of, unit_texts, units_of, Comes, Come}
 use Rattle.icont_units.proofs.ShortTexts.{has}
 use Rattle.icont_units.proofs.SomeLoading.{AreSpelled, judged_read}
-use Rattle.icont_top.specs.Job.{IsTranslated, Written, as_written, ucode_files}
+use Rattle.icont_top.specs.Job.{IsTranslated, WrittenFile, as_written, ucode_files}
 use Rattle.icont_top.specs.Outcomes.{WritesAll, written_over}
 use Rattle.icont_top.specs.Relinking.{AllFit, AreHeld, StandAgain}
 
@@ -155,7 +155,7 @@ second_first a b = not_same (second_name b) (first_name a) (λ same. other_text 
 
 -- What stands where texts were written
 
-abbrev texts_written : List UnitRead → List Written
+abbrev texts_written : List UnitRead → List WrittenFile
 texts_written units = map as_written (flat_map unit_texts units)
 
 abbrev with_first : FileMap → UnitRead → FileMap

@@ -18,7 +18,7 @@ use Rattle.icont_top.specs.Programs.{Behaves, Links}
 use Rattle.icont_top.specs.Usage.{usage}
 
 -- a file that is written: its name, and what it holds then
-pub record Written : Type 0 where
+pub record WrittenFile : Type 0 where
   pub name : List ℕ
   pub bytes : List ℕ
 
@@ -26,7 +26,7 @@ pub record Written : Type 0 where
 -- output
 pub record Job : Type 0 where
   pub answer : Answer
-  pub written : List Written
+  pub written : List WrittenFile
   pub left : List ℕ
   pub output : List ℕ
   pub errors : List ℕ
@@ -36,12 +36,12 @@ abbrev pub refusal : List ℕ → Answer → Job
 refusal left answer = record { answer = answer; written = []; left = left; output = []; errors = line_of usage [] answer }
 
 -- files were written, and nothing else was done
-abbrev pub writing : List Written → List ℕ → Job
-writing written left = record { answer = Wrote; written = written; left = left; output = []; errors = [] }
+abbrev pub files_job : List WrittenFile → List ℕ → Job
+files_job written left = record { answer = Wrote; written = written; left = left; output = []; errors = [] }
 
 -- the image was written, and then the program ran, behind which this was put on the output
-abbrev pub running : Written → Observed → List ℕ → Job
-running image seen behind = record {
+abbrev pub run_job : WrittenFile → Observed → List ℕ → Job
+run_job image seen behind = record {
   answer = Ran (ending_held seen.ending);
   written = image ∷ [];
   left = seen.outside.left;
@@ -51,11 +51,11 @@ running image seen behind = record {
 
 -- Files that are written
 
-abbrev pub as_written : List ℕ × List ℕ → Written
+abbrev pub as_written : List ℕ × List ℕ → WrittenFile
 as_written text = record { name = text.0; bytes = text.1 }
 
 -- the two texts of each unit, in the order of the units
-abbrev pub ucode_files : List Member → List Written
+abbrev pub ucode_files : List Member → List WrittenFile
 ucode_files members = map as_written (flat_map unit_texts (units_of members))
 
 abbrev pub first_base : List Member → List ℕ
@@ -66,7 +66,7 @@ first_base (member ∷ members) = (unit_of member).name
 abbrev pub image_name : Option (List ℕ) → List Member → List ℕ
 image_name name members = unwrap_or name (first_base members)
 
-abbrev pub image_file : Option (List ℕ) → List Member → Tables → Written
+abbrev pub image_file : Option (List ℕ) → List Member → Tables → WrittenFile
 image_file name members tables = record { name = image_name name members; bytes = image_of tables }
 
 -- Runs
@@ -75,8 +75,8 @@ abbrev pub bounds_with : ℕ → Bounds
 bounds_with turns = record default_limits { turns = turns }
 
 -- with these arguments and this input, under this bound of turns and the other limits that stand where none are said
-abbrev pub launched : Run → List ℕ → Launch
-launched run left = launch_of run.arguments (bounds_with run.turns) left
+abbrev pub run_launch : Run → List ℕ → Launch
+run_launch run left = launch_of run.arguments (bounds_with run.turns) left
 
 -- The program of a number
 
@@ -132,9 +132,9 @@ pub data Refuses (words : List (List ℕ)) (files : FileMap) : Answer → Type 0
 pub data IsJob (words : List (List ℕ)) (files : FileMap) (left : List ℕ) : Job → Type 0 where
   refuses : (answer : Answer) → Refuses words files answer → IsJob words files left (refusal left answer)
   translates : (members : List Member) → IsTranslated words files (Ok members)
-      → IsJob words files left (writing (ucode_files members) left)
+      → IsJob words files left (files_job (ucode_files members) left)
   writes : (plan : Plan) (members : List Member) (tables : Tables) → IsPlanned words files plan members tables → plan.run ≡ None
-      → IsJob words files left (writing (image_file plan.image members tables ∷ []) left)
+      → IsJob words files left (files_job (image_file plan.image members tables ∷ []) left)
   runs : (plan : Plan) (members : List Member) (tables : Tables) (run : Run) (seen : Observed)
-      → IsPlanned words files plan members tables → plan.run ≡ Some run → Behaves members (launched run left) seen
-      → IsJob words files left (running (image_file plan.image members tables) seen (behind plan.number seen.ending))
+      → IsPlanned words files plan members tables → plan.run ≡ Some run → Behaves members (run_launch run left) seen
+      → IsJob words files left (run_job (image_file plan.image members tables) seen (behind plan.number seen.ending))

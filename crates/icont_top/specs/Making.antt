@@ -16,14 +16,14 @@ use Rattle.icn_lines.specs.declared.answer.Answer.TheVariants.{Refused, BadUcode
 use Rattle.icont_units.specs.Files.{first_name}
 use Rattle.icont_units.specs.Units.{Member, link_answer, unit_named}
 use Rattle.icont_top.specs.declared.programs.Made.{Made}
-use Rattle.icont_top.specs.Programs.{Links, files_of, linked}
+use Rattle.icont_top.specs.Programs.{Links, files_of, linked_code}
 
 -- the code and the image of a program
 pub record IsMade (members : List Member) (made : Made) : Type 0 where
-  pub code : tables_of made.code.code ≡ linked members
-  pub bytes : made.image.items ≡ image_of (linked members)
-  pub links : Links members (Ok (linked members))
-  pub joins : (files : List (List Declaration)) → files_of members ≡ Some files → IsLinked files (linked members)
+  pub code : tables_of made.code.code ≡ linked_code members
+  pub bytes : made.image.items ≡ image_of (linked_code members)
+  pub links : Links members (Ok (linked_code members))
+  pub joins : (files : List (List Declaration)) → files_of members ≡ Some files → IsLinked files (linked_code members)
 
 -- a program was made, or what refuses it is answered, or that memory was wanting
 abbrev pub Makes : List Member → Result Made Answer → Type 0

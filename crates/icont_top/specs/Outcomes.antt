@@ -27,24 +27,24 @@ use Rattle.icont_words.specs.Words.{Run}
 use Rattle.icont_units.specs.Generated.{sizes_line}
 use Rattle.icont_units.specs.Units.{Member, unit_of}
 use Rattle.icont_top.specs.Programs.{Behaves}
-use Rattle.icont_top.specs.Job.{IsJob, IsPlanned, IsTranslated, Job, Plan, Written, image_file, launched, ucode_files}
+use Rattle.icont_top.specs.Job.{IsJob, IsPlanned, IsTranslated, Job, Plan, WrittenFile, image_file, run_launch, ucode_files}
 
 -- Files that are written
 
 -- each name holds its bytes, one file after the other, and the other names what they held
-abbrev pub written_over : FileMap → List Written → FileMap
+abbrev pub written_over : FileMap → List WrittenFile → FileMap
 written_over files [] = files
 written_over files (next ∷ others) = written_over (update bytes_eq files next.name (Some next.bytes)) others
 
 -- all were written
-pub record WritesAll (before after : Option FileMap) (written : List Written) : Type 0 where
+pub record WritesAll (before after : Option FileMap) (written : List WrittenFile) : Type 0 where
   pub follows : Follows before after (λ old new. (q : List ℕ) → new q ≡ written_over old written q)
 
 -- Some first ones were written. The next name holds what a broken write may leave, and all others stand as they were.
-pub record WritesPart (before after : Option FileMap) (written : List Written) : Type 0 where
-  pub whole : List Written
-  pub torn : Written
-  pub others : List Written
+pub record WritesPart (before after : Option FileMap) (written : List WrittenFile) : Type 0 where
+  pub whole : List WrittenFile
+  pub torn : WrittenFile
+  pub others : List WrittenFile
   pub are : written ≡ whole ++ torn ∷ others
   pub follows : Follows before after (λ old new. (content : Option (List ℕ))
       × IsLeftBehind (written_over old whole torn.name) torn.bytes content
@@ -59,7 +59,7 @@ pub record Completes (job : Job) (answer : Answer) (before after : Told) : Type 
   pub errors : Gains before.streams.errors.held after.streams.errors.held job.errors
 
 -- What the words ask to be written, of files that break no rule
-pub data AreWritten (words : List (List ℕ)) (files : FileMap) : List Written → Type 0 where
+pub data AreWritten (words : List (List ℕ)) (files : FileMap) : List WrittenFile → Type 0 where
   ucode : (members : List Member) → IsTranslated words files (Ok members) → AreWritten words files (ucode_files members)
   image : (plan : Plan) (members : List Member) (tables : Tables) → IsPlanned words files plan members tables
       → AreWritten words files (image_file plan.image members tables ∷ [])
@@ -71,7 +71,7 @@ Begins IsJobOf before between = (between ≡ before) ⊎ ((job : Job) × IsJobOf
 -- What a fault leaves of a program that is run with this input: all is said of what is observed of it, as each program comes to an end.
 pub record BrokenOff (members : List Member) (run : Run) (left : List ℕ) (fault : RunFault) (before after : CallStreams) : Type 0 where
   pub seen : Observed
-  pub behaves : Behaves members (launched run left) seen
+  pub behaves : Behaves members (run_launch run left) seen
   pub leaves : LeavesBy fault left seen before after
 
 -- what a put may be stopped by
@@ -91,7 +91,7 @@ pub record LeavesBehind (number : ℕ) (seen : Observed) (before after : CallStr
 -- The program of a number was done, and the line of its sizes was put in part behind its output.
 pub record BrokenBehind (members : List Member) (run : Run) (number : ℕ) (left : List ℕ) (before after : CallStreams) : Type 0 where
   pub seen : Observed
-  pub behaves : Behaves members (launched run left) seen
+  pub behaves : Behaves members (run_launch run left) seen
   pub leaves : LeavesBehind number seen before after
 
 -- What a fault leaves, with its own line behind, as far as the error output took it. Nothing was done but that a refusal's line may be
@@ -102,7 +102,7 @@ pub data Faults (words : List (List ℕ)) (files : FileMap) (left : List ℕ) (a
       → after.streams.output.held ≡ before.streams.output.held
       → Begins (IsJob words files left) before.streams.errors between
       → Puts between after.streams.errors (fault_line answer) → Faults words files left answer before after
-  torn : (written : List Written) → AreWritten words files written → WritesPart before.files after.files written
+  torn : (written : List WrittenFile) → AreWritten words files written → WritesPart before.files after.files written
       → after.streams.left ≡ before.streams.left
       → after.streams.output.held ≡ before.streams.output.held
       → Puts before.streams.errors after.streams.errors (fault_line answer) → Faults words files left answer before after
@@ -134,9 +134,9 @@ HasWritten answer = ⊥
 -- was written; or, where a fault is answered, some first ones were, and perhaps a part of the next.
 pub data LeavesFiles (words : List (List ℕ)) (files : FileMap) (answer : Answer) (before after : Option FileMap) : Type 0 where
   left_alone : (HasWritten answer → ⊥) → after ≡ before → LeavesFiles words files answer before after
-  all_written : (written : List Written) → AreWritten words files written → HasWritten answer ⊎ IsFault answer → WritesAll before after written
+  all_written : (written : List WrittenFile) → AreWritten words files written → HasWritten answer ⊎ IsFault answer → WritesAll before after written
       → LeavesFiles words files answer before after
-  part_written : (written : List Written) → AreWritten words files written → IsFault answer → WritesPart before after written
+  part_written : (written : List WrittenFile) → AreWritten words files written → IsFault answer → WritesPart before after written
       → LeavesFiles words files answer before after
 
 -- some first bytes of the input were taken
@@ -145,7 +145,7 @@ LosesSome left after = (count : ℕ) × (after ≡ Some (drop count left))
 
 -- where the words and the files ask for files to be written, they were, or a fault is answered
 abbrev pub IsComplete : List (List ℕ) → FileMap → Answer → Type 0
-IsComplete words files answer = (written : List Written) → AreWritten words files written → IsFault answer ⊎ HasWritten answer
+IsComplete words files answer = (written : List WrittenFile) → AreWritten words files written → IsFault answer ⊎ HasWritten answer
 
 -- These bytes are the image of a code that `iconx` reads and verifies, and its run is, with all words, limits and inputs, what the
 -- program is: what its files mean, where all are sources.
@@ -162,7 +162,7 @@ abbrev pub IsReadBack : Member → Type 0
 IsReadBack member = unit_read (unit_of member).name (procs_text (unit_of member).procs) (decls_text (unit_of member).decls) ≡ Whole (unit_of member)
 
 -- the name holds these bytes
-abbrev pub HoldsNow : Option FileMap → Written → Type 0
+abbrev pub HoldsNow : Option FileMap → WrittenFile → Type 0
 HoldsNow after written = (held : FileMap) × (after ≡ Some held) × (held written.name ≡ Some written.bytes)
 
 -- What an answer that files were written says: the texts of each unit are there; or the image of the program is.

@@ -15,8 +15,8 @@ use Rattle.icont_units.specs.Files.{first_name}
 use Rattle.icont_units.specs.Units.{Member, FromSource, FromUcode, units_of, link_answer}
 
 -- the code of all units
-abbrev pub linked : List Member → Tables
-linked members = joined (units_of members)
+abbrev pub linked_code : List Member → Tables
+linked_code members = joined (units_of members)
 
 -- the refusal of the first rule of linking that is broken
 abbrev pub link_refusal : List Member → Option Answer
@@ -45,9 +45,9 @@ files_of (FromUcode unit ∷ members) = None
 pub data Links (members : List Member) : Result Tables Answer → Type 0 where
   not_linked : (answer : Answer) → link_refusal members ≡ Some answer → Links members (Err answer)
   unverified : (base : List ℕ) (rule : Rule) (number place : ℕ) → first_fault (units_of members) ≡ None
-      → first_ucode members ≡ Some base → IsFirstFault (linked members).procs rule number place
+      → first_ucode members ≡ Some base → IsFirstFault (linked_code members).procs rule number place
       → Links members (Err (BadUcode (first_name base) rule))
-  is_program : first_fault (units_of members) ≡ None → IsVerified (linked members) → Links members (Ok (linked members))
+  is_program : first_fault (units_of members) ≡ None → IsVerified (linked_code members) → Links members (Ok (linked_code members))
 
 -- A program of sources alone runs as its files mean, any other as its code.
 abbrev pub RunsBy : Option (List (List Declaration)) → Tables → Launch → Observed → Type 0
@@ -55,4 +55,4 @@ RunsBy (Some files) tables launch seen = FilesMean files launch seen
 RunsBy None tables launch seen = RunsFlat tables launch seen
 
 abbrev pub Behaves : List Member → Launch → Observed → Type 0
-Behaves members launch seen = RunsBy (files_of members) (linked members) launch seen
+Behaves members launch seen = RunsBy (files_of members) (linked_code members) launch seen

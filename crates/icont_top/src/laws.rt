@@ -6,11 +6,11 @@ ghost use Rattle.icn_tree.specs.Trees.{Declaration};
 ghost use Rattle.icn_code.specs.Codes.{Tables};
 ghost use Rattle.icn_lines.specs.Answers.{IsFault};
 ghost use Rattle.icont_units.specs.Files.{File};
-ghost use Rattle.icont_units.specs.Translating.{Become};
+ghost use Rattle.icont_units.specs.Translating.{TokensGive};
 ghost use Rattle.icont_units.specs.Units.{Come, Gather, Load, Member, units_of};
 ghost use Rattle.icont_top.specs.Job.{IsJob, IsTranslated, Job, ucode_files};
 ghost use Rattle.icont_top.specs.Outcomes.{IsReadBack, WritesAll};
-ghost use Rattle.icont_top.specs.Programs.{Links, linked};
+ghost use Rattle.icont_top.specs.Programs.{Links, linked_code};
 ghost use Rattle.icont_top.specs.Relinking.{AllFit, AreHeld, GathersAlike, HoldTheOthers, LinksAlike, StandAgain, ucode_members, ucode_named};
 
 use icn_adequacy::programs_mean;
@@ -26,7 +26,7 @@ use source_bytes::{lines_of_bytes, texts_of_bytes};
 
 /// A list of tokens is at most one program.
 pub fn one_program()
-    ensures { (tokens : List Token) (a b : List Declaration) → Become tokens (Ok a) → Become tokens (Ok b) → a ≡ b }
+    ensures { (tokens : List Token) (a b : List Declaration) → TokensGive tokens (Ok a) → TokensGive tokens (Ok b) → a ≡ b }
 {}
 
 /// The words, the files and the input ask for a job, where the files hold bytes, and for one alone, which answers no fault.
@@ -59,7 +59,7 @@ pub fn units_link_alike()
         → Come files (ucode_named members) (Ok (ucode_members members)) }
     ensures gather { (before after : FileMap) (a b : List Member) (mentioned : List (List ℕ)) (more : List Member) → units_of b ≡ units_of a
         → HoldTheOthers a before after → Gather before a mentioned (Ok more) → GathersAlike after b mentioned more }
-    ensures linked { (a b : List Member) → units_of a ≡ units_of b → linked a ≡ linked b }
+    ensures linked { (a b : List Member) → units_of a ≡ units_of b → linked_code a ≡ linked_code b }
     ensures program { (before after : FileMap) (named : List File) (members more : List Member) (tables : Tables) → Come before named (Ok members)
         → All IsReadBack members → AreHeld after members → HoldTheOthers members before after → Load before named (Ok more)
         → Links more (Ok tables) → LinksAlike after (ucode_named members) more tables }

@@ -23,7 +23,7 @@ ghost use Rattle.icont_units.specs.Units.{Load, Member};
 ghost use Rattle.icont_top.specs.Answered.{IsAnswered, IsCommand, IsCommanded, MissesText};
 ghost use Rattle.icont_top.specs.Answering.{IsDone};
 ghost use Rattle.icont_top.specs.Asking.{IsReady, IsTold, words_answer};
-ghost use Rattle.icont_top.specs.Job.{IsTranslated, launched, ucode_files};
+ghost use Rattle.icont_top.specs.Job.{IsTranslated, run_launch, ucode_files};
 ghost use Rattle.icont_top.specs.Outcomes.{HasWritten, HoldsWritten, IsComplete, IsReadBack, LeavesFiles, LosesSome, Outcome};
 ghost use Rattle.icont_top.specs.Running.{HasRun, IsRanOrBroken, PutsSizes, is_done, put_answer};
 ghost use Rattle.icont_top.specs.Usage.{usage};
@@ -338,7 +338,7 @@ fn ran_answer<I: Source, O: Sink, E: Sink>(
     out: &mut O,
     err: &mut E,
 ) -> Answer
-    ensures ran { IfSome (I.left input.old) (λ left. HasRun (tables_of code.now.code) (launched (run_seen run.entry) left) number result
+    ensures ran { IfSome (I.left input.old) (λ left. HasRun (tables_of code.now.code) (run_launch (run_seen run.entry) left) number result
         (call_streams (I.left input.old) (I.faults input.old) (O.state out.old) (E.state err.old))
         (call_streams (I.left input.new) (I.faults input.new) (O.state out.new) (E.state err.new))) }
     ensures reported { Reports usage [] (I.left input.old) (E.state err.old) (E.state err.new) result }
@@ -369,7 +369,7 @@ fn run_answer<I: Source, O: Sink, E: Sink>(
     out: &mut O,
     err: &mut E,
 ) -> Answer
-    ensures ran { IfSome (I.left input.old) (λ left. IsRanOrBroken (tables_of code.now.code) (launched (run_seen asked.entry) left) result
+    ensures ran { IfSome (I.left input.old) (λ left. IsRanOrBroken (tables_of code.now.code) (run_launch (run_seen asked.entry) left) result
         (call_streams (I.left input.old) (I.faults input.old) (O.state out.old) (E.state err.old))
         (call_streams (I.left input.new) (I.faults input.new) (O.state out.new) (E.state err.new))) }
     ensures reported { Reports usage [] (I.left input.old) (E.state err.old) (E.state err.new) result }

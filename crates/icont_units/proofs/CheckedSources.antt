@@ -15,7 +15,7 @@ use Rattle.icont_units.specs.Fetching.{AreFile, IsSource}
 use Rattle.icont_units.specs.Files.{source_name}
 use Rattle.icont_units.specs.Sources.{Scan, refused_at, source_read}
 use Rattle.icont_units.specs.Stages.{IsFile}
-use Rattle.icont_units.specs.Translating.{Become, is_file}
+use Rattle.icont_units.specs.Translating.{TokensGive, is_file}
 use Rattle.icont_units.specs.Units.{Comes}
 
 -- Tokens
@@ -30,7 +30,7 @@ no_memory : (answer : Answer) → answer ≡ NoMemory → IsFault answer
 no_memory answer e = rw e refl
 
 broken : (files : FileMap) (base : List ℕ) (scan : Scan) (rule : Rule) (place : Place) (answer : Answer) → source_read files (source_name base) ≡ Ok scan
-    → Become scan.tokens (Err (rule, place)) → answer ≡ refused_at scan.names rule place → let result : Result Checked Answer = Err answer in IsSource files base result
+    → TokensGive scan.tokens (Err (rule, place)) → answer ≡ refused_at scan.names rule place → let result : Result Checked Answer = Err answer in IsSource files base result
 broken files base scan rule place answer e are same = inr (rw same (Comes.broken base scan rule place e are))
 
 pub is_source : (files : FileMap) (base name : List ℕ) (scan : Scan) (result : Result Checked Answer) → name ≡ source_name base → source_read files name ≡ Ok scan

@@ -13,7 +13,7 @@ use Rattle.icn_prep.specs.declared.fault.PrepFault.{PrepFault}
 use Rattle.icn_prep.specs.SourceLines.{Source, source_lines}
 use Rattle.icn_simulation.specs.Faultless.{IsFaultless}
 use Rattle.icont_units.specs.Sources.{Scan, source_read, lines_read, tokens_read}
-use Rattle.icont_units.specs.Translating.{Become, not_parsed, out_of_context, is_file}
+use Rattle.icont_units.specs.Translating.{TokensGive, not_parsed, out_of_context, is_file}
 use Rattle.icont_units.proofs.GivenLines.{lines_within}
 use Rattle.icont_units.proofs.Matching.{same_Ok, ok-err}
 use Rattle.icont_units.proofs.Sourcing.{are_scanned}
@@ -26,17 +26,17 @@ pub record OfTree (tokens : List Token) (file : List Declaration) : Type 0 where
   pub tree : IsOutcome tokens (IsTree file)
   pub context : context_faults file ≡ []
 
-of_verdict : {tokens : List Token} (found : Verdict) → Become tokens found → (file : List Declaration) → found ≡ Ok file → OfTree tokens file
+of_verdict : {tokens : List Token} (found : Verdict) → TokensGive tokens found → (file : List Declaration) → found ≡ Ok file → OfTree tokens file
 of_verdict _ (not_parsed outcome rule place is e) file same = absurd (ok-err file (rule, place) (sym same))
 of_verdict _ (out_of_context tree fault is e) file same = absurd (ok-err file (fault.rule, fault.place) (sym same))
 of_verdict {tokens} _ (is_file tree is e) file same = subst (OfTree tokens) (same_Ok tree file same) (record { tree = is; context = e })
 
-pub tree_of : (tokens : List Token) (file : List Declaration) → Become tokens (Ok file) → OfTree tokens file
+pub tree_of : (tokens : List Token) (file : List Declaration) → TokensGive tokens (Ok file) → OfTree tokens file
 tree_of tokens file x = of_verdict (Ok file) x file refl
 
 -- Tokens that were scanned become files that break no rule
 
-pub faultless_tokens : (tokens : List Token) (file : List Declaration) → AreScanned tokens → Become tokens (Ok file) → IsFaultless file
+pub faultless_tokens : (tokens : List Token) (file : List Declaration) → AreScanned tokens → TokensGive tokens (Ok file) → IsFaultless file
 faultless_tokens tokens file scanned x =
     let is = tree_of tokens file x in
     let spelled : IsSpelled file = record { tokens = tokens; scanned = scanned; tree = is.tree } in record { spelled = ∣ spelled ∣₁; context = is.context }
@@ -68,7 +68,7 @@ source_of files name scan e = of_lines files name (source_lines files name) refl
 
 -- the tokens of a named file become one that breaks no rule
 pub faultless_source : (files : FileMap) (name : List ℕ) (scan : Scan) (file : List Declaration) → source_read files name ≡ Ok scan
-    → Become scan.tokens (Ok file) → IsFaultless file
+    → TokensGive scan.tokens (Ok file) → IsFaultless file
 faultless_source files name scan file e x =
     let source = source_of files name scan e in
     faultless_tokens scan.tokens file (are_scanned source.source.lines scan.tokens source.within source.tokens) x

@@ -4,7 +4,7 @@ use Rattle.std.specs.List.{flat_map, list_all, range_with_len}
 use Rattle.std.proofs.lemmas.Fmt.{length-decimal-le}
 use Rattle.icn_tree.specs.SourceTexts.{joined_len, names_files}
 use Rattle.icn_tree.specs.declared.lines.SourceLine.{SourceLine}
-use Rattle.icont_units.specs.Generated.{generated, numbered, numbers, procedure_lines, sizes_line, sizes_text, sum_line}
+use Rattle.icont_units.specs.Generated.{program_lines, numbered_from, numbers, procedure_lines, sizes_line, sizes_text, sum_line}
 
 -- Their number
 
@@ -21,7 +21,7 @@ all_length : (count : ℕ) (procedures sums : List (List ℕ)) (a b c d : List �
 all_length count procedures sums a b c d p s =
     omega (arith, length-append (procedures ++ a ∷ b ∷ sums) (c ∷ d ∷ []), length-append procedures (a ∷ b ∷ sums), p, s)
 
-pub generated_length : (count : ℕ) → length (generated count) ≡ 4 * count + 4
+pub generated_length : (count : ℕ) → length (program_lines count) ≡ 4 * count + 4
 generated_length count = all_length count (flat_map procedure_lines (numbers count)) (map sum_line (numbers count)) (codes "procedure main()") (codes "t := 0")
     (codes "write(t)") (codes "end") (procedures_length 1 count) (sums_length 1 count)
 
@@ -59,7 +59,7 @@ sums_short a zero few = tt
 sums_short a (suc n) few =
     (short_line (codes "every t +:= p") (codes "(1 to 3)") a (omega arith) (omega arith) (omega (arith, few)), sums_short (a + 1) n (omega (arith, few)))
 
-all_short : (count : ℕ) → count < 65536 → AreShort (generated count)
+all_short : (count : ℕ) → count < 65536 → AreShort (program_lines count)
 all_short count few =
     let procedures : List (List ℕ) = flat_map procedure_lines (numbers count) in
     let sums : List (List ℕ) = codes "procedure main()" ∷ codes "t := 0" ∷ map sum_line (numbers count) in
@@ -67,33 +67,33 @@ all_short count few =
     both_short procedures sums (procedures_short 1 count (omega (arith, few))) (omega arith, (omega arith, sums_short 1 count (omega (arith, few)))) in
     both_short (procedures ++ sums) (codes "write(t)" ∷ codes "end" ∷ []) head (omega arith, (omega arith, tt))
 
-joined_short : (n : ℕ) (lines : List (List ℕ)) → AreShort lines → joined_len (numbered n lines) ≤ 64 * length lines
+joined_short : (n : ℕ) (lines : List (List ℕ)) → AreShort lines → joined_len (numbered_from n lines) ≤ 64 * length lines
 joined_short n [] short = omega arith
 joined_short n (line ∷ []) short = omega (arith, short.0)
 joined_short n (line ∷ next ∷ lines) short = omega (arith, short.0, joined_short (suc n) (next ∷ lines) short.1)
 
 -- joined they have no more than a program text may have
-pub generated_fits : (count : ℕ) → count < 65536 → joined_len (numbered 1 (generated count)) ≤ 16777216
-generated_fits count few = omega (arith, few, joined_short 1 (generated count) (all_short count few), generated_length count)
+pub generated_fits : (count : ℕ) → count < 65536 → joined_len (numbered_from 1 (program_lines count)) ≤ 16777216
+generated_fits count few = omega (arith, few, joined_short 1 (program_lines count) (all_short count few), generated_length count)
 
 -- Their file
 
 -- they are all lines of the first file
-pub of_one_file : (n : ℕ) (lines : List (List ℕ)) → list_all (λ line. nat_lt line.file 1) (numbered n lines) ≡ true
+pub of_one_file : (n : ℕ) (lines : List (List ℕ)) → list_all (λ line. nat_lt line.file 1) (numbered_from n lines) ≡ true
 of_one_file n [] = refl
 of_one_file n (line ∷ lines) = of_one_file (suc n) lines
 
 -- and it has the one name
 pub file_is_named : (names : List (List ℕ)) (lines : List SourceLine) (none : List (List ℕ)) (name : List ℕ) (count : ℕ) → none ≡ [] → names ≡ none ++ name ∷ []
-    → lines ≡ numbered 1 (generated count) → IsTrue (names_files names lines)
+    → lines ≡ numbered_from 1 (program_lines count) → IsTrue (names_files names lines)
 file_is_named names lines none name count empty named are =
     let one : names ≡ name ∷ [] = named ∙ ap (λ xs. xs ++ name ∷ []) empty in
-    ap (λ xs. names_files xs lines) one ∙ (ap (names_files (name ∷ [])) are ∙ of_one_file 1 (generated count))
+    ap (λ xs. names_files xs lines) one ∙ (ap (names_files (name ∷ [])) are ∙ of_one_file 1 (program_lines count))
 
 -- The line that tells their number
 
 pub sizes_are : (count lines procedures : ℕ) → lines ≡ 4 * count + 4 → procedures ≡ count + 1 → sizes_text lines procedures ≡ sizes_line count
 sizes_are count lines procedures l p =
-    let lines_are : lines ≡ length (generated count) = l ∙ sym (generated_length count) in
+    let lines_are : lines ≡ length (program_lines count) = l ∙ sym (generated_length count) in
     let procedures_are : procedures ≡ suc count = omega (arith, p) in
-    ap (λ n. sizes_text n procedures) lines_are ∙ ap (sizes_text (length (generated count))) procedures_are
+    ap (λ n. sizes_text n procedures) lines_are ∙ ap (sizes_text (length (program_lines count))) procedures_are

@@ -14,7 +14,7 @@ use Rattle.icont_units.specs.declared.files.Kind.TheVariants.{Source, Ucode}
 use Rattle.icont_units.specs.Files.{File, source_name, first_name, second_name}
 use Rattle.icont_units.specs.Generated.{GeneratedComes, generated_base, generated_lines, generated_name}
 use Rattle.icont_units.specs.Sources.{Scan, refused_at, source_read}
-use Rattle.icont_units.specs.Translating.{Become}
+use Rattle.icont_units.specs.Translating.{TokensGive}
 use Rattle.icont_units.specs.Units.{Member, FromSource, FromUcode, is_too_long, texts_held, unit_found, AreJudged, Comes, Come, IsAbsent, IsHeld, is_there, links_of, links_in, Gather, Load}
 use Rattle.icont_units.proofs.Matching.{same_Ok, same_Err, ok-err}
 use Rattle.icont_units.proofs.Verdicts.{Verdict, one_become, whole_file}
@@ -62,11 +62,11 @@ record OfSource (files : FileMap) (base : List ℕ) (found : Result Member Answe
   pub read : Result Scan Answer
   pub is : source_read files (source_name base) ≡ read
   pub verdict : Verdict
-  pub becomes : (scan : Scan) → read ≡ Ok scan → Become scan.tokens verdict
+  pub becomes : (scan : Scan) → read ≡ Ok scan → TokensGive scan.tokens verdict
   pub same : found ≡ source_found base read verdict
 
-same_source : (base : List ℕ) (read : Result Scan Answer) (a b : Verdict) → ((scan : Scan) → read ≡ Ok scan → Become scan.tokens a)
-    → ((scan : Scan) → read ≡ Ok scan → Become scan.tokens b) → source_found base read a ≡ source_found base read b
+same_source : (base : List ℕ) (read : Result Scan Answer) (a b : Verdict) → ((scan : Scan) → read ≡ Ok scan → TokensGive scan.tokens a)
+    → ((scan : Scan) → read ≡ Ok scan → TokensGive scan.tokens b) → source_found base read a ≡ source_found base read b
 same_source base (Err answer) a b x y = refl
 same_source base (Ok scan) a b x y = ap (by_verdict base scan) (one_become scan.tokens a b (x scan refl) (y scan refl))
 
@@ -79,8 +79,8 @@ one_source {base = base} x y =
 no_scan : {T : Type 0} (answer : Answer) (scan : Scan) → ◌≡◌ {A = Result Scan Answer} (Err answer) (Ok scan) → T
 no_scan answer scan e = absurd (ok-err scan answer (sym e))
 
-that_scan : (verdict : Verdict) (a b : Scan) → Become a.tokens verdict → ◌≡◌ {A = Result Scan Answer} (Ok a) (Ok b) → Become b.tokens verdict
-that_scan verdict a b x e = subst (λ (scan : Scan). Become scan.tokens verdict) (same_Ok a b e) x
+that_scan : (verdict : Verdict) (a b : Scan) → TokensGive a.tokens verdict → ◌≡◌ {A = Result Scan Answer} (Ok a) (Ok b) → TokensGive b.tokens verdict
+that_scan verdict a b x e = subst (λ (scan : Scan). TokensGive scan.tokens verdict) (same_Ok a b e) x
 
 abbrev member_of : Result UnitRead Answer → Result Member Answer
 member_of (Ok unit) = Ok (FromUcode unit)
@@ -248,7 +248,7 @@ generated_found (Scanned tokens) verdict = by_generated verdict
 generated_found (Fault rule file line) verdict = Err (refused_at (generated_name ∷ []) rule (record { line = line; file = file }))
 
 abbrev BecomesOf : Outcome → Verdict → Type 0
-BecomesOf (Scanned tokens) verdict = Become tokens verdict
+BecomesOf (Scanned tokens) verdict = TokensGive tokens verdict
 BecomesOf (Fault rule file line) verdict = Unit {0}
 
 -- what its lines come to is what their tokens become

@@ -3,7 +3,7 @@ use Rattle.std.proofs.Common.{◌≡◌, ◌<◌, ◌≤◌, ◌+◌, ◌-◌, �
 use Rattle.std.specs.List.{flat_map, range_with_len}
 use Rattle.std.proofs.lemmas.List.{append_assoc, append-nil}
 use Rattle.icn_tree.specs.declared.lines.SourceLine.{SourceLine}
-use Rattle.icont_units.specs.Generated.{generated, line_at, numbered, numbers, procedure_lines, sum_line}
+use Rattle.icont_units.specs.Generated.{program_lines, line_at, numbered_from, numbers, procedure_lines, sum_line}
 
 -- Numbers in their order
 
@@ -56,7 +56,7 @@ two_put old x y a b c d one two first second =
 pub procedure_put : (old x y z : List SourceLine) (a b c : SourceLine) (n second third i : ℕ) → second ≡ suc n → third ≡ suc second
     → x ≡ old ++ a ∷ [] → y ≡ x ++ b ∷ [] → z ≡ y ++ c ∷ []
     → a ≡ line_at n (codes "procedure p" ++ decimal i ++ codes "(n)") → b ≡ line_at second (codes "suspend (n to n + 2) * " ++ decimal i ++ [])
-    → c ≡ line_at third (codes "end") → z ≡ old ++ numbered n (procedure_lines i)
+    → c ≡ line_at third (codes "end") → z ≡ old ++ numbered_from n (procedure_lines i)
 procedure_put old x y z a b c n second third i next later one two three is_a is_b is_c =
     let head : SourceLine = line_at n (codes "procedure p" ++ decimal i ++ codes "(n)") in
     let body : List ℕ = codes "suspend (n to n + 2) * " ++ decimal i in
@@ -69,52 +69,52 @@ procedure_put old x y z a b c n second third i next later one two three is_a is_
 
 -- what comes once the procedure behind the first `i` is added
 pub procedure_step : (lines new whole : List SourceLine) (n m i count : ℕ) (later : List (List ℕ)) → i < count → m ≡ suc (suc (suc n))
-    → new ≡ lines ++ numbered n (procedure_lines (i + 1))
-    → lines ++ numbered n (flat_map procedure_lines (range_with_len (i + 1) (count - i)) ++ later) ≡ whole
-    → new ++ numbered m (flat_map procedure_lines (range_with_len (i + 1 + 1) (count - (i + 1))) ++ later) ≡ whole
+    → new ≡ lines ++ numbered_from n (procedure_lines (i + 1))
+    → lines ++ numbered_from n (flat_map procedure_lines (range_with_len (i + 1) (count - i)) ++ later) ≡ whole
+    → new ++ numbered_from m (flat_map procedure_lines (range_with_len (i + 1 + 1) (count - (i + 1))) ++ later) ≡ whole
 procedure_step lines new whole n m i count later l three made all =
     let rest : List (List ℕ) = flat_map procedure_lines (range_with_len (i + 1 + 1) (count - (i + 1))) ++ later in
-    ap (λ xs. xs ++ numbered m rest) made ∙ (append_assoc lines (numbered n (procedure_lines (i + 1))) (numbered m rest)
-    ∙ (ap (λ k. lines ++ (numbered n (procedure_lines (i + 1)) ++ numbered k rest)) three
-    ∙ (ap (λ ns. lines ++ numbered n (flat_map procedure_lines ns ++ later)) (sym (next_number i count l)) ∙ all)))
+    ap (λ xs. xs ++ numbered_from m rest) made ∙ (append_assoc lines (numbered_from n (procedure_lines (i + 1))) (numbered_from m rest)
+    ∙ (ap (λ k. lines ++ (numbered_from n (procedure_lines (i + 1)) ++ numbered_from k rest)) three
+    ∙ (ap (λ ns. lines ++ numbered_from n (flat_map procedure_lines ns ++ later)) (sym (next_number i count l)) ∙ all)))
 
 pub procedures_done : (lines whole : List SourceLine) (i count : ℕ) (later : List (List ℕ)) → i ≤ count → count ≤ i
-    → lines ++ numbered (3 * i + 1) (flat_map procedure_lines (range_with_len (i + 1) (count - i)) ++ later) ≡ whole
-    → lines ++ numbered (3 * count + 1) later ≡ whole
+    → lines ++ numbered_from (3 * i + 1) (flat_map procedure_lines (range_with_len (i + 1) (count - i)) ++ later) ≡ whole
+    → lines ++ numbered_from (3 * count + 1) later ≡ whole
 procedures_done lines whole i count later l r all =
-    ap (λ k. lines ++ numbered (3 * k + 1) later) (same_number i count l r)
-    ∙ (ap (λ ns. lines ++ numbered (3 * i + 1) (flat_map procedure_lines ns ++ later)) (sym (none_left i count r)) ∙ all)
+    ap (λ k. lines ++ numbered_from (3 * k + 1) later) (same_number i count l r)
+    ∙ (ap (λ ns. lines ++ numbered_from (3 * i + 1) (flat_map procedure_lines ns ++ later)) (sym (none_left i count r)) ∙ all)
 
 -- and once its line of the sum is
 pub sum_step : (lines new whole : List SourceLine) (line : SourceLine) (n m i count : ℕ) (later : List (List ℕ)) → i < count → m ≡ suc n
     → line ≡ line_at n (sum_line (i + 1)) → new ≡ lines ++ line ∷ []
-    → lines ++ numbered n (map sum_line (range_with_len (i + 1) (count - i)) ++ later) ≡ whole
-    → new ++ numbered m (map sum_line (range_with_len (i + 1 + 1) (count - (i + 1))) ++ later) ≡ whole
+    → lines ++ numbered_from n (map sum_line (range_with_len (i + 1) (count - i)) ++ later) ≡ whole
+    → new ++ numbered_from m (map sum_line (range_with_len (i + 1 + 1) (count - (i + 1))) ++ later) ≡ whole
 sum_step lines new whole line n m i count later l one is made all =
     let rest : List (List ℕ) = map sum_line (range_with_len (i + 1 + 1) (count - (i + 1))) ++ later in
-    ap (λ xs. xs ++ numbered m rest) (made ∙ ap (λ x. lines ++ x ∷ []) is) ∙ (append_assoc lines (line_at n (sum_line (i + 1)) ∷ []) (numbered m rest)
-    ∙ (ap (λ k. lines ++ (line_at n (sum_line (i + 1)) ∷ numbered k rest)) one
-    ∙ (ap (λ ns. lines ++ numbered n (map sum_line ns ++ later)) (sym (next_number i count l)) ∙ all)))
+    ap (λ xs. xs ++ numbered_from m rest) (made ∙ ap (λ x. lines ++ x ∷ []) is) ∙ (append_assoc lines (line_at n (sum_line (i + 1)) ∷ []) (numbered_from m rest)
+    ∙ (ap (λ k. lines ++ (line_at n (sum_line (i + 1)) ∷ numbered_from k rest)) one
+    ∙ (ap (λ ns. lines ++ numbered_from n (map sum_line ns ++ later)) (sym (next_number i count l)) ∙ all)))
 
 pub sums_done : (lines whole : List SourceLine) (i count : ℕ) (later : List (List ℕ)) → i ≤ count → count ≤ i
-    → lines ++ numbered (3 * count + 3 + i) (map sum_line (range_with_len (i + 1) (count - i)) ++ later) ≡ whole
-    → lines ++ numbered (4 * count + 3) later ≡ whole
+    → lines ++ numbered_from (3 * count + 3 + i) (map sum_line (range_with_len (i + 1) (count - i)) ++ later) ≡ whole
+    → lines ++ numbered_from (4 * count + 3) later ≡ whole
 sums_done lines whole i count later l r all =
-    ap (λ k. lines ++ numbered k later) four
-    ∙ (ap (λ ns. lines ++ numbered (3 * count + 3 + i) (map sum_line ns ++ later)) (sym (none_left i count r)) ∙ all) where
+    ap (λ k. lines ++ numbered_from k later) four
+    ∙ (ap (λ ns. lines ++ numbered_from (3 * count + 3 + i) (map sum_line ns ++ later)) (sym (none_left i count r)) ∙ all) where
       four : 4 * count + 3 ≡ 3 * count + 3 + i
       four = omega (arith, l, r)
 
 -- All lines: procedures, two lines, the sum, and two lines again.
 pub all_lines : (count first second third fourth fifth : ℕ) (procedures x head sums y done : List SourceLine) (a b c d : SourceLine)
     → second ≡ suc first → third ≡ suc second → fifth ≡ suc fourth
-    → ((later : List (List ℕ)) → procedures ++ numbered first later ≡ numbered 1 (flat_map procedure_lines (numbers count) ++ later))
+    → ((later : List (List ℕ)) → procedures ++ numbered_from first later ≡ numbered_from 1 (flat_map procedure_lines (numbers count) ++ later))
     → x ≡ procedures ++ a ∷ [] → head ≡ x ++ b ∷ []
     → a ≡ line_at first (codes "procedure main()") → b ≡ line_at second (codes "t := 0")
-    → ((later : List (List ℕ)) → sums ++ numbered fourth later ≡ head ++ numbered third (map sum_line (numbers count) ++ later))
+    → ((later : List (List ℕ)) → sums ++ numbered_from fourth later ≡ head ++ numbered_from third (map sum_line (numbers count) ++ later))
     → y ≡ sums ++ c ∷ [] → done ≡ y ++ d ∷ []
     → c ≡ line_at fourth (codes "write(t)") → d ≡ line_at fifth (codes "end")
-    → done ≡ numbered 1 (generated count)
+    → done ≡ numbered_from 1 (program_lines count)
 all_lines count first second third fourth fifth procedures x head sums y done a b c d next after last made one two is_a is_b added three four is_c is_d =
     let procs : List (List ℕ) = flat_map procedure_lines (numbers count) in
     let ends : List (List ℕ) = codes "write(t)" ∷ codes "end" ∷ [] in
@@ -123,9 +123,9 @@ all_lines count first second third fourth fifth procedures x head sums y done a 
     let start : SourceLine = line_at (suc first) (codes "t := 0") in
     let begun : head ≡ procedures ++ (main ∷ start ∷ []) =
     two_put procedures x head a b main start one two is_a (is_b ∙ ap (λ k. line_at k (codes "t := 0")) next) in
-    let ended : done ≡ sums ++ numbered fourth ends =
+    let ended : done ≡ sums ++ numbered_from fourth ends =
     two_put sums y done c d (line_at fourth (codes "write(t)")) (line_at (suc fourth) (codes "end")) three four is_c
     (is_d ∙ ap (λ k. line_at k (codes "end")) last) in
-    ended ∙ (added ends ∙ (ap (λ k. head ++ numbered k rest) (after ∙ ap suc next) ∙ (ap (λ xs. xs ++ numbered (suc (suc first)) rest) begun
-    ∙ (append_assoc procedures (main ∷ start ∷ []) (numbered (suc (suc first)) rest) ∙ (made (codes "procedure main()" ∷ codes "t := 0" ∷ rest)
-    ∙ ap (numbered 1) (sym (append_assoc procs (codes "procedure main()" ∷ codes "t := 0" ∷ map sum_line (numbers count)) ends)))))))
+    ended ∙ (added ends ∙ (ap (λ k. head ++ numbered_from k rest) (after ∙ ap suc next) ∙ (ap (λ xs. xs ++ numbered_from (suc (suc first)) rest) begun
+    ∙ (append_assoc procedures (main ∷ start ∷ []) (numbered_from (suc (suc first)) rest) ∙ (made (codes "procedure main()" ∷ codes "t := 0" ∷ rest)
+    ∙ ap (numbered_from 1) (sym (append_assoc procs (codes "procedure main()" ∷ codes "t := 0" ∷ map sum_line (numbers count)) ends)))))))

@@ -21,7 +21,7 @@ use Rattle.icont_units.specs.declared.files.Kind.TheVariants.{Source, Ucode}
 use Rattle.icont_units.specs.Files.{File, source_name}
 use Rattle.icont_units.specs.Generated.{GeneratedComes, generated_lines}
 use Rattle.icont_units.specs.Sources.{Scan, source_read}
-use Rattle.icont_units.specs.Translating.{Become}
+use Rattle.icont_units.specs.Translating.{TokensGive}
 use Rattle.icont_units.specs.Units.{Member, FromUcode, texts_held, unit_found, unit_of, AreJudged, Comes, Come, IsAbsent, IsHeld, is_there, link_in, links_of, links_in, Gather, Load}
 use Rattle.icont_units.proofs.Matching.{same_Ok, ok-err}
 use Rattle.icont_units.proofs.ShortTexts.{all_both, any_back, both_first, both_second, both_are, either, fewer_wait, has, has_all, has_text, or_first, or_second, texts_of, waiting}
@@ -59,7 +59,7 @@ judged_read {unit = unit} x = read_of (Ok unit) x unit refl
 -- Files that are named
 
 by_verdict : (files : FileMap) (base : List ℕ) (scan : Scan) (verdict : Verdict) → source_read files (source_name base) ≡ Ok scan
-    → Become scan.tokens verdict → (found : Result Member Answer) × Comes files (record { kind = Source; base = base }) found
+    → TokensGive scan.tokens verdict → (found : Result Member Answer) × Comes files (record { kind = Source; base = base }) found
 by_verdict files base scan (Ok file) e x = (_, Comes.translated base scan file e x)
 by_verdict files base scan (Err broken) e x = (_, Comes.broken base scan broken.0 broken.1 e x)
 
@@ -253,7 +253,7 @@ some_load rules spelled files named = let come = some_come files named in by_com
 
 -- The program of a number
 
-by_generated : (number : ℕ) (tokens : List Token) (verdict : Verdict) → tokens_of (generated_lines number) ≡ Scanned tokens → Become tokens verdict
+by_generated : (number : ℕ) (tokens : List Token) (verdict : Verdict) → tokens_of (generated_lines number) ≡ Scanned tokens → TokensGive tokens verdict
     → (found : Result (List Member) Answer) × GeneratedComes number found
 by_generated number tokens (Ok file) e x = (_, GeneratedComes.made tokens file e x)
 by_generated number tokens (Err broken) e x = (_, GeneratedComes.broken tokens broken.0 broken.1 e x)

@@ -10,7 +10,7 @@ use Rattle.icn_lines.specs.declared.answer.Answer.{Answer}
 use Rattle.icont_units.specs.Files.{File, source_name}
 use Rattle.icont_units.specs.Generated.{GeneratedComes, generated_base, generated_lines}
 use Rattle.icont_units.specs.Sources.{Scan, source_read}
-use Rattle.icont_units.specs.Translating.{Become}
+use Rattle.icont_units.specs.Translating.{TokensGive}
 use Rattle.icont_units.specs.Units.{Member, FromSource, FromUcode, AreJudged, Comes, Come, Gather, Load}
 use Rattle.icont_units.proofs.SomeLoading.{KeepRules, judged_read}
 
@@ -33,7 +33,7 @@ each_more Holds (first ∷ members) member h k = (h.0, each_more Holds members m
 
 module _ (Holds : Member → Type 0) (files : FileMap)
     (source : (base : List ℕ) (scan : Scan) (file : List Declaration) → source_read files (source_name base) ≡ Ok scan
-    → Become scan.tokens (Ok file) → Holds (FromSource base file))
+    → TokensGive scan.tokens (Ok file) → Holds (FromSource base file))
     (ucode : (unit : UnitRead) → keeps_rules unit.procs unit.decls ≡ true → Holds (FromUcode unit)) (rules : KeepRules) where
   judged_holds : {base first second : List ℕ} {unit : UnitRead} → AreJudged base first second (Ok unit) → Holds (FromUcode unit)
   judged_holds {base} {first} {second} {unit} j = ucode unit (rules base first second unit (judged_read j))
@@ -66,7 +66,7 @@ module _ (Holds : Member → Type 0) (files : FileMap)
   load_holds _ (Load.gathered members result x y) = gather_holds y (come_hold (Ok members) x)
 
 pub generated_holds : (Holds : Member → Type 0) (number : ℕ)
-    → ((tokens : List Token) (file : List Declaration) → tokens_of (generated_lines number) ≡ Scanned tokens → Become tokens (Ok file)
+    → ((tokens : List Token) (file : List Declaration) → tokens_of (generated_lines number) ≡ Scanned tokens → TokensGive tokens (Ok file)
     → Holds (FromSource generated_base file))
     → (found : Result (List Member) Answer) → GeneratedComes number found → OfAll Holds found
 generated_holds Holds number source _ (GeneratedComes.not_scanned rule file line e) = tt

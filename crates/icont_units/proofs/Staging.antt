@@ -18,7 +18,7 @@ use Rattle.icn_lines.specs.declared.answer.Answer.TheVariants.{NoMemory}
 use Rattle.icont_units.specs.Faults.{of_parse, of_context}
 use Rattle.icont_units.specs.Sources.{refused_at, IsTreeRule, IsOfTokens}
 use Rattle.icont_units.specs.Stages.{Stops}
-use Rattle.icont_units.specs.Translating.{Become, not_parsed, out_of_context, is_file}
+use Rattle.icont_units.specs.Translating.{TokensGive, not_parsed, out_of_context, is_file}
 use Rattle.icont_units.proofs.ContextRules.{context_rules}
 use Rattle.icont_units.proofs.Matching.{same_Err, ok-err}
 
@@ -42,13 +42,13 @@ parse_rules (Faulty (UnknownKeyword p)) rule place e = rule_is _ rule _ place e 
 parse_rules (Faulty (NotInProfile p)) rule place e = rule_is _ rule _ place e tt
 parse_rules (IsTree file) rule place e = absurd (none-some (rule, place) e)
 
-found_rules : {tokens : List Token} (found : Result (List Declaration) (Rule × Place)) → Become tokens found → (rule : Rule) (place : Place) → found ≡ Err (rule, place) → IsTreeRule rule
+found_rules : {tokens : List Token} (found : Result (List Declaration) (Rule × Place)) → TokensGive tokens found → (rule : Rule) (place : Place) → found ≡ Err (rule, place) → IsTreeRule rule
 found_rules _ (not_parsed outcome r p is e) rule place same = parse_rules outcome rule place (e ∙ ap (λ broken. Some broken) (same_Err (r, p) (rule, place) same))
 found_rules _ (out_of_context file fault is e) rule place same =
     subst IsTreeRule (ap (λ (broken : Rule × Place). broken.0) (same_Err (fault.rule, fault.place) (rule, place) same)) (context_rules file fault e)
 found_rules _ (is_file file is e) rule place same = absurd (ok-err file (rule, place) same)
 
 -- a refusal, or want of memory
-pub refused_rules : (names : List (List ℕ)) (tokens : List Token) (rule : Rule) (place : Place) (answer : Answer) → Become tokens (Err (rule, place)) → (answer ≡ refused_at names rule place) ⊎ (answer ≡ NoMemory) → IsOfTokens answer
+pub refused_rules : (names : List (List ℕ)) (tokens : List Token) (rule : Rule) (place : Place) (answer : Answer) → TokensGive tokens (Err (rule, place)) → (answer ≡ refused_at names rule place) ⊎ (answer ≡ NoMemory) → IsOfTokens answer
 refused_rules names tokens rule place answer are (inl e) = rw e (found_rules (Err (rule, place)) are rule place refl)
 refused_rules names tokens rule place answer are (inr e) = rw e tt

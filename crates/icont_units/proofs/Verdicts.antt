@@ -12,7 +12,7 @@ use Rattle.icn_parse.proofs.Answering.{one_outcome, some_outcome}
 use Rattle.icn_decls.specs.Contexts.{Fault}
 use Rattle.icn_decls.specs.Faults.{context_faults}
 use Rattle.icn_decls.specs.Views.{first_of}
-use Rattle.icont_units.specs.Translating.{Become, not_parsed, out_of_context, is_file}
+use Rattle.icont_units.specs.Translating.{TokensGive, not_parsed, out_of_context, is_file}
 use Rattle.icont_units.proofs.Matching.{same_Ok}
 
 abbrev pub Verdict : Type 0
@@ -59,34 +59,34 @@ record OfOutcome (tokens : List Token) (found : Verdict) : Type 0 where
   pub is : IsOutcome tokens outcome
   pub same : found ≡ verdict outcome
 
-of_outcome : {tokens : List Token} (found : Verdict) → Become tokens found → OfOutcome tokens found
+of_outcome : {tokens : List Token} (found : Verdict) → TokensGive tokens found → OfOutcome tokens found
 of_outcome _ (not_parsed outcome rule place is e) = record { outcome = outcome; is = is; same = sym (when_broken outcome rule place e) }
 of_outcome _ (out_of_context file fault is e) =
     record { outcome = IsTree file; is = is; same = sym (when_out_of_context (context_faults file) file fault e) }
 of_outcome _ (is_file file is e) = record { outcome = IsTree file; is = is; same = sym (when_in_context file e) }
 
-pub one_become : (tokens : List Token) (a b : Verdict) → Become tokens a → Become tokens b → a ≡ b
+pub one_become : (tokens : List Token) (a b : Verdict) → TokensGive tokens a → TokensGive tokens b → a ≡ b
 one_become tokens a b x y =
     let p = of_outcome a x in
     let q = of_outcome b y in
     p.same ∙ (ap verdict (one_outcome tokens p.outcome q.outcome p.is q.is) ∙ sym q.same)
 
-pub one_program : (tokens : List Token) (a b : List Declaration) → Become tokens (Ok a) → Become tokens (Ok b) → a ≡ b
+pub one_program : (tokens : List Token) (a b : List Declaration) → TokensGive tokens (Ok a) → TokensGive tokens (Ok b) → a ≡ b
 one_program tokens a b x y = same_Ok a b (one_become tokens (Ok a) (Ok b) x y)
 
 -- there is one
 
 by_faults : (tokens : List Token) (file : List Declaration) → IsOutcome tokens (IsTree file) → (faults : List Fault) → context_faults file ≡ faults
-    → (v : Verdict) × Become tokens v
+    → (v : Verdict) × TokensGive tokens v
 by_faults tokens file is [] e = (_, is_file file is e)
 by_faults tokens file is (fault ∷ faults) e = (_, out_of_context file fault is (ap first_of e))
 
-by_outcome : (tokens : List Token) (outcome : Outcome) → IsOutcome tokens outcome → (v : Verdict) × Become tokens v
+by_outcome : (tokens : List Token) (outcome : Outcome) → IsOutcome tokens outcome → (v : Verdict) × TokensGive tokens v
 by_outcome tokens NoProgram is = (_, not_parsed NoProgram S1 whole_file is refl)
 by_outcome tokens (TooHigh place) is = (_, not_parsed (TooHigh place) S2 place is refl)
 by_outcome tokens (Faulty (UnknownKeyword place)) is = (_, not_parsed (Faulty (UnknownKeyword place)) S3 place is refl)
 by_outcome tokens (Faulty (NotInProfile place)) is = (_, not_parsed (Faulty (NotInProfile place)) S4 place is refl)
 by_outcome tokens (IsTree file) is = by_faults tokens file is (context_faults file) refl
 
-pub some_become : (tokens : List Token) → (v : Verdict) × Become tokens v
+pub some_become : (tokens : List Token) → (v : Verdict) × TokensGive tokens v
 some_become tokens = let some = some_outcome tokens in by_outcome tokens some.0 some.1

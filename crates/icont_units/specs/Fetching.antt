@@ -17,7 +17,7 @@ use Rattle.icont_units.specs.declared.files.File.{File as HeldFile}
 use Rattle.icont_units.specs.declared.ucode.UnitTexts.{UnitTexts}
 use Rattle.icont_units.specs.Files.{File, source, ucode}
 use Rattle.icont_units.specs.Sources.{Scan, refused_at}
-use Rattle.icont_units.specs.Translating.{Become}
+use Rattle.icont_units.specs.Translating.{TokensGive}
 use Rattle.icont_units.specs.Units.{Comes, FromSource, FromUcode, AreJudged, IsAbsent, IsHeld}
 
 -- Files that are named
@@ -46,9 +46,9 @@ IsSource files base (Err answer) = IsFault answer ⊎ Comes files (source base) 
 
 -- the tokens are this file, or their refusal is answered, or want of memory
 abbrev pub AreFile : Scan → Result Checked Answer → Type 0
-AreFile scan (Ok checked) = Become scan.tokens (Ok (declarations_of checked.text))
+AreFile scan (Ok checked) = TokensGive scan.tokens (Ok (declarations_of checked.text))
 AreFile scan (Err answer) = (answer ≡ NoMemory)
-    ⊎ ((rule : Rule) × ((place : Place) × (Become scan.tokens (Err (rule, place)) × (answer ≡ refused_at scan.names rule place))))
+    ⊎ ((rule : Rule) × ((place : Place) × (TokensGive scan.tokens (Err (rule, place)) × (answer ≡ refused_at scan.names rule place))))
 
 -- Texts
 

@@ -9,7 +9,7 @@ use Rattle.icn_tree.specs.Tokens.{Scanned, Fault, tokens_of}
 use Rattle.icn_tree.specs.Trees.{Declaration}
 use Rattle.icn_lines.specs.declared.answer.Answer.{Answer}
 use Rattle.icont_units.specs.Sources.{refused_at}
-use Rattle.icont_units.specs.Translating.{Become}
+use Rattle.icont_units.specs.Translating.{TokensGive}
 use Rattle.icont_units.specs.Units.{FromSource, Member}
 
 -- from 1 on
@@ -23,8 +23,8 @@ abbrev pub sum_line : ℕ → List ℕ
 sum_line i = codes "every t +:= p" ++ decimal i ++ codes "(1 to 3)"
 
 -- the lines without their ends
-abbrev pub generated : ℕ → List (List ℕ)
-generated count = flat_map procedure_lines (numbers count)
+abbrev pub program_lines : ℕ → List (List ℕ)
+program_lines count = flat_map procedure_lines (numbers count)
     ++ codes "procedure main()" ∷ codes "t := 0" ∷ map sum_line (numbers count) ++ codes "write(t)" ∷ codes "end" ∷ []
 
 -- a line of the one file
@@ -32,12 +32,12 @@ abbrev pub line_at : ℕ → List ℕ → SourceLine
 line_at number bytes = record { bytes = bytes; file = 0; number = number }
 
 -- the lines as those of one file, numbered from here on
-abbrev pub numbered : ℕ → List (List ℕ) → List SourceLine
-numbered number [] = []
-numbered number (bytes ∷ rest) = line_at number bytes ∷ numbered (suc number) rest
+abbrev pub numbered_from : ℕ → List (List ℕ) → List SourceLine
+numbered_from number [] = []
+numbered_from number (bytes ∷ rest) = line_at number bytes ∷ numbered_from (suc number) rest
 
 abbrev pub generated_lines : ℕ → List SourceLine
-generated_lines count = numbered 1 (generated count)
+generated_lines count = numbered_from 1 (program_lines count)
 
 -- the name that the lines' file has in refusals, and the name of the image
 abbrev pub generated_base : List ℕ
@@ -51,13 +51,13 @@ abbrev pub sizes_text : ℕ → ℕ → List ℕ
 sizes_text lines procedures = codes "lines " ++ decimal lines ++ codes " procedures " ++ decimal procedures ++ codes "\n"
 
 abbrev pub sizes_line : ℕ → List ℕ
-sizes_line count = sizes_text (length (generated count)) (suc count)
+sizes_line count = sizes_text (length (program_lines count)) (suc count)
 
 -- the one unit of its lines, which are not read; or the rule that they break
 pub data GeneratedComes (number : ℕ) : Result (List Member) Answer → Type 0 where
   not_scanned : (rule : Rule) (file line : ℕ) → tokens_of (generated_lines number) ≡ Fault rule file line
       → GeneratedComes number (Err (refused_at (generated_name ∷ []) rule (record { line = line; file = file })))
   broken : (tokens : List Token) (rule : Rule) (place : Place) → tokens_of (generated_lines number) ≡ Scanned tokens
-      → Become tokens (Err (rule, place)) → GeneratedComes number (Err (refused_at (generated_name ∷ []) rule place))
+      → TokensGive tokens (Err (rule, place)) → GeneratedComes number (Err (refused_at (generated_name ∷ []) rule place))
   made : (tokens : List Token) (file : List Declaration) → tokens_of (generated_lines number) ≡ Scanned tokens
-      → Become tokens (Ok file) → GeneratedComes number (Ok (FromSource generated_base file ∷ []))
+      → TokensGive tokens (Ok file) → GeneratedComes number (Ok (FromSource generated_base file ∷ []))

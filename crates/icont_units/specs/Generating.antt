@@ -10,7 +10,7 @@ use Rattle.icont_units.specs.declared.members.Members.{Members}
 use Rattle.icont_units.specs.Generated.{GeneratedComes, generated_base}
 use Rattle.icont_units.specs.Loading.{Stands}
 use Rattle.icont_units.specs.Sources.{Scan, refused_at}
-use Rattle.icont_units.specs.Translating.{Become}
+use Rattle.icont_units.specs.Translating.{TokensGive}
 use Rattle.icont_units.specs.Units.{FromSource, Member}
 
 -- the program of the number is these units, or what refuses it is answered, or want of memory
@@ -20,9 +20,9 @@ IsGenerated number (Err answer) = IsFault answer ⊎ GeneratedComes number (Err 
 
 -- the tokens are the file of the one unit, or their refusal is answered, or want of memory
 abbrev pub AreMember : Scan → Result Members Answer → Type 0
-AreMember scan (Ok held) = (file : List Declaration) × (Become scan.tokens (Ok file) × Stands held (FromSource generated_base file ∷ []))
+AreMember scan (Ok held) = (file : List Declaration) × (TokensGive scan.tokens (Ok file) × Stands held (FromSource generated_base file ∷ []))
 AreMember scan (Err answer) = (answer ≡ NoMemory)
-    ⊎ ((rule : Rule) × ((place : Place) × (Become scan.tokens (Err (rule, place)) × (answer ≡ refused_at scan.names rule place))))
+    ⊎ ((rule : Rule) × ((place : Place) × (TokensGive scan.tokens (Err (rule, place)) × (answer ≡ refused_at scan.names rule place))))
 
 -- an answer to lines that were made: the rule that they break, or want of memory
 abbrev pub IsOfLines : Answer → Type 0

@@ -42,17 +42,17 @@ pub record IsSound (held : Members) : Type 0 where
   pub stands : Stands held members
 
 -- What is kept of members: their units, and the place of the first that was read as ucode.
-pub record Kept : Type 0 where
+pub record KeptUnits : Type 0 where
   pub units : List UnitRead
   pub first_ucode : Option ℕ
 
-abbrev pub kept_of : Members → Kept
+abbrev pub kept_of : Members → KeptUnits
 kept_of held = record { units = units_seen held.units.items; first_ucode = held.first_ucode }
 
-abbrev pub with_source : Kept → UnitRead → Kept
+abbrev pub with_source : KeptUnits → UnitRead → KeptUnits
 with_source kept unit = record kept { units = kept.units ++ unit ∷ [] }
 
-abbrev pub with_ucode : Kept → UnitRead → Kept
+abbrev pub with_ucode : KeptUnits → UnitRead → KeptUnits
 with_ucode kept unit = record {
   units = kept.units ++ unit ∷ [];
   first_ucode = Some (unwrap_or kept.first_ucode (length kept.units));

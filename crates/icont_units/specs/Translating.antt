@@ -12,9 +12,9 @@ use Rattle.icn_decls.specs.Views.{first_of}
 
 -- Stage by stage: they have no tree or break a rule of trees; or their tree breaks a context rule, and the first is told; or they are
 -- the declarations of a file.
-pub data Become (tokens : List Token) : Result (List Declaration) (Rule × Place) → Type 0 where
+pub data TokensGive (tokens : List Token) : Result (List Declaration) (Rule × Place) → Type 0 where
   not_parsed : (outcome : Outcome) (rule : Rule) (place : Place) → IsOutcome tokens outcome
-      → unparsed_by outcome ≡ Some (rule, place) → Become tokens (Err (rule, place))
+      → unparsed_by outcome ≡ Some (rule, place) → TokensGive tokens (Err (rule, place))
   out_of_context : (file : List Declaration) (fault : Fault) → IsOutcome tokens (IsTree file)
-      → first_of (context_faults file) ≡ Some fault → Become tokens (Err (fault.rule, fault.place))
-  is_file : (file : List Declaration) → IsOutcome tokens (IsTree file) → context_faults file ≡ [] → Become tokens (Ok file)
+      → first_of (context_faults file) ≡ Some fault → TokensGive tokens (Err (fault.rule, fault.place))
+  is_file : (file : List Declaration) → IsOutcome tokens (IsTree file) → context_faults file ≡ [] → TokensGive tokens (Ok file)

@@ -18,7 +18,7 @@ use Rattle.icn_link.specs.LinkFaults.{base_of as linked_base, unit_names}
 use Rattle.icn_lines.specs.declared.answer.Answer.{Answer}
 use Rattle.icn_lines.specs.declared.answer.Answer.TheVariants.{Refused, Missing, BadUcode}
 use Rattle.icont_units.specs.Sources.{Scan, refused_at, source_read}
-use Rattle.icont_units.specs.Translating.{Become}
+use Rattle.icont_units.specs.Translating.{TokensGive}
 use Rattle.icont_units.specs.Files.{File, source, ucode, source_name, first_name, second_name}
 
 -- a unit with what it was made of: a source, as its declarations, or ucode
@@ -72,9 +72,9 @@ pub data AreJudged (base first second : List ℕ) : Result UnitRead Answer → T
 pub data Comes (files : FileMap) : File → Result Member Answer → Type 0 where
   no_tokens : (base : List ℕ) (answer : Answer) → source_read files (source_name base) ≡ Err answer → Comes files (source base) (Err answer)
   broken : (base : List ℕ) (scan : Scan) (rule : Rule) (place : Place) → source_read files (source_name base) ≡ Ok scan
-      → Become scan.tokens (Err (rule, place)) → Comes files (source base) (Err (refused_at scan.names rule place))
+      → TokensGive scan.tokens (Err (rule, place)) → Comes files (source base) (Err (refused_at scan.names rule place))
   translated : (base : List ℕ) (scan : Scan) (file : List Declaration) → source_read files (source_name base) ≡ Ok scan
-      → Become scan.tokens (Ok file) → Comes files (source base) (Ok (FromSource base file))
+      → TokensGive scan.tokens (Ok file) → Comes files (source base) (Ok (FromSource base file))
   not_there : (base name : List ℕ) → texts_held files base ≡ Err name → Comes files (ucode base) (Err (Missing name))
   not_read : (base first second : List ℕ) (answer : Answer) → texts_held files base ≡ Ok (first, second)
       → AreJudged base first second (Err answer) → Comes files (ucode base) (Err answer)

@@ -1,7 +1,7 @@
 // The lines of the program of a number.
 ghost use Rattle.std.specs.Prelude.{◌≡◌, ◌<◌, ◌+◌, ◌*◌, ℕ, List, [], ◌∷◌, ◌++◌, map, decimal, IfOk, OnOk};
 ghost use Rattle.std.specs.List.{flat_map};
-ghost use Rattle.icont_units.specs.Generated.{generated_lines, generated_name, line_at, numbered, numbers, procedure_lines, sizes_line, sizes_text, sum_line};
+ghost use Rattle.icont_units.specs.Generated.{generated_lines, generated_name, line_at, numbered_from, numbers, procedure_lines, sizes_line, sizes_text, sum_line};
 
 use icn_text::decimal;
 use icn_tree::{Bytes, Lines, SourceLine};
@@ -54,8 +54,8 @@ fn source_lines(alloc: Global, count: u32) -> Result<Vec<SourceLine>, AllocError
 // Adds the procedures, in front of whatever follows.
 fn add_procedures(alloc: Global, count: u32, lines: &mut Vec<SourceLine>) -> Result<(), AllocError>
     requires few { count < 65536 }
-    ensures { OnOk result ((later : List (List ℕ)) → lines.new.items ++ numbered (3 * count + 1) later
-        ≡ lines.old.items ++ numbered 1 (flat_map procedure_lines (numbers count) ++ later)) }
+    ensures { OnOk result ((later : List (List ℕ)) → lines.new.items ++ numbered_from (3 * count + 1) later
+        ≡ lines.old.items ++ numbered_from 1 (flat_map procedure_lines (numbers count) ++ later)) }
 {
     for i in 0..count {
         add_procedure(alloc, i + 1, 3 * i + 1, lines)?;
@@ -70,7 +70,7 @@ fn add_procedure(
     lines: &mut Vec<SourceLine>,
 ) -> Result<(), AllocError>
     requires few { number < 262144 }
-    ensures { OnOk result (lines.new.items ≡ lines.old.items ++ numbered number (procedure_lines i)) }
+    ensures { OnOk result (lines.new.items ≡ lines.old.items ++ numbered_from number (procedure_lines i)) }
 {
     lines.push(line_of(alloc, b"procedure p", i, b"(n)", number)?)?;
     lines.push(line_of(alloc, b"suspend (n to n + 2) * ", i, b"", number + 1)?)?;
@@ -81,8 +81,8 @@ fn add_procedure(
 // Adds the lines of the sum, in front of whatever follows.
 fn add_sums(alloc: Global, count: u32, lines: &mut Vec<SourceLine>) -> Result<(), AllocError>
     requires few { count < 65536 }
-    ensures { OnOk result ((later : List (List ℕ)) → lines.new.items ++ numbered (4 * count + 3) later
-        ≡ lines.old.items ++ numbered (3 * count + 3) (map sum_line (numbers count) ++ later)) }
+    ensures { OnOk result ((later : List (List ℕ)) → lines.new.items ++ numbered_from (4 * count + 3) later
+        ≡ lines.old.items ++ numbered_from (3 * count + 3) (map sum_line (numbers count) ++ later)) }
 {
     for i in 0..count {
         let line = line_of(

@@ -11,9 +11,9 @@ use Rattle.clap.specs.Walk.{Held, Outcome, Row, Rule, Step, Text, Waiting, after
 use Rattle.clap.specs.Kinds.{Kinds, or_else}
 use Rattle.clap.specs.Faults.{bundle_step_fault, flags_fault, option_fault, react_fault, settle_fault, short_fault, step_fault, use_fault}
 use Rattle.clap.specs.declared.error.kind.ErrorKind.{ErrorKind}
-use Rattle.icont_words.specs.Words.{Letter, Image, Turns, Number, Units, Valued, letter_byte, letter_of, attached}
+use Rattle.icont_words.specs.Words.{Letter, Image, Turns, Number, Units, Valued, letter_byte, letter_of, value_in_word}
 use Rattle.icont_words.proofs.LeftToRight.{Pieces, value_said, option_said, flags_said, said_from, with_piece, letter_is, option_flag}
-use Rattle.icont_words.proofs.Taken.{letter_id, units_taken, option_taken, taken, shape, short_units, short_option, short_none}
+use Rattle.icont_words.proofs.ClapCommand.{letter_id, units_taken, option_taken, taken, shape, short_units, short_option, short_none}
 use Rattle.icont_words.proofs.Uses.{with_use, is_new, clear, clear_or, units_clear, option_clear, Pending, no_use, pend, name_count, held, rows_with, clear_with, and_assoc}
 use Rattle.icont_words.proofs.Walking.{Goes, goes_as, guarded, add_piece, refused, and_true, stands}
 
@@ -128,9 +128,9 @@ flags_at_fault a rest k h kind kinds u is =
 
 -- All flags of a word
 
-attached_is : (b : ℕ) (rest : List ℕ) → attached_value (b ∷ rest) ≡ Some (attached b rest)
+attached_is : (b : ℕ) (rest : List ℕ) → attached_value (b ∷ rest) ≡ Some (value_in_word b rest)
 attached_is b rest = by (b == 61) refl where
-  by : (t : Bool) → (b == 61) ≡ t → attached_value (b ∷ rest) ≡ Some (attached b rest)
+  by : (t : Bool) → (b == 61) ≡ t → attached_value (b ∷ rest) ≡ Some (value_in_word b rest)
   by true e = rw e refl
   by false e = rw e refl
 
@@ -232,7 +232,7 @@ module _ (word : Text) (words : List Text) (rows_before : List Row) (pending_bef
         (guarded (clear_with p rows) true _ words true _ (rows_with p rows) g)
     value_go letter (b ∷ rest) k p rows room =
         let h = held rows (pend p) in
-        let v = attached b rest in
+        let v = value_in_word b rest in
         let before = rows_with p rows in
         let after = with_use (Valued letter v) before in
         let g = rest_goes no_use after (omega (arith, room)) in

@@ -23,9 +23,9 @@ use Rattle.icont_words.specs.Words.{Letter, Image, Turns, Number, Piece, Units, 
 use Rattle.icont_words.specs.Command.{icont_app}
 use Rattle.icont_words.specs.Matched.{AreMeant, Holds, values_found}
 use Rattle.icont_words.proofs.LeftToRight.{Pieces, found, said_from, sound}
-use Rattle.icont_words.proofs.Taken.{app, app_built, is_free, letter_id, nothing_wanted, option_taken, rules_taken, shape, taken, taken_is, units_taken}
+use Rattle.icont_words.proofs.ClapCommand.{app, app_built, is_free, letter_id, nothing_wanted, option_taken, rules_taken, shape, taken, taken_is, units_taken}
 use Rattle.icont_words.proofs.Uses.{all_new, clear, clear_or, takes_said, with_uses}
-use Rattle.icont_words.proofs.Seen.{Sight, grown, has_id, has_seen, more_seen, names_told, new_from, no_file, no_letter, seen, seen_uses, sight, told, used_once, values_told, with_other, with_same}
+use Rattle.icont_words.proofs.ClapRows.{Sight, grown, has_id, has_seen, more_seen, names_told, new_from, no_file, no_letter, seen, seen_uses, sight, told, used_once, values_told, with_other, with_same}
 use Rattle.icont_words.proofs.Walking.{Goes, and_true, end_clear, end_rows, stands}
 use Rattle.icont_words.proofs.WholeWalk.{AreTexts, walk_goes}
 

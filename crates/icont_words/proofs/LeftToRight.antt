@@ -2,7 +2,7 @@
 use Rattle.std.proofs.Common.{◌≡◌, ◌≢◌, ◌∙◌, refl, sym, ap, subst, ℕ, ◌==◌, Bool, true, false, cond, if◌then◌else◌, List, [], ◌∷◌, map, Option, None, Some}
 use Rattle.std.proofs.lemmas.Bool.{eqb-true}
 use Rattle.std.proofs.lemmas.Option.{none-some, same_Some}
-use Rattle.icont_words.specs.Words.{Letter, Image, Turns, Number, Piece, Units, Valued, Named, letter_byte, letter_of, is_dashed, attached, Says, says_nothing, all_names, a_name, a_flag, flag_before, value_within, value_behind}
+use Rattle.icont_words.specs.Words.{Letter, Image, Turns, Number, Piece, Units, Valued, Named, letter_byte, letter_of, is_dashed, value_in_word, Says, says_nothing, all_names, a_name, a_flag, flag_before, value_within, value_behind}
 
 -- Reading
 
@@ -19,7 +19,7 @@ with_piece piece (Some pieces) = Some (piece ∷ pieces)
 
 abbrev pub value_said : Letter → List ℕ → Later → Pieces
 value_said letter [] later = later (Some letter)
-value_said letter (b ∷ rest) later = with_piece (Valued letter (attached b rest)) (later None)
+value_said letter (b ∷ rest) later = with_piece (Valued letter (value_in_word b rest)) (later None)
 
 abbrev pub option_said : Option Letter → List ℕ → Later → Pieces
 option_said None rest later = None
@@ -117,7 +117,7 @@ found _ _ (flag_before b rest words pieces other behind) =
 found _ _ (value_within letter a b rest words pieces is behind) =
     ap (λ c. dashed_said c (b ∷ rest) words (said_from words)) (letter_is a letter is)
     ∙ dashed_option letter (b ∷ rest) words (said_from words)
-    ∙ ap (with_piece (Valued letter (attached b rest))) (found words pieces behind)
+    ∙ ap (with_piece (Valued letter (value_in_word b rest))) (found words pieces behind)
 found _ _ (value_behind letter a value words pieces is bare behind) =
     ap (λ c. dashed_said c [] (value ∷ words) (said_from (value ∷ words))) (letter_is a letter is)
     ∙ dashed_option letter [] (value ∷ words) (said_from (value ∷ words))
@@ -152,7 +152,7 @@ module _ (words : List (List ℕ)) (behind : AreRead words) where
       → value_said letter rest (said_from words) ≡ Some pieces → Says ((45 ∷ a ∷ rest) ∷ words) pieces
   value_sound letter a [] pieces is h = behind.due letter a pieces is h
   value_sound letter a (b ∷ rest) pieces is h =
-      said_with _ (Valued letter (attached b rest)) (said_from words None) pieces h
+      said_with _ (Valued letter (value_in_word b rest)) (said_from words None) pieces h
       (λ others e. value_within letter a b rest words others is (behind.free others e))
 
   option_sound : (found : Option Letter) (a : ℕ) (rest : List ℕ) (pieces : List Piece) → letter_of a ≡ found

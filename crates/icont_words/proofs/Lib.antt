@@ -1,6 +1,6 @@
 pub mod LeftToRight
-pub mod Taken
-pub mod Seen
+pub mod ClapCommand
+pub mod ClapRows
 pub mod Parting
 pub mod Arguments
 pub mod Holding

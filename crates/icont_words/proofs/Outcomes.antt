@@ -2,7 +2,7 @@
 use Rattle.std.proofs.Common.{◌≡◌, ◌∙◌, refl, sym, ap, subst, cond, ℕ, Bool, true, false, true≢false, List, [], ◌∷◌, unwrap_or, codes, Option, None, Some, Err}
 use Rattle.std.proofs.lemmas.Option.{none-some, same_Some}
 use Rattle.std.specs.Option.{option_map_or}
-use Rattle.icont_words.specs.Words.{Piece, Says, Order, Reading, Faulty, Asks, AreSaid, ComeTo, unsaid, said, before_run, behind_run, judged, order_of, own_words, task_of, wrong_kind}
+use Rattle.icont_words.specs.Words.{Piece, Says, Order, Reading, Faulty, Asks, AreSaid, ComeTo, unsaid, said, before_run, behind_run, order_reading, order_of, own_words, task_of, wrong_kind}
 use Rattle.icont_words.specs.Asking.{IsReading}
 use Rattle.icont_words.specs.Matched.{AreMeant, IsMatched, values_found}
 use Rattle.icont_words.specs.declared.words.WordsFault.{WordsFault}
@@ -18,7 +18,7 @@ same_pieces words a b first second =
     same_Some a b (sym (found (before_run (own_words words)) a first.said) ∙ found (before_run (own_words words)) b second.said)
 
 abbrev seen_as : List (List ℕ) → List Piece → Reading
-seen_as words pieces = judged (order_of pieces (behind_run (own_words words)))
+seen_as words pieces = order_reading (order_of pieces (behind_run (own_words words)))
 
 once_or_not : (words : List (List ℕ)) (pieces : List Piece) → Says (before_run (own_words words)) pieces → (t : Bool)
     → all_new pieces [] ≡ t
@@ -65,16 +65,16 @@ unread words before Faults.NoMemory parts m = tt
 pub read : (words before : List (List ℕ)) (pieces : List Piece) (order : Order) (run : Option (List (List ℕ)))
     → own_words before ≡ before_run (own_words words) → run ≡ behind_run (own_words words) → AreMeant before pieces
     → order ≡ order_of pieces run
-    → ComeTo words (judged order)
+    → ComeTo words (order_reading order)
 read words before pieces order run parts behind meant is =
-    subst (ComeTo words) (ap (λ r. judged (order_of pieces r)) (sym behind) ∙ ap judged (sym is))
+    subst (ComeTo words) (ap (λ r. order_reading (order_of pieces r)) (sym behind) ∙ ap order_reading (sym is))
     (said pieces (record { said = subst (λ (ws : List (List ℕ)). Says ws pieces) parts meant.said; once = meant.once }))
 
-pub read_faulty : (words : List (List ℕ)) (order : Order) (kind : ℕ) → Some kind ≡ wrong_kind order → ComeTo words (judged order)
+pub read_faulty : (words : List (List ℕ)) (order : Order) (kind : ℕ) → Some kind ≡ wrong_kind order → ComeTo words (order_reading order)
     → ComeTo words (Faulty kind)
 read_faulty words order kind is = subst (ComeTo words) (ap (λ o. option_map_or (λ k. Faulty k) o (Asks (task_of order))) (sym is))
 
-pub read_task : (words : List (List ℕ)) (order : Order) → None ≡ wrong_kind order → ComeTo words (judged order)
+pub read_task : (words : List (List ℕ)) (order : Order) → None ≡ wrong_kind order → ComeTo words (order_reading order)
     → ComeTo words (Asks (task_of order))
 read_task words order is = subst (ComeTo words) (ap (λ o. option_map_or (λ k. Faulty k) o (Asks (task_of order))) (sym is))
 

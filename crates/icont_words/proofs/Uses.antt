@@ -14,7 +14,7 @@ use Rattle.clap.specs.declared.parser.matches.ValueSource.TheVariants.{DefaultVa
 use Rattle.clap.specs.declared.error.kind.ErrorKind.TheVariants as kind
 use Rattle.icont_words.specs.Words.{Letter, Piece, Units, Valued, Named}
 use Rattle.icont_words.proofs.LeftToRight.{Pieces, with_piece}
-use Rattle.icont_words.proofs.Taken.{letter_id, units_taken, option_taken, file_taken, taken, id_option, id_file}
+use Rattle.icont_words.proofs.ClapCommand.{letter_id, units_taken, option_taken, file_taken, taken, id_option, id_file}
 
 -- the rows after a piece
 abbrev pub with_use : Piece → List Row → List Row

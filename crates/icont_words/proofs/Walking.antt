@@ -9,7 +9,7 @@ use Rattle.clap.specs.Faults.{positional_fault, settle_fault, step_fault, stray_
 use Rattle.clap.specs.declared.error.kind.ErrorKind.TheVariants as kind
 use Rattle.icont_words.specs.Words.{Piece, Named}
 use Rattle.icont_words.proofs.LeftToRight.{Pieces, with_piece}
-use Rattle.icont_words.proofs.Taken.{file_taken, taken, shape, index_file, option_no_file}
+use Rattle.icont_words.proofs.ClapCommand.{file_taken, taken, shape, index_file, option_no_file}
 use Rattle.icont_words.proofs.Uses.{with_use, with_uses, is_new, takes_said, clear, clear_or, Pending, no_use, some_names, one_value, pend, name_count, held, rows_with, clear_with, clear_names, names_more, rows_of_names, and_assoc, and_none, takes_piece}
 
 -- What is said of a walk

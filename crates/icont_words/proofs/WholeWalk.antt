@@ -10,7 +10,7 @@ use Rattle.clap.specs.Faults.{bundle_fault, flag_word_fault, long_fault, other_f
 use Rattle.clap.specs.declared.error.kind.ErrorKind.TheVariants as kind
 use Rattle.icont_words.specs.Words.{Letter, Valued, Named, is_dashed}
 use Rattle.icont_words.proofs.LeftToRight.{Pieces, dashed_said, flags_said, name_said, word_said, said_from, with_piece, name_word}
-use Rattle.icont_words.proofs.Taken.{letter_id, file_taken, taken, shape, long_none, index_file, id_option, option_no_file, same_option}
+use Rattle.icont_words.proofs.ClapCommand.{letter_id, file_taken, taken, shape, long_none, index_file, id_option, option_no_file, same_option}
 use Rattle.icont_words.proofs.Uses.{is_new, clear, Pending, no_use, one_value, pend, name_count, held, rows_with, clear_with, rows_of_value, clear_value, due_fault}
 use Rattle.icont_words.proofs.Walking.{Goes, goes_as, add_piece, refused, ends_refused, ends, turned, names_go, trailing_go, stands, end_clear}
 use Rattle.icont_words.proofs.Flags.{at_due, all_flags, dash_utf8, flags_at_fault}

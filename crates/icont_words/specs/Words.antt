@@ -33,8 +33,8 @@ is_dashed (b ∷ []) = false
 is_dashed (b ∷ c ∷ rest) = b == 45
 
 -- the value that stands in the word of its option, where one `=` may be between
-abbrev pub attached : ℕ → List ℕ → List ℕ
-attached b rest = if b == 61 then rest else b ∷ rest
+abbrev pub value_in_word : ℕ → List ℕ → List ℕ
+value_in_word b rest = if b == 61 then rest else b ∷ rest
 
 -- The words say these pieces. The flag `-c` may share a word with what follows it, so `-co x` is `-c -o x`; behind `--` all are names.
 -- (45 is `-`, and 99 is `c`.)
@@ -47,7 +47,7 @@ pub data Says : List (List ℕ) → List Piece → Type 0 where
   flag_before : (b : ℕ) (rest : List ℕ) (words : List (List ℕ)) (pieces : List Piece) → b ≢ 45
       → Says ((45 ∷ b ∷ rest) ∷ words) pieces → Says ((45 ∷ 99 ∷ b ∷ rest) ∷ words) (Units ∷ pieces)
   value_within : (letter : Letter) (a b : ℕ) (rest : List ℕ) (words : List (List ℕ)) (pieces : List Piece) → letter_of a ≡ Some letter
-      → Says words pieces → Says ((45 ∷ a ∷ b ∷ rest) ∷ words) (Valued letter (attached b rest) ∷ pieces)
+      → Says words pieces → Says ((45 ∷ a ∷ b ∷ rest) ∷ words) (Valued letter (value_in_word b rest) ∷ pieces)
   value_behind : (letter : Letter) (a : ℕ) (value : List ℕ) (words : List (List ℕ)) (pieces : List Piece) → letter_of a ≡ Some letter
       → is_dashed value ≡ false → Says words pieces → Says ((45 ∷ a ∷ []) ∷ value ∷ words) (Valued letter value ∷ pieces)
 
@@ -188,8 +188,8 @@ pub data Reading : Type 0 where
   Asks : Task → Reading
   Faulty : ℕ → Reading
 
-abbrev pub judged : Order → Reading
-judged order = option_map_or (λ kind. Faulty kind) (wrong_kind order) (Asks (task_of order))
+abbrev pub order_reading : Order → Reading
+order_reading order = option_map_or (λ kind. Faulty kind) (wrong_kind order) (Asks (task_of order))
 
 -- these pieces are what the words before the first `-x` say
 pub record AreSaid (words : List (List ℕ)) (pieces : List Piece) : Type 0 where
@@ -199,4 +199,4 @@ pub record AreSaid (words : List (List ℕ)) (pieces : List Piece) : Type 0 wher
 -- What the words come to. They say no pieces, or some of them twice; or the pieces are judged.
 pub data ComeTo (words : List (List ℕ)) : Reading → Type 0 where
   unsaid : ((pieces : List Piece) → AreSaid words pieces → ⊥) → ComeTo words (Faulty 1)
-  said : (pieces : List Piece) → AreSaid words pieces → ComeTo words (judged (order_of pieces (behind_run (own_words words))))
+  said : (pieces : List Piece) → AreSaid words pieces → ComeTo words (order_reading (order_of pieces (behind_run (own_words words))))

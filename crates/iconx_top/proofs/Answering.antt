@@ -12,7 +12,7 @@ use Rattle.icn_lines.specs.Faulting.{IsOfRun}
 use Rattle.iconx_top.specs.Loading.{IsLoaded}
 use Rattle.iconx_top.specs.Usage.{usage}
 use Rattle.icn_lines.specs.Refusing.{Refuses, own, put, want, write_fault}
-use Rattle.iconx_top.specs.Words.{Asks, asked}
+use Rattle.iconx_top.specs.Words.{Asks, words_reading}
 
 pub answer_put : {words : List (List ℕ)} {files : FileMap} {name : List ℕ} {before after : SinkState} (answer given : Answer) → IsAnswered words files answer
     → Refuses usage name answer before after given → IsAnswered words files given
@@ -22,7 +22,7 @@ answer_put answer _ is (write_fault n leads) = fault WriteFault refl
 answer_put answer _ is (want n between leads puts) = fault NoMemory refl
 
 pub load_answered : {words : List (List ℕ)} {files : FileMap} (bounds : Bounds) (name : List ℕ) (arguments : List (List ℕ)) (answer : Answer)
-    → asked words ≡ Asks bounds name arguments → IsLoaded (files name) name (Err answer) → IsAnswered words files answer
+    → words_reading words ≡ Asks bounds name arguments → IsLoaded (files name) name (Err answer) → IsAnswered words files answer
 load_answered {words} {files} bounds name arguments (Missing other) e is =
     subst (λ n. IsAnswered words files (Missing n)) (sym is.0) (missing bounds name arguments e is.1)
 load_answered bounds name arguments (BadImage rule) e is = bad bounds name is.0 arguments rule e is.1.0 is.1.1
@@ -31,7 +31,7 @@ load_answered bounds name arguments NoMemory e is = fault NoMemory refl
 load_answered bounds name arguments _ e is = absurd is
 
 pub run_answered : {words : List (List ℕ)} {files : FileMap} (bounds : Bounds) (name : List ℕ) (arguments : List (List ℕ)) (verified : Verified) (answer : Answer)
-    → asked words ≡ Asks bounds name arguments → IsLoaded (files name) name (Ok verified) → IsOfRun answer
+    → words_reading words ≡ Asks bounds name arguments → IsLoaded (files name) name (Ok verified) → IsOfRun answer
     → IsAnswered words files answer
 run_answered bounds name arguments verified (Ran ending) e is o = ran bounds name is.0 arguments (tables_of verified.code) ending e is.1.0 is.1.1
 run_answered bounds name arguments verified ReadFault e is o = fault ReadFault refl

@@ -15,7 +15,7 @@ use Rattle.icn_lines.specs.Answers.{IsFault}
 use Rattle.icn_lines.specs.declared.answer.Answer.TheVariants.{Command, Missing, BadImage}
 use Rattle.iconx_top.specs.Images.{IsJudged, too_long, broken, unverified, runs}
 use Rattle.iconx_top.specs.Job.{Job, IsJob, IsRun, wrong_words, missing, bad, ran, refusal, observation}
-use Rattle.iconx_top.specs.Words.{Reading, Asks, Faulty, asked}
+use Rattle.iconx_top.specs.Words.{Reading, Asks, Faulty, words_reading}
 
 -- Values of results that are equal
 
@@ -129,45 +129,45 @@ module _ (one : HaveOneFault) (none : HaveNoFault) where
   module _ (words : List (List ℕ)) (held : FileMap) (left : List ℕ) where
     same_tables : (s t : Tables) (a b : Launch) → IsRun words held left s a → IsRun words held left t b → s ≡ t
     same_tables s t a b x y =
-        let named : x.name ≡ y.name = same_name a.bounds b.bounds x.name y.name a.words b.words (asked words) x.asks y.asks in
+        let named : x.name ≡ y.name = same_name a.bounds b.bounds x.name y.name a.words b.words (words_reading words) x.asks y.asks in
         let bytes : x.bytes ≡ y.bytes = same_bytes held x.name y.name x.bytes y.bytes named x.there y.there in
         same_ok s t (judged_same x.bytes y.bytes (Ok s) (Ok t) bytes x.judged y.judged)
 
     launched_once : (s t : Tables) (a b : Launch) → IsRun words held left s a → IsRun words held left t b → a ≡ b
-    launched_once s t a b x y = same_launch a b (same_arguments a.bounds b.bounds x.name y.name a.words b.words (asked words) x.asks y.asks)
-        (same_bounds a.bounds b.bounds x.name y.name a.words b.words (asked words) x.asks y.asks) (x.input ∙ sym y.input)
+    launched_once s t a b x y = same_launch a b (same_arguments a.bounds b.bounds x.name y.name a.words b.words (words_reading words) x.asks y.asks)
+        (same_bounds a.bounds b.bounds x.name y.name a.words b.words (words_reading words) x.asks y.asks) (x.input ∙ sym y.input)
 
     observed_once : (s t : Tables) (a b : Launch) (p q : Observed) → IsRun words held left s a → IsRun words held left t b → Runs s a p → Runs t b q → p ≡ q
     observed_once s t a b p q x y = seen_once s t a b p q (same_tables s t a b x y) (launched_once s t a b x y)
 
     -- an image that is refused is not run
     refused_run : (bounds : Bounds) (name bytes : List ℕ) (arguments : List (List ℕ)) (rule : Rule) (tables : Tables) (launch : Launch)
-        → asked words ≡ Asks bounds name arguments → held name ≡ Some bytes → IsJudged bytes (Err rule) → IsRun words held left tables launch → ⊥
+        → words_reading words ≡ Asks bounds name arguments → held name ≡ Some bytes → IsJudged bytes (Err rule) → IsRun words held left tables launch → ⊥
     refused_run bounds name bytes arguments rule tables launch e f is x =
-        let named : name ≡ x.name = same_name bounds launch.bounds name x.name arguments launch.words (asked words) e x.asks in
+        let named : name ≡ x.name = same_name bounds launch.bounds name x.name arguments launch.words (words_reading words) e x.asks in
         ok_err tables rule (judged_same x.bytes bytes (Ok tables) (Err rule) (sym (same_bytes held name x.name bytes x.bytes named f x.there)) x.judged is)
 
     missing_run : (bounds : Bounds) (name : List ℕ) (arguments : List (List ℕ)) (tables : Tables) (launch : Launch)
-        → asked words ≡ Asks bounds name arguments → held name ≡ None → IsRun words held left tables launch → ⊥
+        → words_reading words ≡ Asks bounds name arguments → held name ≡ None → IsRun words held left tables launch → ⊥
     missing_run bounds name arguments tables launch e f x =
-        some_none held x.name name x.bytes (same_name launch.bounds bounds x.name name launch.words arguments (asked words) x.asks e) x.there f
+        some_none held x.name name x.bytes (same_name launch.bounds bounds x.name name launch.words arguments (words_reading words) x.asks e) x.there f
 
   pub one_job : (words : List (List ℕ)) (files : FileMap) (left : List ℕ) (a b : Job) → IsJob words files left a → IsJob words files left b → a ≡ b
-  one_job words files left _ _ (wrong_words k e) (wrong_words j f) = ap (λ n. refusal files left [] (Command n)) (same_kind k j (asked words) e f)
-  one_job words files left _ b (wrong_words k e) (missing c n x f _) = absurd (asks_faulty c n x k (asked words) f e)
-  one_job words files left _ b (wrong_words k e) (bad c n _ x _ f _ _) = absurd (asks_faulty c n x k (asked words) f e)
-  one_job words files left _ b (wrong_words k e) (ran _ launch _ is _) = absurd (asks_faulty launch.bounds is.name launch.words k (asked words) is.asks e)
-  one_job words files left a _ (missing c n x f _) (wrong_words k e) = absurd (asks_faulty c n x k (asked words) f e)
-  one_job words files left a _ (bad c n _ x _ f _ _) (wrong_words k e) = absurd (asks_faulty c n x k (asked words) f e)
-  one_job words files left a _ (ran _ launch _ is _) (wrong_words k e) = absurd (asks_faulty launch.bounds is.name launch.words k (asked words) is.asks e)
+  one_job words files left _ _ (wrong_words k e) (wrong_words j f) = ap (λ n. refusal files left [] (Command n)) (same_kind k j (words_reading words) e f)
+  one_job words files left _ b (wrong_words k e) (missing c n x f _) = absurd (asks_faulty c n x k (words_reading words) f e)
+  one_job words files left _ b (wrong_words k e) (bad c n _ x _ f _ _) = absurd (asks_faulty c n x k (words_reading words) f e)
+  one_job words files left _ b (wrong_words k e) (ran _ launch _ is _) = absurd (asks_faulty launch.bounds is.name launch.words k (words_reading words) is.asks e)
+  one_job words files left a _ (missing c n x f _) (wrong_words k e) = absurd (asks_faulty c n x k (words_reading words) f e)
+  one_job words files left a _ (bad c n _ x _ f _ _) (wrong_words k e) = absurd (asks_faulty c n x k (words_reading words) f e)
+  one_job words files left a _ (ran _ launch _ is _) (wrong_words k e) = absurd (asks_faulty launch.bounds is.name launch.words k (words_reading words) is.asks e)
   one_job words files left _ _ (missing b n x e _) (missing c m y f _) =
-      ap (λ name. refusal files left name (Missing name)) (same_name b c n m x y (asked words) e f)
-  one_job words files left _ d (missing b n x e h) (bad c m z y _ f g _) = absurd (some_none files m n z (same_name c b m n y x (asked words) f e) g h)
-  one_job words files left d _ (bad c m z y _ f g _) (missing b n x e h) = absurd (some_none files m n z (same_name c b m n y x (asked words) f e) g h)
+      ap (λ name. refusal files left name (Missing name)) (same_name b c n m x y (words_reading words) e f)
+  one_job words files left _ d (missing b n x e h) (bad c m z y _ f g _) = absurd (some_none files m n z (same_name c b m n y x (words_reading words) f e) g h)
+  one_job words files left d _ (bad c m z y _ f g _) (missing b n x e h) = absurd (some_none files m n z (same_name c b m n y x (words_reading words) f e) g h)
   one_job words files left _ d (missing b n x e h) (ran t launch _ is _) = absurd (missing_run words files left b n x t launch e h is)
   one_job words files left d _ (ran t launch _ is _) (missing b n x e h) = absurd (missing_run words files left b n x t launch e h is)
   one_job words files left _ _ (bad b n u x r e g p) (bad c m v y q f h s) =
-      let named : n ≡ m = same_name b c n m x y (asked words) e f in
+      let named : n ≡ m = same_name b c n m x y (words_reading words) e f in
       let rules : r ≡ q = same_err r q (judged_same u v (Err r) (Err q) (same_bytes files n m u v named g h) p s) in
       ap (λ name. refusal files left name (BadImage r)) named ∙ ap (λ rule. refusal files left m (BadImage rule)) rules
   one_job words files left _ d (bad b n u x r e g p) (ran t launch _ is _) = absurd (refused_run words files left b n u x r t launch e g p is)

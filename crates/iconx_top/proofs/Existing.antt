@@ -18,7 +18,7 @@ use Rattle.icn_run_safe.specs.Ended.{AreOver}
 use Rattle.icn_lines.specs.declared.answer.Answer.TheVariants.{Command, Missing, BadImage}
 use Rattle.iconx_top.specs.Images.{IsJudged, too_long, broken, unverified, runs}
 use Rattle.iconx_top.specs.Job.{Job, IsJob, IsRun, wrong_words, missing, bad, ran, refusal, observation}
-use Rattle.iconx_top.specs.Words.{Reading, Asks, Faulty, asked}
+use Rattle.iconx_top.specs.Words.{Reading, Asks, Faulty, words_reading}
 
 -- what the laws of the crates below say
 record Laws : Type 0 where
@@ -57,7 +57,7 @@ module _ (laws : Laws) where
         → (job : Job) × IsJob words files left job
     observed_job tables launch is seen = (observation files seen.0, ran tables launch seen.0 is seen.1)
 
-    judged_job : (bounds : Bounds) (name bytes : List ℕ) (arguments : List (List ℕ)) → asked words ≡ Asks bounds name arguments → files name ≡ Some bytes
+    judged_job : (bounds : Bounds) (name bytes : List ℕ) (arguments : List (List ℕ)) → words_reading words ≡ Asks bounds name arguments → files name ≡ Some bytes
         → Judges bytes → (job : Job) × IsJob words files left job
     judged_job bounds name bytes arguments asks there (refuses rule is) =
         (refusal files left name (BadImage rule), bad bounds name bytes arguments rule asks there is)
@@ -66,17 +66,17 @@ module _ (laws : Laws) where
         let named : IsRun words files left tables launch = record { name = name; bytes = bytes; asks = asks; there = there; judged = is; input = refl } in
         observed_job tables launch named ((laws.ends tables kept sound).flat launch)
 
-    named_job : (bounds : Bounds) (name : List ℕ) (arguments : List (List ℕ)) → asked words ≡ Asks bounds name arguments → (found : Option (List ℕ))
+    named_job : (bounds : Bounds) (name : List ℕ) (arguments : List (List ℕ)) → words_reading words ≡ Asks bounds name arguments → (found : Option (List ℕ))
         → files name ≡ found → (job : Job) × IsJob words files left job
     named_job bounds name arguments asks None there = (refusal files left name (Missing name), missing bounds name arguments asks there)
     named_job bounds name arguments asks (Some bytes) there = judged_job bounds name bytes arguments asks there (judges bytes (hold name bytes there))
 
-    asked_job : (reading : Reading) → asked words ≡ reading → (job : Job) × IsJob words files left job
+    asked_job : (reading : Reading) → words_reading words ≡ reading → (job : Job) × IsJob words files left job
     asked_job (Faulty kind) asks = (refusal files left [] (Command kind), wrong_words kind asks)
     asked_job (Asks bounds name arguments) asks = named_job bounds name arguments asks (files name) refl
 
     some_job : (job : Job) × IsJob words files left job
-    some_job = asked_job (asked words) refl
+    some_job = asked_job (words_reading words) refl
 
 pub a_job : ((bytes : List ℕ) (tables : Tables) → All (λ byte. byte < 256) bytes → image_read bytes ≡ Ok tables → (keeps_rules tables ≡ true) × (bytes ≡ image_of tables))
     → AreSoundOrBroken → ((tables : Tables) → keeps_rules tables ≡ true → IsVerified tables → AreOver tables)

@@ -1,7 +1,7 @@
 pub mod Optional
 pub mod Judging
-pub mod Refused
-pub mod Reported
+pub mod Refusals
+pub mod ReportLines
 pub mod Deciding
 pub mod Answering
 pub mod Existing

@@ -4,9 +4,9 @@ use Rattle.icn_value.specs.Limited.{limits_of}
 use Rattle.iconx_top.specs.declared.words.RunAsked.{RunAsked}
 use Rattle.iconx_top.specs.Words.{Reading, Asks, Faulty}
 
-abbrev pub asking : RunAsked → Reading
-asking asked = Asks (limits_of asked.limits) asked.image.now (map string_bytes asked.arguments.now)
+abbrev pub run_reading : RunAsked → Reading
+run_reading asked = Asks (limits_of asked.limits) asked.image.now (map string_bytes asked.arguments.now)
 
 abbrev pub reading_of : Result RunAsked ℕ → Reading
-reading_of (Ok asked) = asking asked
+reading_of (Ok asked) = run_reading asked
 reading_of (Err kind) = Faulty kind

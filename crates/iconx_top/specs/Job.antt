@@ -13,7 +13,7 @@ use Rattle.icn_lines.specs.Endings.{ending_held}
 use Rattle.icn_lines.specs.Lines.{line_of}
 use Rattle.iconx_top.specs.Images.{IsJudged}
 use Rattle.iconx_top.specs.Usage.{usage}
-use Rattle.iconx_top.specs.Words.{Asks, Faulty, asked}
+use Rattle.iconx_top.specs.Words.{Asks, Faulty, words_reading}
 
 -- the answer, the files and the input left after it, and what is added to the output and to the error output
 pub record Job : Type 0 where
@@ -41,17 +41,17 @@ observation files observed = record {
 pub record IsRun (words : List (List ℕ)) (files : FileMap) (left : List ℕ) (tables : Tables) (launch : Launch) : Type 0 where
   pub name : List ℕ
   pub bytes : List ℕ
-  pub asks : asked words ≡ Asks launch.bounds name launch.words
+  pub asks : words_reading words ≡ Asks launch.bounds name launch.words
   pub there : files name ≡ Some bytes
   pub judged : IsJudged bytes (Ok tables)
   pub input : launch.outside ≡ outside_of left
 
 -- what the words, the files and the input ask for
 pub data IsJob (words : List (List ℕ)) (files : FileMap) (left : List ℕ) : Job → Type 0 where
-  wrong_words : (kind : ℕ) → asked words ≡ Faulty kind → IsJob words files left (refusal files left [] (Command kind))
-  missing : (bounds : Bounds) (name : List ℕ) (arguments : List (List ℕ)) → asked words ≡ Asks bounds name arguments → files name ≡ None
+  wrong_words : (kind : ℕ) → words_reading words ≡ Faulty kind → IsJob words files left (refusal files left [] (Command kind))
+  missing : (bounds : Bounds) (name : List ℕ) (arguments : List (List ℕ)) → words_reading words ≡ Asks bounds name arguments → files name ≡ None
       → IsJob words files left (refusal files left name (Missing name))
-  bad : (bounds : Bounds) (name bytes : List ℕ) (arguments : List (List ℕ)) (rule : Rule) → asked words ≡ Asks bounds name arguments
+  bad : (bounds : Bounds) (name bytes : List ℕ) (arguments : List (List ℕ)) (rule : Rule) → words_reading words ≡ Asks bounds name arguments
       → files name ≡ Some bytes → IsJudged bytes (Err rule) → IsJob words files left (refusal files left name (BadImage rule))
   ran : (tables : Tables) (launch : Launch) (observed : Observed) → IsRun words files left tables launch → Runs tables launch observed
       → IsJob words files left (observation files observed)

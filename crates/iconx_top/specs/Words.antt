@@ -20,11 +20,11 @@ option_of word =
     else (if bytes_eq word (codes "-l") then Some Levels else None)))
 
 -- the limits with this one as a word says it
-abbrev pub limited : Limit → Bounds → List ℕ → Option Bounds
-limited Turns bounds text = option_map (λ n. record bounds { turns = n }) (number_within 0 18446744073709551615 text)
-limited Strings bounds text = option_map (λ n. record bounds { strings = n }) (number_within 0 1099511627776 text)
-limited Cells bounds text = option_map (λ n. record bounds { cells = n }) (number_within 0 4294967295 text)
-limited Levels bounds text = option_map (λ n. record bounds { levels = n }) (number_within 1 4294967295 text)
+abbrev pub with_limit : Limit → Bounds → List ℕ → Option Bounds
+with_limit Turns bounds text = option_map (λ n. record bounds { turns = n }) (number_within 0 18446744073709551615 text)
+with_limit Strings bounds text = option_map (λ n. record bounds { strings = n }) (number_within 0 1099511627776 text)
+with_limit Cells bounds text = option_map (λ n. record bounds { cells = n }) (number_within 0 4294967295 text)
+with_limit Levels bounds text = option_map (λ n. record bounds { levels = n }) (number_within 1 4294967295 text)
 
 abbrev pub is_dashed : List ℕ → Bool
 is_dashed [] = false
@@ -44,7 +44,7 @@ or_faulty (Some bounds) next = next bounds
 
 abbrev pub two_words : Bounds → List ℕ → List ℕ → List (List ℕ) → Option Limit → (Bounds → Reading) → Reading
 two_words bounds word value words None next = image_asked bounds word (value ∷ words)
-two_words bounds word value words (Some option) next = or_faulty (limited option bounds value) next
+two_words bounds word value words (Some option) next = or_faulty (with_limit option bounds value) next
 
 -- While the next word is an option, the word after it is its value, and a later one replaces an earlier. Then the image stands.
 abbrev pub options : Bounds → List (List ℕ) → Reading
@@ -53,9 +53,9 @@ options bounds (word ∷ []) = last_word bounds word (option_of word)
 options bounds (word ∷ value ∷ words) = two_words bounds word value words (option_of word) (λ next. options next words)
 
 -- the program's own name stands first
-abbrev pub asked : List (List ℕ) → Reading
-asked [] = Faulty 2
-asked (program ∷ words) = options default_limits words
+abbrev pub words_reading : List (List ℕ) → Reading
+words_reading [] = Faulty 2
+words_reading (program ∷ words) = options default_limits words
 
 -- the name of the image that words ask for
 abbrev pub image_name : Reading → List ℕ

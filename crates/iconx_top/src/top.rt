@@ -5,7 +5,7 @@ ghost use Rattle.icn_host.specs.FileMaps.{FileMap};
 ghost use Rattle.icn_streams.specs.Handed.{call_streams};
 ghost use Rattle.icn_lines.specs.Answers.{IsFault, IsRefusal};
 ghost use Rattle.iconx_top.specs.Answered.{IsAnswered};
-ghost use Rattle.iconx_top.specs.Asking.{asking};
+ghost use Rattle.iconx_top.specs.Asking.{run_reading};
 ghost use Rattle.iconx_top.specs.Commanded.{IsCommand, IsCommanded};
 ghost use Rattle.icn_lines.specs.Causes.{EndsAtFirst, RunEndsAtFirst, outside};
 ghost use Rattle.icn_lines.specs.Faulting.{IsOfRun};
@@ -14,7 +14,7 @@ ghost use Rattle.icn_lines.specs.Telling.{told};
 ghost use Rattle.iconx_top.specs.Outcomes.{Outcome};
 ghost use Rattle.icn_lines.specs.Reporting.{LineStands, Reports};
 ghost use Rattle.iconx_top.specs.Usage.{usage};
-ghost use Rattle.iconx_top.specs.Words.{asked as read, image_name};
+ghost use Rattle.iconx_top.specs.Words.{words_reading as read, image_name};
 
 use crate::load::load;
 use crate::words::{RunAsked, asked};
@@ -90,12 +90,12 @@ fn image_answer<F: Files, I: Source, O: Sink, E: Sink>(
     out: &mut O,
     err: &mut E,
 ) -> Answer
-    ensures outcome { (words : List (List ℕ)) → read words ≡ asking run.entry
+    ensures outcome { (words : List (List ℕ)) → read words ≡ run_reading run.entry
         → IfSome (F.held files.old) (λ held. IfSome (I.left input.old) (λ left. Outcome words held left result
         (told (F.held files.old) (call_streams (I.left input.old) (I.faults input.old) (O.state out.old) (E.state err.old)))
         (told (F.held files.new) (call_streams (I.left input.new) (I.faults input.new) (O.state out.new) (E.state err.new))))) }
     ensures reported { Reports usage run.entry.image.now (I.left input.old) (E.state err.old) (E.state err.new) result }
-    ensures answered { (words : List (List ℕ)) → read words ≡ asking run.entry → IfSome (F.held files.old) (λ held. IsAnswered words held result) }
+    ensures answered { (words : List (List ℕ)) → read words ≡ run_reading run.entry → IfSome (F.held files.old) (λ held. IsAnswered words held result) }
     ensures command { IsCommand result → ⊥ }
     ensures refused { IsRefusal result → (O.state out.new).held ≡ (O.state out.old).held }
     ensures unread { IsRefusal result → I.left input.new ≡ I.left input.old }
@@ -119,7 +119,7 @@ fn run_answer<I: Source, O: Sink, E: Sink>(
     out: &mut O,
     err: &mut E,
 ) -> Answer
-    ensures outcome { (words : List (List ℕ)) (held : FileMap) (told_files : Option FileMap) → read words ≡ asking asked.entry
+    ensures outcome { (words : List (List ℕ)) (held : FileMap) (told_files : Option FileMap) → read words ≡ run_reading asked.entry
         → IsLoaded (held asked.entry.image.now) asked.entry.image.now (Ok code.now) → told_files ≡ Some held
         → IfSome (I.left input.old) (λ left. Outcome words held left result
         (told told_files (call_streams (I.left input.old) (I.faults input.old) (O.state out.old) (E.state err.old)))

@@ -2,7 +2,7 @@
 ghost use Rattle.std.specs.Prelude.{◌≡◌, map, string_bytes};
 ghost use Rattle.std.specs.Option.{option_map};
 ghost use Rattle.icn_value.specs.Limited.{default_limits, limits_of};
-ghost use Rattle.iconx_top.specs.Words.{asked, image_asked, is_dashed, limited, option_of, options};
+ghost use Rattle.iconx_top.specs.Words.{words_reading, image_asked, is_dashed, with_limit, option_of, options};
 ghost use Rattle.iconx_top.specs.Asking.{reading_of};
 
 use icn_value::Limits;
@@ -32,7 +32,7 @@ pub enum Limit {
 /// The way in which the first wrong word is wrong: 2 where no image is named, 3 for an option without its value, 4 for a value
 /// that is no number in its range, 5 for another word that begins with `-`.
 pub fn asked(words: &[String]) -> Result<RunAsked<'_>, u8>
-    ensures { reading_of result ≡ asked (map string_bytes words.now) }
+    ensures { reading_of result ≡ words_reading (map string_bytes words.now) }
 {
     match words.split_first() {
         Some((_, behind)) => options(behind),
@@ -103,7 +103,7 @@ fn option_of(word: &str) -> Option<Limit>
 
 // The limits with this one as a word says it.
 fn limited(option: Limit, limits: Limits, value: &str) -> Option<Limits>
-    ensures { option_map limits_of result ≡ limited option (limits_of limits) value.now }
+    ensures { option_map limits_of result ≡ with_limit option (limits_of limits) value.now }
 {
     let text = value.as_bytes();
     match option {

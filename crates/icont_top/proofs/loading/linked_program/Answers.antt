@@ -4,7 +4,7 @@ use Rattle.icont_units.specs.Files.{files_named}
 use Rattle.icont_units.specs.Units.{Load}
 use Rattle.icont_top.specs.Basing.{first_named}
 use Rattle.icont_top.proofs.FirstBase.{load_base}
-use Rattle.icont_top.proofs.Loaded.{no_program_of, told_of}
+use Rattle.icont_top.proofs.LoadedProgram.{no_program_of, told_of}
 use Rattle.icont_top.proofs.Topmost.{at_some, if_some}
 use Rattle.icont_top.proofs.loading.linked_program.Goals as goal
 

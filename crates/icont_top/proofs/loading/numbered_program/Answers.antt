@@ -1,5 +1,5 @@
 use Rattle.std.proofs.Common.{inl}
-use Rattle.icont_top.proofs.Loaded.{number_base}
+use Rattle.icont_top.proofs.LoadedProgram.{number_base}
 use Rattle.icont_top.proofs.loading.numbered_program.Goals as goal
 
 pub returns-in-Ok-make-clause-program : goal.returns-in-Ok-make-clause-program

@@ -7,7 +7,7 @@ use Rattle.icn_link.specs.LinkFaults.{first_fault}
 use Rattle.icn_link.specs.Units.{units_seen}
 use Rattle.icont_top.specs.declared.programs.Made.{Made}
 use Rattle.icont_top.specs.Making.{RefusesLink}
-use Rattle.icont_top.proofs.Made.{code_refused, link_refused, made_of, sources_verified}
+use Rattle.icont_top.proofs.UnitPrograms.{code_refused, link_refused, made_of, sources_verified}
 use Rattle.icont_top.proofs.programs.make.Goals as goal
 
 pub returns-in_err-code-clause-made : goal.returns-in_err-code-clause-made

@@ -1,5 +1,5 @@
 use Rattle.icn_code.specs.Seen.{tables_of}
-use Rattle.icont_top.proofs.Made.{code_breaks}
+use Rattle.icont_top.proofs.UnitPrograms.{code_breaks}
 use Rattle.icont_top.proofs.programs.verified.Goals as goal
 
 pub returns-in-Some-clause-refused : goal.returns-in-Some-clause-refused

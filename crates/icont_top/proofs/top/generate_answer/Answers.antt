@@ -1,5 +1,5 @@
 use Rattle.std.proofs.Common.{refl, ap, Ok, Err}
-use Rattle.icn_lines.proofs.Counted.{no_cause, refused_ends, unmoved}
+use Rattle.icn_lines.proofs.Counts.{no_cause, refused_ends, unmoved}
 use Rattle.icn_lines.proofs.Reports.{reports_of}
 use Rattle.icont_units.specs.Generated.{GeneratedComes}
 use Rattle.icont_top.specs.Job.{of_number}

@@ -1,7 +1,7 @@
 use Rattle.std.proofs.Common.{map}
 use Rattle.std.specs.Prelude.{string_bytes}
 use Rattle.std.specs.Option.{option_map}
-use Rattle.icn_lines.proofs.Counted.{faultless_of}
+use Rattle.icn_lines.proofs.Counts.{faultless_of}
 use Rattle.icn_lines.proofs.Reports.{line_of_reports}
 use Rattle.icont_words.specs.declared.words.Task.TheVariants as Held
 use Rattle.icont_words.specs.Asking.{run_seen, texts}

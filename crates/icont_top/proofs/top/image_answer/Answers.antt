@@ -1,7 +1,7 @@
 use Rattle.std.proofs.Common.{◌∙◌, ap, arith, Err}
 use Rattle.std.specs.Option.{option_map}
 use Rattle.icn_lines.specs.declared.answer.Answer.TheVariants.{Wrote}
-use Rattle.icn_lines.proofs.Counted.{none_counts, own_counts}
+use Rattle.icn_lines.proofs.Counts.{none_counts, own_counts}
 use Rattle.icn_lines.proofs.Reports.{own_reports, wrote_no_fault}
 use Rattle.icont_words.specs.Asking.{run_seen}
 use Rattle.icont_units.proofs.Matching.{same_Err}

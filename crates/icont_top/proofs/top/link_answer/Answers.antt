@@ -1,6 +1,6 @@
 use Rattle.std.proofs.Common.{◌∙◌, inr, Ok}
 use Rattle.icn_lines.specs.declared.answer.Answer.TheVariants.{FileFault}
-use Rattle.icn_lines.proofs.Counted.{after_read, err_counts, refused_ends}
+use Rattle.icn_lines.proofs.Counts.{after_read, err_counts, refused_ends}
 use Rattle.icn_lines.proofs.Reports.{reports_of}
 use Rattle.icont_units.specs.Fetching.{texts}
 use Rattle.icont_units.specs.Files.{files_named}

@@ -1,6 +1,6 @@
 use Rattle.std.proofs.Common.{◌∙◌, ap}
 use Rattle.icn_lines.specs.declared.answer.Answer.TheVariants.{FileFault}
-use Rattle.icn_lines.proofs.Counted.{after_read, err_counts, refused_ends}
+use Rattle.icn_lines.proofs.Counts.{after_read, err_counts, refused_ends}
 use Rattle.icn_lines.proofs.Reports.{reports_of}
 use Rattle.icont_units.specs.Fetching.{texts}
 use Rattle.icont_top.specs.Writing.{texts_seen}

@@ -1,12 +1,12 @@
 use Rattle.std.proofs.Common.{◌+◌, ◌-◌, ◌*◌, ◌++◌, ap}
 use Rattle.std.specs.List.{flat_map, range_with_len}
-use Rattle.icont_units.specs.Generated.{numbered, procedure_lines}
+use Rattle.icont_units.specs.Generated.{numbered_from, procedure_lines}
 use Rattle.icont_units.proofs.ProgramLines.{none_done, procedure_step, procedures_done, three_more}
 use Rattle.icont_units.proofs.program_lines.add_procedures.Goals as goal
 
 pub loop-i-init : goal.loop-i-init
 loop-i-init c = record {
-  is = λ later. ap (λ n. c.args.lines.now.items ++ numbered 1 (flat_map procedure_lines (range_with_len 1 n) ++ later)) (none_done c.args.count);
+  is = λ later. ap (λ n. c.args.lines.now.items ++ numbered_from 1 (flat_map procedure_lines (range_with_len 1 n) ++ later)) (none_done c.args.count);
 }
 
 pub loop-i-preserved : goal.loop-i-preserved

@@ -3,10 +3,10 @@ use Rattle.icn_lines.specs.declared.answer.Answer.TheVariants.{Command}
 use Rattle.iconx_top.specs.Job.{wrong_words}
 use Rattle.iconx_top.specs.Answered.{wrong_words as by_words}
 use Rattle.iconx_top.proofs.Answering.{answer_put}
-use Rattle.iconx_top.proofs.Refused.{command_ends, command_unrun, if_some, refused}
-use Rattle.icn_lines.proofs.Counted.{faultless_of}
+use Rattle.iconx_top.proofs.Refusals.{command_ends, command_unrun, if_some, refused}
+use Rattle.icn_lines.proofs.Counts.{faultless_of}
 use Rattle.icn_lines.proofs.Reports.{line_of_reports, reports_of}
-use Rattle.iconx_top.proofs.Reported.{asked_reports}
+use Rattle.iconx_top.proofs.ReportLines.{asked_reports}
 use Rattle.iconx_top.proofs.top.iconx_main.Goals as goal
 
 pub returns-in-Err-clause-outcome : goal.returns-in-Err-clause-outcome

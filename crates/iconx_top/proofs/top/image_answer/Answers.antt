@@ -2,11 +2,11 @@ use Rattle.std.proofs.Common.{map}
 use Rattle.std.specs.Prelude.{string_bytes}
 use Rattle.icn_value.specs.Limited.{limits_of}
 use Rattle.iconx_top.proofs.Answering.{answer_put, load_answered, run_answered}
-use Rattle.iconx_top.proofs.Refused.{absence_of, asked_load, at_some, held_as, if_some, load_no_read, load_no_write, refused, run_no_absence, run_no_file}
+use Rattle.iconx_top.proofs.Refusals.{absence_of, asked_load, at_some, held_as, if_some, load_no_read, load_no_write, refused, run_no_absence, run_no_file}
 use Rattle.icn_lines.specs.declared.answer.Answer.TheVariants.{FileFault}
-use Rattle.icn_lines.proofs.Counted.{err_counts, refused_ends}
+use Rattle.icn_lines.proofs.Counts.{err_counts, refused_ends}
 use Rattle.icn_lines.proofs.Reports.{reports_of}
-use Rattle.iconx_top.proofs.Reported.{load_unrun}
+use Rattle.iconx_top.proofs.ReportLines.{load_unrun}
 use Rattle.iconx_top.proofs.top.image_answer.Goals as goal
 
 pub returns-in-Err-clause-outcome : goal.returns-in-Err-clause-outcome

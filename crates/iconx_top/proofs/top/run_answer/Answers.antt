@@ -2,9 +2,9 @@ use Rattle.std.proofs.Common.{refl}
 use Rattle.icn_value.specs.Store.{outside_of}
 use Rattle.icn_code.specs.Seen.{tables_of}
 use Rattle.icn_machine.specs.Starting.{launch_with}
-use Rattle.icn_lines.proofs.Counted.{broken_counts, ran_counts}
+use Rattle.icn_lines.proofs.Counts.{broken_counts, ran_counts}
 use Rattle.icn_lines.proofs.Reports.{fault_reports, ran_reports}
-use Rattle.iconx_top.proofs.Refused.{broke_outcome, if_some, off_puts, ran_outcome, run_asked}
+use Rattle.iconx_top.proofs.Refusals.{broke_outcome, if_some, off_puts, ran_outcome, run_asked}
 use Rattle.iconx_top.proofs.top.run_answer.Goals as goal
 
 pub returns-in-Ok-clause-outcome : goal.returns-in-Ok-clause-outcome

@@ -9,7 +9,7 @@ use Rattle.clap.specs.declared.builder.value_parser.Reading.TheVariants.{AsWritt
 use Rattle.clap.specs.declared.parser.matches.ValueSource.{ValueSource}
 use Rattle.clap.specs.declared.parser.matches.ValueSource.TheVariants.{CommandLine}
 use Rattle.icont_words.specs.Words.{Letter, Image, Turns, Number, Piece, Units, Valued, Named, values, names_said}
-use Rattle.icont_words.proofs.Taken.{letter_id, same_option}
+use Rattle.icont_words.proofs.ClapCommand.{letter_id, same_option}
 use Rattle.icont_words.proofs.Uses.{with_use, with_uses, is_new, all_new}
 
 -- how the values of a row are read, and the values

@@ -27,14 +27,14 @@ use Rattle.icn_lines.specs.Lines.{line_of}
 use Rattle.icn_lines.specs.Refusing.{PutsOwn, Refuses, own, put, want, write_fault}
 use Rattle.icn_lines.specs.Reporting.{PutsSome}
 use Rattle.icn_lines.specs.Telling.{Told, told}
-use Rattle.icn_lines.proofs.Counted.{broken_first, no_cause, refused_ends, unmoved}
-use Rattle.icn_lines.proofs.Ended.{held_seen}
+use Rattle.icn_lines.proofs.Counts.{broken_first, no_cause, refused_ends, unmoved}
+use Rattle.icn_lines.proofs.Endings.{held_seen}
 use Rattle.icn_lines.proofs.Reports.{broken_puts, is_run_fault, puts_own}
 use Rattle.iconx_top.specs.Job.{IsJob, IsRun, bad, missing, observation, ran, refusal}
 use Rattle.iconx_top.specs.Loading.{IsAbsence, IsLoaded, IsOfLoading}
 use Rattle.iconx_top.specs.Outcomes.{Begins, Outcome, broke, done, fault, idle}
 use Rattle.iconx_top.specs.Usage.{usage}
-use Rattle.iconx_top.specs.Words.{Asks, asked}
+use Rattle.iconx_top.specs.Words.{Asks, words_reading}
 
 -- an answer is the job's refusal, or a fault
 abbrev pub Asked : List (List ℕ) → FileMap → List ℕ → List ℕ → Answer → Type 0
@@ -66,7 +66,7 @@ refused name answer given held held' left' input out before after (inr is) same 
 -- what was loaded
 
 pub asked_load : {words : List (List ℕ)} {files : FileMap} {left : List ℕ} (bounds : Bounds) (name : List ℕ) (arguments : List (List ℕ)) (answer : Answer)
-    → asked words ≡ Asks bounds name arguments
+    → words_reading words ≡ Asks bounds name arguments
     → IsLoaded (files name) name (Err answer) → Asked words files left name answer
 asked_load {words} {files} {left} bounds name arguments (Missing other) e is =
     let job : IsJob words files left (refusal files left name (Missing name)) = missing bounds name arguments e is.1 in
@@ -78,7 +78,7 @@ asked_load bounds name arguments _ e is = absurd is
 
 -- the run of what was loaded, over this input
 pub run_asked : {words : List (List ℕ)} {files : FileMap} (left : List ℕ) (launch : Launch) (name : List ℕ) (verified : Verified)
-    → asked words ≡ Asks launch.bounds name launch.words
+    → words_reading words ≡ Asks launch.bounds name launch.words
     → launch.outside ≡ outside_of left → IsLoaded (files name) name (Ok verified) → IsRun words files left (tables_of verified.code) launch
 run_asked left launch name verified e input is = record { name = name; bytes = is.0; asks = e; there = is.1.0; judged = is.1.1; input = input }
 

@@ -26,7 +26,7 @@ use Rattle.icont_units.specs.Loading.{IsSound, Stands}
 use Rattle.icont_units.specs.Units.{Member, link_answer, unit_named, units_of}
 use Rattle.icont_top.specs.declared.programs.Made.{Made}
 use Rattle.icont_top.specs.Making.{IsMade, RefusesCode, RefusesLink, wants, breaks}
-use Rattle.icont_top.specs.Programs.{Links, is_program, linked, not_linked, unverified}
+use Rattle.icont_top.specs.Programs.{Links, is_program, linked_code, not_linked, unverified}
 use Rattle.icont_top.proofs.SourceUnits.{AllJoin, all_files, first_named, sources_join}
 
 -- Linking
@@ -46,8 +46,8 @@ pub sources_verified : AllJoin → AllVerified → (held : Members) (tables : Ta
 sources_verified joins verifies held tables sound e none =
     let stands = sound.stands in
     let all = all_files sound.members (sym stands.place ∙ none) in
-    let same : linked sound.members ≡ tables = sym (e ∙ ap joined stands.units) in
-    subst IsVerified same (verifies all.0 (linked sound.members) (sources_join joins sound.members stands.faultless all.0 all.1))
+    let same : linked_code sound.members ≡ tables = sym (e ∙ ap joined stands.units) in
+    subst IsVerified same (verifies all.0 (linked_code sound.members) (sources_join joins sound.members stands.faultless all.0 all.1))
 
 -- What the units stand for
 
@@ -64,7 +64,7 @@ code_refused held members tables answer stands e fits (wants same) = inl same
 code_refused held members tables answer stands e fits (breaks first rule number place at fault same) =
     let base = unit_named (units_of members) first in
     let fits_all : first_fault (units_of members) ≡ None = subst (λ units. first_fault units ≡ None) stands.units fits in
-    let code : tables ≡ linked members = e ∙ ap joined stands.units in
+    let code : tables ≡ linked_code members = e ∙ ap joined stands.units in
     let told : answer ≡ BadUcode (first_name base) rule =
     subst (λ units. answer ≡ BadUcode (first_name (unit_named units first)) rule) stands.units same in
     inr (subst (λ (a : Answer). Links members (Err a)) (sym told) (unverified base rule number place fits_all
@@ -74,7 +74,7 @@ pub made_of : AllJoin → (held : Members) (members : List Member) (made : Made)
     → tables ≡ joined (units_seen held.units.items) → first_fault (units_seen held.units.items) ≡ None → IsVerified tables
     → tables_of made.code.code ≡ tables → made.image.items ≡ image_of tables → IsMade members made
 made_of joins held members made tables stands e fits verified code bytes =
-    let same : tables ≡ linked members = e ∙ ap joined stands.units in
+    let same : tables ≡ linked_code members = e ∙ ap joined stands.units in
     record {
       code = code ∙ same;
       bytes = bytes ∙ ap image_of same;
