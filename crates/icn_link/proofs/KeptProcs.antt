@@ -17,7 +17,7 @@ use Rattle.icn_unit.specs.declared.unit.UnitInstr.TheVariants as U
 use Rattle.icn_unit.specs.declared.unit.UnitName.{UnitName}
 use Rattle.icn_unit.specs.PlainUnits.{Proc, entry_names, is_parameter, params_in}
 use Rattle.icn_unit.specs.UnitOperands.{is_name}
-use Rattle.icn_unit.specs.UnitRules.{place_of}
+use Rattle.icn_unit.specs.UnitRules.{own_label}
 use Rattle.icn_unit.specs.UnitViews.{proc_seen}
 use Rattle.icn_link.specs.declared.variable.Variable.{Variable}
 use Rattle.icn_link.specs.declared.variable.Variable.TheVariants.{Local, Static, Global}
@@ -26,7 +26,7 @@ use Rattle.icn_link.specs.JoinableUnits.{is_joinable_instr, is_joinable_proc}
 use Rattle.icn_link.specs.LinkFaults.{is_instruction, size_of}
 use Rattle.icn_link.specs.Gathering.{integer_place, text_place}
 use Rattle.icn_link.specs.Mentions.{Mention, NoMention, AnInteger, AText, ASet, AField, Operands, AllMentions, mention_of}
-use Rattle.icn_link.specs.Resolving.{Scope, resolve, resolved_one, label_place, label_place_by}
+use Rattle.icn_link.specs.Resolving.{Scope, resolve, resolved_one, label_address, label_address_by}
 use Rattle.icn_link.specs.Views.{procs_seen}
 use Rattle.icn_link.proofs.Each.{both, has_text, has_place, has_integer_place, text_placed, all_of_flat, all_with}
 
@@ -193,7 +193,7 @@ resolved_length S (instr ∷ instrs) =
     length-append (resolved_one S instr) (resolve S instrs) ∙ omega (arith, sum, one, rest)
 
 label_within_by : (label : ℕ) (place : Option ℕ) (behind n : ℕ) → behind ≤ n
-    → label_place_by label place behind ≤ cond (not (is_some place)) 1 0 + n
+    → label_address_by label place behind ≤ cond (not (is_some place)) 1 0 + n
 label_within_by label None behind n h = omega (arith, h)
 label_within_by label (Some other) behind n h = by (nat_eq label other)
   where
@@ -201,11 +201,11 @@ label_within_by label (Some other) behind n h = by (nat_eq label other)
     by true = omega arith
     by false = omega (arith, h)
 
-pub label_within : (label : ℕ) (instrs : List UnitInstr) → label_place label instrs ≤ count_by is_instruction instrs
+pub label_within : (label : ℕ) (instrs : List UnitInstr) → label_address label instrs ≤ count_by is_instruction instrs
 label_within label [] = omega arith
 label_within label (instr ∷ instrs) =
     let sum = sum_by-cons (λ i. cond (is_instruction i) 1 0) instr instrs in
-    let one = label_within_by label (place_of instr) (label_place label instrs) (count_by is_instruction instrs) (label_within label instrs) in
+    let one = label_within_by label (own_label instr) (label_address label instrs) (count_by is_instruction instrs) (label_within label instrs) in
     omega (arith, sum, one)
 
 -- Instructions
@@ -304,7 +304,7 @@ proc_fits M T F proc kept mentions name locals statics size =
     let head = (and_parts (is_name proc.name && collects) names asked.0).0 in
     let few = params_local M.globals proc.names in
     let long : length entry.instrs ≡ size_of proc = resolved_length (scope_of M proc) proc.instrs in
-    let there : There T entry (variables M.globals 0 0 proc.names) (λ label. label_place label proc.instrs) (length proc.names) =
+    let there : There T entry (variables M.globals 0 0 proc.names) (λ label. label_address label proc.instrs) (length proc.names) =
     record {
       variable = λ k. variable_there T entry M.globals proc.names k F.globals (omega (arith, few)) (omega arith);
       label = λ l. le-leb _ _ (let w = label_within l proc.instrs in omega (arith, w, long));
@@ -319,7 +319,7 @@ proc_fits M T F proc kept mentions name locals statics size =
 -- The entry of a procedure
 
 pub entry_made : (M : AllMentions) (proc : Proc) (V : List Instr) (L : ℕ → ℕ) (locals statics : ℕ) (instrs : List Instr)
-    → V ≡ variables M.globals 0 0 proc.names → ((label : ℕ) → L label ≡ label_place label proc.instrs)
+    → V ≡ variables M.globals 0 0 proc.names → ((label : ℕ) → L label ≡ label_address label proc.instrs)
     → locals ≡ locals_in M.globals proc.names → statics ≡ statics_in M.globals proc.names → instrs ≡ resolve (scope_with M V L) proc.instrs
     → entry_of M proc locals statics instrs ≡ proc_entry M proc
 entry_made M proc V L locals statics instrs v l a b is =

@@ -20,7 +20,7 @@ use Rattle.icn_unit.specs.declared.unit.UnitName.{UnitName}
 use Rattle.icn_unit.specs.PlainUnits.{Proc, Decl, Global as GlobalDecl, Procedure, Link, Record, UnitRead, params_in, proc_names}
 use Rattle.icn_link.specs.Gathering.{text_place, integer_place}
 use Rattle.icn_link.specs.Mentions.{AllMentions, all_mentions, function_named, record_names}
-use Rattle.icn_link.specs.Resolving.{Scope, resolve, label_place}
+use Rattle.icn_link.specs.Resolving.{Scope, resolve, label_address}
 use Rattle.icn_link.specs.Units.{all_decls, all_procs}
 
 -- Names
@@ -100,7 +100,7 @@ scope_with tables variables label = record {
 
 abbrev pub scope_of : AllMentions → Proc → Scope
 scope_of tables proc =
-    scope_with tables (variables tables.globals 0 0 proc.names) (λ label. label_place label proc.instrs)
+    scope_with tables (variables tables.globals 0 0 proc.names) (λ label. label_address label proc.instrs)
 
 -- where so many names are locals, parameters among them, and so many statics
 abbrev pub entry_of : AllMentions → Proc → ℕ → ℕ → List Instr → ProcEntry

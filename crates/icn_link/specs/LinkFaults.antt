@@ -6,7 +6,7 @@ use Rattle.std.specs.Str.{bytes_eq}
 use Rattle.icn_image.specs.Spelling.{image_of}
 use Rattle.icn_unit.specs.declared.unit.UnitInstr.{UnitInstr}
 use Rattle.icn_unit.specs.PlainUnits.{Proc, Decl, Global, Procedure, Link, Record, UnitRead}
-use Rattle.icn_unit.specs.UnitRules.{place_of}
+use Rattle.icn_unit.specs.UnitRules.{own_label}
 use Rattle.icn_link.specs.declared.fault.DeclPlace.{DeclPlace}
 use Rattle.icn_link.specs.declared.fault.LinkFault.{LinkFault}
 use Rattle.icn_link.specs.declared.fault.LinkFault.TheVariants.{K1, K2, K3, NoMemory}
@@ -100,7 +100,7 @@ over most counts = option_map count_fault (find (λ count. nat_lt most count) co
 
 -- the place of a label is no instruction
 abbrev pub is_instruction : UnitInstr → Bool
-is_instruction instr = not (is_some (place_of instr))
+is_instruction instr = not (is_some (own_label instr))
 
 abbrev pub size_of : Proc → ℕ
 size_of proc = count_by is_instruction proc.instrs

@@ -5,7 +5,7 @@ use Rattle.icn_code.specs.declared.instr.Instr.{Instr}
 use Rattle.icn_code.specs.declared.instr.Instr.TheVariants as I
 use Rattle.icn_unit.specs.declared.unit.UnitInstr.{UnitInstr}
 use Rattle.icn_unit.specs.declared.unit.UnitInstr.TheVariants as U
-use Rattle.icn_unit.specs.UnitRules.{place_of}
+use Rattle.icn_unit.specs.UnitRules.{own_label}
 
 -- the places of constants and fields in the tables, and what the names and the labels of a procedure stand for
 pub record Scope : Type 0 where
@@ -66,10 +66,10 @@ abbrev pub resolve : Scope → List UnitInstr → List Instr
 resolve S instrs = flat_map (resolved_one S) instrs
 
 -- the address of a label: how many instructions stand before its place
-abbrev pub label_place_by : ℕ → Option ℕ → ℕ → ℕ
-label_place_by label None behind = suc behind
-label_place_by label (Some other) behind = if nat_eq label other then 0 else behind
+abbrev pub label_address_by : ℕ → Option ℕ → ℕ → ℕ
+label_address_by label None behind = suc behind
+label_address_by label (Some other) behind = if nat_eq label other then 0 else behind
 
-abbrev pub label_place : ℕ → List UnitInstr → ℕ
-label_place label [] = 0
-label_place label (instr ∷ instrs) = label_place_by label (place_of instr) (label_place label instrs)
+abbrev pub label_address : ℕ → List UnitInstr → ℕ
+label_address label [] = 0
+label_address label (instr ∷ instrs) = label_address_by label (own_label instr) (label_address label instrs)

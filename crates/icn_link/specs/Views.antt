@@ -17,7 +17,7 @@ use Rattle.icn_link.specs.declared.mention.Mention.TheVariants as Kept
 use Rattle.icn_link.specs.declared.repeats.Owner.{Owner as KeptOwner}
 use Rattle.icn_link.specs.JoinableUnits.{is_joinable_decl, is_joinable_proc}
 use Rattle.icn_link.specs.LinkFaults.{Owner, over, size_of, table_sizes, record_sizes, local_counts, static_counts}
-use Rattle.icn_link.specs.Resolving.{label_place}
+use Rattle.icn_link.specs.Resolving.{label_address}
 use Rattle.icn_link.specs.Mentions.{AllMentions, all_mentions, mentioned_by, operands_in, globals, Mention, NoMention, AnInteger, AText, ASet, AField, Operands}
 
 abbrev pub decls_seen : List (Bor UnitDecl) → List Decl
@@ -55,12 +55,12 @@ abbrev pub places_in : {X S : Type 0} → IndexMap (Bor (List ℕ)) X S → List
 places_in places name = get_by (λ key. bytes_eq name key.now) places
 
 -- the address of a label
-abbrev pub place_in : Labels → ℕ → ℕ
-place_in labels label = unwrap_or (get nat_eq labels.places label) labels.end
+abbrev pub address_in : Labels → ℕ → ℕ
+address_in labels label = unwrap_or (get nat_eq labels.places label) labels.end
 
 -- the same, where these instructions are still to come
-abbrev pub place_from : Labels → ℕ → List UnitInstr → ℕ
-place_from labels label rest = unwrap_or (get nat_eq labels.places label) (labels.end + label_place label rest)
+abbrev pub address_from : Labels → ℕ → List UnitInstr → ℕ
+address_from labels label rest = unwrap_or (get nat_eq labels.places label) (labels.end + label_address label rest)
 
 -- Each place in a table has 16 bits.
 pub record AreFew (tables : AllMentions) : Type 0 where

@@ -1,9 +1,9 @@
 // The addresses of labels.
 ghost use Rattle.std.specs.Prelude.{◌≡◌, ◌∷◌, ℕ, List, IfOk, OnOk};
 ghost use Rattle.icn_unit.specs.declared.unit.UnitInstr.{UnitInstr};
-ghost use Rattle.icn_unit.specs.UnitRules.{place_of};
-ghost use Rattle.icn_link.specs.Resolving.{label_place};
-ghost use Rattle.icn_link.specs.Views.{place_from, place_in};
+ghost use Rattle.icn_unit.specs.UnitRules.{own_label};
+ghost use Rattle.icn_link.specs.Resolving.{label_address};
+ghost use Rattle.icn_link.specs.Views.{address_from, address_in};
 
 use crate::numbers::next_place;
 use icn_unit::UnitInstr;
@@ -20,7 +20,7 @@ pub struct Labels {
 
 /// The addresses of the labels among instructions.
 pub fn labels_of(alloc: Global, instrs: &[UnitInstr]) -> Result<Labels, AllocError>
-    ensures { IfOk result (λ labels. (label : ℕ) → place_in labels label ≡ label_place label instrs.now) }
+    ensures { IfOk result (λ labels. (label : ℕ) → address_in labels label ≡ label_address label instrs.now) }
 {
     let mut labels = Labels {
         places: IndexMap::new(alloc),
@@ -35,7 +35,7 @@ pub fn labels_of(alloc: Global, instrs: &[UnitInstr]) -> Result<Labels, AllocErr
 // Goes on over an instruction. A label has its first place.
 fn pass(labels: &mut Labels, instr: &UnitInstr) -> Result<(), AllocError>
     ensures { OnOk result ((label : ℕ) (rest : List UnitInstr) →
-        place_from labels.new label rest ≡ place_from labels.old label (instr.now ∷ rest)) }
+        address_from labels.new label rest ≡ address_from labels.old label (instr.now ∷ rest)) }
 {
     match place_of(instr) {
         Some(label) => {
@@ -54,7 +54,7 @@ fn pass(labels: &mut Labels, instr: &UnitInstr) -> Result<(), AllocError>
 
 /// The label that has its place there.
 pub fn place_of(instr: &UnitInstr) -> Option<u32>
-    ensures { result ≡ place_of instr.now }
+    ensures { result ≡ own_label instr.now }
 {
     match instr {
         UnitInstr::Lab(label) => Some(*label),
@@ -98,7 +98,7 @@ pub fn place_of(instr: &UnitInstr) -> Option<u32>
 
 /// The address of a label.
 pub fn place_in(labels: &Labels, label: u32) -> u32
-    ensures { result ≡ place_in labels.now label }
+    ensures { result ≡ address_in labels.now label }
 {
     match labels.places.get(&label) {
         Some(place) => *place,

@@ -2,7 +2,7 @@
 ghost use Rattle.std.specs.Prelude.{◌≡◌, ◌++◌, IfOk, OnOk};
 ghost use Rattle.icn_link.specs.Joined.{scope_with, variable_at};
 ghost use Rattle.icn_link.specs.Resolving.{instr_in, instr_list, resolve, resolved_one};
-ghost use Rattle.icn_link.specs.Views.{gathered_seen, place_in, AreFew};
+ghost use Rattle.icn_link.specs.Views.{gathered_seen, address_in, AreFew};
 
 use crate::gathered::{Gathered, integer_place, text_place};
 use crate::labels::{Labels, place_in};
@@ -19,7 +19,7 @@ pub fn resolved(
     instrs: &[UnitInstr],
 ) -> Result<Vec<Instr>, AllocError>
     requires few { AreFew (gathered_seen tables.now) }
-    ensures { IfOk result (λ code. code.items ≡ resolve (scope_with (gathered_seen tables.now) variables.now (place_in labels.now)) instrs.now) }
+    ensures { IfOk result (λ code. code.items ≡ resolve (scope_with (gathered_seen tables.now) variables.now (address_in labels.now)) instrs.now) }
 {
     let mut code = Vec::new(alloc);
     for instr in instrs {
@@ -48,7 +48,7 @@ fn instr_in(
     instr: &UnitInstr,
 ) -> Option<Instr>
     requires few { AreFew (gathered_seen tables.now) }
-    ensures { result ≡ instr_in (scope_with (gathered_seen tables.now) variables.now (place_in labels.now)) instr.now }
+    ensures { result ≡ instr_in (scope_with (gathered_seen tables.now) variables.now (address_in labels.now)) instr.now }
 {
     match instr {
         UnitInstr::Pnull => Some(Instr::Pnull),

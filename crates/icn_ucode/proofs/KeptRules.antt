@@ -14,7 +14,7 @@ use Rattle.icn_unit.specs.declared.unit.UnitName.{UnitName}
 use Rattle.icn_unit.specs.InstrWords.{instr_word_of}
 use Rattle.icn_unit.specs.PlainUnits.{Proc, Decl, Global, Procedure, Link, Record, entry_names, owned_name, owned_names, params_in, proc_names}
 use Rattle.icn_unit.specs.UnitOperands.{first_field, is_name, number_of}
-use Rattle.icn_unit.specs.UnitRules.{has_label, has_name, in_order, is_number, keeps_code, keeps_decl, keeps_decls, keeps_head, keeps_names, keeps_operand, keeps_proc, keeps_procs, keeps_rules, labels_differ, labels_placed, names_differ, place_list, place_of, placed_labels, rank, same_names}
+use Rattle.icn_unit.specs.UnitRules.{has_label, has_name, in_order, is_number, keeps_code, keeps_decl, keeps_decls, keeps_head, keeps_names, keeps_operand, keeps_proc, keeps_procs, keeps_rules, labels_differ, labels_placed, names_differ, own_labels, own_label, placed_labels, rank, same_names}
 use Rattle.icn_ucode.specs.UnitReading.{Head, Stage, Heading, Outside, Naming, Coding, ProcsRead, DeclStage, DeclHeading, Declaring, Ended, DeclsRead, empty_proc, bytes_read, code_line, coding_line, collects_read, decl_stage_end, decl_stage_line, declaring_line, decls_end, decls_line, decls_of, each_line, end_line, ended_line, entry_by, entry_named, entry_read, fields_from, fields_read, flag_of, global_read, head_by, head_read, instr_line, instr_of, is_indented, is_repeated, kind_of, last_rank, link_read, name_read, naming_line, or_bad, outside_line, params_read, procedure_read, procs_end, procs_line, procs_of, record_by, record_read, stage_end, stage_line, then_step, with_decl, with_entry, with_field, with_instr}
 use Rattle.icn_ucode.proofs.Differing.{all_last, and_true, both, differ_last, in_order_last, not_true}
 use Rattle.icn_ucode.proofs.KeptInstrs.{bytes_kept, instr_kept, number_kept}
@@ -154,8 +154,8 @@ naming_keeps procs params proc word operand next good e = by_name (bytes_eq word
 
 -- one more instruction
 labels_keep : (instrs : List UnitInstr) (instr : UnitInstr) → labels_differ (placed_labels instrs) ≡ true → is_repeated instrs instr ≡ false → labels_differ (placed_labels (instrs ++ instr ∷ [])) ≡ true
-labels_keep instrs instr good further = ap (λ labels. labels_differ labels) (more_placed instrs instr) ∙ by_place (place_of instr) further where
-  by_place : (place : Option ℕ) → option_map_or (λ label. has_label (placed_labels instrs) label) place false ≡ false → labels_differ (placed_labels instrs ++ place_list place) ≡ true
+labels_keep instrs instr good further = ap (λ labels. labels_differ labels) (more_placed instrs instr) ∙ by_place (own_label instr) further where
+  by_place : (place : Option ℕ) → option_map_or (λ label. has_label (placed_labels instrs) label) place false ≡ false → labels_differ (placed_labels instrs ++ own_labels place) ≡ true
   by_place None further = ap (λ labels. labels_differ labels) (append-nil (placed_labels instrs)) ∙ good
   by_place (Some label) further = differ_last nat_eq nat_turned (placed_labels instrs) label good further
 

@@ -11,7 +11,7 @@ use Rattle.icn_unit.specs.declared.unit.UnitDecl.{UnitDecl}
 use Rattle.icn_unit.specs.declared.unit.UnitInstr.{UnitInstr}
 use Rattle.icn_unit.specs.declared.unit.UnitName.{UnitName}
 use Rattle.icn_unit.specs.PlainUnits.{entry_names, owned_name, owned_names, proc_names}
-use Rattle.icn_unit.specs.UnitRules.{has_label, has_name, is_among, place_list, place_of, placed_labels}
+use Rattle.icn_unit.specs.UnitRules.{has_label, has_name, is_among, own_labels, own_label, placed_labels}
 use Rattle.icn_unit.specs.UnitViews.{decl_seen, proc_seen}
 use Rattle.icn_ucode.specs.LabelSets.{with_label, with_place}
 use Rattle.icn_tree.specs.NameSets.{with_name}
@@ -66,13 +66,13 @@ pub decls_owned : (decls : List UnitDecl) (decl : UnitDecl) → owned_names (map
 decls_owned [] decl = append-nil (owned_name (decl_seen decl))
 decls_owned (first ∷ decls) decl = ap (λ names. owned_name (decl_seen first) ++ names) (decls_owned decls decl) ∙ sym (append_assoc (owned_name (decl_seen first)) (owned_names (map decl_seen decls)) (owned_name (decl_seen decl)))
 
-pub more_placed : (instrs : List UnitInstr) (instr : UnitInstr) → placed_labels (instrs ++ instr ∷ []) ≡ placed_labels instrs ++ place_list (place_of instr)
-more_placed [] instr = append-nil (place_list (place_of instr))
-more_placed (first ∷ instrs) instr = ap (λ labels. place_list (place_of first) ++ labels) (more_placed instrs instr) ∙ sym (append_assoc (place_list (place_of first)) (placed_labels instrs) (place_list (place_of instr)))
+pub more_placed : (instrs : List UnitInstr) (instr : UnitInstr) → placed_labels (instrs ++ instr ∷ []) ≡ placed_labels instrs ++ own_labels (own_label instr)
+more_placed [] instr = append-nil (own_labels (own_label instr))
+more_placed (first ∷ instrs) instr = ap (λ labels. own_labels (own_label first) ++ labels) (more_placed instrs instr) ∙ sym (append_assoc (own_labels (own_label first)) (placed_labels instrs) (own_labels (own_label instr)))
 
-pub places_known : (met : ℕ → Bool) (instrs : List UnitInstr) (instr : UnitInstr) → met ≡ has_label (placed_labels instrs) → with_place met (place_of instr) ≡ has_label (placed_labels (instrs ++ instr ∷ []))
-places_known met instrs instr known = by_place (place_of instr) (more_placed instrs instr) where
-  by_place : (place : Option ℕ) → placed_labels (instrs ++ instr ∷ []) ≡ placed_labels instrs ++ place_list place → with_place met place ≡ has_label (placed_labels (instrs ++ instr ∷ []))
+pub places_known : (met : ℕ → Bool) (instrs : List UnitInstr) (instr : UnitInstr) → met ≡ has_label (placed_labels instrs) → with_place met (own_label instr) ≡ has_label (placed_labels (instrs ++ instr ∷ []))
+places_known met instrs instr known = by_place (own_label instr) (more_placed instrs instr) where
+  by_place : (place : Option ℕ) → placed_labels (instrs ++ instr ∷ []) ≡ placed_labels instrs ++ own_labels place → with_place met place ≡ has_label (placed_labels (instrs ++ instr ∷ []))
   by_place None is = known ∙ ap has_label (sym (is ∙ append-nil (placed_labels instrs)))
   by_place (Some label) is = more_labels met (placed_labels instrs) _ label known is
 

@@ -16,7 +16,7 @@ use Rattle.icn_unit.specs.InstrWords.{word_of, word_text}
 use Rattle.icn_unit.specs.OperandViews.{is_in_line}
 use Rattle.icn_unit.specs.PlainUnits.{Proc, entry_names, params_in, proc_names}
 use Rattle.icn_unit.specs.UnitOperands.{first_field, is_name}
-use Rattle.icn_unit.specs.UnitRules.{has_label, has_name, in_order, is_number, keeps_code, keeps_head, keeps_names, keeps_operand, keeps_proc, keeps_procs, labels_differ, labels_placed, names_differ, place_list, place_of, placed_labels, rank}
+use Rattle.icn_unit.specs.UnitRules.{has_label, has_name, in_order, is_number, keeps_code, keeps_head, keeps_names, keeps_operand, keeps_proc, keeps_procs, labels_differ, labels_placed, names_differ, own_labels, own_label, placed_labels, rank}
 use Rattle.icn_unit.specs.UnitTexts.{flag_text, head_text, instr_text, kind_text, name_text, proc_text, procs_text}
 use Rattle.icn_ucode.specs.UnitReading.{Heading, Outside, Naming, Coding, ProcsRead, Stage, empty_proc, coding_line, collects_read, each_line, entry_by, entry_named, entry_read, flag_of, head_by, head_read, instr_line as read_instr_line, is_indented, is_repeated, kind_of, last_rank, naming_line, or_bad, outside_line, params_read, procs_end, procs_line, procs_of, stage_line, then_step, with_entry, with_instr}
 use Rattle.icn_ucode.proofs.CleanWords.{Leads, all_of_both, clean, clean_in_line, cut_last, cut_word, in_line, leads_all, leads_then, line_leads, name_clean}
@@ -164,13 +164,13 @@ code_leads procs name collects names =
 abbrev code_so_far : ℕ → List UnitInstr → Bool
 code_so_far names instrs = list_all (λ instr. keeps_operand names instr) instrs && labels_differ (placed_labels instrs)
 
-placed_around : (done : List UnitInstr) (instr : UnitInstr) (rest : List UnitInstr) → placed_labels (done ++ instr ∷ rest) ≡ placed_labels done ++ (place_list (place_of instr) ++ placed_labels rest)
+placed_around : (done : List UnitInstr) (instr : UnitInstr) (rest : List UnitInstr) → placed_labels (done ++ instr ∷ rest) ≡ placed_labels done ++ (own_labels (own_label instr) ++ placed_labels rest)
 placed_around [] instr rest = refl
-placed_around (first ∷ done) instr rest = ap (λ labels. place_list (place_of first) ++ labels) (placed_around done instr rest) ∙ sym (append_assoc (place_list (place_of first)) (placed_labels done) (place_list (place_of instr) ++ placed_labels rest))
+placed_around (first ∷ done) instr rest = ap (λ labels. own_labels (own_label first) ++ labels) (placed_around done instr rest) ∙ sym (append_assoc (own_labels (own_label first)) (placed_labels done) (own_labels (own_label instr) ++ placed_labels rest))
 
 not_repeated : (done : List UnitInstr) (instr : UnitInstr) (rest : List UnitInstr) → labels_differ (placed_labels (done ++ instr ∷ rest)) ≡ true → is_repeated done instr ≡ false
-not_repeated done instr rest h = by_place (place_of instr) (ap (λ labels. labels_differ labels) (sym (placed_around done instr rest)) ∙ h) where
-  by_place : (place : Option ℕ) → labels_differ (placed_labels done ++ (place_list place ++ placed_labels rest)) ≡ true → option_map_or (λ label. has_label (placed_labels done) label) place false ≡ false
+not_repeated done instr rest h = by_place (own_label instr) (ap (λ labels. labels_differ labels) (sym (placed_around done instr rest)) ∙ h) where
+  by_place : (place : Option ℕ) → labels_differ (placed_labels done ++ (own_labels place ++ placed_labels rest)) ≡ true → option_map_or (λ label. has_label (placed_labels done) label) place false ≡ false
   by_place None h = refl
   by_place (Some label) h = differs_at nat_eq nat_turned (placed_labels done) label (placed_labels rest) h
 

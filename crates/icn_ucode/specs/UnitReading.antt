@@ -17,7 +17,7 @@ use Rattle.icn_unit.specs.declared.unit.UnitName.{UnitName}
 use Rattle.icn_unit.specs.InstrWords.{instr_word_of, alone_of, labelled_of}
 use Rattle.icn_unit.specs.PlainUnits.{Proc, Decl, Global, Procedure, Link, Record, UnitRead, params_in, proc_names, entry_names, owned_names}
 use Rattle.icn_unit.specs.UnitOperands.{first_field, number_of, label_of, is_name, bytes_of, ascends, keyword_of}
-use Rattle.icn_unit.specs.UnitRules.{has_name, has_label, labels_placed, place_of, placed_labels, rank, same_names}
+use Rattle.icn_unit.specs.UnitRules.{has_name, has_label, labels_placed, own_label, placed_labels, rank, same_names}
 
 -- Steps
 
@@ -61,7 +61,7 @@ instr_of word (Some text) names = operand_instr word text names
 
 -- the place of a label that has one
 abbrev pub is_repeated : List UnitInstr → UnitInstr → Bool
-is_repeated instrs instr = option_map_or (λ label. has_label (placed_labels instrs) label) (place_of instr) false
+is_repeated instrs instr = option_map_or (λ label. has_label (placed_labels instrs) label) (own_label instr) false
 
 -- Procedures
 

@@ -2,7 +2,7 @@
 ghost use Rattle.std.specs.Prelude.{◌≡◌, ◌++◌, ◌∷◌, [], map, IfOk, OnOk};
 ghost use Rattle.std.specs.List.{list_all};
 ghost use Rattle.icn_unit.specs.PlainUnits.{entry_names, proc_names};
-ghost use Rattle.icn_unit.specs.UnitRules.{has_label, has_name, label_in, labels_placed, place_of, placed_labels};
+ghost use Rattle.icn_unit.specs.UnitRules.{has_label, has_name, label_in, labels_placed, own_label, placed_labels};
 ghost use Rattle.icn_unit.specs.UnitViews.{proc_seen};
 ghost use Rattle.icn_ucode.specs.LabelSets.{has_place, holds, known_label, with_place};
 ghost use Rattle.icn_tree.specs.NameSets.{has};
@@ -182,7 +182,7 @@ impl<'a> Coded<'a> {
 
 // Whether an instruction is the place of one of the labels.
 fn has_place(labels: &Labels, instr: &UnitInstr) -> bool
-    ensures { result ≡ has_place (holds labels.now) (place_of instr.now) }
+    ensures { result ≡ has_place (holds labels.now) (own_label instr.now) }
 {
     match instr {
         UnitInstr::Lab(label) => labels.has(*label),
@@ -213,7 +213,7 @@ fn are_known(labels: &Labels, instrs: &[UnitInstr]) -> bool
 
 // Adds the label that has its place there.
 fn add_place(labels: &mut Labels, instr: &UnitInstr) -> Result<(), AllocError>
-    ensures { OnOk result (holds labels.new ≡ with_place (holds labels.old) (place_of instr.now)) }
+    ensures { OnOk result (holds labels.new ≡ with_place (holds labels.old) (own_label instr.now)) }
 {
     match instr {
         UnitInstr::Lab(label) => labels.add(*label),

@@ -70,17 +70,17 @@ keeps_operand names (Lab label) = is_number label
 keeps_operand names _ = true
 
 -- the label that has its place there
-abbrev pub place_of : UnitInstr → Option ℕ
-place_of (Lab label) = Some label
-place_of _ = None
+abbrev pub own_label : UnitInstr → Option ℕ
+own_label (Lab label) = Some label
+own_label _ = None
 
-abbrev pub place_list : Option ℕ → List ℕ
-place_list None = []
-place_list (Some label) = label ∷ []
+abbrev pub own_labels : Option ℕ → List ℕ
+own_labels None = []
+own_labels (Some label) = label ∷ []
 
 -- the labels that have their places among instructions
 abbrev pub placed_labels : List UnitInstr → List ℕ
-placed_labels instrs = flat_map (λ instr. place_list (place_of instr)) instrs
+placed_labels instrs = flat_map (λ instr. own_labels (own_label instr)) instrs
 
 -- the label that an instruction goes to
 abbrev pub label_in : UnitInstr → Option ℕ

@@ -3,7 +3,7 @@
 use Rattle.std.proofs.Common.{◌≡◌, ℕ, true, false, zero, suc, ◌+◌, List, [], ◌∷◌, ◌++◌, Option, None, Some, refl, sym, ap, ◌∙◌, nat_eq, add-zero, Bool, if◌then◌else◌, arith}
 use Rattle.icn_unit.specs.declared.unit.UnitInstr.{UnitInstr}
 use Rattle.icn_unit.specs.declared.unit.UnitInstr.TheVariants as I
-use Rattle.icn_unit.specs.UnitRules.{place_of}
+use Rattle.icn_unit.specs.UnitRules.{own_label}
 use Rattle.icn_translate.specs.declared.builder.Ways.{Ways}
 use Rattle.icn_translate.specs.Drafts.{Draft, put, next_label, with_label, number_of, numbered, put_variable, unmentioned, first_ways, other_ways, in_loop, outside_loop, innermost, next_number, with_next, put_next, last_number, with_last, put_last, first_end, other_ends, case_end, in_case, outside_case, end_number, with_end, put_end}
 use Rattle.icn_translate.specs.Translation.{loop_end}
@@ -28,7 +28,7 @@ held l (Some n) = one l n
 -- how often it has its place among instructions
 abbrev pub places : ℕ → List UnitInstr → ℕ
 places l [] = 0
-places l (i ∷ is) = held l (place_of i) + places l is
+places l (i ∷ is) = held l (own_label i) + places l is
 
 abbrev pub way : ℕ → Ways → ℕ
 way l w = held l w.next + held l w.last
@@ -53,22 +53,22 @@ pub record Balanced (d e : Draft) (ns : List ℕ) : Type 0 where
   pub counts : (l : ℕ) → times l e + given l d.labels + owed l ns ≡ times l d + given l e.labels
 
 pub record NoPlace (d : Draft) (i : UnitInstr) : Type 0 where
-  pub place : place_of i ≡ None
+  pub place : own_label i ≡ None
 
 -- Steps of a draft
 
 places-more : (l : ℕ) (is : List UnitInstr) (i : UnitInstr) → places l (is ++ i ∷ []) ≡ places l is
-    + held l (place_of i)
+    + held l (own_label i)
 places-more l [] i = omega arith
 places-more l (j ∷ is) i = let h = places-more l is i in omega arith
 
 sum_put : (p q w c h : ℕ) → q ≡ p + h → q + w + c ≡ p + w + c + h
 sum_put p q w c h e = omega arith
 
-put_times : (l : ℕ) (i : UnitInstr) (d : Draft) → times l (put i d) ≡ times l d + held l (place_of i)
+put_times : (l : ℕ) (i : UnitInstr) (d : Draft) → times l (put i d) ≡ times l d + held l (own_label i)
 unfolding times put
 put_times l i d = sum_put (places l d.instrs) (places l (d.instrs ++ i ∷ [])) (ways_held l d.loops)
-    (ends_held l d.cases) (held l (place_of i)) (places-more l d.instrs i)
+    (ends_held l d.cases) (held l (own_label i)) (places-more l d.instrs i)
 
 put_labels : (i : UnitInstr) (d : Draft) → (put i d).labels ≡ d.labels
 unfolding put
@@ -212,7 +212,7 @@ end_held l d =
 sum_word : (Tw Td Tp Ud Uw Up : ℕ) → Tw + Ud ≡ Td + Uw → Tp ≡ Tw → Up ≡ Uw → Tp + Ud ≡ Td + Up
 sum_word Tw Td Tp Ud Uw Up a b c = omega arith
 
-word_held : (l : ℕ) (i : UnitInstr) (d e : Draft) → place_of i ≡ None → times l e + given l d.labels ≡ times l d
+word_held : (l : ℕ) (i : UnitInstr) (d e : Draft) → own_label i ≡ None → times l e + given l d.labels ≡ times l d
     + given l e.labels
     → times l (put i e) + given l d.labels ≡ times l d + given l (put i e).labels
 word_held l i d e p h = sum_word (times l e) (times l d) (times l (put i e)) (given l d.labels) (given l e.labels)
@@ -231,7 +231,7 @@ sum_loop : (T0 T1 T2 T3 T4 T5 T6 U0 U1 U2 U3 U4 U5 U6 a b : ℕ) → T1 + U0 ≡
     → T5 ≡ T4 + b → U5 ≡ U4 → T5 ≡ T6 + (a + b) → U6 ≡ U5 → T6 + U0 ≡ T0 + U6
 sum_loop T0 T1 T2 T3 T4 T5 T6 U0 U1 U2 U3 U4 U5 U6 a b c1 c2 c3 c4 c5 c6 c7 c8 c9 c10 = omega arith
 
-loop_held : (l : ℕ) (i : UnitInstr) (d : Draft) → place_of i ≡ None → times l (loop_end i d) + given l d.labels
+loop_held : (l : ℕ) (i : UnitInstr) (d : Draft) → own_label i ≡ None → times l (loop_end i d) + given l d.labels
     ≡ times l d + given l (loop_end i d).labels
 loop_held l i d p =
     let d1 = with_next d in

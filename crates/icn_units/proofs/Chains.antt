@@ -2,7 +2,7 @@
 use Rattle.std.specs.Prelude.{◌≡◌, Bool, true, ℕ, suc, List, [], ◌∷◌, Option, None, Some}
 use Rattle.icn_unit.specs.declared.unit.UnitInstr.{UnitInstr}
 use Rattle.icn_unit.specs.declared.unit.UnitInstr.TheVariants as I
-use Rattle.icn_unit.specs.UnitRules.{label_in, place_of}
+use Rattle.icn_unit.specs.UnitRules.{label_in, own_label}
 use Rattle.icn_translate.specs.declared.builder.Ways.{Ways}
 use Rattle.icn_translate.specs.Drafts.{Draft, put, next_label, with_label, put_variable, unmentioned, in_loop, outside_loop, innermost, put_next, put_last, in_case, outside_case, put_end}
 use Rattle.icn_unit.specs.UnitOperands.{is_name}
@@ -17,14 +17,14 @@ variable_in i = None
 -- an instruction that goes to a label, and is no place of one
 pub record GoesTo (n : ℕ) (i : UnitInstr) : Type 0 where
   pub label : label_in i ≡ Some n
-  pub place : place_of i ≡ None
+  pub place : own_label i ≡ None
   pub variable : variable_in i ≡ None
   pub operand : (passes : List ℕ → Bool) → operand_fits passes i ≡ true
 
 -- an instruction without a label, and of no name
 pub record IsPlain (i : UnitInstr) : Type 0 where
   pub label : label_in i ≡ None
-  pub place : place_of i ≡ None
+  pub place : own_label i ≡ None
   pub variable : variable_in i ≡ None
 
 -- a test that passes, where it is asked
@@ -100,7 +100,7 @@ pub on : {K : Keeps} {n : ℕ} {step : Draft → Draft} → Runs K n step → {d
 on {K = K} {step = step} r {d = d} {e = e} {ns = ns} c =
     record { leads = K.joined d e (step e) ns c.leads (r.run e (here c)); inside = c.inside }
 
-pub plainly : {K : Keeps} {n : ℕ} (i : UnitInstr) → label_in i ≡ None → place_of i ≡ None → variable_in i ≡ None
+pub plainly : {K : Keeps} {n : ℕ} (i : UnitInstr) → label_in i ≡ None → own_label i ≡ None → variable_in i ≡ None
     → Told K.asks (operand_fits K.passes i) → {d e : Draft} {ns : List ℕ} → Chain K n d e ns → Chain K n d (put i e) ns
 plainly {K = K} i l p v w {d = d} {e = e} {ns = ns} c =
     let plain : IsPlain i = record { label = l; place = p; variable = v } in

@@ -15,7 +15,7 @@ use Rattle.icn_decls.specs.Contexts.{Fault, Context, outermost, create_context a
 use Rattle.icn_decls.specs.Faults.{faults, maybe_faults, all_faults, clauses_faults, clause_faults, initial_faults, is_default, next_in_control}
 use Rattle.icn_unit.specs.declared.unit.UnitInstr.{UnitInstr}
 use Rattle.icn_unit.specs.declared.unit.UnitInstr.TheVariants as I
-use Rattle.icn_unit.specs.UnitRules.{label_in, place_of}
+use Rattle.icn_unit.specs.UnitRules.{label_in, own_label}
 use Rattle.icn_unit.specs.UnitOperands.{keyword_of}
 use Rattle.icn_translate.specs.declared.forms.InfixForm.{InfixForm}
 use Rattle.icn_translate.specs.declared.forms.InfixForm.TheVariants.{Both, Scanning, Either, Limiting, Activating, Spreading, Operating}
@@ -61,7 +61,7 @@ literal_label (Literals.Integer n) = refl
 literal_label (Literals.Text bytes) = refl
 literal_label (Literals.Cset members) = refl
 
-literal_place : (v : Literal) → place_of (literal_instr v) ≡ None
+literal_place : (v : Literal) → own_label (literal_instr v) ≡ None
 literal_place (Literals.Integer n) = refl
 literal_place (Literals.Text bytes) = refl
 literal_place (Literals.Cset members) = refl
@@ -91,7 +91,7 @@ known_label K.Source = refl
 known_label K.Subject = refl
 known_label K.Ucase = refl
 
-known_place : (k : KeywordNamed) → place_of (known_keyword k) ≡ None
+known_place : (k : KeywordNamed) → own_label (known_keyword k) ≡ None
 known_place K.Ascii = refl
 known_place K.Cset = refl
 known_place K.Current = refl
@@ -155,7 +155,7 @@ keyword_label : (k : Option KeywordNamed) → label_in (keyword_by k) ≡ None
 keyword_label None = refl
 keyword_label (Some k) = known_label k
 
-keyword_place : (k : Option KeywordNamed) → place_of (keyword_by k) ≡ None
+keyword_place : (k : Option KeywordNamed) → own_label (keyword_by k) ≡ None
 keyword_place None = refl
 keyword_place (Some k) = known_place k
 
@@ -189,7 +189,7 @@ module _ (S : Keeps) where
   nothing_runs : {n : ℕ} → Runs S n (λ d. d)
   nothing_runs = record { run = λ d h. S.none d }
 
-  put_runs : {n : ℕ} (i : UnitInstr) → label_in i ≡ None → place_of i ≡ None → variable_in i ≡ None
+  put_runs : {n : ℕ} (i : UnitInstr) → label_in i ≡ None → own_label i ≡ None → variable_in i ≡ None
       → Told S.asks (operand_fits S.passes i) → Runs S n (put i)
   put_runs i l p v w = record { run = λ d h. (from d h ▸ plainly i l p v w).leads }
 
@@ -310,7 +310,7 @@ module _ (S : Keeps) where
   plain_runs (Operating op) a m b = record
       { run = λ d h. (from d h ▸ on a ▸ on b ▸ plainly (I.Op op) refl refl refl (λ h. refl)).leads }
 
-  update_runs : {n : ℕ} (i : UnitInstr) → label_in i ≡ None → place_of i ≡ None → variable_in i ≡ None
+  update_runs : {n : ℕ} (i : UnitInstr) → label_in i ≡ None → own_label i ≡ None → variable_in i ≡ None
       → Told S.asks (operand_fits S.passes i)
       → {a b : Draft → Draft} → Runs S n a
       → Runs S n b → Runs S n (update i a b)

@@ -11,7 +11,7 @@ use Rattle.icn_decls.specs.Faults.{too_many, fault_if_met, all_repeated, declare
 use Rattle.icn_tree.specs.NameSets.{NameTest, none_met}
 use Rattle.icn_unit.specs.declared.unit.UnitInstr.{UnitInstr}
 use Rattle.icn_unit.specs.declared.unit.UnitInstr.TheVariants as I
-use Rattle.icn_unit.specs.UnitRules.{label_in, place_of, place_list, placed_labels, has_label, all_differ, labels_differ, labels_placed, label_placed}
+use Rattle.icn_unit.specs.UnitRules.{label_in, own_label, own_labels, placed_labels, has_label, all_differ, labels_differ, labels_placed, label_placed}
 use Rattle.icn_translate.specs.declared.builder.Ways.{Ways}
 use Rattle.icn_translate.specs.Drafts.{Draft}
 use Rattle.icn_translate.specs.ProcCodes.{first_draft, draft_of, proc_code}
@@ -105,10 +105,10 @@ amount l (n ∷ ns) = one l n + amount l ns
 
 placed_amount : (l : ℕ) (is : List UnitInstr) → places l is ≡ amount l (placed_labels is)
 placed_amount l [] = refl
-placed_amount l (i ∷ is) = by (place_of i) (placed_labels is) (placed_amount l is)
+placed_amount l (i ∷ is) = by (own_label i) (placed_labels is) (placed_amount l is)
   where
     by : (k : Option ℕ) (ns : List ℕ) → places l is ≡ amount l ns → held l k + places l is
-        ≡ amount l (place_list k ++ ns)
+        ≡ amount l (own_labels k ++ ns)
     by None ns h = omega arith
     by (Some n) ns h = ap (λ a. one l n + a) h
 

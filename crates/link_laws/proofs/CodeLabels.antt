@@ -3,8 +3,8 @@ use Rattle.std.proofs.Common.{◌≡◌, ◌≢◌, ◌⊎◌, inl, inr, ℕ, �
 use Rattle.std.proofs.lemmas.Bool.Decides.{eqb_tells}
 use Rattle.icn_unit.specs.declared.unit.UnitInstr.{UnitInstr}
 use Rattle.icn_unit.specs.declared.unit.UnitInstr.TheVariants as U
-use Rattle.icn_unit.specs.UnitRules.{place_of, place_list, placed_labels, has_label, labels_differ}
-use Rattle.icn_link.specs.Resolving.{Scope, resolved_one, label_place, label_place_by}
+use Rattle.icn_unit.specs.UnitRules.{own_label, own_labels, placed_labels, has_label, labels_differ}
+use Rattle.icn_link.specs.Resolving.{Scope, resolved_one, label_address, label_address_by}
 use Rattle.link_laws.proofs.CodeSteps.{AtPlace, Placed}
 
 -- how many instructions stand for one of a unit
@@ -12,7 +12,7 @@ abbrev counted : Option ℕ → ℕ
 counted None = 1
 counted (Some label) = 0
 
-one_or_none : (S : Scope) (i : UnitInstr) → length (resolved_one S i) ≡ counted (place_of i)
+one_or_none : (S : Scope) (i : UnitInstr) → length (resolved_one S i) ≡ counted (own_label i)
 one_or_none S (U.Lab label) = refl
 one_or_none S i = refl
 
@@ -36,7 +36,7 @@ later label other labels h = by (nat_eq label other)
     by true = refl
     by false = h
 
-place_here : (label behind : ℕ) → label_place_by label (Some label) behind ≡ 0
+place_here : (label behind : ℕ) → label_address_by label (Some label) behind ≡ 0
 place_here label behind = by (nat_eq label label) (eqb_tells label label)
   where
     by : (b : Bool) → ((b ≡ true) × (label ≡ label)) ⊎ ((b ≡ false) × (label ≢ label)) → (if b then 0 else behind) ≡ 0
@@ -45,7 +45,7 @@ place_here label behind = by (nat_eq label label) (eqb_tells label label)
     by false (inr h) = absurd (h.1 refl)
 
 place_later : (label other behind : ℕ) (labels : List ℕ) → has_label labels label ≡ true → not (has_label labels other) ≡ true
-    → label_place_by label (Some other) behind ≡ behind
+    → label_address_by label (Some other) behind ≡ behind
 place_later label other behind labels h n = by (nat_eq label other) (eqb_tells label other)
   where
     by : (b : Bool) → ((b ≡ true) × (label ≡ other)) ⊎ ((b ≡ false) × (label ≢ other)) → (if b then 0 else behind) ≡ behind
@@ -58,29 +58,29 @@ place_later label other behind labels h n = by (nat_eq label other) (eqb_tells l
 Known : Scope → ℕ → List ℕ → (ℕ → ℕ) → Type 0
 Known S p labels address = (label : ℕ) → has_label labels label ≡ true → S.label label ≡ p + address label
 
-placed_from : (S : Scope) (p : ℕ) (is : List UnitInstr) → labels_differ (placed_labels is) ≡ true → Known S p (placed_labels is) (λ label. label_place label is)
+placed_from : (S : Scope) (p : ℕ) (is : List UnitInstr) → labels_differ (placed_labels is) ≡ true → Known S p (placed_labels is) (λ label. label_address label is)
     → Placed S p is
 unfolding Known
 placed_from S p [] d h = tt
-placed_from S p (i ∷ is) d h = by (place_of i) (length (resolved_one S i)) (one_or_none S i) d h (λ q. placed_from S q is)
+placed_from S p (i ∷ is) d h = by (own_label i) (length (resolved_one S i)) (one_or_none S i) d h (λ q. placed_from S q is)
   where
-    by : (k : Option ℕ) (one : ℕ) → one ≡ counted k → labels_differ (place_list k ++ placed_labels is) ≡ true
-        → ((label : ℕ) → has_label (place_list k ++ placed_labels is) label ≡ true → S.label label ≡ p + label_place_by label k (label_place label is))
+    by : (k : Option ℕ) (one : ℕ) → one ≡ counted k → labels_differ (own_labels k ++ placed_labels is) ≡ true
+        → ((label : ℕ) → has_label (own_labels k ++ placed_labels is) label ≡ true → S.label label ≡ p + label_address_by label k (label_address label is))
         → ((q : ℕ) → labels_differ (placed_labels is) ≡ true
-        → ((label : ℕ) → has_label (placed_labels is) label ≡ true → S.label label ≡ q + label_place label is) → Placed S q is)
+        → ((label : ℕ) → has_label (placed_labels is) label ≡ true → S.label label ≡ q + label_address label is) → Placed S q is)
         → AtPlace S p k × Placed S (p + one) is
     by None one e d h rest = (tt, rest (p + one) d (λ label k. let at = h label k in omega arith))
     by (Some m) one e d h rest =
         let parts = both_of (not (has_label (placed_labels is) m)) (labels_differ (placed_labels is)) d in
         let at = h m (here m (placed_labels is)) in
-        let zero = place_here m (label_place m is) in (
+        let zero = place_here m (label_address m is) in (
           omega arith,
           rest (p + one) parts.1 (λ label k.
               let there = h label (later label m (placed_labels is) k) in
-              let same = place_later label m (label_place label is) (placed_labels is) k parts.0 in
+              let same = place_later label m (label_address label is) (placed_labels is) k parts.0 in
               omega arith),
         )
 
-pub all_placed : (S : Scope) (is : List UnitInstr) → labels_differ (placed_labels is) ≡ true → ((label : ℕ) → S.label label ≡ label_place label is) → Placed S 0 is
+pub all_placed : (S : Scope) (is : List UnitInstr) → labels_differ (placed_labels is) ≡ true → ((label : ℕ) → S.label label ≡ label_address label is) → Placed S 0 is
 unfolding Known
 all_placed S is d h = placed_from S 0 is d (λ label k. let at = h label in omega arith)

@@ -14,7 +14,7 @@ use Rattle.icn_translate.specs.Translation as T
 use Rattle.icn_translate.specs.ProcCodes.{first_draft, draft_of, proc_code}
 use Rattle.icn_units.proofs.Forms.{none_before, none_behind}
 use Rattle.icn_units.proofs.Procedures.{differ}
-use Rattle.icn_link.specs.Resolving.{Scope, resolve, label_place}
+use Rattle.icn_link.specs.Resolving.{Scope, resolve, label_address}
 use Rattle.icn_simulation.specs.Translation as X
 use Rattle.link_laws.proofs.CodeSteps.{Agrees, Gives, none, nothing, puts, ◌⨾◌}
 use Rattle.link_laws.proofs.CodeNames.{AgreeOn}
@@ -83,7 +83,7 @@ trees_faultless met procedure x =
     (none_before first others trees, none_behind first others trees)
 
 pub code_is : (S : Scope) (N : X.Names) (met : NameTest) (procedure : Procedure) → procedure_faults met procedure ≡ []
-    → AgreeOn S N (draft_of procedure).names → ((label : ℕ) → S.label label ≡ label_place label (proc_code procedure).instrs)
+    → AgreeOn S N (draft_of procedure).names → ((label : ℕ) → S.label label ≡ label_address label (proc_code procedure).instrs)
     → resolve S (proc_code procedure).instrs ≡ X.procedure N procedure.initial procedure.body
 code_is S N met procedure x agree labels =
     let F = (draft_of procedure).names in

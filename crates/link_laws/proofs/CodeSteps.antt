@@ -4,7 +4,7 @@ use Rattle.std.proofs.lemmas.List.Concat.{flat_map-append}
 use Rattle.icn_code.specs.declared.instr.Instr.{Instr}
 use Rattle.icn_unit.specs.declared.unit.UnitInstr.{UnitInstr}
 use Rattle.icn_unit.specs.declared.unit.UnitInstr.TheVariants as U
-use Rattle.icn_unit.specs.UnitRules.{place_of}
+use Rattle.icn_unit.specs.UnitRules.{own_label}
 use Rattle.icn_translate.specs.declared.builder.Ways.{Ways}
 use Rattle.icn_translate.specs.Drafts.{Draft, put, with_label, next_label}
 use Rattle.icn_link.specs.Resolving.{Scope, resolved_one, resolve}
@@ -20,7 +20,7 @@ AtPlace S p (Some label) = S.label label ≡ p
 -- each label has its place among instructions that begin at a place
 abbrev pub Placed : Scope → ℕ → List UnitInstr → Type 0
 Placed S p [] = Unit {0}
-Placed S p (i ∷ is) = AtPlace S p (place_of i) × Placed S (p + length (resolved_one S i)) is
+Placed S p (i ∷ is) = AtPlace S p (own_label i) × Placed S (p + length (resolved_one S i)) is
 
 -- the labels of open loops and cases, as far as they were mentioned, have these places
 abbrev pub Loops : Scope → List Ways → List X.Ways → Type 0
@@ -71,13 +71,13 @@ pub resolved-more : (S : Scope) (xs : List UnitInstr) (i : UnitInstr) → resolv
 resolved-more S xs i = flat_map-append (resolved_one S) xs (i ∷ []) ∙ ap (λ is. resolve S xs ++ is) (append-nil (resolved_one S i))
 
 pub placed_split : (S : Scope) (p : ℕ) (xs : List UnitInstr) (i : UnitInstr) → Placed S p (xs ++ i ∷ [])
-    → Placed S p xs × AtPlace S (p + length (resolve S xs)) (place_of i)
-placed_split S p [] i h = (tt, subst (λ q. AtPlace S q (place_of i)) (sym (add-zero p)) h.0)
+    → Placed S p xs × AtPlace S (p + length (resolve S xs)) (own_label i)
+placed_split S p [] i h = (tt, subst (λ q. AtPlace S q (own_label i)) (sym (add-zero p)) h.0)
 placed_split S p (x ∷ xs) i h =
     let r = placed_split S (p + length (resolved_one S x)) xs i h.1 in
     let same : (p + length (resolved_one S x)) + length (resolve S xs) ≡ p + length (resolved_one S x ++ resolve S xs) =
     let long = length-append (resolved_one S x) (resolve S xs) in omega arith in
-    ((h.0, r.0), subst (λ q. AtPlace S q (place_of i)) same r.1)
+    ((h.0, r.0), subst (λ q. AtPlace S q (own_label i)) same r.1)
 
 -- One instruction, and one label
 

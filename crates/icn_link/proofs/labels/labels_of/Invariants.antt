@@ -1,7 +1,7 @@
 use Rattle.std.proofs.Common.{◌≡◌, drop, ℕ}
-use Rattle.icn_link.specs.Resolving.{label_place}
-use Rattle.icn_link.specs.Views.{place_from}
+use Rattle.icn_link.specs.Resolving.{label_address}
+use Rattle.icn_link.specs.Views.{address_from}
 use Rattle.icn_link.proofs.labels.labels_of.Given as goal
 
 abbrev pub invariant-loop-instr : goal.invariant-loop-instr
-invariant-loop-instr l = (label : ℕ) → place_from l.labels label (drop l.instr-index l.instrs) ≡ label_place label l.instrs
+invariant-loop-instr l = (label : ℕ) → address_from l.labels label (drop l.instr-index l.instrs) ≡ label_address label l.instrs
