@@ -23,6 +23,7 @@ abbrev pub ReadsPart : Option FileMap → List ℕ → ℕ → List ℕ → List
 ReadsPart held name count before after =
     IfSome held (λ files. (n : ℕ) × (after ≡ before ++ take n (take count (unwrap_or (files name) []))))
 
+-- where the store tells, it has no file of this name
 abbrev pub NotHeld : Option FileMap → List ℕ → Type 0
 NotHeld held name = IfSome held (λ files. files name ≡ None)
 

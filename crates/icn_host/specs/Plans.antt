@@ -10,15 +10,19 @@ pub record Plan : Type 0 where
   pub failing : List ℕ
   pub next : ℕ
 
+-- which calls of an object in memory fail, and which one is next
 abbrev pub plan_of : FailingCalls → Plan
 plan_of calls = record { failing = calls.numbers.items; next = calls.next }
 
+-- which calls of a source in memory fail
 abbrev pub source_plan : MemSource → Plan
 source_plan source = plan_of source.failing
 
+-- which calls of a sink in memory fail
 abbrev pub sink_plan : MemSink → Plan
 sink_plan sink = plan_of sink.failing
 
+-- which calls of a store in memory fail
 abbrev pub files_plan : MemFiles → Plan
 files_plan files = plan_of files.failing
 

@@ -3,6 +3,7 @@ use Rattle.std.specs.Prelude.{ℕ, List as Bytes, codes}
 use Rattle.icn_text.specs.declared.func.Func.{Func}
 use Rattle.icn_text.specs.declared.func.Func.TheVariants.{Abs, Any, Bal, Center, Char, Copy, Cset, Delete, Exit, Find, Get, Iand, Icom, Image, Insert, Integer, Ior, Ishift, Ixor, Key, Left, List, Many, Map, Match, Member, Move, Numeric, Ord, Pop, Pos, Pull, Push, Put, Read, Reads, Repl, Reverse, Right, Seq, Set, Sort, Stop, String, Tab, Table, Trim, TypeOf, Upto, Write, Writes}
 
+-- the name of a built-in function
 abbrev pub func_name : Func → Bytes ℕ
 func_name Abs = codes "abs"
 func_name Any = codes "any"
@@ -56,6 +57,7 @@ func_name Upto = codes "upto"
 func_name Write = codes "write"
 func_name Writes = codes "writes"
 
+-- the number of a built-in function, from 1 on: images have it, and the value of the function is made of it
 abbrev pub func_number : Func → ℕ
 func_number Abs = 1
 func_number Any = 2

@@ -17,12 +17,15 @@ fitting n = if fits n then Some n else None
 abbrev pub within_64_bits : ℤ → Result ℤ Arith
 within_64_bits n = ok_or (fitting n) Overflow
 
+-- the sum of two integers, or that it does not fit 64 bits
 abbrev pub sum : ℤ → ℤ → Result ℤ Arith
 sum m n = within_64_bits (m +ℤ n)
 
+-- the difference of two integers, or that it does not fit 64 bits
 abbrev pub difference : ℤ → ℤ → Result ℤ Arith
 difference m n = within_64_bits (m -ℤ n)
 
+-- the product of two integers, or that it does not fit 64 bits
 abbrev pub product : ℤ → ℤ → Result ℤ Arith
 product m n = within_64_bits (m *ℤ n)
 

@@ -3,6 +3,7 @@ use Rattle.std.specs.Prelude.{ℕ, List as Bytes, codes}
 use Rattle.icn_text.specs.declared.keyword.Keyword.{Keyword}
 use Rattle.icn_text.specs.declared.keyword.Keyword.TheVariants.{Ascii, Cset, Current, Digits, Errout, Fail, Input, Lcase, Letters, Level, Main, Null, Output, Pos, Random, Source, Subject, Ucase}
 
+-- the name of a keyword, without its `&`
 abbrev pub keyword_name : Keyword → Bytes ℕ
 keyword_name Ascii = codes "ascii"
 keyword_name Cset = codes "cset"
@@ -23,6 +24,7 @@ keyword_name Source = codes "source"
 keyword_name Subject = codes "subject"
 keyword_name Ucase = codes "ucase"
 
+-- the number of a keyword, by which an image has it
 abbrev pub keyword_number : Keyword → ℕ
 keyword_number Ascii = 1
 keyword_number Cset = 2

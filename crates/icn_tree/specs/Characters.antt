@@ -20,6 +20,7 @@ begins_comment b = b == 35
 abbrev pub begins_identifier : ℕ → Bool
 begins_identifier b = is_between 65 90 b || is_between 97 122 b || b == 95
 
+-- a decimal digit
 abbrev pub is_digit : ℕ → Bool
 is_digit b = is_between 48 57 b
 
@@ -31,9 +32,11 @@ continues_identifier b = begins_identifier b || is_digit b
 abbrev pub is_alphanumeric : ℕ → Bool
 is_alphanumeric b = is_digit b || is_between 65 90 b || is_between 97 122 b
 
+-- an octal digit
 abbrev pub is_octal : ℕ → Bool
 is_octal b = is_between 48 55 b
 
+-- a hexadecimal digit, in small or capital letters
 abbrev pub is_hexadecimal : ℕ → Bool
 is_hexadecimal b = is_digit b || is_between 65 70 b || is_between 97 102 b
 

@@ -96,6 +96,7 @@ word_at place reserved = sign_at place (WordKind reserved)
 -- Beside each case stands its production: n is an expression that may be empty (level 0), e one that is not (level 1), and
 -- with a number one of that level or a higher one.
 abbrev mutual
+  -- the tokens that a tree spells, by the production of its form
   pub Spells : Tree → Phrase
   Spells Empty = nothing
   Spells (Constant place literal) = sign_at place (literal_kind literal)

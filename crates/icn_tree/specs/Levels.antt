@@ -53,6 +53,7 @@ operator_level Bang = 11
 operator_level Dot = 0
 operator_level Tilde = 0
 
+-- the level of an operator between two operands; an augmented assignment has that of `:=`
 abbrev pub infix_level : Infix → ℕ
 infix_level (Plain operator) = operator_level operator
 infix_level (Augmented operator) = 3
@@ -69,6 +70,7 @@ groups_right level = level == 3 || level == 5 || level == 10 || level == 12
 abbrev pub left_level : ℕ → ℕ
 left_level level = if groups_right level then suc level else level
 
+-- the least level of the right operand: the operator's own where it groups to the right, else the next one
 abbrev pub right_level : ℕ → ℕ
 right_level level = if groups_right level then level else suc level
 
@@ -169,6 +171,7 @@ punctuation_goes_on OpenBracket = 13
 punctuation_goes_on OpenBrace = 13
 punctuation_goes_on _ = 0
 
+-- the level of the form that a token of any kind makes with what stands before it, and 0 where it makes none
 abbrev pub kind_goes_on : Kind → ℕ
 kind_goes_on (WordKind word) = word_goes_on word
 kind_goes_on (OperatorKind operator) = operator_goes_on operator
@@ -199,14 +202,17 @@ abbrev pub is_word_by : Word → Bool
 is_word_by Words.By = true
 is_word_by _ = false
 
+-- the word `else` stands next
 abbrev pub is_else : Option Kind → Bool
 is_else (Some (WordKind word)) = is_word_else word
 is_else _ = false
 
+-- the word `do` stands next
 abbrev pub is_do : Option Kind → Bool
 is_do (Some (WordKind word)) = is_word_do word
 is_do _ = false
 
+-- the word `by` stands next
 abbrev pub is_by : Option Kind → Bool
 is_by (Some (WordKind word)) = is_word_by word
 is_by _ = false

@@ -44,6 +44,7 @@ escaped_byte b =
     if b == 98 then 8 else (if b == 100 then 127 else (if b == 101 then 27 else (if b == 102 then 12 else (if b == 108 then 10
     else (if b == 110 then 10 else (if b == 114 then 13 else (if b == 116 then 9 else (if b == 118 then 11 else b))))))))
 
+-- the byte that an escape means, by the bytes behind its backslash, and how many of these it takes; or that it is none
 unfoldable pub escape_of : List ℕ → Option (ℕ × ℕ)
 escape_of [] = None
 escape_of (b ∷ rest) =

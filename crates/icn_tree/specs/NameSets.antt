@@ -8,9 +8,11 @@ use Rattle.icn_tree.specs.declared.names.NameSet.{NameSet}
 abbrev pub NameTest : Type 0
 NameTest = List ℕ → Bool
 
+-- no name was met so far
 abbrev pub none_met : NameTest
 none_met = λ name. false
 
+-- this name was met too
 abbrev pub with_name : NameTest → List ℕ → NameTest
 with_name met name = λ other. if bytes_eq name other then true else met other
 

@@ -3,6 +3,7 @@ use Rattle.std.specs.Prelude.{ℕ, List, codes}
 use Rattle.icn_tree.specs.declared.rule.Rule.{Rule}
 use Rattle.icn_tree.specs.declared.rule.Rule.TheVariants.{P1, P2, P3, P4, P5, P6, P7, P8, P9, L1, L2, L3, L4, L5, L6, L7, S1, S2, S3, S4, C1, C2, C3, C4, C5, C6, C7, C8, K1, K2, K3, U1, U2, U3, U4, U5, U6, U7, U8, I1, I2, I3, I4, I5, I6, V1, V2, V3, V4, V5}
 
+-- what a message says of a broken rule: its code and a few words
 abbrev pub rule_text : Rule → List ℕ
 rule_text P1 = codes "P1 unknown directive"
 rule_text P2 = codes "P2 bad directive operand"

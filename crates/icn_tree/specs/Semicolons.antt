@@ -114,6 +114,7 @@ semicolon_at token = record { kind = PunctuationKind Semicolon; line = token.lin
 abbrev pub between : Token → Piece → List Token
 between a b = if b.is_first && is_ender a.kind && is_beginner b.token.kind then semicolon_at a ∷ [] else []
 
+-- the tokens, with the semicolons that the ends of lines stand for
 abbrev pub with_semicolons : List Piece → List Token
 with_semicolons [] = []
 with_semicolons (a ∷ []) = a.token ∷ []

@@ -143,5 +143,6 @@ abbrev pub finish_scan : Scan → Outcome
 finish_scan (Found pieces) = Scanned (with_semicolons pieces)
 finish_scan (Broken rule line file) = Fault rule file line
 
+-- the tokens of all lines, or the first rule that is broken, with its file and line
 unfoldable pub tokens_of : List SourceLine → Outcome
 tokens_of lines = finish_scan (lines_from lines None)

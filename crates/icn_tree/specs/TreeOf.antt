@@ -15,6 +15,7 @@ use Rattle.icn_tree.specs.declared.tree.File.{File}
 use Rattle.icn_tree.specs.Trees.{Locals, Initial, NoInitial, Initially, Procedure, Declaration, Global, Link, Invocable, Record, ProcedureOf, Tree, MaybeTree, Trees, Clause, Clauses, Empty, Constant, Identifier, Keyword, Parentheses, Listing, Compound, Call, CoCall, Subscript, Section, Field, Prefix, Not, Binary, To, If, Case, Loop, Repeat, Create, Next, Fail, Break, Return, Suspend, Absent, Present, NoTrees, More, Default, Guarded, NoClauses, MoreClauses}
 
 abbrev mutual
+  -- an expression of the program, as definitions see it
   pub tree_of : Expr → Tree
   tree_of E.Empty = Empty
   tree_of (E.Literal place value) = Constant place value
@@ -59,6 +60,7 @@ abbrev mutual
   clauses_of end_of-Clause = NoClauses
   clauses_of (more_of-Clause clause rest) = MoreClauses (clause_of clause) (clauses_of rest)
 
+-- the expressions of a list, as definitions see them
 abbrev pub all_of : List Expr → Trees
 all_of [] = NoTrees
 all_of (expr ∷ exprs) = More (tree_of expr) (all_of exprs)
@@ -74,9 +76,11 @@ abbrev pub initial_of : Option InitialItem → Initial
 initial_of None = NoInitial
 initial_of (Some initial) = Initially initial.place (tree_of initial.value)
 
+-- a procedure of the program, as definitions see it
 abbrev pub procedure_of : ProcedureItem → Procedure
 procedure_of p = record { place = p.place; name = p.name; parameters = p.parameters.items; is_variadic = p.is_variadic; locals = map locals_of p.locals.items; initial = initial_of p.initial; body = all_of p.body.items }
 
+-- a declaration of the program, as definitions see it
 abbrev pub declaration_of : Decl → Declaration
 declaration_of (D.Global place names) = Global place names.items
 declaration_of (D.Link place items) = Link place items.items

@@ -12,6 +12,7 @@ use Rattle.icn_tree.specs.declared.tree.Item.{Item}
 
 -- a place is that of the form's first token
 mutual
+  -- an expression: one case for each form
   pub data Tree : Type 0 where
     Empty : Tree
     Constant : Place → Literal → Tree
@@ -72,6 +73,8 @@ pub data Initial : Type 0 where
   NoInitial : Initial
   Initially : Place → Tree → Initial
 
+-- A procedure: its name, its parameters, of which the last one may collect all arguments that are left, its other
+-- locals, its `initial` and its body.
 pub record Procedure : Type 0 where
   pub place : Place
   pub name : Name
@@ -81,6 +84,7 @@ pub record Procedure : Type 0 where
   pub initial : Initial
   pub body : Trees
 
+-- a declaration of a file, one case for each kind; its place is that of its first word
 pub data Declaration : Type 0 where
   Global : Place → List Name → Declaration
   Link : Place → List Item → Declaration
