@@ -50,6 +50,7 @@ abbrev pub break_by : Bool → List Bool → Place → List Fault
 break_by in_create [] place = loopless in_create C2 place
 break_by in_create (loop ∷ loops) place = []
 
+-- the rules that a `break` breaks in this context
 abbrev pub break_faults : Context → Place → List Fault
 break_faults context place = break_by context.in_create context.loops place
 
@@ -57,5 +58,6 @@ abbrev pub next_by : Bool → List Bool → Place → List Fault
 next_by in_create [] place = loopless in_create C3 place
 next_by in_create (next ∷ loops) place = if next then [] else fault C3 place
 
+-- the rules that a `next` breaks in this context
 abbrev pub next_faults : Context → Place → List Fault
 next_faults context place = next_by context.in_create context.loops place

@@ -22,6 +22,7 @@ abbrev pub default_faults : Bool → Place → List Fault
 default_faults has_default place = if has_default then fault C5 place else []
 
 abbrev mutual
+  -- the context rules that a tree breaks
   pub faults : Context → Tree → List Fault
   faults context Empty = []
   faults context (Constant place value) = []
@@ -54,6 +55,7 @@ abbrev mutual
   maybe_faults context Absent = []
   maybe_faults context (Present tree) = faults context tree
 
+  -- the context rules that several trees break
   pub all_faults : Context → Trees → List Fault
   all_faults context NoTrees = []
   all_faults context (More tree trees) = faults context tree ++ all_faults context trees
@@ -98,6 +100,7 @@ abbrev pub initial_faults : Initial → List Fault
 initial_faults NoInitial = []
 initial_faults (Initially place value) = faults outermost value
 
+-- the context rules that a procedure breaks, where names were declared before it
 abbrev pub procedure_faults : NameTest → Procedure → List Fault
 procedure_faults met procedure = too_many (length (declared_names procedure)) procedure.name ++ (fault_if_met C8 met procedure.name
     ++ (all_repeated C1 none_met (declared_names procedure) ++ (initial_faults procedure.initial ++ all_faults outermost procedure.body)))

@@ -12,9 +12,11 @@ abbrev pub loops_of : Loops → List Bool
 loops_of Kept.None = []
 loops_of (Kept.Inside' next p loops) = next ∷ loops_of loops
 
+-- the context that is kept, as definitions see it
 abbrev pub context_of : KeptContext → Context
 context_of kept = record { in_create = kept.in_create; loops = loops_of kept.loops.now }
 
+-- the first fault, if there is one
 abbrev pub first_of : List Fault → Option Fault
 first_of [] = None
 first_of (fault ∷ faults) = Some fault

@@ -109,6 +109,7 @@ pub data State (V L C : Type 0) : Type 0 where
   Finished : V → List Token → State V L C
   Broken : State V L C
 
+-- the tokens behind the first
 abbrev pub behind : List Token → List Token
 behind [] = []
 behind (token ∷ tokens) = tokens
@@ -119,39 +120,48 @@ abbrev pub is_mark_comma : Punctuation → Bool
 is_mark_comma Comma = true
 is_mark_comma _ = false
 
+-- the separator of such a list stands next
 abbrev pub is_separator : Separator → Option Kind → Bool
 is_separator ByComma (Some (PunctuationKind Comma)) = true
 is_separator BySemicolon (Some (PunctuationKind Semicolon)) = true
 is_separator _ _ = false
 
+-- a closing parenthesis stands next
 abbrev pub is_close_parenthesis : Option Kind → Bool
 is_close_parenthesis (Some (PunctuationKind CloseParenthesis)) = true
 is_close_parenthesis _ = false
 
+-- a closing bracket stands next
 abbrev pub is_close_bracket : Option Kind → Bool
 is_close_bracket (Some (PunctuationKind CloseBracket)) = true
 is_close_bracket _ = false
 
+-- a closing brace stands next
 abbrev pub is_close_brace : Option Kind → Bool
 is_close_brace (Some (PunctuationKind CloseBrace)) = true
 is_close_brace _ = false
 
+-- an opening brace stands next
 abbrev pub is_open_brace : Option Kind → Bool
 is_open_brace (Some (PunctuationKind OpenBrace)) = true
 is_open_brace _ = false
 
+-- a colon stands next
 abbrev pub is_colon : Option Kind → Bool
 is_colon (Some (PunctuationKind Colon)) = true
 is_colon _ = false
 
+-- the word `then` stands next
 abbrev pub is_then : Option Kind → Bool
 is_then (Some (WordKind Words.Then)) = true
 is_then _ = false
 
+-- the word `of` stands next
 abbrev pub is_of : Option Kind → Bool
 is_of (Some (WordKind Words.Of)) = true
 is_of _ = false
 
+-- the word `default` stands next
 abbrev pub is_default : Option Kind → Bool
 is_default (Some (WordKind Words.Default)) = true
 is_default _ = false
@@ -160,6 +170,7 @@ abbrev pub is_dot : Operator → Bool
 is_dot Dot = true
 is_dot _ = false
 
+-- the kind of section whose sign stands next, if one does
 abbrev pub section_kind : Option Kind → Option SectionKind
 section_kind (Some (PunctuationKind Colon)) = Some Between
 section_kind (Some (PunctuationKind PlusColon)) = Some Forward
@@ -196,6 +207,7 @@ abbrev pub climbing_level : ℕ → ℕ
 climbing_level zero = 1
 climbing_level (suc level) = suc level
 
+-- a form that is open: the level at which it stands, its place, and what was read of it
 abbrev pub frame : {V L C : Type 0} → ℕ → Place → PartialForm V L C → Frame V L C
 frame level place holds = record { level = level; place = place; holds = holds }
 
@@ -243,6 +255,7 @@ abbrev pub start_by : {V L C : Type 0} → Builds V L C → Bool → ℕ → Tok
 start_by make true level token frames tokens = operand_step make (climbing_level level) (record { line = token.line; file = token.file }) token.kind frames tokens
 start_by make false level token frames tokens = empty_step make level frames (token ∷ tokens)
 
+-- where a part of this level is to begin: its first token is read, or the part is empty
 abbrev pub start_step : {V L C : Type 0} → Builds V L C → ℕ → List (Frame V L C) → List Token → State V L C
 start_step make level frames [] = empty_step make level frames []
 start_step make level frames (token ∷ tokens) = start_by make (kind_begins token.kind) level token frames tokens
@@ -273,6 +286,7 @@ abbrev pub climb_by : {V L C : Type 0} → Builds V L C → Bool → ℕ → Pla
 climb_by make true level place tree token frames tokens = extend_step make level place tree token.kind frames tokens
 climb_by make false level place tree token frames tokens = Closing tree true frames (token ∷ tokens)
 
+-- a tree was read: the next token makes a larger one of it, or the part is complete
 abbrev pub climb_step : {V L C : Type 0} → Builds V L C → ℕ → Place → V → List (Frame V L C) → List Token → State V L C
 climb_step make level place tree frames [] = Closing tree true frames []
 climb_step make level place tree frames (token ∷ tokens) = climb_by make (nat_le level (kind_goes_on token.kind)) level place tree token frames tokens
@@ -359,6 +373,7 @@ close_by make ReturnValue level place tree present frames tokens = Climbing leve
 close_by make SuspendValue level place tree present frames tokens = part_or make (is_do (next tokens)) (frame level place (SuspendBody tree)) (make.suspend_form place tree None) frames tokens
 close_by make (SuspendBody value) level place tree present frames tokens = Climbing level place (make.suspend_form place value (Some tree)) frames tokens
 
+-- a part is complete: it goes into the newest open form, or all is read
 abbrev pub close_step : {V L C : Type 0} → Builds V L C → V → Bool → List (Frame V L C) → List Token → State V L C
 close_step make tree present [] tokens = Finished tree tokens
 close_step make tree present (newest ∷ frames) tokens = close_by make newest.holds newest.level newest.place tree present frames tokens

@@ -69,6 +69,7 @@ abbrev pub has_none : Capped Trees → Bool
 has_none (Some trees) = is_no_trees trees.0
 has_none None = false
 
+-- how each form is built with its height, and left out where that is above the greatest
 abbrev pub capped : Builds (Capped Tree) (Capped Trees) (Capped Clauses)
 capped = record {
   empty = Some (Empty, 1);

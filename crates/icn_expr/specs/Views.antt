@@ -21,12 +21,15 @@ use Rattle.icn_expr.specs.Reading.{end_of}
 use Rattle.icn_expr.specs.Capped.{Capped, capped_at, capped}
 use Rattle.icn_expr.specs.Automata.{Bracket, Round, Square, Curly, Arguments, CoArguments, Subscripts, PartialForm, Elements, SectionEnd, PrefixOperand, NotOperand, RightOperand, ToOperand, ByOperand, Condition, Consequence, Alternative, CaseSubject, ClauseGuard, GuardedValue, DefaultValue, Control, LoopBody, RepeatBody, CreateBody, BreakValue, ReturnValue, SuspendValue, SuspendBody, Frame, State, Starting, Climbing, Closing, Finished, Broken}
 
+-- the tree of a value, unless it is too high
 abbrev pub capped_of : Value → Capped Tree
 capped_of value = capped_at (tree_of value.expr) value.height
 
+-- the elements of a list so far, unless one is too high
 abbrev pub elements_of : ElementsValue → Capped Trees
 elements_of elements = capped_at (all_of elements.exprs.items) elements.height
 
+-- the clauses of a `case` so far, unless one is too high
 abbrev pub branches_of : Branches → Capped Clauses
 branches_of branches = capped_at (all_clauses_of branches.clauses.items) branches.height
 
@@ -38,6 +41,7 @@ bracket_of (B.Arguments callee) = Arguments (capped_of callee)
 bracket_of (B.CoArguments callee) = CoArguments (capped_of callee)
 bracket_of (B.Subscripts subject) = Subscripts (capped_of subject)
 
+-- what was read of an open form, as definitions see it
 abbrev pub holding_of : HoldingValue → PartialForm (Capped Tree) (Capped Trees) (Capped Clauses)
 holding_of (H.Elements bracket done) = Elements (bracket_of bracket) (elements_of done)
 holding_of (H.SectionEnd kind subject from) = SectionEnd kind (capped_of subject) (capped_of from)
@@ -62,9 +66,11 @@ holding_of H.ReturnValue = ReturnValue
 holding_of H.SuspendValue = SuspendValue
 holding_of (H.SuspendBody value) = SuspendBody (capped_of value)
 
+-- an open form, whose parts may be too high
 abbrev pub OpenFrame : Type 0
 OpenFrame = Frame (Capped Tree) (Capped Trees) (Capped Clauses)
 
+-- an open form, as definitions see it
 abbrev pub frame_of : FrameValue → OpenFrame
 frame_of frame = record { level = frame.level; place = frame.place; holds = holding_of frame.holds }
 
@@ -73,12 +79,14 @@ abbrev pub frames_onto : List FrameValue → List OpenFrame → List OpenFrame
 frames_onto [] below = below
 frames_onto (frame ∷ frames) below = frames_onto frames (frame_of frame ∷ below)
 
+-- the open forms, the newest first
 abbrev pub stack_of : Stack → List OpenFrame
 stack_of stack = frames_onto stack.frames.items []
 
 abbrev pub CappedState : Type 0
 CappedState = State (Capped Tree) (Capped Trees) (Capped Clauses)
 
+-- where the reading stands, with the open forms and the tokens left
 abbrev pub state_of : StateValue → List OpenFrame → List Token → CappedState
 state_of (S.Starting level) frames tokens = Starting level frames tokens
 state_of (S.StartingWith place operator) frames tokens = Starting 12 frames (before place (Some operator) tokens)

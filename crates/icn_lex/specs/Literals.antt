@@ -5,12 +5,14 @@ use Rattle.icn_tree.specs.Literals.{Literal, with_byte}
 use Rattle.icn_tree.specs.Tokens.{Scan, Inside, Between, bytes_from, escape_then, line_from}
 use Rattle.icn_lex.specs.declared.literals.Opening.{Opening}
 
+-- the literal with this opening and these bytes so far
 abbrev pub literal_of : Opening → List ℕ → Literal
 literal_of opening bytes = record { quote = opening.quote; bytes = bytes; line = opening.line; file = opening.file; is_first = opening.is_first }
 
 abbrev pub Later : Type 0
 Later = Option Literal → Scan
 
+-- what a line gives from here on inside a literal, before these later lines
 abbrev pub scan_inside : SourceLine → Literal → List ℕ → Later → Scan
 scan_inside line literal bytes later = bytes_from later line (Inside literal) zero bytes
 

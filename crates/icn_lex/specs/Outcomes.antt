@@ -50,6 +50,7 @@ IsNoLonger (Ok (Closed behind)) text = length behind.now ≤ length text
 IsNoLonger (Ok Continued) text = Unit {0}
 IsNoLonger (Err fault) text = Unit {0}
 
+-- a part of a literal up to its closing quote, or up to the end of a line that continues it; or the rule it breaks
 abbrev pub PartIs : SourceLine → Result Part LexFault → Literal → (Later → Scan) → Type 0
 PartIs line (Ok (ClosedPart behind)) literal here = (later : Later) → here later ≡ closed_then literal (bytes_from later line (Between false) zero behind.now)
 PartIs line (Ok ContinuedPart) literal here = (later : Later) → here later ≡ later (Some literal)
@@ -99,6 +100,7 @@ IsNoLongerNext (Ok (Behind rest)) text = length rest.now ≤ length text
 IsNoLongerNext (Ok (Inside literal)) text = Unit {0}
 IsNoLongerNext (Err fault) text = Unit {0}
 
+-- what is left behind a closing quote is no longer than the text that was read
 abbrev pub IsNoLongerPart : Result Part LexFault → List ℕ → Type 0
 IsNoLongerPart (Ok (ClosedPart rest)) text = length rest.now ≤ length text
 IsNoLongerPart (Ok ContinuedPart) text = Unit {0}

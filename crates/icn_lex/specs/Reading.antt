@@ -23,6 +23,7 @@ first_match (row ∷ rows) bytes = if starts_with nat_eq bytes row.0 then Some (
 abbrev pub within_limit : ℕ → Option ℕ
 within_limit n = if nat_le n 9223372036854775807 then Some n else None
 
+-- the integer that digits write in a radix, where it fits
 abbrev pub value_in : ℕ → List ℕ → Option ℕ
 value_in radix digits = within_limit (number_in radix digits)
 
@@ -48,6 +49,7 @@ number_read_by digits count (mark ∷ rest) =
     if is_radix_mark mark then (let written = prefix_len is_alphanumeric rest in with_length (count + 1 + written) (integer (number_in 10 digits) (take written rest)))
     else (if is_real_mark mark then Err L6 else with_length count (bounded_by (value_in 10 digits)))
 
+-- the kind of the number that stands first, with its length in bytes; or the rule that it breaks
 abbrev pub number_read : List ℕ → Result (Kind × ℕ) Rule
 number_read bytes = let count = prefix_len is_digit bytes in number_read_by (take count bytes) count (drop count bytes)
 
@@ -66,6 +68,7 @@ name_by first name = unwrap_or (option_map (λ word. Word word) (lookup_text (wo
 abbrev pub name_read : ℕ → List ℕ → Result (Kind × ℕ) Rule
 name_read first rest = let count = prefix_len continues_identifier rest + 1 in if nat_le count 65535 then Ok (name_by first (take count (first ∷ rest)), count) else Err L7
 
+-- the kind of the token that stands first, with its length in bytes; or the rule that it breaks
 abbrev pub first_read : List ℕ → Result (Kind × ℕ) Rule
 first_read [] = Err L1
 first_read (b ∷ rest) = if begins_identifier b then name_read b rest else bare_read b (b ∷ rest) rest

@@ -28,26 +28,32 @@ abbrev pub is_comma : Kind → Bool
 is_comma (PunctuationKind Comma) = true
 is_comma _ = false
 
+-- a semicolon stands next
 abbrev pub is_semicolon : Option Kind → Bool
 is_semicolon (Some (PunctuationKind Semicolon)) = true
 is_semicolon _ = false
 
+-- an opening parenthesis stands next
 abbrev pub is_open_parenthesis : Option Kind → Bool
 is_open_parenthesis (Some (PunctuationKind OpenParenthesis)) = true
 is_open_parenthesis _ = false
 
+-- an opening bracket stands next
 abbrev pub is_open_bracket : Option Kind → Bool
 is_open_bracket (Some (PunctuationKind OpenBracket)) = true
 is_open_bracket _ = false
 
+-- the word `initial` stands next
 abbrev pub is_initial : Option Kind → Bool
 is_initial (Some (WordKind Words.Initial)) = true
 is_initial _ = false
 
+-- the word `end` stands next
 abbrev pub is_end : Option Kind → Bool
 is_end (Some (WordKind Words.End)) = true
 is_end _ = false
 
+-- the kind of local declaration whose word stands next, if one does
 abbrev pub local_kind : Option Kind → Option LocalKind
 local_kind (Some (WordKind Words.Local)) = Some Local
 local_kind (Some (WordKind Words.Static)) = Some Static
@@ -57,6 +63,7 @@ abbrev pub name_at : Kind → Place → Option Name
 name_at (IdentifierKind text) place = Some (record { text = text; place = place })
 name_at _ place = None
 
+-- a token that is an identifier, as a name
 abbrev pub name_of : Token → Option Name
 name_of token = name_at token.kind (record { line = token.line; file = token.file })
 
@@ -65,6 +72,7 @@ item_at (IdentifierKind text) place = Some (Items.Identifier (record { text = te
 item_at (TextKind text) place = Some (Items.Text (record { text = text; place = place }))
 item_at _ place = None
 
+-- a token that `link` or `invocable` may have, an identifier or a string, as an item
 abbrev pub item_of : Token → Option Item
 item_of token = item_at token.kind (record { line = token.line; file = token.file })
 
@@ -152,6 +160,7 @@ pub data DeclarationOver (V L : Type 0) : Type 0 where
   RecordOver : Place → Name → List Name → DeclarationOver V L
   ProcedureIs : ProcedureOver V L → DeclarationOver V L
 
+-- one name
 abbrev pub name_read : Reads Name
 name_read [] = None
 name_read (token ∷ tokens) = name_of token >>= λ name. Some (name, tokens)
@@ -166,6 +175,7 @@ head_read tokens = do
   rest ← sign_read is_semicolon closed
   Some (name.0, (parameters.0, parameters.1), rest)
 
+-- what stands behind the word `procedure`: the head, local declarations, `initial`, and the body up to `end`
 abbrev pub procedure_read : {V L C : Type 0} → Builds V L C → Place → Reads (DeclarationOver V L)
 procedure_read make place tokens = do
   head ← head_read tokens
@@ -191,6 +201,7 @@ declaration_by make (Some (WordKind Words.Record)) place tokens = record_read pl
 declaration_by make (Some (WordKind Words.Procedure)) place tokens = procedure_read make place tokens
 declaration_by make _ place tokens = None
 
+-- one declaration, by the word that it begins with
 abbrev pub declaration_read : {V L C : Type 0} → Builds V L C → Reads (DeclarationOver V L)
 declaration_read make tokens = declaration_by make (next tokens) (place_of tokens) (behind tokens)
 

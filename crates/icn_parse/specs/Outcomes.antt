@@ -43,6 +43,7 @@ abbrev mutual
   keywords_if Absent = []
   keywords_if (Present tree) = keywords tree
 
+  -- the names after `&` in several trees
   pub all_keywords : Trees → List Name
   all_keywords NoTrees = []
   all_keywords (More tree trees) = keywords tree ++ all_keywords trees
@@ -103,6 +104,7 @@ pub data Outcome : Type 0 where
   Faulty : Fault → Outcome
   IsTree : List Declaration → Outcome
 
+-- what tokens come to: they are no program; a tree is too high; a rule is broken; or this is their tree
 pub data IsOutcome (tokens : List Token) : Outcome → Type 0 where
   no_program : (HasTree tokens → ⊥) → IsOutcome tokens NoProgram
   too_high : (file : List Declaration) (place : Place) → IsTreeOf file tokens → first_too_high file ≡ Some place → IsOutcome tokens (TooHigh place)

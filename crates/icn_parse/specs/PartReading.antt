@@ -8,6 +8,7 @@ use Rattle.icn_tree.specs.Phrases.{place_of}
 use Rattle.icn_expr.specs.Automata.{behind}
 use Rattle.icn_parse.specs.FileReading.{◌>>=◌, Reads, is_comma, is_semicolon, item_of, name_of, sign_read, some_read}
 
+-- a comma stands next
 abbrev pub is_comma_next : Option Kind → Bool
 is_comma_next None = false
 is_comma_next (Some kind) = is_comma kind

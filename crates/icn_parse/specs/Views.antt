@@ -32,9 +32,11 @@ ReadsNothing read stop = (stop ≡ NoMemory) ⊎ (read ≡ None)
 abbrev pub first_value : First → Place × Capped Tree
 first_value first = (first.place, capped_of first.value)
 
+-- a procedure as it was read, whose parts may be too high
 abbrev pub outline_of : Outline → CappedDeclaration
 outline_of o = ProcedureIs (record { place = o.place; name = o.head.name; parameters = o.head.parameters.items; is_variadic = o.head.is_variadic; locals = map locals_of o.locals.items; initial = option_map first_value o.initial; body = elements_of o.body })
 
+-- a declaration that is kept, or the place of one that is too high
 abbrev pub finish_of : Finished → Finish
 finish_of (F.Kept decl) = IsKept (declaration_of decl)
 finish_of (F.TooHigh place) = IsTooHigh place
@@ -57,10 +59,12 @@ abbrev pub fault_found : Result (Unit {0}) Unfit → Option Fault
 fault_found (Ok done) = None
 fault_found (Err unfit) = Some (fault_at unfit)
 
+-- the rule that is broken where a file could not be read on, or want of memory
 abbrev pub fault_of_stop : Stop → ParseFault
 fault_of_stop NotHere = Broken S1 0 0
 fault_of_stop NoMemory = NoMemoryFault
 
+-- the rule that a name after `&` or a form breaks that the profile has not
 abbrev pub fault_of_unfit : Unfit → ParseFault
 fault_of_unfit (U.UnknownKeyword place) = Broken S3 place.file place.line
 fault_of_unfit (U.NotInProfile place) = Broken S4 place.file place.line

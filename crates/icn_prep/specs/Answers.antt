@@ -10,6 +10,7 @@ use Rattle.icn_prep.specs.SourceLines.{Source}
 abbrev pub IsOfStore : PrepFault → Type 0
 IsOfStore fault = (fault ≡ FileFault) ⊎ (fault ≡ NoMemory)
 
+-- the answer is that the store failed, or that memory was wanting
 abbrev pub IsOutside : {A : Type 0} → Result A PrepFault → Type 0
 IsOutside result = (result ≡ Err FileFault) ⊎ (result ≡ Err NoMemory)
 
@@ -20,6 +21,7 @@ IsAbsent (Broken rule file line) = rule ≡ P6
 IsAbsent FileFault = ⊥
 IsAbsent NoMemory = ⊥
 
+-- the answer is that a file was not there
 abbrev pub IsAbsence : {A : Type 0} → Result A PrepFault → Type 0
 IsAbsence (Ok a) = ⊥
 IsAbsence (Err fault) = IsAbsent fault

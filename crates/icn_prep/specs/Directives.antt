@@ -47,6 +47,7 @@ uncommented is_name state (b ∷ rest) =
 abbrev pub directive_text : List ℕ → List ℕ
 directive_text line = trimmed_start (drop 1 line)
 
+-- the word behind the `$` of a directive
 abbrev pub directive_name : List ℕ → List ℕ
 directive_name line = first_word (directive_text line)
 
@@ -58,6 +59,7 @@ names_file name = bytes_eq name (codes "include") || bytes_eq name (codes "line"
 abbrev pub operand : List ℕ → List ℕ
 operand line = trimmed (uncommented (names_file (directive_name line)) Outside (behind_word (directive_text line)))
 
+-- the directive of this name, if there is one
 abbrev pub keyword_of : List ℕ → Option Keyword
 keyword_of name =
     if bytes_eq name (codes "define") then Some Define

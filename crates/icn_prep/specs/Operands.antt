@@ -21,6 +21,7 @@ define_operand operand =
     if is_name (first_word operand) && not (begins_with 40 (behind_word operand)) then Some (first_word operand, trimmed (behind_word operand))
     else None
 
+-- a byte that may stand inside a quoted name: any but the quote
 abbrev pub is_unquoted : ℕ → Bool
 is_unquoted b = not (b == 34)
 

@@ -31,6 +31,7 @@ pub record State : Type 0 where
   pub texts : Texts
   pub literal : LiteralState
 
+-- what reading has come to before the first line of the named file
 abbrev pub first_state : State
 first_state = record { names = []; lines = []; texts = no_texts; literal = Outside }
 
@@ -45,6 +46,7 @@ Step = Result (State × Place) PrepFault
 abbrev pub IncludeStep : Type 0
 IncludeStep = List ℕ → State → Place → Outcome
 
+-- the name of a file, by its number
 abbrev pub name_at : State → ℕ → List ℕ
 name_at s file = slice_index_or s.names file []
 
@@ -58,6 +60,7 @@ given_more s literal lines =
     if nat_lt 16777216 (joined_len lines) then Err (Broken P9 (name_at s 0) 0)
     else Ok (record s { lines = lines; literal = literal })
 
+-- one line more is given, of these bytes, with its file and number; the next one begins in this literal state
 abbrev pub give_line : State → Place → List ℕ → LiteralState → Outcome
 give_line s place bytes literal = given_more s literal (s.lines ++ (record { bytes = bytes; file = place.file; number = place.line }) ∷ [])
 
@@ -136,6 +139,7 @@ directive_line includes s place (Some Endif) text = if is_empty text then endif_
 directive_line includes s place (Some Line) text = where_taken s place (line_line s place (line_operand text))
 directive_line includes s place (Some Error) text = where_taken s place (refuse s place P8)
 
+-- what comes of one line: a directive is done; another line is given with its words replaced, where it is taken
 abbrev pub line_read : IncludeStep → State → Place → List ℕ → Step
 line_read includes s place line =
     if is_directive s.literal line then directive_line includes s place (keyword_of (directive_name line)) (operand line)
@@ -146,6 +150,7 @@ abbrev pub end_file : State → List Conditional → Outcome
 end_file s [] = Ok s
 end_file s (innermost ∷ others) = Err (Broken P4 (name_at s innermost.file) innermost.line)
 
+-- what comes of the lines up to the end of their file
 abbrev pub lines_read : IncludeStep → State → Place → List (List ℕ) → Outcome
 lines_read includes s place [] = end_file s place.conditionals
 lines_read includes s place (line ∷ rest) = line_read includes s place line >>= λ after. lines_read includes after.0 after.1 rest

@@ -12,5 +12,6 @@ texts_in m = record {
   text_of = λ name. option_map (λ text. text.items) (get_by (λ key. bytes_eq name key.items) m);
 }
 
+-- the defined names with their texts
 abbrev pub texts_of : TextMap → Texts
 texts_of t = texts_in t.texts

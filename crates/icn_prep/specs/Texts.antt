@@ -12,6 +12,7 @@ pub record Texts : Type 0 where
   pub count : ℕ
   pub text_of : TextOf
 
+-- no name is defined
 abbrev pub no_texts : Texts
 no_texts = record { count = 0; text_of = λ _. None }
 

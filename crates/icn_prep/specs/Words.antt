@@ -17,5 +17,6 @@ trimmed_start bytes = drop (prefix_len is_blank bytes) bytes
 abbrev pub trimmed_end : List ℕ → List ℕ
 trimmed_end bytes = reverse (trimmed_start (reverse bytes))
 
+-- without blanks at its start and its end
 abbrev pub trimmed : List ℕ → List ℕ
 trimmed bytes = trimmed_end (trimmed_start bytes)
