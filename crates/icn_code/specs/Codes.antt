@@ -6,10 +6,13 @@ use Rattle.icn_code.specs.declared.code.Global.{Global}
 use Rattle.icn_code.specs.declared.code.Procedure.{Procedure}
 use Rattle.icn_code.specs.declared.code.Record.{Record}
 
+-- a record type: the place of its name among the strings, and those of its fields' names
 pub record RecordType : Type 0 where
   pub name : ℕ
   pub fields : List ℕ
 
+-- A procedure: the place of its name among the strings, how many parameters it has and whether the last one collects,
+-- how many other locals and statics, and its instructions.
 pub record Proc : Type 0 where
   pub name : ℕ
   pub parameters : ℕ
@@ -34,8 +37,10 @@ record_of kind = record { name = kind.name; fields = kind.fields.items }
 abbrev pub proc_of : Procedure → Proc
 proc_of proc = record { name = proc.name; parameters = proc.parameters; collects = proc.collects; locals = proc.locals; statics = proc.statics; instrs = proc.instrs.items }
 
+-- the record types, as plain lists
 abbrev pub records_of : List Record → List RecordType
 records_of records = map record_of records
 
+-- the procedures, as plain lists
 abbrev pub procs_of : List Procedure → List Proc
 procs_of procs = map proc_of procs

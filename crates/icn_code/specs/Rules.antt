@@ -86,6 +86,7 @@ are_counts tables =
     is_count (length tables.strings) && is_count (length tables.csets) && is_count (length tables.integers) && is_count (length tables.fields)
     && is_count (length tables.records) && is_count (length tables.globals) && is_count (length tables.procs)
 
+-- the tables keep all rules
 unfoldable pub keeps_rules : Tables → Bool
 keeps_rules tables =
     are_counts tables && list_all is_string tables.strings && list_all is_cset tables.csets && list_all is_integer tables.integers

@@ -17,6 +17,7 @@ pub record FrontTables : Type 0 where
   pub records : List RecordType
   pub globals : List Global
 
+-- the tables in front of the procedures, as plain lists
 abbrev pub tables_in : Front → FrontTables
 tables_in front = record { strings = front.strings.items; csets = front.csets.items; integers = front.integers.items; fields = front.fields.items; records = records_of front.records.items; globals = front.globals.items }
 

@@ -8,6 +8,7 @@ use Rattle.icn_code.specs.declared.instr.Instr.TheVariants.{Pnull, Int, Str, Cse
 use Rattle.icn_image.specs.declared.operand.Operand.{Operand}
 use Rattle.icn_image.specs.declared.operand.Operand.TheVariants.{Nothing, Number, Label}
 
+-- the number of an instruction, by which an image has it
 abbrev pub instr_number : Instr → ℕ
 instr_number Pnull = 1
 instr_number (Int place) = 2

@@ -20,6 +20,7 @@ abbrev pub Fails : {Y : Type 0} → ImageFault → Result Y Rule → Type 0
 Fails NoMemory read = Unit {0}
 Fails (Broken rule) read = read ≡ Err rule
 
+-- what was read is what the definition reads, seen so; or the fault is that of the rule it finds broken
 abbrev pub Gives : {X Y : Type 0} → (X → Y) → Result X ImageFault → Result Y Rule → Type 0
 Gives view (Ok x) read = read ≡ Ok (view x)
 Gives view (Err fault) read = Fails fault read
@@ -28,6 +29,7 @@ Gives view (Err fault) read = Fails fault read
 abbrev pub bytes_at : ℕ → Reader (List ℕ)
 bytes_at count bytes = if nat_lt (length bytes) count then Err I2 else Ok (take count bytes, drop count bytes)
 
+-- one byte
 abbrev pub byte_at : Reader ℕ
 byte_at [] = Err I2
 byte_at (byte ∷ rest) = Ok (byte, rest)

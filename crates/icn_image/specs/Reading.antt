@@ -26,16 +26,19 @@ use Rattle.icn_image.specs.Spelling.{image_head}
 
 -- ---- the tables in front of the procedures
 
+-- a string: its length, and its bytes
 unfoldable pub string_at : Width → Reader (List ℕ)
 string_at width bytes = do
   count ← number_at width bytes
   bytes_at count.0 count.1
 
+-- a cset: a bit for each of the 256 bytes
 abbrev pub cset_at : Reader Cset
 cset_at bytes = do
   bits ← bytes_at 32 bytes
   Ok (record { bits = bits.0 }, bits.1)
 
+-- an integer of 64 bits, with its sign
 unfoldable pub integer_at : Reader ℤ
 integer_at bytes = do
   number ← number_at w64 bytes
@@ -90,11 +93,13 @@ globals_from width strings records met (suc n) bytes = do
   others ← globals_from width strings records (with_name met (name_of strings first.0)) n first.1
   Ok (first.0 ∷ others.0, others.1)
 
+-- the globals, no two of one name
 unfoldable pub globals_at : Width → List (List ℕ) → ℕ → Reader (List Global)
 globals_at width strings records bytes = do
   count ← number_at width bytes
   globals_from width strings records none_met count.0 count.1
 
+-- all tables in front of the procedures
 unfoldable pub front_at : Width → Reader FrontTables
 front_at width bytes = do
   strings ← table_at width (string_at width) bytes
@@ -119,6 +124,7 @@ locals_at width parameters bytes = do
   locals ← number_at width bytes
   if nat_le (parameters + locals.0) 65535 then Ok locals else Err I4
 
+-- what an image says of a procedure in front of all instructions
 unfoldable pub head_at : Width → ℕ → Reader Head
 head_at width strings bytes = do
   name ← place_at width strings bytes
@@ -137,6 +143,7 @@ has_proc procs _ = true
 unfoldable pub have_procs : ℕ → List Global → Bool
 have_procs procs globals = list_all (λ global. has_proc procs global.start) globals
 
+-- that of all procedures, among which are those that globals begin with
 unfoldable pub heads_at : Width → FrontTables → Reader (List Head)
 heads_at width front bytes = do
   count ← number_at width bytes
@@ -155,6 +162,7 @@ abbrev pub there : Scope → Option Instr → Result Instr Rule
 there scope None = Err I4
 there scope (Some instr) = if names_there scope instr then Ok instr else Err I4
 
+-- an instruction, whose operand is there in these tables and this procedure
 unfoldable pub instr_at : Width → Scope → Reader Instr
 instr_at width scope bytes = do
   number ← byte_at bytes
@@ -168,6 +176,7 @@ proc_at width front head bytes = do
   instrs ← times (instr_at width (scope_of front head)) head.instrs bytes
   Ok (with_instrs head instrs.0, instrs.1)
 
+-- the procedures of these heads, each with its instructions
 unfoldable pub procs_at : Width → FrontTables → List Head → Reader (List Proc)
 procs_at width front [] bytes = Ok ([], bytes)
 procs_at width front (head ∷ heads) bytes = do
@@ -188,6 +197,7 @@ tables_at width bytes = do
 abbrev pub behind_head : List ℕ → Result (List ℕ) Rule
 behind_head bytes = if starts_with nat_eq bytes image_head then Ok (drop 8 bytes) else Err I1
 
+-- the tables that an image spells, or the first rule that it breaks; nothing may stand behind them
 unfoldable pub image_read : List ℕ → Result Tables Rule
 image_read bytes = do
   rest ← behind_head bytes

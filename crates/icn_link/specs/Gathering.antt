@@ -4,6 +4,7 @@ use Rattle.std.specs.List.{list_any, position_or_len}
 use Rattle.std.specs.Ordering.{int_eq}
 use Rattle.std.specs.Str.{bytes_eq}
 
+-- the texts with one more, unless it is there
 abbrev pub with_text : List (List ℕ) → List ℕ → List (List ℕ)
 with_text texts text = if list_any (bytes_eq text) texts then texts else texts ++ text ∷ []
 
@@ -23,5 +24,6 @@ with_integers integers (n ∷ others) = with_integers (with_integer integers n) 
 abbrev pub text_place : List (List ℕ) → List ℕ → ℕ
 text_place texts text = position_or_len (bytes_eq text) texts
 
+-- the place of an integer in its table
 abbrev pub integer_place : List ℤ → ℤ → ℕ
 integer_place integers n = position_or_len (int_eq n) integers

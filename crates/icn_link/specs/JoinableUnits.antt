@@ -28,5 +28,6 @@ is_joinable_decl (Procedure name) = is_name name
 is_joinable_decl (Link text) = true
 is_joinable_decl (Record name fields) = is_name name && list_all is_name fields
 
+-- the unit has all that joining asks of it
 abbrev pub is_joinable : UnitRead → Bool
 is_joinable unit = list_all is_joinable_proc unit.procs && list_all is_joinable_decl unit.decls

@@ -35,6 +35,7 @@ variable_by globals Kinds.Local name = Local
 variable_by globals Kinds.Static name = Static
 variable_by globals Kinds.Undeclared name = if is_among globals name then Global else Local
 
+-- which variable a name of a procedure is, by the names of the globals
 abbrev pub variable_of : List (List ℕ) → UnitName → Variable
 variable_of globals entry = variable_by globals entry.kind entry.name
 
@@ -54,6 +55,7 @@ statics_behind Local statics = statics
 statics_behind Static statics = suc statics
 statics_behind Global statics = statics
 
+-- the instruction of each name of a procedure, where so many locals and statics stand before it
 abbrev pub variables : List (List ℕ) → ℕ → ℕ → List UnitName → List Instr
 variables globals locals statics [] = []
 variables globals locals statics (entry ∷ entries) =
@@ -71,9 +73,11 @@ is_static Local = false
 is_static Static = true
 is_static Global = false
 
+-- how many of a procedure's names are locals
 abbrev pub locals_in : List (List ℕ) → List UnitName → ℕ
 locals_in globals names = count_by (λ entry. is_local (variable_of globals entry)) names
 
+-- how many of a procedure's names are statics
 abbrev pub statics_in : List (List ℕ) → List UnitName → ℕ
 statics_in globals names = count_by (λ entry. is_static (variable_of globals entry)) names
 
@@ -183,5 +187,6 @@ tables_with tables decls procs = record {
 abbrev pub joined_of : List Decl → List Proc → Tables
 joined_of decls procs = tables_with (all_mentions decls procs) decls procs
 
+-- the joined code of units
 abbrev pub joined : List UnitRead → Tables
 joined units = joined_of (all_decls units) (all_procs units)

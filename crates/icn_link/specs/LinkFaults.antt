@@ -44,6 +44,7 @@ missing_from names place (unit ∷ units) =
 abbrev pub unit_names : List UnitRead → List (List ℕ)
 unit_names units = map (λ unit. unit.name) units
 
+-- the first declaration that links a unit which is not there
 abbrev pub missing : List UnitRead → Option LinkFault
 missing units = missing_from (unit_names units) 0 units
 
@@ -86,6 +87,7 @@ repeated_from before [] = None
 repeated_from before (next ∷ others) = option_or (option_map (repeat_of next) (owner_named next.name before))
     (repeated_from (before ++ next ∷ []) others)
 
+-- the first procedure or record that has the name of an earlier one
 abbrev pub repeated_name : List UnitRead → Option LinkFault
 repeated_name units = repeated_from [] (owners_from 0 units)
 
@@ -102,6 +104,7 @@ over most counts = option_map count_fault (find (λ count. nat_lt most count) co
 abbrev pub is_instruction : UnitInstr → Bool
 is_instruction instr = not (is_some (own_label instr))
 
+-- how many instructions a procedure has, without the places of labels
 abbrev pub size_of : Proc → ℕ
 size_of proc = count_by is_instruction proc.instrs
 
@@ -112,16 +115,20 @@ field_counts (Global name) = []
 field_counts (Procedure name) = []
 field_counts (Link text) = []
 
+-- how many fields each record has
 abbrev pub record_sizes : List Decl → List ℕ
 record_sizes decls = flat_map field_counts decls
 
+-- how many entries each table has
 abbrev pub table_sizes : AllMentions → List Decl → List Proc → List ℕ
 table_sizes tables decls procs = length tables.strings ∷ length tables.sets ∷ length tables.integers ∷ length tables.fields
     ∷ length (record_sizes decls) ∷ length tables.globals ∷ length procs ∷ []
 
+-- how many parameters and other locals each procedure has
 abbrev pub local_counts : List (List ℕ) → List Proc → List ℕ
 local_counts globals procs = map (λ proc. locals_in globals proc.names) procs
 
+-- how many statics each procedure has
 abbrev pub static_counts : List (List ℕ) → List Proc → List ℕ
 static_counts globals procs = map (λ proc. statics_in globals proc.names) procs
 

@@ -24,6 +24,7 @@ pub data Mention : Type 0 where
   AField : List ℕ → Mention
   Operands : ℕ → Mention
 
+-- what an instruction takes from a table, or how many operands it mentions
 abbrev pub mention_of : UnitInstr → Mention
 mention_of (Unit.Int n) = AnInteger n
 mention_of (Unit.Str bytes) = AText bytes
@@ -94,6 +95,7 @@ field_in (AText bytes) = []
 field_in (ASet members) = []
 field_in (Operands count) = []
 
+-- the count of operands, where one is mentioned
 abbrev pub operands_in : Mention → List ℕ
 operands_in (Operands count) = count ∷ []
 operands_in NoMention = []
@@ -177,6 +179,7 @@ strings decls procs = with_texts [] (string_mentions decls procs)
 abbrev pub sets : List Proc → List (List ℕ)
 sets procs = with_texts [] (mentioned_by set_in procs)
 
+-- the integers that the procedures mention, each once
 abbrev pub integers : List Proc → List ℤ
 integers procs = with_integers [] (mentioned_by integer_in procs)
 
@@ -189,6 +192,7 @@ pub record AllMentions : Type 0 where
   pub declared : List (List ℕ)
   pub globals : List (List ℕ)
 
+-- all that declarations and procedures mention, each once, in a table for each kind
 abbrev pub all_mentions : List Decl → List Proc → AllMentions
 all_mentions decls procs = record {
   strings = strings decls procs;

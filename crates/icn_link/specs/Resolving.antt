@@ -62,6 +62,7 @@ instr_list (Some instr) = instr ∷ []
 abbrev pub resolved_one : Scope → UnitInstr → List Instr
 resolved_one S instr = instr_list (instr_in S instr)
 
+-- a procedure's instructions in linked code
 abbrev pub resolve : Scope → List UnitInstr → List Instr
 resolve S instrs = flat_map (resolved_one S) instrs
 

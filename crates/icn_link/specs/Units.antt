@@ -5,6 +5,7 @@ use Rattle.icn_unit.specs.declared.unit.Unit.{Unit}
 use Rattle.icn_unit.specs.PlainUnits.{Proc, Decl, UnitRead}
 use Rattle.icn_unit.specs.UnitViews.{decl_seen, proc_seen}
 
+-- a unit, as plain lists
 abbrev pub unit_seen : Unit → UnitRead
 unit_seen unit = record {
   name = unit.name;
@@ -12,6 +13,7 @@ unit_seen unit = record {
   decls = map decl_seen unit.decls.items;
 }
 
+-- the units, as plain lists
 abbrev pub units_seen : List Unit → List UnitRead
 units_seen units = map unit_seen units
 
@@ -19,5 +21,6 @@ units_seen units = map unit_seen units
 abbrev pub all_procs : List UnitRead → List Proc
 all_procs units = flat_map (λ unit. unit.procs) units
 
+-- the declarations of all units, in their order
 abbrev pub all_decls : List UnitRead → List Decl
 all_decls units = flat_map (λ unit. unit.decls) units

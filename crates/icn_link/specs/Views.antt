@@ -20,15 +20,19 @@ use Rattle.icn_link.specs.LinkFaults.{Owner, over, size_of, table_sizes, record_
 use Rattle.icn_link.specs.Resolving.{label_address}
 use Rattle.icn_link.specs.Mentions.{AllMentions, all_mentions, mentioned_by, operands_in, globals, Mention, NoMention, AnInteger, AText, ASet, AField, Operands}
 
+-- the declarations that are kept, as plain lists
 abbrev pub decls_seen : List (Bor UnitDecl) → List Decl
 decls_seen decls = map (λ decl. decl_seen decl.now) decls
 
+-- the procedures that are kept, as plain lists
 abbrev pub procs_seen : List (Bor ProcCode) → List Proc
 procs_seen procs = map (λ proc. proc_seen proc.now) procs
 
+-- the texts that are kept
 abbrev pub texts_seen : List (Bor (List ℕ)) → List (List ℕ)
 texts_seen texts = map (λ text. text.now) texts
 
+-- a mention that is kept, as definitions see it
 abbrev pub mention_seen : KeptMention → Mention
 mention_seen Kept.Nothing = NoMention
 mention_seen (Kept.Integer n) = AnInteger n
@@ -40,6 +44,7 @@ mention_seen (Kept.Operands count) = Operands count
 abbrev pub owner_seen : KeptOwner → Owner
 owner_seen owner = record { name = owner.name.now; place = owner.place }
 
+-- the tables that are gathered, as plain lists
 abbrev pub gathered_seen : Gathered → AllMentions
 gathered_seen tables = record {
   strings = texts_seen tables.strings.keys;

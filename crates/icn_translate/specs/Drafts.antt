@@ -28,6 +28,7 @@ put instr d = record { instrs = d.instrs ++ instr ∷ []; labels = d.labels; nam
 unfoldable pub next_label : Draft → ℕ
 next_label d = suc d.labels
 
+-- the next number of a label is given
 unfoldable pub with_label : Draft → Draft
 with_label d = record { instrs = d.instrs; labels = suc d.labels; names = d.names; loops = d.loops; cases = d.cases }
 
@@ -48,6 +49,7 @@ abbrev pub with_names : List (List ℕ) → List (List ℕ) → List (List ℕ)
 with_names names [] = names
 with_names names (name ∷ others) = with_names (with_name names name) others
 
+-- the place of a name, which is behind all others where the name is new
 abbrev pub name_place : List (List ℕ) → List ℕ → ℕ
 name_place names name = position_or_len (bytes_eq name) names
 
@@ -57,6 +59,7 @@ put_variable name d = record { instrs = d.instrs ++ Var (name_place d.names name
 
 -- Loops
 
+-- the labels of a loop, neither of which was mentioned
 abbrev pub unmentioned : Ways
 unmentioned = record { next = None; last = None }
 
@@ -76,6 +79,7 @@ innermost d = first_ways d.loops
 unfoldable pub in_loop : Ways → Draft → Draft
 in_loop ways d = record { instrs = d.instrs; labels = d.labels; names = d.names; loops = ways ∷ d.loops; cases = d.cases }
 
+-- outside the innermost loop
 unfoldable pub outside_loop : Draft → Draft
 outside_loop d = record { instrs = d.instrs; labels = d.labels; names = d.names; loops = other_ways d.loops; cases = d.cases }
 
@@ -87,6 +91,7 @@ aside step d = d ▹ outside_loop ▹ step ▹ in_loop (innermost d)
 abbrev pub next_number : Draft → ℕ
 next_number d = number_of (innermost d).next (outside_loop d)
 
+-- the label that `next` goes to is mentioned, and has its number
 abbrev pub with_next : Draft → Draft
 with_next d = d ▹ outside_loop ▹ numbered (innermost d).next ▹ in_loop (record { next = Some (next_number d); last = (innermost d).last })
 
@@ -98,9 +103,11 @@ put_next word d = d ▹ with_next ▹ put (word (next_number d))
 abbrev pub last_number : Draft → ℕ
 last_number d = number_of (innermost d).last (outside_loop d)
 
+-- the label that `break` goes to is mentioned, and has its number
 abbrev pub with_last : Draft → Draft
 with_last d = d ▹ outside_loop ▹ numbered (innermost d).last ▹ in_loop (record { next = (innermost d).next; last = Some (last_number d) })
 
+-- an instruction with the label that `break` goes to
 abbrev pub put_last : (ℕ → UnitInstr) → Draft → Draft
 put_last word d = d ▹ with_last ▹ put (word (last_number d))
 
@@ -118,9 +125,11 @@ other_ends (label ∷ others) = others
 unfoldable pub case_end : Draft → Option ℕ
 case_end d = first_end d.cases
 
+-- in one more case with this last label, if that was mentioned
 unfoldable pub in_case : Option ℕ → Draft → Draft
 in_case label d = record { instrs = d.instrs; labels = d.labels; names = d.names; loops = d.loops; cases = label ∷ d.cases }
 
+-- outside the innermost case
 unfoldable pub outside_case : Draft → Draft
 outside_case d = record { instrs = d.instrs; labels = d.labels; names = d.names; loops = d.loops; cases = other_ends d.cases }
 
@@ -128,8 +137,10 @@ outside_case d = record { instrs = d.instrs; labels = d.labels; names = d.names;
 abbrev pub end_number : Draft → ℕ
 end_number d = number_of (case_end d) (outside_case d)
 
+-- the last label of the innermost case is mentioned, and has its number
 abbrev pub with_end : Draft → Draft
 with_end d = d ▹ outside_case ▹ numbered (case_end d) ▹ in_case (Some (end_number d))
 
+-- an instruction with the last label of the innermost case
 abbrev pub put_end : (ℕ → UnitInstr) → Draft → Draft
 put_end word d = d ▹ with_end ▹ put (word (end_number d))

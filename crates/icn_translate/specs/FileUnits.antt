@@ -16,6 +16,7 @@ codes_in (Invocable place items) = []
 codes_in (Record place name fields) = []
 codes_in (ProcedureOf procedure) = proc_code procedure ∷ []
 
+-- the code of each procedure of a file, in their order
 abbrev pub proc_codes : List Declaration → List Proc
 proc_codes declarations = flat_map codes_in declarations
 
@@ -32,6 +33,7 @@ lines_in (Invocable place items) = []
 lines_in (Record place name fields) = RecordLine name.text (texts_of fields) ∷ []
 lines_in (ProcedureOf procedure) = ProcedureLine procedure.name.text ∷ []
 
+-- the declarations of a file, as a unit has them
 abbrev pub unit_decls : List Declaration → List Decl
 unit_decls declarations = flat_map lines_in declarations
 

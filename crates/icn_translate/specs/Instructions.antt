@@ -18,6 +18,7 @@ use Rattle.icn_translate.specs.declared.forms.InfixForm.TheVariants.{Both, Scann
 use Rattle.icn_translate.specs.declared.forms.PrefixForm.{PrefixForm}
 use Rattle.icn_translate.specs.declared.forms.PrefixForm.TheVariants.{Activation, Repetition, Operation}
 
+-- the instruction that a literal is translated to
 abbrev pub literal_instr : Literal → UnitInstr
 literal_instr (Integer n) = I.Int n
 literal_instr (Text bytes) = I.Str bytes
@@ -49,9 +50,11 @@ abbrev pub keyword_by : Option Keyword → UnitInstr
 keyword_by (Some keyword) = known_keyword keyword
 keyword_by None = I.Keywd K.Null
 
+-- the instruction that a keyword is translated to
 abbrev pub keyword_instr : List ℕ → UnitInstr
 keyword_instr name = keyword_by (keyword_of name)
 
+-- the operation of a section
 abbrev pub section_op : SectionKind → Op
 section_op Between = O.Section
 section_op Forward = O.SectionPlus

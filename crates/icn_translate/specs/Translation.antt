@@ -15,6 +15,7 @@ use Rattle.icn_translate.specs.Drafts.{Draft, ◌▹◌, put, next_label, with_l
 use Rattle.icn_translate.specs.Instructions.{literal_instr, keyword_instr, section_op, infix_form, prefix_form}
 use Rattle.icn_translate.specs.Open.{Open, Outermost, Marked, Looped, Each, unmarks_for_break, unmarks_for_next, around}
 
+-- the empty expression
 abbrev pub is_empty : Tree → Bool
 is_empty Empty = true
 is_empty tree = false

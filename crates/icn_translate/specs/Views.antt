@@ -6,11 +6,13 @@ use Rattle.icn_translate.specs.declared.builder.Builder.{Builder}
 use Rattle.icn_translate.specs.Drafts.{Draft}
 use Rattle.icn_translate.specs.Open.{Open, Outermost, Marked, Looped, Each}
 
+-- what is open round a place, as definitions see it
 abbrev pub open_of : KeptOpen → Open
 open_of Kept.Outermost = Outermost
 open_of (Kept.Mark' p outer) = Marked (open_of outer)
 open_of (Kept.Loop' p outer) = Looped (open_of outer)
 open_of (Kept.Each' p outer) = Each (open_of outer)
 
+-- the code that is written so far, as definitions see it
 unfoldable pub draft_of : Builder → Draft
 draft_of b = record { instrs = b.instrs.items; labels = b.labels; names = map (λ name. name.now) b.names.keys; loops = b.loops.items; cases = b.cases.items }

@@ -29,6 +29,7 @@ abbrev pub LineIs : Result DeclReading Stop → Result DeclsRead Rule → Type 0
 LineIs (Ok reading) found = found ≡ Ok (reading_seen reading)
 LineIs (Err stop) found = StopIs stop found
 
+-- the declarations that the definition finds, or the rule that it finds broken; or memory was wanting
 abbrev pub DeclsAre : {Z : Type 0} → Result (Vec UnitDecl Z) Stop → Result (List Decl) Rule → Type 0
 DeclsAre (Ok decls) found = found ≡ Ok (map decl_seen decls.items)
 DeclsAre (Err stop) found = StopIs stop found

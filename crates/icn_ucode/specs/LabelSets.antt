@@ -8,9 +8,11 @@ use Rattle.icn_ucode.specs.declared.labels.Labels.{Labels}
 abbrev pub holds : Labels → ℕ → Bool
 holds labels label = contains nat_eq labels.labels label
 
+-- no label is in the set
 abbrev pub no_labels : ℕ → Bool
 no_labels = λ label. false
 
+-- the set with one label more
 abbrev pub with_label : (ℕ → Bool) → ℕ → ℕ → Bool
 with_label labels label = λ other. if nat_eq label other then true else labels other
 

@@ -55,6 +55,7 @@ operand_instr WordLlist text names = option_map (λ n. Llist n) (number_of 42949
 operand_instr WordInvoke text names = option_map (λ n. Invoke n) (number_of 4294967295 text)
 operand_instr word text names = option_and_then (λ label. labelled_of word label) (label_of text)
 
+-- the instruction of a word and its operand, if they make one, where a procedure has so many names
 abbrev pub instr_of : InstrWord → Option (List ℕ) → ℕ → Option UnitInstr
 instr_of word None names = alone_of word
 instr_of word (Some text) names = operand_instr word text names
@@ -120,6 +121,7 @@ pub record ProcsRead : Type 0 where
   pub procs : List Proc
   pub stage : Stage
 
+-- a procedure of which only the head was read
 abbrev pub empty_proc : Head → Proc
 empty_proc head = record { name = head.name; collects = head.collects; names = []; instrs = [] }
 
@@ -132,6 +134,7 @@ abbrev pub code_line : List Proc → ℕ → Proc → Option (List ℕ) → Resu
 code_line procs params proc None = if params_in proc.names == params then Ok (record { procs = procs; stage = Coding proc }) else Err U3
 code_line procs params proc (Some text) = Err U3
 
+-- the procedure with one name more
 abbrev pub with_entry : Proc → UnitName → Proc
 with_entry proc entry = record proc { names = proc.names ++ entry ∷ [] }
 
@@ -144,6 +147,7 @@ abbrev pub end_line : List Proc → Proc → Option (List ℕ) → Result ProcsR
 end_line procs proc None = if labels_placed proc.instrs then Ok (record { procs = procs ++ proc ∷ []; stage = Outside }) else Err U4
 end_line procs proc (Some text) = Err U3
 
+-- the procedure with one instruction more
 abbrev pub with_instr : Proc → UnitInstr → Proc
 with_instr proc instr = record proc { instrs = proc.instrs ++ instr ∷ [] }
 
@@ -183,6 +187,7 @@ stage_end procs (Coding proc) = Err U6
 abbrev pub procs_end : ProcsRead → Result (List Proc) Rule
 procs_end read = stage_end read.procs read.stage
 
+-- the procedures of a first text, or the rule of its first fault
 unfoldable pub procs_of : List ℕ → Result (List Proc) Rule
 procs_of text = then_step (each_line procs_line (record { procs = []; stage = Heading }) [] text) procs_end
 
@@ -266,6 +271,7 @@ decl_stage_end decls Ended = Ok decls
 abbrev pub decls_end : DeclsRead → Result (List Decl) Rule
 decls_end read = decl_stage_end read.decls read.stage
 
+-- the declarations of a second text, beside these procedures; or the rule of its first fault
 unfoldable pub decls_of : List (List ℕ) → List ℕ → Result (List Decl) Rule
 decls_of procs text = then_step (each_line (decls_line procs) (record { decls = []; stage = DeclHeading }) [] text) decls_end
 
@@ -287,5 +293,6 @@ abbrev pub with_procs : List ℕ → Result (List Proc) Rule → List ℕ → Un
 with_procs name (Err rule) u2 = Faulty rule false
 with_procs name (Ok procs) u2 = with_decls name procs (decls_of (proc_names procs) u2)
 
+-- the unit that two texts are, or the rule of the first fault, with the text that has it
 abbrev pub unit_read : List ℕ → List ℕ → List ℕ → UnitOutcome
 unit_read name u1 u2 = with_procs name (procs_of u1) u2

@@ -49,6 +49,7 @@ abbrev pub LineIs : Result Reading Stop → Result ProcsRead Rule → Type 0
 LineIs (Ok reading) found = found ≡ Ok (reading_seen reading)
 LineIs (Err stop) found = StopIs stop found
 
+-- the procedures that the definition finds, or the rule that it finds broken; or memory was wanting
 abbrev pub ProcsAre : Result Procs Stop → Result (List Proc) Rule → Type 0
 ProcsAre (Ok procs) found = found ≡ Ok (map proc_seen procs.procs.items)
 ProcsAre (Err stop) found = StopIs stop found

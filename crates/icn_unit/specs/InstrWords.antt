@@ -6,6 +6,7 @@ use Rattle.icn_unit.specs.declared.instr_word.InstrWord.TheVariants.{Pnull, Int,
 use Rattle.icn_unit.specs.declared.unit.UnitInstr.{UnitInstr}
 use Rattle.icn_unit.specs.declared.unit.UnitInstr.TheVariants.{Pnull as IPnull, Int as IInt, Str as IStr, Cset as ICset, Var as IVar, Keywd as IKeywd, Pop as IPop, Dup as IDup, Op as IOp, Llist as ILlist, Field as IField, Invoke as IInvoke, Appl as IAppl, Mark as IMark, Mark0 as IMark0, Unmark as IUnmark, Eret as IEret, Esusp as IEsusp, Limit as ILimit, Lsusp as ILsusp, Efail as IEfail, Chfail as IChfail, Goto as IGoto, Loop as ILoop, Bscan as IBscan, Escan as IEscan, Ccase as ICcase, Init as IInit, Psusp as IPsusp, Pret as IPret, Pfail as IPfail, Create as ICreate, Coact as ICoact, Coret as ICoret, Cofail as ICofail, Lab as ILab}
 
+-- the first word of an instruction's line
 abbrev pub word_text : InstrWord → List ℕ
 word_text Pnull = codes "pnull"
 word_text Int = codes "int"
@@ -64,10 +65,12 @@ instr_words b =
     if b == 117 then (codes "unmark", Unmark) ∷ [] else (
     if b == 118 then (codes "var", Var) ∷ [] else [])))))))))))))))
 
+-- the instruction word that a text spells, if it spells one
 abbrev pub instr_word_of : List ℕ → Option InstrWord
 instr_word_of [] = None
 instr_word_of (b ∷ rest) = lookup_text (instr_words b) (b ∷ rest)
 
+-- the word of an instruction
 abbrev pub word_of : UnitInstr → InstrWord
 word_of IPnull = Pnull
 word_of (IInt x) = Int

@@ -19,9 +19,11 @@ abbrev pub below_first : ℕ → List ℕ → Bool
 below_first b [] = true
 below_first b (c ∷ rest) = nat_lt b c
 
+-- a byte that can stand in a line: any but the newline
 abbrev pub is_in_line : ℕ → Bool
 is_in_line b = if b == 10 then false else true
 
+-- why the first or the second text of a unit could not be read
 abbrev pub fault_in : Bool → Stop → UcodeFault
 fault_in second (StopBroken rule) = Broken rule second
 fault_in second StopNoMemory = NoMemory

@@ -18,6 +18,7 @@ pub data Decl : Type 0 where
   Link : List ℕ → Decl
   Record : List ℕ → List (List ℕ) → Decl
 
+-- a unit: its name, the code of its procedures, and its declarations
 pub record UnitRead : Type 0 where
   pub name : List ℕ
   pub procs : List Proc
@@ -29,12 +30,15 @@ is_parameter Local = false
 is_parameter Static = false
 is_parameter Undeclared = false
 
+-- how many of a procedure's names are parameters
 abbrev pub params_in : List UnitName → ℕ
 params_in names = count_by (λ name. is_parameter name.kind) names
 
+-- the names of the procedures
 abbrev pub proc_names : List Proc → List (List ℕ)
 proc_names procs = map (λ proc. proc.name) procs
 
+-- the names in a procedure's table of names
 abbrev pub entry_names : List UnitName → List (List ℕ)
 entry_names names = map (λ entry. entry.name) names
 
@@ -45,6 +49,7 @@ owned_name (Procedure name) = name ∷ []
 owned_name (Link bytes) = []
 owned_name (Record name fields) = name ∷ []
 
+-- the names of the procedures and the records that are declared
 abbrev pub owned_names : List Decl → List (List ℕ)
 owned_names decls = flat_map owned_name decls
 

@@ -14,10 +14,12 @@ use Rattle.icn_tree.specs.Spellings.{lookup_text}
 abbrev pub is_inside : ℕ → Bool
 is_inside b = if b == 32 then false else true
 
+-- what stands behind the first byte, if there is one
 abbrev pub behind : List ℕ → Option (List ℕ)
 behind [] = None
 behind (b ∷ rest) = Some rest
 
+-- a text up to its first blank, and what stands behind that blank, if there is one
 abbrev pub first_field : List ℕ → List ℕ × Option (List ℕ)
 first_field text = let count = prefix_len is_inside text in (take count text, behind (drop count text))
 
@@ -68,5 +70,6 @@ ascends (a ∷ b ∷ rest) = nat_lt a b && ascends (b ∷ rest)
 abbrev pub keywords : List Keyword
 keywords = Ascii ∷ Cset ∷ Current ∷ Digits ∷ Errout ∷ Fail ∷ Input ∷ Lcase ∷ Letters ∷ Level ∷ Main ∷ Null ∷ Output ∷ Pos ∷ Random ∷ Source ∷ Subject ∷ Ucase ∷ []
 
+-- the keyword of this name, if there is one
 unfoldable pub keyword_of : List ℕ → Option Keyword
 keyword_of text = lookup_text (map (λ keyword. (keyword_name keyword, keyword)) keywords) text

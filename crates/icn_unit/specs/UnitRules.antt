@@ -37,15 +37,19 @@ abbrev pub all_differ : {A : Type 0} → (A → A → Bool) → List A → Bool
 all_differ same [] = true
 all_differ same (x ∷ xs) = not (is_among same xs x) && all_differ same xs
 
+-- a name is among these
 abbrev pub has_name : List (List ℕ) → List ℕ → Bool
 has_name names name = is_among bytes_eq names name
 
+-- no name is there twice
 abbrev pub names_differ : List (List ℕ) → Bool
 names_differ names = all_differ bytes_eq names
 
+-- a label is among these
 abbrev pub has_label : List ℕ → ℕ → Bool
 has_label labels label = is_among nat_eq labels label
 
+-- no label is there twice
 abbrev pub labels_differ : List ℕ → Bool
 labels_differ labels = all_differ nat_eq labels
 
@@ -111,6 +115,7 @@ rank Local = 1
 rank Static = 1
 rank Undeclared = 2
 
+-- names stand in the order of their kinds
 abbrev pub in_order : List UnitName → Bool
 in_order [] = true
 in_order (a ∷ []) = true
@@ -152,5 +157,6 @@ same_texts (x ∷ xs) (y ∷ ys) = bytes_eq x y && same_texts xs ys
 abbrev pub same_names : List Proc → List Decl → Bool
 same_names procs decls = same_texts (proc_names procs) (declared_names decls)
 
+-- the procedures and the declarations of a unit keep all rules
 unfoldable pub keeps_rules : List Proc → List Decl → Bool
 keeps_rules procs decls = keeps_procs procs && keeps_decls decls && same_names procs decls

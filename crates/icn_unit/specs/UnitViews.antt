@@ -4,9 +4,11 @@ use Rattle.icn_unit.specs.declared.unit.UnitDecl.{UnitDecl}
 use Rattle.icn_unit.specs.declared.unit.UnitDecl.TheVariants.{Global as GlobalDecl, Proc as ProcDecl, Link as LinkDecl, Record as RecordDecl}
 use Rattle.icn_unit.specs.PlainUnits.{Proc, Decl, Global, Procedure, Link, Record}
 
+-- the code of a procedure, as plain lists
 abbrev pub proc_seen : ProcCode → Proc
 proc_seen proc = record { name = proc.name; collects = proc.collects; names = proc.names.items; instrs = proc.instrs.items }
 
+-- a declaration of a unit, as plain lists
 abbrev pub decl_seen : UnitDecl → Decl
 decl_seen (GlobalDecl name) = Global name
 decl_seen (ProcDecl name) = Procedure name

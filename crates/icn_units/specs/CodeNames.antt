@@ -11,9 +11,11 @@ abbrev pub variable_is_named : ℕ → UnitInstr → Bool
 variable_is_named names (Var k) = nat_lt k names
 variable_is_named names _ = true
 
+-- each variable of the code is one of the procedure's names
 abbrev pub variables_are_named : Proc → Bool
 variables_are_named proc = list_all (variable_is_named (length proc.names)) proc.instrs
 
+-- a record has no field twice
 abbrev pub fields_differ : Decl → Bool
 fields_differ (Global name) = true
 fields_differ (Procedure name) = true

@@ -20,9 +20,11 @@ number_fits (I.Create label) = is_number label
 number_fits (I.Lab label) = is_number label
 number_fits _ = true
 
+-- the numbers of all instructions fit their types
 abbrev pub numbers_fit : Proc → Bool
 numbers_fit proc = list_all number_fits proc.instrs
 
+-- the text of a link declaration is of bytes
 abbrev pub bytes_fit : Decl → Bool
 bytes_fit (Global name) = true
 bytes_fit (Procedure name) = true

@@ -88,6 +88,7 @@ item_fits passes (Items.Text name) = passes name.text
 abbrev pub all_locals_fit : List Locals → Bool
 all_locals_fit locals = list_all (λ (l : Locals). names_fit l.names) locals
 
+-- the names and literals of a procedure are such as its unit may have, where its texts pass this test
 abbrev pub procedure_fits : (List ℕ → Bool) → Procedure → Bool
 procedure_fits passes procedure = name_fits procedure.name &&
     (names_fit procedure.parameters && (all_locals_fit procedure.locals
@@ -104,6 +105,7 @@ declaration_fits passes (Invocable place items) = true
 declaration_fits passes (Record place name fields) = name_fits name && names_fit fields
 declaration_fits passes (ProcedureOf procedure) = procedure_fits passes procedure && collects_fits procedure
 
+-- the names and literals of a file are such as its unit may have, where its texts pass this test
 abbrev pub file_fits : (List ℕ → Bool) → List Declaration → Bool
 file_fits passes file = list_all (declaration_fits passes) file
 

@@ -29,6 +29,7 @@ pub record IsSameFault (rule : Rule) (number place : ℕ) (rule' : Rule) (number
   pub numbers : number ≡ number'
   pub places : place ≡ place'
 
+-- procedures have at most one first fault
 abbrev pub HaveOneFault : Type 0
 HaveOneFault = (procs : List Proc) (rule : Rule) (number place : ℕ) (rule' : Rule) (number' place' : ℕ) → IsFirstFault procs rule number place → IsFirstFault procs rule' number' place' → IsSameFault rule number place rule' number' place'
 

@@ -16,6 +16,7 @@ same_levels [] [] = true
 same_levels (a ∷ as') (b ∷ bs) = same_level a b && same_levels as' bs
 same_levels _ _ = false
 
+-- two shapes are alike
 abbrev pub same_shape : PlainShape → PlainShape → Bool
 same_shape a b = bool_eq a.in_create b.in_create && same_level a.inner b.inner && same_levels a.outer b.outer
 
@@ -34,10 +35,12 @@ with_shape (several fewest) shape = several (min fewest shape.inner.operands)
 abbrev pub seen_at : List Arrival → ℕ → Arrival
 seen_at table place = slice_index_or table place unseen
 
+-- one more shape came to a place, if it goes anywhere
 abbrev pub with_arrival : List Arrival → Option (ℕ × PlainShape) → List Arrival
 with_arrival table None = table
 with_arrival table (Some to) = slice_set table to.0 (with_shape (seen_at table to.0) to.1)
 
+-- just this shape came to a place
 abbrev pub is_one : Arrival → PlainShape → Bool
 is_one unseen shape = false
 is_one (one before) shape = same_shape before shape
@@ -91,5 +94,6 @@ first_fault table place (instr ∷ instrs) =
 abbrev pub first_table : ℕ → List Arrival
 first_table count = one (start_shape false) ∷ replicate count unseen
 
+-- the first rule that is broken in a procedure, with its instruction address
 abbrev pub fault_of : List Instr → Option (Rule × ℕ)
 fault_of instrs = first_fault (first_table (length instrs)) 0 instrs

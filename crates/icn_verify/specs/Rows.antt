@@ -33,6 +33,7 @@ work_changing asks change takes leaves = record { takes = takes; leaves = leaves
 abbrev pub way_only : Asks → Way → Row
 way_only asks way = record { takes = 0; leaves = 0; asks = asks; change = Keeps; way = way }
 
+-- the row of an instruction in the table
 abbrev pub row_of : Instr → Row
 row_of Pnull = works 0 1
 row_of (Int place) = works 0 1

@@ -74,5 +74,6 @@ abbrev pub shape_by : Bool → List Level → PlainShape
 shape_by in_create [] = start_shape in_create
 shape_by in_create (base ∷ marks) = shape_within in_create base [] marks
 
+-- a shape, as plain lists
 abbrev pub plain_of : Shape → PlainShape
 plain_of shape = shape_by shape.in_create shape.marks.items

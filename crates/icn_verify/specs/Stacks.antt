@@ -18,6 +18,7 @@ abbrev pub stacked : List (List Level) → List Entry → List (List Level)
 stacked stacks [] = stacks
 stacked stacks (entry ∷ entries) = stacked (stacks ++ (entry.level ∷ stack_at stacks entry.outer) ∷ []) entries
 
+-- the stacks of these entries by their numbers, the empty one first
 abbrev pub stacks_of : List Entry → List (List Level)
 stacks_of entries = stacked ([] ∷ []) entries
 
@@ -32,6 +33,7 @@ pub record Grows (old new : List (List Level)) : Type 0 where
   pub is : new ≡ old ++ more
 
 module _ (stacks : List (List Level)) where
+  -- a shape whose outer levels are the stack of its number
   abbrev pub shape_in : Flat → PlainShape
   shape_in flat = record { in_create = flat.in_create; inner = flat.inner; outer = stack_at stacks flat.outer }
 
@@ -39,11 +41,13 @@ module _ (stacks : List (List Level)) where
   abbrev pub IsHeld : Flat → Type 0
   IsHeld flat = flat.outer < length stacks
 
+  -- what came to a place, with the stacks of their numbers
   abbrev pub seen_in : Slot → Arrival
   seen_in Free = unseen
   seen_in (One flat) = one (shape_in flat)
   seen_in (Several fewest) = several fewest
 
+  -- the number in a slot, if it has one, is that of a stack
   abbrev pub IsKept : Slot → Type 0
   IsKept Free = Unit {0}
   IsKept (One flat) = IsHeld flat
@@ -53,6 +57,7 @@ module _ (stacks : List (List Level)) where
   pub record AreKept (slots : List Slot) : Type 0 where
     pub each : All IsKept slots
 
+  -- what came to each place
   abbrev pub table_in : List Slot → List Arrival
   table_in slots = map seen_in slots
 

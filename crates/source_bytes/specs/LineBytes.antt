@@ -7,5 +7,6 @@ use Rattle.source_bytes.specs.Bytes.{are_bytes}
 abbrev pub line_is_of_bytes : SourceLine → Bool
 line_is_of_bytes line = are_bytes line.bytes
 
+-- all bytes of all lines are below 256
 abbrev pub lines_are_of_bytes : List SourceLine → Bool
 lines_are_of_bytes lines = list_all line_is_of_bytes lines

@@ -20,5 +20,6 @@ kind_is_of_bytes (PunctuationKind mark) = true
 abbrev pub token_is_of_bytes : Token → Bool
 token_is_of_bytes token = kind_is_of_bytes token.kind
 
+-- the texts of all tokens are of bytes
 abbrev pub tokens_are_of_bytes : List Token → Bool
 tokens_are_of_bytes tokens = list_all token_is_of_bytes tokens
