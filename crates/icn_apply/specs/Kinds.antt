@@ -8,6 +8,7 @@ use Rattle.icn_iofn.specs.OfFiles.{is_of_files}
 use Rattle.icn_apply.specs.declared.kinds.Kind.{Kind}
 use Rattle.icn_apply.specs.declared.kinds.Kind.TheVariants.{Files, Scanning, Strings, Structures}
 
+-- a function is among those of this kind
 abbrev pub IsOfKind : Kind → Func → Type 0
 IsOfKind Files func = is_of_files func ≡ true
 IsOfKind Scanning func = is_scanning_function func ≡ true

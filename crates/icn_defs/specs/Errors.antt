@@ -29,6 +29,7 @@ error_texts =
     ∷ (301, codes "evaluation stack overflow") ∷ (306, codes "inadequate space in string region")
     ∷ (307, codes "inadequate space in block region") ∷ []
 
+-- what the report of a run-time error says for its number
 abbrev pub error_text : ℕ → List ℕ
 error_text number = unwrap_or (lookup (λ other. other == number) error_texts) []
 

@@ -21,6 +21,7 @@ pub record Extent : Type 0 where
   pub records : ℕ
   pub coexps : ℕ
 
+-- where the bytes of a text lie in the region
 abbrev pub place_of : Span → Place
 place_of span = record { place = span.place; len = span.len }
 

@@ -4,6 +4,7 @@ use Rattle.icn_strings.specs.declared.full.Full.TheVariants.{Strings as StringsR
 use Rattle.icn_value.specs.declared.full.Full.{Full}
 use Rattle.icn_value.specs.declared.full.Full.TheVariants.{Strings, NoMemory}
 
+-- why a heap refuses a charge that its region refuses
 abbrev pub strings_full : FullRegion → Full
 strings_full (StringsRegion sum limit) = Strings sum limit
 strings_full NoRoom = NoMemory

@@ -32,6 +32,7 @@ pub record Parts : Type 0 where
   pub cells : ℕ
   pub limits : Limits
 
+-- the parts of a heap, by name
 abbrev pub parts : Region → List (Numbered Val) → List (List (Key × Val)) → List Entries → List HeldRecord → List ℕ → ℕ → Limits → Parts
 parts strings lists sets tables records coexps cells limits = record {
   strings = strings;
@@ -46,6 +47,7 @@ parts strings lists sets tables records coexps cells limits = record {
 
 -- Each structure as values that hold their bytes
 
+-- the list that a held list stands for
 abbrev pub list_in : Extent → Numbered Val → Numbered Value
 list_in all list = record { items = map (value_in all) list.items; number = list.number }
 
@@ -89,23 +91,29 @@ extent_in parts = record {
 
 -- Structures for numbers that none has
 
+-- an empty list, as it is held
 abbrev pub no_vals : Numbered Val
 no_vals = record { items = []; number = pos 1 }
 
+-- an empty table with null as its default, as it is held
 abbrev pub no_entries : Entries
 no_entries = record { default = Null; pairs = [] }
 
 -- What is found at a place
 
+-- the value of a member, without the key that finds it
 abbrev pub member_val : Key × Val → Val
 member_val member = member.1
 
+-- the entry of a pair, without the key that finds it
 abbrev pub entry_of : Key × Entry → Entry
 entry_of pair = pair.1
 
+-- the value of a table's entry
 abbrev pub entry_value : Entry → Val
 entry_value entry = entry.value
 
+-- the key and the value of a table's entry
 abbrev pub entry_vals : Entry → Val × Val
 entry_vals entry = (entry.key, entry.value)
 
@@ -115,9 +123,11 @@ with_entry members key val = if is_some (value_of key_eq members key) then membe
 
 -- a table with a pair under a key, and without the pair of a key
 
+-- the table with this entry under this key
 abbrev pub table_with : Entries → Key → Entry → Entries
 table_with table key entry = record table { pairs = stored key_eq table.pairs key entry }
 
+-- the table without the entry of this key
 abbrev pub table_without : Entries → Key → Entries
 table_without table key = record table { pairs = without key_eq table.pairs key }
 

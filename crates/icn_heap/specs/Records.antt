@@ -7,6 +7,7 @@ pub record HeldRecord : Type 0 where
   pub kind : ℕ
   pub values : List Val
 
+-- a record of this kind with these fields, as it is held
 abbrev pub held_record : ℕ → List Val → HeldRecord
 held_record kind values = record { kind = kind; values = values }
 

@@ -3,6 +3,7 @@ use Rattle.std.specs.Prelude.{Bool, true, false}
 use Rattle.icn_text.specs.declared.func.Func.{Func}
 use Rattle.icn_text.specs.declared.func.Func.TheVariants.{Abs, Any, Bal, Center, Char, Copy, Cset, Delete, Exit, Find, Get, Iand, Icom, Image, Insert, Integer, Ior, Ishift, Ixor, Key, Left, List, Many, Map, Match, Member, Move, Numeric, Ord, Pop, Pos, Pull, Push, Put, Read, Reads, Repl, Reverse, Right, Seq, Set, Sort, Stop, String, Tab, Table, Trim, TypeOf, Upto, Write, Writes}
 
+-- a function that reads, writes or ends the program
 abbrev pub is_of_files : Func → Bool
 is_of_files Abs = false
 is_of_files Any = false

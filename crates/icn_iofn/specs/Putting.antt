@@ -12,6 +12,7 @@ use Rattle.icn_streams.specs.Handed.{KeepsCounts, FailsOnce, WantsOnce, Puts as 
 abbrev pub piece_in : Value → Piece
 piece_in value = unwrap_or (piece_of value) (Puts [])
 
+-- all arguments as pieces of a line
 abbrev pub pieces_in : List Value → List Piece
 pieces_in values = map piece_in values
 
@@ -31,6 +32,7 @@ pub record Outputs : Type 0 where
   pub output : SinkState
   pub errors : SinkState
 
+-- both outputs
 abbrev pub outputs : SinkState → SinkState → Outputs
 outputs output errors = record { output = output; errors = errors }
 

@@ -7,6 +7,7 @@ use Rattle.icn_value.specs.Store.{Table, Record, Heap, World, Setting, Names}
 use Rattle.icn_defs.specs.Rows.{Residual, TextBytes, VariableBytes, ListItems, SetMembers, TableValues, TableKeys, RecordFields, InputLines, UndoAssign, UndoExchange, UndoPosition, Counting, Sequence, Balanced, Found, Among}
 use Rattle.icn_convert.specs.Naming.{name_count}
 
+-- a value that is a procedure is one that has a name
 abbrev pub ValueNamed : Names → Value → Type 0
 ValueNamed names Null = Unit {0}
 ValueNamed names (Integer n) = Unit {0}
@@ -46,6 +47,7 @@ ItemBy names (Var variable) = VariableNamed names variable
 pub record ItemNamed (names : Names) (item : Item) : Type 0 where
   pub named : ItemBy names item
 
+-- the key and the value of a pair name what has a name
 abbrev pub PairNamed : Names → Value × Value → Type 0
 PairNamed names pair = ValueNamed names pair.0 × ValueNamed names pair.1
 
@@ -61,12 +63,14 @@ TableNamed names table = ValueNamed names table.default × All (PairNamed names)
 abbrev pub RecordNamed : Names → Record → Type 0
 RecordNamed names structure = (structure.kind < length names.records) × All (ValueNamed names) structure.fields
 
+-- the values in all structures of a heap name what has a name, and the kind of each record has one
 pub record HeapNamed (names : Names) (heap : Heap) : Type 0 where
   pub lists : All (ListNamed names) heap.lists
   pub sets : All (SetNamed names) heap.sets
   pub tables : All (TableNamed names) heap.tables
   pub records : All (RecordNamed names) heap.records
 
+-- what the values of a world name has a name
 pub record WorldNamed (names : Names) (world : World) : Type 0 where
   pub heap : HeapNamed names world.heap
   pub globals : All (ValueNamed names) world.globals

@@ -19,6 +19,7 @@ pub record CallState : Type 0 where
   pub locals : List Val
   pub handed : CallStreams
 
+-- the world, the locals and the streams that a call leaves
 abbrev pub call_state : World → List Val → CallStreams → CallState
 call_state world locals handed = record { world = world; locals = locals; handed = handed }
 

@@ -11,6 +11,7 @@ pub record CallStreams : Type 0 where
   pub output : SinkState
   pub errors : SinkState
 
+-- an input that has this left and failed so often, and both outputs
 abbrev pub call_streams : Option (List ℕ) → ℕ → SinkState → SinkState → CallStreams
 call_streams left faults output errors = record { left = left; faults = faults; output = output; errors = errors }
 

@@ -16,6 +16,7 @@ use Rattle.icn_streams.specs.Answers.{CallState, setting_with, with_left}
 use Rattle.icn_streams.specs.declared.ask.Ask.{Ask}
 use Rattle.icn_streams.specs.declared.ask.Ask.TheVariants.{Line, Bytes}
 
+-- what a reading asks for, as definitions see it
 abbrev pub asked_in : Ask → Request
 asked_in Line = ALine
 asked_in (Bytes count) = SomeBytes count

@@ -47,24 +47,28 @@ charged_unless false heap = charged_cells heap 1
 abbrev pub having_list : List Value → Heap → Heap
 having_list items heap = record heap { lists = heap.lists ++ new_list items ∷ [] }
 
+-- a list of these items is charged and made, or refused
 abbrev pub made_list : Heap → List Value → ChangedHeap
 made_list heap items = and_then (charged_cells heap (1 + length items)) (λ paid. Ok (having_list items paid))
 
 abbrev pub having_set : Heap → Heap
 having_set heap = record heap { sets = heap.sets ++ [] ∷ [] }
 
+-- an empty set is charged and made, or refused
 abbrev pub made_set : Heap → ChangedHeap
 made_set heap = and_then (charged_cells heap 1) (λ paid. Ok (having_set paid))
 
 abbrev pub having_table : Value → Heap → Heap
 having_table default heap = record heap { tables = heap.tables ++ record { default = default; pairs = [] } ∷ [] }
 
+-- an empty table with this default is charged and made, or refused
 abbrev pub made_table : Heap → Value → ChangedHeap
 made_table heap default = and_then (charged_cells heap 1) (λ paid. Ok (having_table default paid))
 
 abbrev pub having_record : ℕ → List Value → Heap → Heap
 having_record kind fields heap = record heap { records = heap.records ++ record { kind = kind; fields = fields } ∷ [] }
 
+-- a record of this kind with these fields is charged and made, or refused
 abbrev pub made_record : Heap → ℕ → List Value → ChangedHeap
 made_record heap kind fields = and_then (charged_cells heap (1 + length fields)) (λ paid. Ok (having_record kind fields paid))
 
@@ -79,15 +83,19 @@ made_coexp heap locals = and_then (charged_cells heap (1 + locals)) (λ paid. Ok
 abbrev pub next_list : Heap → Value
 next_list heap = AList (length heap.lists)
 
+-- the set that will be made next
 abbrev pub next_set : Heap → Value
 next_set heap = ASet (length heap.sets)
 
+-- the table that will be made next
 abbrev pub next_table : Heap → Value
 next_table heap = ATable (length heap.tables)
 
+-- the record that will be made next
 abbrev pub next_record : Heap → Value
 next_record heap = ARecord (length heap.records)
 
+-- the co-expression that will be made next
 abbrev pub next_coexp : Heap → Value
 next_coexp heap = ACoexp (length heap.coexps)
 
@@ -97,6 +105,7 @@ next_coexp heap = ACoexp (length heap.coexps)
 abbrev pub put_on : Heap → ℕ → Value → ChangedHeap
 put_on heap id value = and_then (charged_cells heap 1) (λ paid. Ok (with_list id (with_right (list_at paid id) value) paid))
 
+-- a value is charged and put at the left end of a list, or refused
 abbrev pub pushed_on : Heap → ℕ → Value → ChangedHeap
 pushed_on heap id value = and_then (charged_cells heap 1) (λ paid. Ok (with_list id (with_left (list_at paid id) value) paid))
 
@@ -130,6 +139,7 @@ without_key (ASet id) key heap = with_set id (filter (λ member. not (same key m
 without_key (ATable id) key heap = with_table id (record (table_at heap id) { pairs = without same (table_at heap id).pairs key }) heap
 without_key other key heap = heap
 
+-- a field of a record has another value
 abbrev pub with_field : ℕ → ℕ → Value → Heap → Heap
 with_field id place value heap = with_record id (record (record_at heap id) { fields = slice_set (record_at heap id).fields place value }) heap
 

@@ -2,12 +2,14 @@
 use Rattle.std.specs.Prelude.{ℕ, ◌≤◌, ◌-◌, ◌^◌}
 use Rattle.icn_value.specs.declared.limits.Limits.{Limits}
 
+-- the limits of a run: its turns, the string bytes and the cells that it may be charged, and how deep procedures call
 pub record Bounds : Type 0 where
   pub turns : ℕ
   pub strings : ℕ
   pub cells : ℕ
   pub levels : ℕ
 
+-- limits, as definitions see them
 abbrev pub limits_of : Limits → Bounds
 limits_of limits =
     record { turns = limits.turns; strings = limits.strings; cells = limits.cells; levels = limits.levels }
@@ -20,6 +22,7 @@ pub record AreLimits (bounds : Bounds) : Type 0 where
   pub some_levels : 1 ≤ bounds.levels
   pub levels : bounds.levels ≤ 4294967295
 
+-- the limits of a run for which the command sets none
 abbrev pub default_limits : Bounds
 default_limits =
     record { turns = 18446744073709551615; strings = 268435456; cells = 16777216; levels = 20000 }

@@ -38,6 +38,7 @@ shape_cmp a b = ordering_then (nat_cmp a.rank b.rank) (ordering_then (slice_cmp 
 abbrev pub same : Value → Value → Bool
 same a b = is_eq (shape_cmp (shape_of a) (shape_of b))
 
+-- one of these values is the same as this one
 abbrev pub has_value : List Value → Value → Bool
 has_value values value = list_any (same value) values
 

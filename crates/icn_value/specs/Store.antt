@@ -83,26 +83,33 @@ pub record Names : Type 0 where
 abbrev pub new_list : List Value → Numbered Value
 new_list items = record { items = items; number = pos 1 }
 
+-- the list of this number; where there is none, an empty one
 abbrev pub list_at : Heap → ℕ → Numbered Value
 list_at heap id = unwrap_or (slice_get heap.lists id) (new_list [])
 
+-- the members of the set of this number; where there is none, no members
 abbrev pub set_at : Heap → ℕ → List Value
 set_at heap id = unwrap_or (slice_get heap.sets id) []
 
+-- the table of this number; where there is none, an empty one
 abbrev pub table_at : Heap → ℕ → Table
 table_at heap id = unwrap_or (slice_get heap.tables id) (record { default = Null; pairs = [] })
 
+-- the record of this number; where there is none, one without fields
 abbrev pub record_at : Heap → ℕ → Record
 record_at heap id = unwrap_or (slice_get heap.records id) (record { kind = 0; fields = [] })
 
+-- how many results the co-expression of this number has given
 abbrev pub count_at : Heap → ℕ → ℕ
 count_at heap id = slice_index heap.coexps id
 
+-- the value at a place; where there is none, null
 abbrev pub value_at : List Value → ℕ → Value
 value_at values place = unwrap_or (slice_get values place) Null
 
 -- Changes
 
+-- another list under this number
 abbrev pub with_list : ℕ → Numbered Value → Heap → Heap
 with_list id list heap = record heap { lists = slice_set heap.lists id list }
 
@@ -115,6 +122,7 @@ with_table id table heap = record heap { tables = slice_set heap.tables id table
 abbrev pub with_record : ℕ → Record → Heap → Heap
 with_record id structure heap = record heap { records = slice_set heap.records id structure }
 
+-- the setting with its heap changed
 abbrev pub having_heap : (Heap → Heap) → Setting → Setting
 having_heap change setting =
     record setting { world = record setting.world { heap = change setting.world.heap } }

@@ -62,11 +62,13 @@ exchange_of refused x y value_of_x value_of_y =
 
 -- What is answered is of the world
 
+-- the variable that was assigned, or the offending value, is of the world
 abbrev pub IsLiveAssignment : Reach → Result Assignment Stop → Type 0
 IsLiveAssignment reach (Ok (Done now)) = IsLiveVariable reach now
 IsLiveAssignment reach (Ok OutOfRange) = ⊤
 IsLiveAssignment reach (Err stop) = IsLiveStop reach.extent stop
 
+-- both variables that were exchanged, or the offending value, are of the world
 abbrev pub IsLiveExchange : Reach → Result Exchange Stop → Type 0
 IsLiveExchange reach (Ok (ExchangeDone left right)) = IsLiveVariable reach left × IsLiveVariable reach right
 IsLiveExchange reach (Ok ExchangeOutOfRange) = ⊤
@@ -93,6 +95,7 @@ MovesTo old new variable BeforeText =
     (all : Extent) (setting : Setting) → ComesTo (move_part old new (variable_in all variable)) setting (ErrorOutcome 205 None setting)
 MovesTo old new variable BehindTexts = IsBehind new variable
 
+-- a part that was moved is of the world
 abbrev pub IsLiveMoved : Reach → Moved → Type 0
 IsLiveMoved reach (MovedTo now) = IsLiveVariable reach now
 IsLiveMoved reach BeforeText = ⊤

@@ -22,6 +22,7 @@ use Rattle.icn_vars.specs.Worlds.{IsLiveItem, IsLiveVariable, Reach, item_in, va
 
 -- What residuals and outcomes stand for
 
+-- which side of an exchange moves the other one, as definitions see it
 abbrev pub mover_of : HeldMover → Mover
 mover_of HeldNeither = Neither
 mover_of HeldLeft = Left

@@ -12,11 +12,13 @@ use Rattle.icn_vars.specs.declared.stop.Stop.TheVariants.{Error, NoMemory}
 use Rattle.icn_vars.specs.declared.outcome.Halt.{Halt}
 use Rattle.icn_vars.specs.declared.outcome.Halt.TheVariants.{Error as ErrorHalt, NoMemory as NoMemoryHalt}
 
+-- why a call stops where the heap is full: a limit is passed, which is an error, or there is no memory
 abbrev pub stop_of : Full → Stop
 stop_of (Strings sum limit) = Error 306 None
 stop_of (Cells sum limit) = Error 307 None
 stop_of NoRoom = NoMemory
 
+-- a stop, as the end of a run
 abbrev pub halt_of : Stop → Halt
 halt_of (Error number offending) = ErrorHalt number offending
 halt_of NoMemory = NoMemoryHalt

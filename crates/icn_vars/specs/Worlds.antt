@@ -49,11 +49,13 @@ setting_of outside world locals = record {
 
 -- Variables and items as values that hold their bytes
 
+-- the keyword that a variable is
 abbrev pub word_of : HeldWord → KeywordVariable
 word_of HeldSubject = Subject
 word_of HeldPosition = Position
 word_of HeldRandom = Random
 
+-- the root of a variable; the key of a table holds its bytes
 abbrev pub root_in : Extent → HeldRoot → Root
 root_in all (HeldGlobal place) = Global place
 root_in all (HeldStatic place) = Static place
@@ -63,10 +65,12 @@ root_in all (HeldField rec place) = Field rec place
 root_in all (HeldKey table key) = Key table (value_in all key)
 root_in all (HeldKeyword word) = Keyword (word_of word)
 
+-- the variable that a reference stands for
 abbrev pub variable_in : Extent → VarRef → Variable
 variable_in all (HeldWhole root) = Whole (root_in all root)
 variable_in all (HeldPart root place len) = Part (root_in all root) place len
 
+-- the value or the variable that an item stands for
 abbrev pub item_in : Extent → HeldItem → Item
 item_in all (HeldVal val) = ItemVal (value_in all val)
 item_in all (HeldVar variable) = ItemVar (variable_in all variable)
@@ -85,6 +89,7 @@ pub record Reach : Type 0 where
   pub statics : ℕ
   pub locals : ℕ
 
+-- what the items of a world and of these locals may name
 abbrev pub reach_of : World → List Val → Reach
 reach_of world locals = record {
   extent = extent_of world.heap;

@@ -28,12 +28,15 @@ GivesAll row at items = results (length items + 1) (row at) ≡ items
 abbrev pub integer_item : ℕ → Item
 integer_item n = Val (Integer (pos n))
 
+-- a text of one byte, as a result
 abbrev pub byte_item : ℕ → Item
 byte_item byte = Val (Text (byte ∷ []))
 
+-- the key of a pair, as a result
 abbrev pub pair_key : Value × Value → Item
 pair_key pair = Val pair.0
 
+-- the variable of a pair's value, in this table
 abbrev pub pair_variable : ℕ → Value × Value → Item
 pair_variable table pair = key_item table pair.0
 
@@ -41,9 +44,11 @@ pair_variable table pair = key_item table pair.0
 abbrev pub walk : Value → Row
 walk value = operation_row Elements (Val value ∷ [])
 
+-- the row of `key` of a table
 abbrev pub keys : Names → ℕ → Row
 keys names table = function_row names KeyFunction (Val (ATable table) ∷ [])
 
+-- the row of `first to last`
 abbrev pub counts : ℕ → ℕ → Row
 counts first last = operation_row ToBy (integer_item first ∷ integer_item last ∷ integer_item 1 ∷ [])
 

@@ -23,6 +23,7 @@ is_exchange Swap = true
 is_exchange ReversibleSwap = true
 is_exchange op = false
 
+-- resuming takes back an exchange
 abbrev pub undoes_exchange : Residual → Bool
 undoes_exchange (UndoExchange mover x y old_x old_y) = true
 undoes_exchange residual = false
