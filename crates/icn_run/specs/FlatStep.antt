@@ -9,12 +9,14 @@ use Rattle.icn_run.specs.Step.{Program, Observed, Launch}
 abbrev pub State : Type 0
 State = Step.State Frames Frames
 
+-- one step on flat stacks
 abbrev pub step : Program → State → State
 step P state = Step.step flat P state
 
 abbrev pub steps : Program → ℕ → State → State
 steps P n state = Step.steps flat P n state
 
+-- where a run on flat stacks begins
 abbrev pub start : Program → Launch → State
 start P launch = Step.start flat empty P launch
 

@@ -19,6 +19,7 @@ step repeats P state = Step.step (linked repeats) P state
 abbrev pub steps : (ℕ → ℕ → Bool) → Program → ℕ → State → State
 steps repeats P n state = Step.steps (linked repeats) P n state
 
+-- where a run on linked marks begins
 abbrev pub start : (ℕ → ℕ → Bool) → Program → Launch → State
 start repeats P launch = Step.start (linked repeats) empty P launch
 

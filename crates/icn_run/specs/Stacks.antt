@@ -297,6 +297,7 @@ leave m = leave_from (cut m.registers.base m.cells)
 abbrev pub empty : Frames
 empty = record { cells = []; registers = record { base = 0; mark = 0; newest = None; scan = None }; place = 0 }
 
+-- the calls of a stack, as a flat stack answers them
 abbrev pub flat : Calls Frames Frames
 flat = record {
   kept = λ m. m;

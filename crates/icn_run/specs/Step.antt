@@ -84,6 +84,7 @@ abbrev pub turn_if : {K M : Type 0} → Bool → Store K → (Store K → State 
 turn_if true st event = event (record st { turns = suc st.turns })
 turn_if false st event = at_bound st
 
+-- a turn is counted before its event; at the bound the run ends instead
 abbrev pub turn : {K M : Type 0} → Program → Store K → (Store K → State K M) → State K M
 turn P st event = turn_if (nat_lt st.turns st.world.heap.bounds.turns) st event
 
@@ -93,6 +94,7 @@ turn P st event = turn_if (nat_lt st.turns st.world.heap.bounds.turns) st event
 abbrev pub here : {K M : Type 0} → Calls K M → M → Store K → Setting
 here C m st = record { world = st.world; locals = C.locals m; outside = st.outside }
 
+-- the same with another world
 abbrev pub with_world : {K : Type 0} → World → Store K → Store K
 with_world world st = record st { world = world }
 
@@ -149,6 +151,7 @@ statics_before tables proc = sum_by statics_of (take proc tables.procs)
 
 -- Scans
 
+-- the subject and the position at present
 abbrev pub pair_now : {K : Type 0} → Store K → Pair
 pair_now st = record { subject = st.world.subject; position = st.world.position }
 
@@ -301,9 +304,11 @@ abbrev pub called_if : {K M : Type 0} → Calls K M → Bool → ℕ → Procedu
 called_if C true n entry arguments m st = with_parameters C entry arguments m st (λ parameters m st. enter_procedure C n entry parameters m st)
 called_if C false n entry arguments m st = errs 301 None st
 
+-- a procedure is called with these values, unless that is deeper than the limit
 abbrev pub call_procedure : {K M : Type 0} → Calls K M → ℕ → Procedure → List Value → M → Store K → State K M
 call_procedure C n entry arguments m st = called_if C (nat_le (suc (C.level m)) st.world.heap.bounds.levels) n entry arguments m st
 
+-- a record of this type is made of the arguments, with nulls for those that are missing, and pushed
 abbrev pub construct_record : {K M : Type 0} → Calls K M → ℕ → RecordType → List Value → M → Store K → State K M
 construct_record C kind entry arguments m st = with_made C (record_row kind (fill_nulls (length entry.fields) arguments) (here C m st)) m st (λ value m st. push_item C (Val value) m st)
 
@@ -312,6 +317,7 @@ abbrev pub argument_at : Option ℕ → List Item → Option Item
 argument_at (Some (suc n)) items = slice_get items n
 argument_at place items = None
 
+-- the argument that an integer selects
 abbrev pub choose_item : ℤ → List Item → Option Item
 choose_item n items = argument_at (place_of n (length items)) items
 
@@ -319,6 +325,7 @@ abbrev pub pushed_or_fails : {K M : Type 0} → Calls K M → Option Item → M 
 pushed_or_fails C (Some item) m st = push_item C item m st
 pushed_or_fails C None m st = failing m st
 
+-- an integer selects one of the arguments, or fails; what is no integer can't be called
 abbrev pub integer_called : {K M : Type 0} → Calls K M → Value → Option ℤ → List Item → M → Store K → State K M
 integer_called C callee (Some n) items m st = pushed_or_fails C (choose_item n items) m st
 integer_called C callee None items m st = errs 106 (Some callee) st
@@ -353,6 +360,7 @@ callee_called C (IsRecord kind entry) n items m st = with_values C items m st (�
 callee_called C (IsFunc func) n items m st = outcome C (apply st.names (Function func) items (here C m st)) m st
 callee_called C IsNothing n items m st = errs 106 (Some (ProcedureValue n)) st
 
+-- a value is called with these arguments: a procedure, a record constructor or a function, or an integer
 abbrev pub invoke_value : {K M : Type 0} → Calls K M → Program → Value → List Item → M → Store K → State K M
 invoke_value C P (ProcedureValue n) items m st = callee_called C (callee_of P n) n items m st
 invoke_value C P callee items m st = integer_called C callee (number_of callee) items m st
@@ -406,6 +414,7 @@ proc_fails C m st = return_to (C.leave m) failing (all_left C m st)
 
 -- Failing
 
+-- failing where no mark is left: the co-expression is exhausted, or the procedure fails
 abbrev pub without_mark : {K M : Type 0} → Calls K M → Program → M → Store K → State K M
 without_mark C P m st = if is_create_body C m st then exhaust_active C P m st else proc_fails C m st
 
@@ -415,6 +424,7 @@ mark_dropped C P m st (Goes after) = running after st
 mark_dropped C P m st (Repeats after) = turn P st (running after)
 mark_dropped C P m st (WithoutLabel after) = failing after st
 
+-- what resuming comes to, by why it was suspended
 abbrev pub resume_by : {K M : Type 0} → Calls K M → Program → Why → M → Store K → State K M
 resume_by C P Alt m st = failing m st
 resume_by C P (Operation residual) m st = turn P st (λ st. outcome C (again residual (here C m st)) m st)
@@ -480,6 +490,7 @@ abbrev pub operate : {K M : Type 0} → Calls K M → Op → List Item → M →
 operate C Ops.Refresh (item ∷ items) m st = with_value C item m st (λ value. refresh C value m st)
 operate C op items m st = outcome C (apply st.names (Operation op) items (here C m st)) m st
 
+-- the variable of a record's field
 abbrev pub field_applied : {K M : Type 0} → Calls K M → Program → ℕ → List Item → M → Store K → State K M
 field_applied C P k (item ∷ items) m st = with_value C item m st (λ value. field_of C P k value m st)
 field_applied C P k [] m st = stuck
@@ -530,6 +541,7 @@ instruction C P Instrs.Coact m st = with_taken C 2 m (λ items m. turn P st (act
 instruction C P Instrs.Coret m st = coexp_result C P m st
 instruction C P Instrs.Cofail m st = if is_create_body C m st then exhaust_active C P m st else stuck
 
+-- the instruction that is due, if there is one
 abbrev pub instruction_at : {K M : Type 0} → Calls K M → Program → M → Option Instr
 instruction_at C P m = slice_get (instrs_of P (C.proc m)) (C.place m)
 
@@ -575,6 +587,7 @@ proc_name tables entry = slice_index_or tables.strings entry.name []
 abbrev pub record_name : Tables → RecordType → List ℕ
 record_name tables entry = slice_index_or tables.strings entry.name []
 
+-- the names of all procedures and record types of a code
 abbrev pub all_names : Tables → Names
 all_names tables = record { procedures = map (proc_name tables) tables.procs; records = map (record_name tables) tables.records }
 

@@ -99,6 +99,7 @@ IsForward place (I.Goto label) = place < label
 IsForward place (I.Init label) = place < label
 IsForward place instr = Unit {0}
 
+-- no procedure has more than N instructions, and each goes forward
 pub record Forward (N : ℕ) (P : Program) : Type 0 where
   pub within : (proc place : ℕ) (instr : Instr) → slice_get (instrs_of P proc) place ≡ Some instr → place < N
   pub forward : (proc place : ℕ) (instr : Instr) → slice_get (instrs_of P proc) place ≡ Some instr → IsForward place instr

@@ -67,6 +67,7 @@ pub record Resumed (before : Frames) (why : Why) (after : Frames) : Type 0 where
   pub start : height ≤ length before.cells → height ≡ suc (length after.cells)
   pub kept : SameUpTo (length after.cells) before.cells after.cells
 
+-- resuming brings back what was suspended last, and all below it is as it was
 abbrev pub Resumes : Type 0
 Resumes = (m : Frames) (why : Why) (after : Frames) → resume m ≡ Some (why, after) → Resumed m why after
 

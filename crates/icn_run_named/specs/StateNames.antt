@@ -38,6 +38,7 @@ pub record CoexpNamed (names : Names) (coexp : Coexp Frames) : Type 0 where
   pub status : StatusNamed names coexp.status
   pub values : All (ValueNamed names) coexp.values
 
+-- what the world and all co-expressions name has a name
 pub record StoreNamed (names : Names) (st : Store Frames) : Type 0 where
   pub world : WorldNamed names st.world
   pub coexps : All (CoexpNamed names) st.coexps

@@ -71,6 +71,7 @@ pub record AreShaped (tables : Tables) (shapes : ℕ → ℕ → Option PlainSha
   pub on_marks : (launch : Launch) (n : ℕ) (m : Linked) (st : Store Parked) → Marks.steps repeats_anywhere tables n (Marks.start repeats_anywhere tables launch) ≡ running m st → IsShapedAt tables shapes m st
   pub on_stacks : (launch : Launch) (n : ℕ) (m : Frames) (st : Store Frames) → Flat.steps tables n (Flat.start tables launch) ≡ running m st → Stands tables shapes m st
 
+-- there are shapes that hold at each state of each run of the code
 abbrev pub HasFacts : Tables → Type 0
 HasFacts tables = (shapes : ℕ → ℕ → Option PlainShape) × AreShaped tables shapes
 
@@ -80,5 +81,6 @@ abbrev pub shapes_by : (entry : Option Procedure)
 shapes_by None given place = None
 shapes_by (Some proc) given place = (given proc refl).0 place
 
+-- the shapes of all procedures of a code that has them
 abbrev pub shapes_of : (tables : Tables) → HaveShapes tables → ℕ → ℕ → Option PlainShape
 shapes_of tables have number = shapes_by (slice_get tables.procs number) (have number)

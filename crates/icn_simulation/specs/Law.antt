@@ -26,6 +26,7 @@ FilesMean files launch seen = Means (program files) launch seen
 abbrev pub RunsLinked : Tables → Launch → Observed → Type 0
 RunsLinked tables launch seen = Linked.Runs (repeats_of tables) tables launch seen
 
+-- a run of the code on flat stacks is observed so
 abbrev pub RunsFlat : Tables → Launch → Observed → Type 0
 RunsFlat tables launch seen = Flat.Runs tables launch seen
 
@@ -59,8 +60,10 @@ pub record Takes (limited : ℕ → Launch → Launch) (want : Ending) (Sees : L
 abbrev pub TakesTurns : (Launch → Observed → Type 0) → Launch → ℕ → Observed → Type 0
 TakesTurns Sees launch amount seen = Takes with_turns AtBound Sees launch amount seen
 
+-- a run takes exactly so many string bytes
 abbrev pub TakesStrings : (Launch → Observed → Type 0) → Launch → ℕ → Observed → Type 0
 TakesStrings Sees launch amount seen = Takes with_strings (Errored 306) Sees launch amount seen
 
+-- a run takes exactly so many cells
 abbrev pub TakesCells : (Launch → Observed → Type 0) → Launch → ℕ → Observed → Type 0
 TakesCells Sees launch amount seen = Takes with_cells (Errored 307) Sees launch amount seen
