@@ -13,6 +13,7 @@ use Rattle.icn_coexp.specs.declared.entries.Running.{Running}
 use Rattle.icn_coexp.specs.declared.entries.Running.TheVariants.{On, HopDue}
 use Rattle.icn_coexp.specs.Transfers.{Coexp, Table}
 
+-- the status of an entry, with the stack that waits as callers see it
 abbrev pub status_seen : {K : Type 0} → Status K → code.Status FlatStack
 status_seen (Fresh stack) = code.Fresh
 status_seen Active = code.Active
@@ -31,6 +32,7 @@ abbrev pub room_of : {K : Type 0} → Running K → ℕ
 room_of (On stack) = stack.spare
 room_of HopDue = 0
 
+-- the table that the entries are, with the active one and the stack that runs
 abbrev pub table_seen : {K : Type 0} → List (Entry K) → ℕ → Running K → Table
 table_seen entries active running = record { coexps = map coexp_seen entries; active = active; running = running_seen running }
 
@@ -40,6 +42,7 @@ abbrev pub status_put_in : {K : Type 0} → ℕ → Status K → List (Entry K) 
 status_put_in n status entries (Some entry) = slice_set entries n (record entry { status = status })
 status_put_in n status entries None = entries
 
+-- the entries, of which this one has another status
 abbrev pub status_put : {K : Type 0} → ℕ → Status K → List (Entry K) → List (Entry K)
 status_put n status entries = status_put_in n status entries (slice_get entries n)
 
@@ -47,6 +50,7 @@ abbrev pub activator_put_in : {K : Type 0} → ℕ → ℕ → List (Entry K) �
 activator_put_in n activator entries (Some entry) = slice_set entries n (record entry { activator = activator })
 activator_put_in n activator entries None = entries
 
+-- the entries, of which this one has another activator
 abbrev pub activator_put : {K : Type 0} → ℕ → ℕ → List (Entry K) → List (Entry K)
 activator_put n activator entries = activator_put_in n activator entries (slice_get entries n)
 
@@ -60,6 +64,7 @@ CanBeGiven (Some (Fresh stack)) = Unit {0}
 CanBeGiven (Some (Waiting stack)) = 0 < stack.spare
 CanBeGiven status = ⊥
 
+-- a fresh co-expression goes on with its first stack, a waiting one with the value on its stack
 abbrev pub IsGiven : {K : Type 0} → Val → Option (Status K) → FlatStack → Type 0
 IsGiven value (Some (Fresh stack)) m = m ≡ stack.flat
 IsGiven value (Some (Waiting stack)) m = m ≡ flat.push (Items.Val value) stack.flat
@@ -70,6 +75,7 @@ abbrev pub CanFail : {K : Type 0} → Option (Status K) → Type 0
 CanFail (Some (Waiting stack)) = Unit {0}
 CanFail status = ⊥
 
+-- a waiting co-expression goes on with its stack as it was
 abbrev pub Comes : {K : Type 0} → Option (Status K) → FlatStack → Type 0
 Comes (Some (Waiting stack)) m = m ≡ stack.flat
 Comes status m = ⊥
@@ -79,6 +85,7 @@ abbrev pub IsOn : {K : Type 0} → Running K → Type 0
 IsOn (On stack) = Unit {0}
 IsOn HopDue = ⊥
 
+-- the entries once the active co-expression waits with the stack that ran
 abbrev pub WaitsIn : {K : Type 0} → ℕ → Running K → List (Entry K) → List (Entry K) → Type 0
 WaitsIn active (On stack) old new = new ≡ status_put active (Waiting stack) old
 WaitsIn active HopDue old new = ⊥
@@ -116,6 +123,7 @@ abbrev pub IsHere : {K : Type 0} → Running K → Option (Entry K) → Type 0
 IsHere running (Some entry) = RunsAs running entry.status
 IsHere running None = ⊥
 
+-- all entries are in order, and the active one is as the stack that runs asks
 pub record Kept {K : Type 0} (entries : List (Entry K)) (active : ℕ) (running : Running K) : Type 0 where
   pub all : AllFit entries (Some active)
   pub here : IsHere running (slice_get entries active)

@@ -38,6 +38,7 @@ with_stack stacks stack = record { table = record stacks.table { running = Some 
 abbrev pub main_coexp : Coexp
 main_coexp = record { status = Active; activator = 0; values = []; proc = 0; place = 0 }
 
+-- the co-expressions as a run begins: `&main` alone, with this stack
 abbrev pub first_table : FlatStack → Table
 first_table m = record { coexps = main_coexp ∷ []; active = 0; running = Some m }
 
@@ -47,6 +48,7 @@ abbrev pub status_in : Option Coexp → Status FlatStack
 status_in (Some coexp) = coexp.status
 status_in None = Exhausted
 
+-- the status of one of them
 abbrev pub status_of : ℕ → Table → Status FlatStack
 status_of n t = status_in (slice_get t.coexps n)
 

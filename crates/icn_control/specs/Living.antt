@@ -31,6 +31,7 @@ pub record IsLivePair (all : Extent) (pair : Pair) : Type 0 where
   pub low : 1 ≤ pair.position
   pub high : pair.position ≤ length (text_in all pair.subject) + 1
 
+-- a scanning pair, if there is one, is of the world
 abbrev pub MaybeLivePair : Extent → Option Pair → Type 0
 MaybeLivePair all (Some pair) = IsLivePair all pair
 MaybeLivePair all None = ⊤

@@ -59,15 +59,19 @@ abbrev pub running_of : Option FlatStack → FlatStack
 running_of (Some m) = m
 running_of None = held.begin 0 [] 0
 
+-- the stack that a machine runs
 abbrev pub stack_of : {K : Type 0} → Machine K → FlatStack
 stack_of m = running_of m.stacks.table.running
 
+-- what the values of a machine's heap stand for
 abbrev pub extent : {K : Type 0} → Machine K → Extent
 extent m = extent_of m.world.heap
 
+-- the stack of the run's state that a machine's stack stands for
 abbrev pub stack_seen : {K : Type 0} → Machine K → Frames
 stack_seen m = stack_in (extent m) (stack_of m)
 
+-- the store of the run's state that a machine stands for, with this outside
 abbrev pub store_seen : {K : Type 0} → Tables → Outside → Machine K → Store Frames
 store_seen tables outside m = store_in (all_names tables) outside (world_of m.world) m.turns m.begun.items (extent m) m.stacks.table
 
@@ -100,6 +104,7 @@ HaltsAt tables outside state m Halts.ReadFault = ⊥
 HaltsAt tables outside state m Halts.WriteFault = ⊥
 HaltsAt tables outside state m Halts.NoMemory = ⊤
 
+-- the machine stands at this state of the run, or it halts as the run ends in it
 abbrev pub ComesTo : {K : Type 0} → Tables → Outside → State Frames Frames → Machine K → Result Stage Halt → Type 0
 ComesTo tables outside state m result = MatchResult result (StandsAt tables outside state m) (HaltsAt tables outside state m)
 

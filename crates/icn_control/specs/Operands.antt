@@ -28,12 +28,14 @@ with_two m st next = with_popped flat m (λ upper m. with_popped flat m (λ lowe
 
 -- The values, with the stack that is left, or why one of them has none.
 
+-- the top operand is taken for its value, or has none for this reason
 abbrev pub TakesTop : World → FlatStack → FlatStack → Result Val Stop → Type 0
 TakesTop w m n result = (st : Store Frames) (next : Value → Frames → State Frames Frames) → st.world ≡ world_of w
     → MatchResult result
     (λ val. with_top (stack_in (extent_of w.heap) m) st next ≡ next (value_in (extent_of w.heap) val) (stack_in (extent_of w.heap) n))
     (λ stop. HaltsWith (with_top (stack_in (extent_of w.heap) m) st next) st w (halt_of stop))
 
+-- the two top operands are taken for their values, or one has none for this reason
 abbrev pub TakesTwo : World → FlatStack → FlatStack → Result (Val × Val) Stop → Type 0
 TakesTwo w m n result = (st : Store Frames) (next : Value → Value → Frames → State Frames Frames) → st.world ≡ world_of w
     → MatchResult result

@@ -3,6 +3,7 @@ use Rattle.std.specs.Prelude.{Option, None, Some}
 use Rattle.icn_value.specs.Store.{World}
 use Rattle.icn_run.specs.Calls.{Pair}
 
+-- the world with another subject and position
 abbrev pub paired : Pair → World → World
 paired pair world = record world { subject = pair.subject; position = pair.position }
 

@@ -35,9 +35,11 @@ instruction_state all tables instr m st = instruction flat tables instr (stack_i
 
 -- The instruction goes on with another stack and changes nothing else, in these tables, or in any.
 
+-- the instruction goes on with another stack, in these tables
 abbrev pub GoesOnIn : Tables → Instr → FlatStack → FlatStack → Type 0
 GoesOnIn tables instr m n = (all : Extent) (st : Store Frames) → instruction_state all tables instr m st ≡ running (stack_in all n) st
 
+-- the instruction goes on with another stack, in any tables
 abbrev pub GoesOn : Instr → FlatStack → FlatStack → Type 0
 GoesOn instr m n = (all : Extent) (tables : Tables) (st : Store Frames) → instruction_state all tables instr m st ≡ running (stack_in all n) st
 

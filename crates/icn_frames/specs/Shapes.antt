@@ -25,6 +25,7 @@ abbrev pub is_scan : Why → Bool
 is_scan (Scan pair) = true
 is_scan why = false
 
+-- a cell without what may change in its place
 abbrev pub shape : Cell → Shape
 shape (Base proc locals) = AFrame locals None
 shape (Call proc locals level registers place) = AFrame locals (Some registers)
@@ -50,6 +51,7 @@ abbrev pub IsFramed : Option Shape → Type 0
 IsFramed (Some (AFrame locals registers)) = Unit {0}
 IsFramed shape = ⊥
 
+-- a mark, plain or of a limit
 abbrev pub IsMarked : Option Shape → Type 0
 IsMarked (Some (AMark registers)) = Unit {0}
 IsMarked shape = ⊥
@@ -58,6 +60,7 @@ abbrev pub IsSuspended : Option Shape → Type 0
 IsSuspended (Some (ASuspension scan registers)) = Unit {0}
 IsSuspended shape = ⊥
 
+-- the suspension of an open scan
 abbrev pub IsScan : Option Shape → Type 0
 IsScan (Some (ASuspension true registers)) = Unit {0}
 IsScan shape = ⊥
@@ -72,6 +75,7 @@ bottom_from (Some height) at_base mark frame = height
 bottom_from None true mark frame = frame
 bottom_from None false mark frame = mark
 
+-- the height of the highest cell below the operands of the innermost mark, by these registers
 abbrev pub bottom : List Shape → Registers → ℕ
 bottom shapes r = bottom_from r.newest (r.mark == r.base) r.mark (r.base + count_of (cell_at r.base shapes))
 
@@ -81,6 +85,7 @@ pub record KindAt (Kind : Option Shape → Type 0) (shapes : List Shape) (height
   pub to : height ≤ length shapes
   pub is : Kind (cell_at height shapes)
 
+-- at this height, if one is given, there is something of a kind
 abbrev pub MayBeAt : (Option Shape → Type 0) → List Shape → Option ℕ → Type 0
 MayBeAt Kind shapes None = Unit {0}
 MayBeAt Kind shapes (Some height) = KindAt Kind shapes height
@@ -113,10 +118,12 @@ abbrev pub MaySave : List Shape → Option Registers → Type 0
 MaySave shapes None = Unit {0}
 MaySave shapes (Some r) = Stands shapes r
 
+-- the registers that a cell has saved stand on the cells below it
 abbrev pub Fit : List Shape → Type 0
 Fit [] = Unit {0}
 Fit (x ∷ shapes) = MaySave shapes (outer_of x) × Fit shapes
 
+-- the registers and all that cells saved are in order
 pub record Sound (cells : List Cell) (r : Registers) : Type 0 where
   pub stands : Stands (map shape cells) r
   pub fit : Fit (map shape cells)

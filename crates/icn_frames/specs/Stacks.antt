@@ -184,6 +184,7 @@ abbrev pub older_scan : List Cell → Option ℕ → Option ℕ
 older_scan cells None = None
 older_scan cells (Some height) = scan_of (cell_at height cells)
 
+-- two heights are the same, or both missing
 abbrev pub is_same : Option ℕ → Option ℕ → Bool
 is_same None None = true
 is_same (Some m) (Some n) = m == n
@@ -281,6 +282,7 @@ GoesOn Alt m = at_base m ≡ false
 GoesOn Proc m = is_base m ≡ false
 GoesOn why m = Unit {0}
 
+-- an item on top, if there is one
 abbrev pub with_given : Option Item → List Cell → List Cell
 with_given (Some item) cells = Operand item ∷ cells
 with_given None cells = cells

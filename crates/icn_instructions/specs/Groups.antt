@@ -12,6 +12,7 @@ abbrev pub group_of_op : Op → Group
 group_of_op Ops.Refresh = Groups.Coexpression
 group_of_op op = Groups.Application
 
+-- what an instruction touches
 abbrev pub group_of : Instr → Group
 group_of Instrs.Pnull = Groups.Stack
 group_of (Instrs.Int place) = Groups.Stack

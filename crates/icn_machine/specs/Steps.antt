@@ -12,6 +12,7 @@ stage_of Steppeds.On = Stages.Runs
 stage_of Steppeds.Finished = Stages.Over
 stage_of Steppeds.AtBound = Stages.AtBound
 
+-- where the run stands after an instruction, or why it halts
 abbrev pub stage_result : Result Stepped Halt → Result Stage Halt
 stage_result (Ok stepped) = Ok (stage_of stepped)
 stage_result (Err halt) = Err halt

@@ -3,6 +3,7 @@ use Rattle.std.specs.Prelude.{◌==◌, ℕ, Bool, true, false}
 use Rattle.icn_machine.specs.declared.stepping.Stepped.{Stepped}
 use Rattle.icn_machine.specs.declared.stepping.Stepped.TheVariants.{On, Finished, AtBound}
 
+-- the run goes on: an instruction is due
 abbrev pub is_on : Stepped → Bool
 is_on On = true
 is_on Finished = false
