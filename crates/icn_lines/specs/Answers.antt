@@ -35,6 +35,7 @@ is_fault ReadFault = true
 is_fault WriteFault = true
 is_fault NoMemory = true
 
+-- the answer is a fault: of a file, the input, an output or memory
 abbrev pub IsFault : Answer → Type 0
 IsFault answer = IsTrue (is_fault answer)
 

@@ -36,6 +36,7 @@ pub record OutsideState : Type 0 where
   pub absences : ℕ
   pub streams : CallStreams
 
+-- files that failed and were not there so often, and the input and both outputs
 abbrev pub outside : ℕ → ℕ → CallStreams → OutsideState
 outside faults absences streams = record { faults = faults; absences = absences; streams = streams }
 

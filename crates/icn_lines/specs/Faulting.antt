@@ -5,6 +5,7 @@ use Rattle.icn_running.specs.declared.fault.RunFault.TheVariants as Faults
 use Rattle.icn_lines.specs.declared.answer.Answer.{Answer}
 use Rattle.icn_lines.specs.declared.answer.Answer.TheVariants.{Wrote, Ran, Refused, Command, Missing, BadUcode, BadImage, FileFault, ReadFault, WriteFault, NoMemory}
 
+-- the fault of a run, as an answer
 abbrev pub of_run : RunFault → Answer
 of_run Faults.ReadFault = ReadFault
 of_run Faults.WriteFault = WriteFault

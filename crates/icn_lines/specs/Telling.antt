@@ -9,6 +9,7 @@ pub record Told : Type 0 where
   pub files : Option FileMap
   pub streams : CallStreams
 
+-- what these files and these streams tell
 abbrev pub told : Option FileMap → CallStreams → Told
 told files streams = record { files = files; streams = streams }
 

@@ -14,6 +14,7 @@ pub record FitsTexts (unit : UnitRead) : Type 0 where
   pub first : length (procs_text unit.procs) ≤ 268435456
   pub second : length (decls_text unit.decls) ≤ 268435456
 
+-- no text of these units is too long to be read again
 abbrev pub AllFit : List Member → Type 0
 AllFit members = All (λ member. FitsTexts (unit_of member)) members
 
@@ -23,6 +24,7 @@ pub record HoldsUnit (files : FileMap) (unit : UnitRead) : Type 0 where
   pub second : files (second_name unit.name) ≡ Some (decls_text unit.decls)
   pub fits : FitsTexts unit
 
+-- both texts of each of these units stand under their names, and can be read again
 abbrev pub AreHeld : FileMap → List Member → Type 0
 AreHeld files members = All (λ member. HoldsUnit files (unit_of member)) members
 
@@ -30,6 +32,7 @@ AreHeld files members = All (λ member. HoldsUnit files (unit_of member)) member
 abbrev pub ucode_named : List Member → List File
 ucode_named members = map (λ member. ucode (unit_of member).name) members
 
+-- the same units, as members that were read from ucode
 abbrev pub ucode_members : List Member → List Member
 ucode_members members = map (λ member. FromUcode (unit_of member)) members
 

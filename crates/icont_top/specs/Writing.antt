@@ -9,9 +9,11 @@ use Rattle.icont_top.specs.Job.{WrittenFile}
 abbrev pub text_seen : Text → WrittenFile
 text_seen text = record { name = string_bytes text.name; bytes = text.bytes.items }
 
+-- the texts to write, each with its name
 abbrev pub texts_seen : List Text → List WrittenFile
 texts_seen texts = map text_seen texts
 
+-- the base names of these files
 abbrev pub bases : List File → List (List ℕ)
 bases files = map (λ file. file.base) files
 

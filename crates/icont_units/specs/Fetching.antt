@@ -22,12 +22,15 @@ use Rattle.icont_units.specs.Units.{Comes, FromSource, FromUcode, AreJudged, IsA
 
 -- Files that are named
 
+-- the texts of these names
 abbrev pub texts : List (Bor (List ℕ)) → List (List ℕ)
 texts names = map (λ name. name.now) names
 
+-- a file of a command, as definitions see it
 abbrev pub file_seen : HeldFile → File
 file_seen file = record { kind = file.kind; base = file.base.now }
 
+-- the files of a command, as definitions see them
 abbrev pub files_seen : List HeldFile → List File
 files_seen files = map file_seen files
 
@@ -93,6 +96,7 @@ IsLinkedUnit files base (Err answer) = IsFault answer ⊎ HeldAre files base (λ
 abbrev pub IsUnitOf : List ℕ → Result HeldUnit Answer → Type 0
 IsUnitOf base result = IfOk result (λ unit. unit.name ≡ base)
 
+-- a unit that was found has this name
 abbrev pub IsUnitOfSome : List ℕ → Result (Option HeldUnit) Answer → Type 0
 IsUnitOfSome base (Ok (Some unit)) = unit.name ≡ base
 IsUnitOfSome base (Ok None) = Unit {0}

@@ -26,6 +26,7 @@ ucode base = record { kind = Ucode; base = base }
 abbrev pub file_without_icn : List ℕ → File
 file_without_icn name = option_map_or ucode (base_before name (codes ".u1")) (option_map_or ucode (base_before name (codes ".u2")) (source name))
 
+-- the file that a word names: a source by `.icn` or without a suffix, ucode by `.u1` or `.u2`
 abbrev pub file_named : List ℕ → File
 file_named name = option_map_or source (base_before name (codes ".icn")) (file_without_icn name)
 

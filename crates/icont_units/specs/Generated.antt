@@ -36,6 +36,7 @@ abbrev pub numbered_from : ℕ → List (List ℕ) → List SourceLine
 numbered_from number [] = []
 numbered_from number (bytes ∷ rest) = line_at number bytes ∷ numbered_from (suc number) rest
 
+-- the source lines of the program of a number
 abbrev pub generated_lines : ℕ → List SourceLine
 generated_lines count = numbered_from 1 (program_lines count)
 
@@ -43,6 +44,7 @@ generated_lines count = numbered_from 1 (program_lines count)
 abbrev pub generated_base : List ℕ
 generated_base = codes "gen"
 
+-- the name of the file of these lines, which refusals have
 abbrev pub generated_name : List ℕ
 generated_name = codes "gen.icn"
 
@@ -50,6 +52,7 @@ generated_name = codes "gen.icn"
 abbrev pub sizes_text : ℕ → ℕ → List ℕ
 sizes_text lines procedures = codes "lines " ++ decimal lines ++ codes " procedures " ++ decimal procedures ++ codes "\n"
 
+-- how many lines and procedures the program of a number has, as it is put on the output
 abbrev pub sizes_line : ℕ → List ℕ
 sizes_line count = sizes_text (length (program_lines count)) (suc count)
 

@@ -46,12 +46,14 @@ pub record KeptUnits : Type 0 where
   pub units : List UnitRead
   pub first_ucode : Option ℕ
 
+-- the units that are kept, and the place of the first one from ucode
 abbrev pub kept_of : Members → KeptUnits
 kept_of held = record { units = units_seen held.units.items; first_ucode = held.first_ucode }
 
 abbrev pub with_source : KeptUnits → UnitRead → KeptUnits
 with_source kept unit = record kept { units = kept.units ++ unit ∷ [] }
 
+-- with one unit more, which was read as ucode
 abbrev pub with_ucode : KeptUnits → UnitRead → KeptUnits
 with_ucode kept unit = record {
   units = kept.units ++ unit ∷ [];

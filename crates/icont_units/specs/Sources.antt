@@ -47,6 +47,7 @@ lines_read name (Err fault) = Err (fault_answer name fault)
 abbrev pub source_read : FileMap → List ℕ → Result Scan Answer
 source_read files name = lines_read name (source_lines files name)
 
+-- the names of a source's files, and its tokens
 abbrev pub scan_of : SourceTokens → Scan
 scan_of source = record { names = source.names.items; tokens = source.tokens.items }
 
@@ -61,6 +62,7 @@ IsAbsence (Missing name) = Unit {0}
 IsAbsence (Refused file line rule) = rule ≡ P6
 IsAbsence _ = ⊥
 
+-- the call is refused, as a file was not there
 abbrev pub IsErrOfAbsence : {A : Type 0} → Result A Answer → Type 0
 IsErrOfAbsence (Ok a) = ⊥
 IsErrOfAbsence (Err answer) = IsAbsence answer

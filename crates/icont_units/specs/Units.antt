@@ -30,6 +30,7 @@ abbrev pub unit_of : Member → UnitRead
 unit_of (FromSource base file) = translated_unit base file
 unit_of (FromUcode unit) = unit
 
+-- the units of these members
 abbrev pub units_of : List Member → List UnitRead
 units_of members = map unit_of members
 
@@ -134,6 +135,7 @@ pub data Gather (files : FileMap) : List Member → List (List ℕ) → Result (
       → Gather files (members ++ FromUcode unit ∷ []) (mentioned ++ links_of unit) result
       → Gather files members (base ∷ mentioned) result
 
+-- the bases that the units of these members link
 abbrev pub links_in : List Member → List (List ℕ)
 links_in members = flat_map links_of (units_of members)
 

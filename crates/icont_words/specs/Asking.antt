@@ -15,6 +15,7 @@ texts names = map (λ name. name.now) names
 abbrev pub run_seen : RunHeld → Run
 run_seen run = record { arguments = map string_bytes run.arguments.now; turns = run.turns }
 
+-- a task, as definitions see it
 abbrev pub task_seen : TaskHeld → Task
 task_seen (Held.Translate names) = Translate (texts names.items)
 task_seen (Held.Link names image run) = Link (texts names.items) (option_map (λ name. name.now) image) (option_map run_seen run)

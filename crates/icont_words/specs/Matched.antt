@@ -37,6 +37,7 @@ IsMatched words (Err NoMemory) = Unit {0}
 abbrev pub text_of : Option (Bor (List ℕ)) → Option (List ℕ)
 text_of text = option_map (λ t. t.now) text
 
+-- an order, as definitions see it
 abbrev pub order_seen : OrderHeld → Order
 order_seen order = record {
   units = order.units;

@@ -114,6 +114,7 @@ first (text ∷ texts) = Some text
 abbrev pub has_units : List Piece → Bool
 has_units pieces = not (count_by is_units pieces == 0)
 
+-- the order that pieces say, with the words of the run, if a run is asked for
 abbrev pub order_of : List Piece → Option (List (List ℕ)) → Order
 order_of pieces run = record {
   units = has_units pieces;

@@ -7,6 +7,7 @@ use Rattle.iconx_top.specs.Words.{Reading, Asks, Faulty}
 abbrev pub run_reading : RunAsked → Reading
 run_reading asked = Asks (limits_of asked.limits) asked.image.now (map string_bytes asked.arguments.now)
 
+-- what the words ask for, or the kind of what is wrong with them
 abbrev pub reading_of : Result RunAsked ℕ → Reading
 reading_of (Ok asked) = run_reading asked
 reading_of (Err kind) = Faulty kind

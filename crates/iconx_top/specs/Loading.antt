@@ -52,6 +52,7 @@ IsOfImage (BadImage rule) = Unit {0}
 IsOfImage NoMemory = Unit {0}
 IsOfImage answer = ⊥
 
+-- an answer that loading an image may have
 abbrev pub IsOfLoading : Answer → Type 0
 IsOfLoading (Missing name) = Unit {0}
 IsOfLoading (BadImage rule) = Unit {0}
@@ -59,10 +60,12 @@ IsOfLoading FileFault = Unit {0}
 IsOfLoading NoMemory = Unit {0}
 IsOfLoading answer = ⊥
 
+-- the answer is that a file was not there
 abbrev pub IsAbsence : Answer → Type 0
 IsAbsence (Missing name) = Unit {0}
 IsAbsence answer = ⊥
 
+-- the call is refused, as a file was not there
 abbrev pub IsErrOfAbsence : {A : Type 0} → Result A Answer → Type 0
 IsErrOfAbsence (Ok a) = ⊥
 IsErrOfAbsence (Err answer) = IsAbsence answer
