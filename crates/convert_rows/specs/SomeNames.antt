@@ -2,5 +2,6 @@
 use Rattle.std.specs.Prelude.{[], ◌∷◌, codes}
 use Rattle.icn_value.specs.Store.{Names}
 
+-- a procedure `main`, and the records `p` and `q`
 abbrev pub some_names : Names
 some_names = record { procedures = codes "main" ∷ []; records = codes "p" ∷ codes "q" ∷ [] }

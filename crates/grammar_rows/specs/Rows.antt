@@ -63,6 +63,7 @@ pub record Row : Type 0 where
 abbrev pub row : List Kind → Tree → Row
 row kinds tree = record { tokens = on_lines 1 kinds; tree = tree }
 
+-- the tokens of the row spell its tree, and that is the tree that is meant
 abbrev pub Holds : Row → Type 0
 Holds row = IsExpressionOf row.tree row.tokens
 
@@ -73,6 +74,7 @@ pub record FileRow : Type 0 where
 abbrev pub file_row : List Kind → List Declaration → FileRow
 file_row kinds declarations = record { tokens = on_lines 1 kinds; declarations = declarations }
 
+-- the declarations of the row are the tree of its tokens
 abbrev pub FileHolds : FileRow → Type 0
 FileHolds row = IsTreeOf row.declarations row.tokens
 

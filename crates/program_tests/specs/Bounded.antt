@@ -45,6 +45,7 @@ rounds_under turns wanted = under (most_turns turns) rounds 160 wanted
 abbrev pub results_under : ℕ → Wanted → Case
 results_under turns wanted = under (most_turns turns) results 200 wanted
 
+-- one small program under bounds of 0, 1, 2 and more turns
 abbrev pub bounded : List Case
 bounded =
     sums_under 0 (at_bound "" 0 0 1) ∷

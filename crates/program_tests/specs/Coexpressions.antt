@@ -5,6 +5,7 @@ use Rattle.icn_tree.specs.Trees.{Empty, NoInitial}
 use Rattle.program_tests.specs.Words.{int, text, name, key, before, between, assign, update, call, write, cocall, element, to, block, when, while, every_do, break, next, create, return, globals, locals, procedure_of, procedure, main}
 use Rattle.program_tests.specs.Cases.{Case, case, under, done, at_bound, most_turns}
 
+-- programs that create and activate co-expressions
 abbrev pub coexpressions : List Case
 coexpressions =
     -- procedure main(); c := (create 1 to 2); write(@c); write(@c); write(@c | "end"); write(*c); end

@@ -5,6 +5,7 @@ use Rattle.icn_tree.specs.Trees.{NoInitial}
 use Rattle.program_tests.specs.Words.{int, text, letters, name, key, before, between, assign, call, write, element, field, list, to_by, when, every, create, globals, kind, procedure_of, procedure, main}
 use Rattle.program_tests.specs.Cases.{Case, case, under, started, done, stopped, at_bound, most_turns, most_strings, most_cells, most_levels}
 
+-- programs that end by an error
 abbrev pub errors : List Case
 errors =
     -- procedure main(); write(9223372036854775807 + 1); end

@@ -5,6 +5,7 @@ use Rattle.icn_tree.specs.Trees.{Empty, NoInitial}
 use Rattle.program_tests.specs.Words.{int, text, name, key, before, between, assign, update, call, write, element, list, to, all_of, block, when, while_do, every, return, fail, suspend, suspend_do, globals, locals, procedure_of, procedure, main}
 use Rattle.program_tests.specs.Cases.{Case, case, done, stopped}
 
+-- programs with generators
 abbrev pub generators : List Case
 generators =
     -- procedure main(); every write((1 to 2) + (10 | 20)); end

@@ -5,6 +5,7 @@ use Rattle.icn_tree.specs.declared.tree.SectionKind.TheVariants.{Between}
 use Rattle.program_tests.specs.Words.{int, text, letters, name, key, before, between, assign, update, call, write, element, section, field, list, while, while_do, every, kind, main}
 use Rattle.program_tests.specs.Cases.{Case, case, reading, done}
 
+-- programs that read, make structures and call functions
 abbrev pub library : List Case
 library =
     -- procedure main(); while write(read()); end

@@ -5,6 +5,7 @@ use Rattle.icn_tree.specs.Trees.{Empty}
 use Rattle.program_tests.specs.Words.{int, text, name, between, assign, update, write, to, block, when, while, while_do, until, until_do, every, every_do, repeat, break, next, main}
 use Rattle.program_tests.specs.Cases.{Case, case, under, done, at_bound, most_turns}
 
+-- programs with loops
 abbrev pub loops : List Case
 loops =
     -- procedure main(); repeat {}; end

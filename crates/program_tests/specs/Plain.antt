@@ -7,6 +7,7 @@ use Rattle.icn_value.specs.Limited.{default_limits}
 use Rattle.program_tests.specs.Words.{int, text, name, key, before, between, assign, update, call, write, element, section, field, list, to, all_of, block, not, when, either, select, on, otherwise, every, every_do, return, globals, kind, locals, statics, first, procedure_of, procedure, main}
 use Rattle.program_tests.specs.Cases.{Case, case, started, done, stopped}
 
+-- programs without generators
 abbrev pub plain : List Case
 plain =
     -- procedure main(); write("hi"); end

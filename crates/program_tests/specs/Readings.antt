@@ -60,6 +60,7 @@ abbrev pub bytes_of : ℕ → List ℕ → ℕ → ℕ → Reading
 bytes_of count left output errors =
     record { asked = SomeBytes count; left = left; output = output; errors = errors }
 
+-- programs that read, with the input that they leave and the readings that they made
 abbrev pub readings : List Read
 readings =
     -- procedure main(); while write(read()); end

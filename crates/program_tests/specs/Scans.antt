@@ -5,6 +5,7 @@ use Rattle.icn_tree.specs.Trees.{Empty}
 use Rattle.program_tests.specs.Words.{int, text, name, key, before, between, assign, update, call, write, to, all_of, block, when, while_do, every, every_do, break, next, return, fail, suspend, suspend_do, procedure, main}
 use Rattle.program_tests.specs.Cases.{Case, case, done}
 
+-- programs that scan
 abbrev pub scans : List Case
 scans =
     -- procedure main(); "abc" ? {tab(3) & find("z"); write(&pos)}; end

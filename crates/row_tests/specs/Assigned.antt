@@ -30,6 +30,7 @@ abbrev second_element : Value → Setting → Setting
 second_element value setting =
     having_heap (with_list 0 (record { items = num 3 ∷ value ∷ num 1 ∷ Null ∷ []; number = pos 1 })) setting
 
+-- assignments and exchanges, and what resuming takes back
 abbrev pub variables : List Case
 variables =
     -- x := y

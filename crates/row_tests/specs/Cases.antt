@@ -128,6 +128,7 @@ pub record Case : Type 0 where
   pub between : List Row
   pub to : List Seen
 
+-- all that is seen of the case is what it says, and the facts hold of each outcome
 pub record Holds (case : Case) : Type 0 where
   pub saw : seen case.between (case.row case.from) ≡ case.to
   pub facts : sound case.between (case.row case.from) ≡ true

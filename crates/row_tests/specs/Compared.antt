@@ -6,6 +6,7 @@ use Rattle.icn_text.specs.declared.func.Func.TheVariants as F
 use Rattle.icn_value.specs.Values.{Integer, ARecord, ASet, ATable, ACoexp, Procedure, Std, Input, Output, Key, Whole, Val, Var}
 use Rattle.row_tests.specs.Cases.{Case, case, plain, op, fn, int, below, str, chars, null, list, local, gives, fails, stops, Gave, Failed, costs}
 
+-- tests and comparisons of values
 abbrev pub comparisons : List Case
 comparisons =
     -- m < n and the like give the right integer

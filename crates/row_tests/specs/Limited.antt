@@ -20,6 +20,7 @@ over_strings bytes row = case_from (limited bytes 9) row (Stopped 306 None (limi
 abbrev over_cells : ℕ → Row → Case
 over_cells cells row = case_from (limited 9 cells) row (Stopped 307 None (limited 9 cells) ∷ [])
 
+-- applications at a limit and beyond it
 abbrev pub limits : List Case
 limits =
     -- string bytes

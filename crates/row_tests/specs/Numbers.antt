@@ -4,6 +4,7 @@ use Rattle.icn_text.specs.declared.op.Op.TheVariants as O
 use Rattle.icn_text.specs.declared.func.Func.TheVariants as F
 use Rattle.row_tests.specs.Cases.{Case, case, plain, op, fn, int, below, greatest, least, str, chars, null, list, local, gives, gives_all, fails, stops, stops_alone, Suspended}
 
+-- operations and functions on integers
 abbrev pub arithmetic : List Case
 arithmetic =
     -- +"7 ", -7, abs(-3)

@@ -26,6 +26,7 @@ asked what left = record { asked = what; left = left; output = 0; errors = 0 }
 abbrev at_end : Setting
 at_end = read [] [] plain
 
+-- readings and writings
 abbrev pub input_and_output : List Case
 input_and_output =
     -- write, writes, stop

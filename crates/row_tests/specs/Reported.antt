@@ -14,6 +14,7 @@ pub record Report : Type 0 where
   pub offending : Option Value
   pub text : List ℕ
 
+-- the report of the error is this text
 pub record IsReported (report : Report) : Type 0 where
   pub is : error_report names heap report.number report.offending ≡ report.text
 
@@ -23,6 +24,7 @@ of number value text = record { number = number; offending = Some value; text = 
 abbrev alone : ℕ → List ℕ → Report
 alone number text = record { number = number; offending = None; text = text }
 
+-- an error of each number, with its report
 abbrev pub reports : List Report
 reports =
     of 101 (Text (codes "x")) (codes "Run-time error 101\ninteger expected or out of range\noffending value: \"x\"\n") ∷
@@ -67,12 +69,14 @@ pub record Word : Type 0 where
   pub keyword : AnyKeyword
   pub item : Option Item
 
+-- the keyword gives this item
 pub record IsGiven (word : Word) : Type 0 where
   pub is : keyword_item (record { level = 4; current = 2; source = 1 }) word.keyword ≡ word.item
 
 abbrev value : AnyKeyword → Value → Word
 value keyword held = record { keyword = keyword; item = Some (Val held) }
 
+-- each keyword with what it gives
 abbrev pub words : List Word
 words =
     value K.Ascii (Chars (range_with_len 0 128)) ∷

@@ -11,6 +11,7 @@ use Rattle.row_tests.specs.Cases.{Case, case, case_between, plain, op, fn, int, 
 abbrev moves : Row → ℕ → List ℕ → Case
 moves row place text = case row (Suspended (str text) (having_position place plain) ∷ fails)
 
+-- functions that look for something in a text, and those that move in the subject
 abbrev pub scanning : List Case
 scanning =
     -- find

@@ -69,6 +69,7 @@ mixed =
     ∷ Std Input ∷ Std Errout ∷ Chars (codes "a") ∷ txt (codes "ab") ∷ txt (codes "B") ∷ num 10 ∷ num 9
     ∷ Null ∷ []) (pos 1) plain
 
+-- operations and functions on lists, sets, tables and records
 abbrev pub structures : List Case
 structures =
     -- !x: elements, fields and values are variables, bytes of a variable are too

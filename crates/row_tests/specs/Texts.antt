@@ -14,6 +14,7 @@ built row text bytes = case row (Gave (str text) (costs bytes 0 plain) ∷ [])
 abbrev imaged : Item → List ℕ → ℕ → Case
 imaged item text bytes = built (fn F.Image (item ∷ [])) text bytes
 
+-- operations and functions on strings, conversions and images
 abbrev pub texts : List Case
 texts =
     -- s || t

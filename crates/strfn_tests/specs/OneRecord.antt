@@ -2,5 +2,6 @@
 use Rattle.std.specs.Prelude.{[], ◌∷◌, codes}
 use Rattle.icn_value.specs.Store.{Names}
 
+-- the record `p`, and no procedure
 abbrev pub one_record : Names
 one_record = record { procedures = []; records = codes "p" ∷ [] }

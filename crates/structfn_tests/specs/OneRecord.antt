@@ -10,6 +10,7 @@ use Rattle.icn_vars.specs.declared.world.World.{World}
 use Rattle.icn_vars.specs.Outcomes.{outcome_in}
 use Rattle.icn_vars.specs.Worlds.{setting_of}
 
+-- the record `p`, and no procedure
 abbrev pub one_record : Names
 one_record = record { procedures = []; records = codes "p" ∷ [] }
 

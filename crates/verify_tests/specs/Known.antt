@@ -35,6 +35,7 @@ pub record AreSized (tables : Tables) : Type 0 where
 pub record IsKnown (proc : Proc) : Type 0 where
   pub is : (tables : Tables) → AreSized tables → is_proc tables proc ≡ true
 
+-- at most 65535 procedures, each such as the tables of the tests may have
 pub record AreKnown (procs : List Proc) : Type 0 where
   pub few : length procs ≤ 65535
   pub each : (number : ℕ) (proc : Proc) → slice_get procs number ≡ Some proc → IsKnown proc
