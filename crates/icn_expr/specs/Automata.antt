@@ -99,6 +99,8 @@ pub record Frame (V L C : Type 0) : Type 0 where
   pub place : Place
   pub holds : PartialForm V L C
 
+-- where the reading stands: a part of a level begins, a tree may go on at a level, a part is complete, all is read, or it
+-- can't be read
 pub data State (V L C : Type 0) : Type 0 where
   -- an expression of this level, or of level 0 an empty one, begins here
   Starting : ℕ → List (Frame V L C) → List Token → State V L C
@@ -116,6 +118,7 @@ behind (token ∷ tokens) = tokens
 
 -- What stands next
 
+-- the mark is a comma
 abbrev pub is_mark_comma : Punctuation → Bool
 is_mark_comma Comma = true
 is_mark_comma _ = false
@@ -166,6 +169,7 @@ abbrev pub is_default : Option Kind → Bool
 is_default (Some (WordKind Words.Default)) = true
 is_default _ = false
 
+-- the operator is the dot of a field
 abbrev pub is_dot : Operator → Bool
 is_dot Dot = true
 is_dot _ = false
@@ -179,23 +183,28 @@ section_kind _ = None
 
 -- A keyword's or a field's name
 
+-- the name that stands next, if one does
 abbrev pub name_by : Option (List ℕ) → List Token → Option Name
 name_by (Some text) tokens = Some (record { text = text; place = place_of tokens })
 name_by None tokens = None
 
+-- the text of the identifier that stands next, if one does
 abbrev pub identifier_text : Option Kind → Option (List ℕ)
 identifier_text (Some (IdentifierKind text)) = Some text
 identifier_text _ = None
 
+-- the keyword's name that stands next, if one does: an identifier, or `fail`
 abbrev pub keyword_text : Option Kind → Option (List ℕ)
 keyword_text (Some (IdentifierKind text)) = Some text
 keyword_text (Some (WordKind Words.Fail)) = Some (codes "fail")
 keyword_text _ = None
 
+-- it goes on where something was found
 abbrev pub unless_broken : {A V L C : Type 0} → Option A → (A → State V L C) → State V L C
 unless_broken None f = Broken
 unless_broken (Some x) f = f x
 
+-- it goes on where this holds
 abbrev pub state_if : {V L C : Type 0} → Bool → State V L C → State V L C
 state_if true state = state
 state_if false state = Broken
@@ -211,6 +220,7 @@ climbing_level (suc level) = suc level
 abbrev pub frame : {V L C : Type 0} → ℕ → Place → PartialForm V L C → Frame V L C
 frame level place holds = record { level = level; place = place; holds = holds }
 
+-- an operand that begins with a word
 abbrev pub word_step : {V L C : Type 0} → Builds V L C → ℕ → Place → Word → List (Frame V L C) → List Token → State V L C
 word_step make level place Words.Not frames tokens = Starting 12 (frame level place NotOperand ∷ frames) tokens
 word_step make level place Words.If frames tokens = Starting 1 (frame level place Condition ∷ frames) tokens
@@ -227,16 +237,19 @@ word_step make level place Words.Return frames tokens = Starting 0 (frame level 
 word_step make level place Words.Suspend frames tokens = Starting 0 (frame level place SuspendValue ∷ frames) tokens
 word_step make level place _ frames tokens = Broken
 
+-- an operand that begins with an operator: a keyword behind its `&`, or an operator and its operand
 abbrev pub operator_step : {V L C : Type 0} → Builds V L C → ℕ → Place → Option (Operator × Option Operator) → List (Frame V L C) → List Token → State V L C
 operator_step make level place None frames tokens = unless_broken (name_by (keyword_text (next tokens)) tokens) (λ name. Climbing level place (make.keyword place name) frames (behind tokens))
 operator_step make level place (Some found) frames tokens = Starting 12 (frame level place (PrefixOperand found.0) ∷ frames) (before place found.1 tokens)
 
+-- an operand that begins with a bracket
 abbrev pub mark_step : {V L C : Type 0} → Builds V L C → ℕ → Place → Punctuation → List (Frame V L C) → List Token → State V L C
 mark_step make level place OpenParenthesis frames tokens = Starting 0 (frame level place (Elements Round make.no_elements) ∷ frames) tokens
 mark_step make level place OpenBracket frames tokens = Starting 0 (frame level place (Elements Square make.no_elements) ∷ frames) tokens
 mark_step make level place OpenBrace frames tokens = Starting 0 (frame level place (Elements Curly make.no_elements) ∷ frames) tokens
 mark_step make level place _ frames tokens = Broken
 
+-- an operand, by its first token
 abbrev pub operand_step : {V L C : Type 0} → Builds V L C → ℕ → Place → Kind → List (Frame V L C) → List Token → State V L C
 operand_step make level place (IdentifierKind text) frames tokens = Climbing level place (make.identifier (record { text = text; place = place })) frames tokens
 operand_step make level place (IntegerKind n) frames tokens = Climbing level place (make.constant place (Integer n)) frames tokens
@@ -247,10 +260,12 @@ operand_step make level place (OperatorKind operator) frames tokens = operator_s
 operand_step make level place (AugmentedKind operator) frames tokens = Broken
 operand_step make level place (PunctuationKind mark) frames tokens = mark_step make level place mark frames tokens
 
+-- an empty part, where the level allows it
 abbrev pub empty_step : {V L C : Type 0} → Builds V L C → ℕ → List (Frame V L C) → List Token → State V L C
 empty_step make zero frames tokens = Closing make.empty false frames tokens
 empty_step make (suc level) frames tokens = Broken
 
+-- an operand, where the token can begin one; else an empty part
 abbrev pub start_by : {V L C : Type 0} → Builds V L C → Bool → ℕ → Token → List (Frame V L C) → List Token → State V L C
 start_by make true level token frames tokens = operand_step make (climbing_level level) (record { line = token.line; file = token.file }) token.kind frames tokens
 start_by make false level token frames tokens = empty_step make level frames (token ∷ tokens)
@@ -262,19 +277,23 @@ start_step make level frames (token ∷ tokens) = start_by make (kind_begins tok
 
 -- Climbing
 
+-- an operator between operands: its right operand begins
 abbrev pub infix_step : {V L C : Type 0} → Builds V L C → ℕ → Place → V → Infix → List (Frame V L C) → List Token → State V L C
 infix_step make level place tree operator frames tokens = Starting (right_level (infix_level operator)) (frame level place (RightOperand operator tree) ∷ frames) tokens
 
+-- a dot with a field's name, or an operator between operands
 abbrev pub plain_step : {V L C : Type 0} → Builds V L C → Bool → ℕ → Place → V → Operator → List (Frame V L C) → List Token → State V L C
 plain_step make true level place tree operator frames tokens = unless_broken (name_by (identifier_text (next tokens)) tokens) (λ name. Climbing level place (make.field place tree name) frames (behind tokens))
 plain_step make false level place tree operator frames tokens = infix_step make level place tree (Plain operator) frames tokens
 
+-- a bracket behind a tree: a call, subscripts, or a call with co-expressions
 abbrev pub suffix_step : {V L C : Type 0} → Builds V L C → ℕ → Place → V → Punctuation → List (Frame V L C) → List Token → State V L C
 suffix_step make level place tree OpenParenthesis frames tokens = Starting 0 (frame level place (Elements (Arguments tree) make.no_elements) ∷ frames) tokens
 suffix_step make level place tree OpenBracket frames tokens = Starting 0 (frame level place (Elements (Subscripts tree) make.no_elements) ∷ frames) tokens
 suffix_step make level place tree OpenBrace frames tokens = Starting 0 (frame level place (Elements (CoArguments tree) make.no_elements) ∷ frames) tokens
 suffix_step make level place tree _ frames tokens = Broken
 
+-- a tree goes on with this token
 abbrev pub extend_step : {V L C : Type 0} → Builds V L C → ℕ → Place → V → Kind → List (Frame V L C) → List Token → State V L C
 extend_step make level place tree (OperatorKind operator) frames tokens = plain_step make (is_dot operator) level place tree operator frames tokens
 extend_step make level place tree (AugmentedKind operator) frames tokens = infix_step make level place tree (Augmented operator) frames tokens
@@ -282,6 +301,7 @@ extend_step make level place tree (WordKind word) frames tokens = Starting 5 (fr
 extend_step make level place tree (PunctuationKind mark) frames tokens = suffix_step make level place tree mark frames tokens
 extend_step make level place tree _ frames tokens = Broken
 
+-- the tree goes on where the level allows it; else the part is complete
 abbrev pub climb_by : {V L C : Type 0} → Builds V L C → Bool → ℕ → Place → V → Token → List (Frame V L C) → List Token → State V L C
 climb_by make true level place tree token frames tokens = extend_step make level place tree token.kind frames tokens
 climb_by make false level place tree token frames tokens = Closing tree true frames (token ∷ tokens)
@@ -293,10 +313,12 @@ climb_step make level place tree frames (token ∷ tokens) = climb_by make (nat_
 
 -- Closing
 
+-- what separates the elements of a bracket
 abbrev pub separator_of : {V : Type 0} → Bracket V → Separator
 separator_of Curly = BySemicolon
 separator_of _ = ByComma
 
+-- the closing bracket of this opening one stands next
 abbrev pub is_closer : {V : Type 0} → Bracket V → Option Kind → Bool
 is_closer Round kind = is_close_parenthesis kind
 is_closer Square kind = is_close_bracket kind
@@ -305,6 +327,7 @@ is_closer (Arguments tree) kind = is_close_parenthesis kind
 is_closer (CoArguments tree) kind = is_close_brace kind
 is_closer (Subscripts tree) kind = is_close_bracket kind
 
+-- the form of a bracket, with its elements
 abbrev pub bracket_tree : {V L C : Type 0} → Builds V L C → Bracket V → Place → L → V
 bracket_tree make Round place trees = make.parentheses place trees
 bracket_tree make Square place trees = make.listing place trees
@@ -318,10 +341,12 @@ abbrev pub section_subject : {V L C : Type 0} → Builds V L C → Bracket V →
 section_subject make (Subscripts subject) true true = Some subject
 section_subject make _ _ _ = None
 
+-- the second position of a section begins, where its sign stands in subscripts
 abbrev pub section_by : {V L C : Type 0} → Builds V L C → Option V → Option SectionKind → ℕ → Place → V → List (Frame V L C) → List Token → State V L C
 section_by make (Some subject) (Some kind) level place from frames tokens = Starting 1 (frame level place (SectionEnd kind subject from) ∷ frames) tokens
 section_by make _ _ level place from frames tokens = Broken
 
+-- an element is complete: another one begins, the bracket closes, or it was the first position of a section
 abbrev pub element_by : {V L C : Type 0} → Builds V L C → Bool → Bool → Bracket V → L → ℕ → Place → V → Bool → List (Frame V L C) → List Token → State V L C
 element_by make true closer bracket trees level place tree present frames tokens = Starting 0 (frame level place (Elements bracket (make.with_element trees tree)) ∷ frames) (behind tokens)
 element_by make false true bracket trees level place tree present frames tokens = Climbing level place (bracket_tree make bracket place (make.with_element trees tree)) frames (behind tokens)
@@ -332,6 +357,7 @@ abbrev pub clause_by : {V L C : Type 0} → Builds V L C → Bool → ℕ → Pl
 clause_by make true level place subject clauses frames tokens = state_if (is_colon (next (behind tokens))) (Starting 1 (frame level place (DefaultValue subject clauses (place_of tokens)) ∷ frames) (behind (behind tokens)))
 clause_by make false level place subject clauses frames tokens = Starting 1 (frame level place (ClauseGuard subject clauses (place_of tokens)) ∷ frames) tokens
 
+-- a clause of a `case` begins, a guarded one or the default
 abbrev pub clause_step : {V L C : Type 0} → Builds V L C → ℕ → Place → V → C → List (Frame V L C) → List Token → State V L C
 clause_step make level place subject clauses frames tokens = clause_by make (is_default (next tokens)) level place subject clauses frames tokens
 
@@ -345,10 +371,12 @@ abbrev pub part_or : {V L C : Type 0} → Builds V L C → Bool → Frame V L C 
 part_or make true more tree frames tokens = Starting 1 (more ∷ frames) (behind tokens)
 part_or make false more tree frames tokens = Climbing more.level more.place tree frames tokens
 
+-- where `by` stands next its operand begins; else the form is complete
 abbrev pub by_or : {V L C : Type 0} → Builds V L C → Bool → Frame V L C → V → List (Frame V L C) → List Token → State V L C
 by_or make true more tree frames tokens = Starting 5 (more ∷ frames) (behind tokens)
 by_or make false more tree frames tokens = Climbing more.level more.place tree frames tokens
 
+-- a part is complete, by the form that it is of
 abbrev pub close_by : {V L C : Type 0} → Builds V L C → PartialForm V L C → ℕ → Place → V → Bool → List (Frame V L C) → List Token → State V L C
 close_by make (Elements bracket trees) level place tree present frames tokens = element_by make (is_separator (separator_of bracket) (next tokens)) (is_closer bracket (next tokens)) bracket trees level place tree present frames tokens
 close_by make (SectionEnd kind subject from) level place tree present frames tokens = state_if (is_close_bracket (next tokens)) (Climbing level place (make.section place kind subject from tree) frames (behind tokens))
@@ -378,6 +406,7 @@ abbrev pub close_step : {V L C : Type 0} → Builds V L C → V → Bool → Lis
 close_step make tree present [] tokens = Finished tree tokens
 close_step make tree present (newest ∷ frames) tokens = close_by make newest.holds newest.level newest.place tree present frames tokens
 
+-- one step of the reading
 abbrev pub step : {V L C : Type 0} → Builds V L C → State V L C → State V L C
 step make (Starting level frames tokens) = start_step make level frames tokens
 step make (Climbing level place tree frames tokens) = climb_step make level place tree frames tokens

@@ -13,6 +13,7 @@ use Rattle.icn_expr.specs.Automata.{Builds}
 abbrev pub Capped : Type 0 → Type 0
 Capped A = Option (A × ℕ)
 
+-- the tree, unless it is higher than 2000
 abbrev pub capped_at : {A : Type 0} → A → ℕ → Capped A
 capped_at tree height = if nat_le height 2000 then Some (tree, height) else None
 
@@ -26,10 +27,12 @@ abbrev pub one : {A B : Type 0} → (A → B) → Capped A → Capped B
 one make (Some a) = capped_at (make a.0) (a.1 + 1)
 one make None = None
 
+-- a form with two parts, one higher than the higher of them
 abbrev pub two : {A B D : Type 0} → (A → B → D) → Capped A → Capped B → Capped D
 two make (Some a) (Some b) = capped_at (make a.0 b.0) (max a.1 b.1 + 1)
 two make _ _ = None
 
+-- a form with three parts, one higher than the highest of them
 abbrev pub three : {A B D F : Type 0} → (A → B → D → F) → Capped A → Capped B → Capped D → Capped F
 three make (Some a) (Some b) (Some c) = capped_at (make a.0 b.0 c.0) (max a.1 (max b.1 c.1) + 1)
 three make _ _ _ = None
@@ -39,6 +42,7 @@ abbrev pub one_if : {A B : Type 0} → (A → MaybeTree → B) → Capped A → 
 one_if make a None = one (λ x. make x Absent) a
 one_if make a (Some b) = two (λ x y. make x (Present y)) a b
 
+-- a form with two parts and a third one that may be missing
 abbrev pub two_if : {A B D : Type 0} → (A → B → MaybeTree → D) → Capped A → Capped B → Option (Capped Tree) → Capped D
 two_if make a b None = two (λ x y. make x y Absent) a b
 two_if make a b (Some c) = three (λ x y z. make x y (Present z)) a b c
@@ -48,6 +52,7 @@ abbrev pub join_capped : {A B D : Type 0} → (A → B → D) → Capped A → C
 join_capped make (Some a) (Some b) = Some (make a.0 b.0, max a.1 b.1)
 join_capped make _ _ = None
 
+-- parts put together, as high as the highest of them
 abbrev pub joined_three : {A B D F : Type 0} → (A → B → D → F) → Capped A → Capped B → Capped D → Capped F
 joined_three make (Some a) (Some b) (Some c) = Some (make a.0 b.0 c.0, max a.1 (max b.1 c.1))
 joined_three make _ _ _ = None
@@ -61,10 +66,12 @@ abbrev pub with_last_clause : Clauses → Clause → Clauses
 with_last_clause NoClauses last = MoreClauses last NoClauses
 with_last_clause (MoreClauses clause others) last = MoreClauses clause (with_last_clause others last)
 
+-- the list has no element
 abbrev pub is_no_trees : Trees → Bool
 is_no_trees NoTrees = true
 is_no_trees (More tree trees) = false
 
+-- the list has no element, and none was too high
 abbrev pub has_none : Capped Trees → Bool
 has_none (Some trees) = is_no_trees trees.0
 has_none None = false

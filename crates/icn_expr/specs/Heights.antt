@@ -3,6 +3,7 @@ use Rattle.std.specs.Prelude.{ℕ, suc, max}
 use Rattle.icn_tree.specs.Trees.{Tree, MaybeTree, Trees, Clause, Clauses, Empty, Constant, Identifier, Keyword, Parentheses, Listing, Compound, Call, CoCall, Subscript, Section, Field, Prefix, Not, Binary, To, If, Case, Loop, Repeat, Create, Next, Fail, Break, Return, Suspend, Absent, Present, NoTrees, More, Default, Guarded, NoClauses, MoreClauses, Initial, NoInitial, Initially, Procedure}
 
 abbrev mutual
+  -- the height of a tree
   pub height : Tree → ℕ
   height Empty = 1
   height (Constant place literal) = 1
@@ -31,10 +32,12 @@ abbrev mutual
   height (Return place value) = suc (height value)
   height (Suspend place value body) = suc (max (height value) (height_if body))
 
+  -- the height of a part that may be missing, which is 0 then
   pub height_if : MaybeTree → ℕ
   height_if Absent = 0
   height_if (Present tree) = height tree
 
+  -- the height of the highest element, and 0 where there is none
   pub highest : Trees → ℕ
   highest NoTrees = 0
   highest (More tree trees) = max (height tree) (highest trees)
@@ -44,10 +47,12 @@ abbrev mutual
   clause_height (Default place value) = height value
   clause_height (Guarded place guard value) = max (height guard) (height value)
 
+  -- the height of the highest clause, and 0 where there is none
   pub highest_clause : Clauses → ℕ
   highest_clause NoClauses = 0
   highest_clause (MoreClauses clause clauses) = max (clause_height clause) (highest_clause clauses)
 
+-- the height of an `initial`, and 0 where there is none
 abbrev pub initial_height : Initial → ℕ
 initial_height NoInitial = 0
 initial_height (Initially place value) = height value

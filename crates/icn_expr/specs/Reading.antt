@@ -21,10 +21,12 @@ operator_weight NotEqual = 2
 operator_weight EqualEqual = 2
 operator_weight _ = 1
 
+-- for how many tokens a kind counts: an operator that can be several before an operand counts for each
 abbrev pub kind_weight : Kind → ℕ
 kind_weight (OperatorKind operator) = operator_weight operator
 kind_weight _ = 1
 
+-- how much there is to be read in these tokens
 abbrev pub weight : List Token → ℕ
 weight [] = 0
 weight (token ∷ tokens) = kind_weight token.kind + weight tokens
@@ -37,10 +39,12 @@ steps_left (Closing tree present frames tokens) = 8 * weight tokens + 4 * length
 steps_left (Finished tree tokens) = 0
 steps_left Broken = 0
 
+-- the tree that was read, with the tokens behind it
 abbrev pub result : {V L C : Type 0} → State V L C → Option (V × List Token)
 result (Finished tree tokens) = Some (tree, tokens)
 result _ = None
 
+-- what comes of a state after as many steps as it can take
 abbrev pub end_of : {V L C : Type 0} → Builds V L C → State V L C → Option (V × List Token)
 end_of make state = result (run make (steps_left state) state)
 

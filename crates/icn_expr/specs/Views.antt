@@ -33,6 +33,7 @@ elements_of elements = capped_at (all_of elements.exprs.items) elements.height
 abbrev pub branches_of : Branches → Capped Clauses
 branches_of branches = capped_at (all_clauses_of branches.clauses.items) branches.height
 
+-- an open bracket, with what stands before it
 abbrev pub bracket_of : BracketValue → Bracket (Capped Tree)
 bracket_of B.Round = Round
 bracket_of B.Square = Square
@@ -83,6 +84,7 @@ frames_onto (frame ∷ frames) below = frames_onto frames (frame_of frame ∷ be
 abbrev pub stack_of : Stack → List OpenFrame
 stack_of stack = frames_onto stack.frames.items []
 
+-- where the reading stands, with trees that may be too high
 abbrev pub CappedState : Type 0
 CappedState = State (Capped Tree) (Capped Trees) (Capped Clauses)
 
@@ -101,6 +103,7 @@ progress_end (P.Found value tokens) frames = Some (capped_of value, tokens.now)
 progress_end P.Nothing frames = None
 progress_end (P.Going state tokens) frames = end_of capped (state_of state frames tokens.now)
 
+-- where the reading goes on, this holds of its state and the tokens left
 abbrev pub IsGoing : Progress → (StateValue → List Token → Type 0) → Type 0
 IsGoing (P.Going state tokens) holds = holds state tokens.now
 IsGoing _ holds = Unit {0}

@@ -1,6 +1,7 @@
 -- The bytes of a source text by what they can be part of.
 use Rattle.std.specs.Prelude.{◌==◌, ℕ, ◌-◌, Bool, ◌&&◌, ◌||◌, nat_le, if◌then◌else◌}
 
+-- a byte from one to another, both included
 abbrev pub is_between : ℕ → ℕ → ℕ → Bool
 is_between low high b = nat_le low b && nat_le b high
 

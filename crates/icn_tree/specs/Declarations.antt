@@ -43,6 +43,7 @@ abbrev pub SpellsParameters : List Name → Bool → Phrase
 SpellsParameters names false = SpellsMaybeNames names
 SpellsParameters names true = SpellsNames names ⨾ mark OpenBracket ⨾ mark CloseBracket
 
+-- the word that a declaration of locals begins with
 abbrev pub local_word : LocalKind → Word
 local_word Local = Words.Local
 local_word Static = Words.Static
@@ -62,6 +63,7 @@ abbrev pub SpellsBody : Trees → Phrase
 SpellsBody NoTrees = nothing
 SpellsBody (More tree trees) = Part 0 tree (Spells tree) ⨾ mark Semicolon ⨾ SpellsBody trees
 
+-- the tokens of a declaration, by its production
 abbrev pub SpellsDeclaration : Declaration → Phrase
 -- global ID , ID
 SpellsDeclaration (Global place names) = word_at place Words.Global ⨾ SpellsNames names
@@ -74,6 +76,7 @@ SpellsDeclaration (Record place name fields) = word_at place Words.Record ⨾ id
 -- procedure ID ( parameters ) ; locals initial body end
 SpellsDeclaration (ProcedureOf p) = word_at p.place Words.Procedure ⨾ identifier p.name ⨾ mark OpenParenthesis ⨾ SpellsParameters p.parameters p.is_variadic ⨾ mark CloseParenthesis ⨾ mark Semicolon ⨾ SpellsLocals p.locals ⨾ SpellsInitial p.initial ⨾ SpellsBody p.body ⨾ word Words.End
 
+-- the tokens of a file: those of its declarations, one behind the other
 abbrev pub SpellsFile : List Declaration → Phrase
 SpellsFile [] = nothing
 SpellsFile (declaration ∷ others) = SpellsDeclaration declaration ⨾ SpellsFile others

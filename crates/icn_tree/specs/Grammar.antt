@@ -31,21 +31,25 @@ pub record Part (level : ℕ) (tree : Tree) (spelled : Phrase) (here after : Lis
   pub spells : spelled here after
   pub longest : wants tree (next after) ≡ false
 
+-- the kind of the token that is a literal
 abbrev pub literal_kind : Literal → Kind
 literal_kind (Integer n) = IntegerKind n
 literal_kind (Text bytes) = TextKind bytes
 literal_kind (Cset set) = CsetKind set
 
+-- the sign between the two positions of a section
 abbrev pub section_sign : SectionKind → Punctuation
 section_sign Between = Colon
 section_sign Forward = PlusColon
 section_sign Backward = MinusColon
 
+-- the word that a loop begins with
 abbrev pub loop_word : LoopKind → Word
 loop_word Loops.While = Words.While
 loop_word Loops.Until = Words.Until
 loop_word Loops.Every = Words.Every
 
+-- an identifier of this name, at its place
 abbrev pub identifier : Name → Phrase
 identifier name = sign_at name.place (IdentifierKind name.text)
 
@@ -77,19 +81,24 @@ pub data Separator : Type 0 where
   ByComma : Separator
   BySemicolon : Separator
 
+-- the mark that separates the elements of a list
 abbrev pub separator : Separator → Punctuation
 separator ByComma = Comma
 separator BySemicolon = Semicolon
 
+-- this punctuation mark, at any place
 abbrev pub mark : Punctuation → Phrase
 mark punctuation = sign (PunctuationKind punctuation)
 
+-- this reserved word, at any place
 abbrev pub word : Word → Phrase
 word reserved = sign (WordKind reserved)
 
+-- this punctuation mark, at this place
 abbrev pub mark_at : Place → Punctuation → Phrase
 mark_at place punctuation = sign_at place (PunctuationKind punctuation)
 
+-- this reserved word, at this place
 abbrev pub word_at : Place → Word → Phrase
 word_at place reserved = sign_at place (WordKind reserved)
 
@@ -156,6 +165,7 @@ abbrev mutual
   SpellsList by NoTrees = λ here after. ⊥
   SpellsList by (More tree trees) = Part 0 tree (Spells tree) ⨾ SpellsMore by trees
 
+  -- further elements, each behind a separator
   pub SpellsMore : Separator → Trees → Phrase
   SpellsMore by NoTrees = nothing
   SpellsMore by (More tree trees) = mark (separator by) ⨾ Part 0 tree (Spells tree) ⨾ SpellsMore by trees
@@ -170,6 +180,7 @@ abbrev mutual
   SpellsClauses NoClauses = λ here after. ⊥
   SpellsClauses (MoreClauses clause clauses) = SpellsClause clause ⨾ SpellsMoreClauses clauses
 
+  -- further clauses, each behind a semicolon
   pub SpellsMoreClauses : Clauses → Phrase
   SpellsMoreClauses NoClauses = nothing
   SpellsMoreClauses (MoreClauses clause clauses) = mark Semicolon ⨾ SpellsClause clause ⨾ SpellsMoreClauses clauses

@@ -58,6 +58,7 @@ abbrev pub infix_level : Infix → ℕ
 infix_level (Plain operator) = operator_level operator
 infix_level (Augmented operator) = 3
 
+-- the kind of the token that is an operator between operands
 abbrev pub infix_kind : Infix → Kind
 infix_kind (Plain operator) = OperatorKind operator
 infix_kind (Augmented operator) = AugmentedKind operator
@@ -74,6 +75,7 @@ left_level level = if groups_right level then suc level else level
 abbrev pub right_level : ℕ → ℕ
 right_level level = if groups_right level then level else suc level
 
+-- the level of a tree: how tightly its form holds its parts
 abbrev pub level_of : Tree → ℕ
 level_of Empty = 0
 level_of (Binary place operator left right) = infix_level operator
@@ -139,6 +141,7 @@ abbrev pub operator_begins : Operator → Bool
 operator_begins Ampersand = true
 operator_begins operator = is_some (prefix_of operator)
 
+-- a mark that can begin an expression: an opening parenthesis, bracket or brace
 abbrev pub punctuation_begins : Punctuation → Bool
 punctuation_begins OpenParenthesis = true
 punctuation_begins OpenBracket = true
@@ -161,10 +164,12 @@ abbrev pub operator_goes_on : Operator → ℕ
 operator_goes_on Dot = 13
 operator_goes_on operator = operator_level operator
 
+-- the level of the form that a word makes with what stands before it, and 0 where it makes none
 abbrev pub word_goes_on : Word → ℕ
 word_goes_on Words.To = 4
 word_goes_on _ = 0
 
+-- the level of the form that a mark makes with what stands before it, and 0 where it makes none
 abbrev pub punctuation_goes_on : Punctuation → ℕ
 punctuation_goes_on OpenParenthesis = 13
 punctuation_goes_on OpenBracket = 13
@@ -181,6 +186,7 @@ kind_goes_on _ = 0
 
 -- The same of the token that stands next, `None` where there is none
 
+-- the token that stands next can begin an expression
 abbrev pub begins : Option Kind → Bool
 begins None = false
 begins (Some kind) = kind_begins kind
@@ -190,14 +196,17 @@ abbrev pub goes_on : ℕ → Option Kind → Bool
 goes_on level None = false
 goes_on level (Some kind) = nat_le level (kind_goes_on kind)
 
+-- the word is `else`
 abbrev pub is_word_else : Word → Bool
 is_word_else Words.Else = true
 is_word_else _ = false
 
+-- the word is `do`
 abbrev pub is_word_do : Word → Bool
 is_word_do Words.Do = true
 is_word_do _ = false
 
+-- the word is `by`
 abbrev pub is_word_by : Word → Bool
 is_word_by Words.By = true
 is_word_by _ = false

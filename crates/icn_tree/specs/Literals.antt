@@ -16,6 +16,7 @@ pub record Literal : Type 0 where
   pub file : ℕ
   pub is_first : Bool
 
+-- the literal with one byte more
 abbrev pub with_byte : Literal → ℕ → Literal
 with_byte literal b = record literal { bytes = literal.bytes ++ b ∷ [] }
 

@@ -12,9 +12,11 @@ abbrev pub number_from : ℕ → ℕ → List ℕ → ℕ
 number_from radix n [] = n
 number_from radix n (b ∷ rest) = number_from radix (n * radix + digit_value b) rest
 
+-- the number that digits write in a radix
 abbrev pub number_in : ℕ → List ℕ → ℕ
 number_in radix digits = number_from radix 0 digits
 
+-- no byte is left
 abbrev pub is_nothing : List ℕ → Bool
 is_nothing [] = true
 is_nothing (b ∷ rest) = false
@@ -31,6 +33,7 @@ is_real_mark b = b == 46 || b == 101 || b == 69
 abbrev pub sized : List ℕ → Result Kind Rule → Result Kind Rule
 sized text sense = if nat_le (length text) 65535 then sense else Err L7
 
+-- an integer literal of this value, or the rule that it breaks where it is too large
 abbrev pub integer_kind : ℕ → Result Kind Rule
 integer_kind n = if nat_le n 9223372036854775807 then Ok (Integer (pos n)) else Err L4
 

@@ -4,6 +4,7 @@ use Rattle.icn_tree.specs.declared.token.Kind.{Kind}
 use Rattle.icn_tree.specs.declared.token.Token.{Token}
 use Rattle.icn_tree.specs.declared.tree.Place.{Place}
 
+-- what is said of the tokens from some place on, and of those that are left behind the phrase
 abbrev pub Phrase : Type 1
 Phrase = List Token → List Token → Type 0
 
@@ -17,6 +18,7 @@ abbrev pub place_of : List Token → Place
 place_of [] = record { line = 0; file = 0 }
 place_of (token ∷ tokens) = record { line = token.line; file = token.file }
 
+-- a token of this kind at this place
 abbrev pub token_at : Place → Kind → Token
 token_at place kind = record { kind = kind; line = place.line; file = place.file }
 

@@ -16,6 +16,7 @@ word_declares Words.Link = true
 word_declares Words.Invocable = true
 word_declares _ = false
 
+-- a token that begins a declaration
 abbrev pub kind_declares : Kind → Bool
 kind_declares (WordKind word) = word_declares word
 kind_declares _ = false

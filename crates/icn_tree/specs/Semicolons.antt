@@ -15,6 +15,7 @@ pub record Piece : Type 0 where
   pub token : Token
   pub is_first : Bool
 
+-- a word that can end an expression
 abbrev pub word_ends : Word → Bool
 word_ends Break = true
 word_ends Fail = true
@@ -23,6 +24,7 @@ word_ends Return = true
 word_ends Suspend = true
 word_ends _ = false
 
+-- a mark that can end an expression
 abbrev pub mark_ends : Punctuation → Bool
 mark_ends CloseParenthesis = true
 mark_ends CloseBracket = true
@@ -40,6 +42,7 @@ is_ender (OperatorKind operator) = false
 is_ender (Augmented operator) = false
 is_ender (PunctuationKind mark) = mark_ends mark
 
+-- a word that can begin an expression or another part of a procedure
 abbrev pub word_begins : Word → Bool
 word_begins Break = true
 word_begins Case = true
@@ -61,6 +64,7 @@ word_begins Until = true
 word_begins While = true
 word_begins _ = false
 
+-- an operator that can begin an expression
 abbrev pub operator_begins : Operator → Bool
 operator_begins Dot = true
 operator_begins Bang = true
@@ -88,6 +92,7 @@ operator_begins Question = true
 operator_begins Ampersand = true
 operator_begins _ = false
 
+-- a mark that can begin an expression
 abbrev pub mark_begins : Punctuation → Bool
 mark_begins OpenParenthesis = true
 mark_begins OpenBracket = true

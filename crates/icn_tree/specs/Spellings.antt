@@ -34,6 +34,7 @@ words_of b =
     if b == 117 then (codes "until", Until) ∷ [] else (
     if b == 119 then (codes "while", While) ∷ [] else [])))))))))))))))
 
+-- the reserved word that a text spells, if it spells one
 abbrev pub word_of : List ℕ → Option Word
 word_of [] = None
 word_of (b ∷ rest) = lookup_text (words_of b) (b ∷ rest)

@@ -40,6 +40,7 @@ ascends [] = true
 ascends (a ∷ []) = true
 ascends (a ∷ b ∷ rest) = nat_lt a b && ascends (b ∷ rest)
 
+-- a number that is a byte
 abbrev pub is_byte : ℕ → Bool
 is_byte b = nat_lt b 256
 

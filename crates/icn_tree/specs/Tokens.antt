@@ -27,6 +27,7 @@ dot_number [] = Some (Ok (Operator Dot))
 dot_number (b ∷ []) = if is_digit b then Some (Err L6) else None
 dot_number (b ∷ c ∷ rest) = None
 
+-- the operator or the mark that some bytes spell, if they spell one
 abbrev pub mark : ℕ → List ℕ → Option (Result Kind Rule)
 mark b rest = option_map (λ kind. Ok kind) (lookup_text (marks_of b) (b ∷ rest))
 
@@ -37,6 +38,7 @@ spelled (b ∷ rest) =
     if begins_identifier b then name b rest
     else (if is_digit b then number (b ∷ rest) else (if b == 46 then dot_number rest else mark b rest))
 
+-- this one where it is there, with its length; else the shorter one
 abbrev pub longer : Option (Result Kind Rule) → ℕ → Option (Result Kind Rule × ℕ) → Option (Result Kind Rule × ℕ)
 longer (Some sense) count shorter = Some (sense, count)
 longer None count shorter = shorter
@@ -63,6 +65,7 @@ pub data Scan : Type 0 where
   Found : List Piece → Scan
   Broken : Rule → (line file : ℕ) → Scan
 
+-- a piece in front of others
 abbrev pub before : Piece → Scan → Scan
 before piece (Found pieces) = Found (piece ∷ pieces)
 before piece (Broken rule line file) = Broken rule line file
@@ -80,9 +83,11 @@ token_then line is_first (Err rule) later = Broken rule line.number line.file
 abbrev pub open_literal : SourceLine → Bool → ℕ → Literal
 open_literal line is_first quote = record { quote = quote; bytes = []; line = line.number; file = line.file; is_first = is_first }
 
+-- a literal that is not closed before the end of the file
 abbrev pub unclosed_literal : Literal → Scan
 unclosed_literal literal = Broken L2 literal.line literal.file
 
+-- the piece of a literal that is closed
 abbrev pub literal_piece : Literal → Piece
 literal_piece literal = record { token = record { kind = literal_kind literal.quote literal.bytes; line = literal.line; file = literal.file }; is_first = literal.is_first }
 
@@ -95,6 +100,7 @@ abbrev pub escape_found : SourceLine → Option (ℕ × ℕ) → (ℕ → ℕ �
 escape_found line None later = Broken L3 line.number line.file
 escape_found line (Some found) later = later found.0 found.1
 
+-- an escape of a literal, and what comes behind it; a backslash at the end of the file leaves the literal open
 abbrev pub escape_then : SourceLine → Literal → List ℕ → (ℕ → ℕ → Scan) → Scan
 escape_then line literal [] later = unclosed_literal literal
 escape_then line literal (b ∷ rest) later = escape_found line (escape_of (b ∷ rest)) later
@@ -121,6 +127,7 @@ bytes_from later line (Inside literal) zero (b ∷ rest) =
     else (if b == 95 && is_nothing rest then later (Some literal)
     else bytes_from later line (Inside (with_byte literal b)) zero rest))
 
+-- what stands behind the blanks at the start
 abbrev pub after_blanks : List ℕ → List ℕ
 after_blanks bytes = drop (prefix_len is_blank bytes) bytes
 
@@ -129,6 +136,7 @@ abbrev pub line_from : (Option Literal → Scan) → SourceLine → Option Liter
 line_from later line None = bytes_from later line (Between true) zero line.bytes
 line_from later line (Some literal) = bytes_from later line (Inside literal) zero (after_blanks line.bytes)
 
+-- the pieces of lines, where a literal may be open from the line before
 unfoldable pub lines_from : List SourceLine → Option Literal → Scan
 lines_from [] None = Found []
 lines_from [] (Some literal) = unclosed_literal literal
@@ -139,6 +147,7 @@ pub data Outcome : Type 0 where
   Scanned : List Token → Outcome
   Fault : Rule → (file line : ℕ) → Outcome
 
+-- the tokens of pieces, with the semicolons between them
 abbrev pub finish_scan : Scan → Outcome
 finish_scan (Found pieces) = Scanned (with_semicolons pieces)
 finish_scan (Broken rule line file) = Fault rule file line

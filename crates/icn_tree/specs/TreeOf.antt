@@ -44,18 +44,22 @@ abbrev mutual
   tree_of (E.Return' place p value) = Return place (tree_of value)
   tree_of (E.Suspend' place p value body) = Suspend place (tree_of value) (maybe_of body)
 
+  -- a part that may be missing
   pub maybe_of : Held-Expr-To-3 → MaybeTree
   maybe_of Block.None' = Absent
   maybe_of (Block.Some' p expr) = Present (tree_of expr)
 
+  -- the elements of a form
   pub trees_of : {m : _} → Row_of-Expr m → Trees
   trees_of end_of-Expr = NoTrees
   trees_of (more_of-Expr expr rest) = More (tree_of expr) (trees_of rest)
 
+  -- a clause of a `case`
   pub clause_of : ClauseExpr → Clause
   clause_of (C.Default place value) = Default place (tree_of value)
   clause_of (C.Guarded place guard value) = Guarded place (tree_of guard) (tree_of value)
 
+  -- the clauses of a `case`
   pub clauses_of : {m : _} → Row_of-Clause m → Clauses
   clauses_of end_of-Clause = NoClauses
   clauses_of (more_of-Clause clause rest) = MoreClauses (clause_of clause) (clauses_of rest)
@@ -65,13 +69,16 @@ abbrev pub all_of : List Expr → Trees
 all_of [] = NoTrees
 all_of (expr ∷ exprs) = More (tree_of expr) (all_of exprs)
 
+-- the clauses of a list
 abbrev pub all_clauses_of : List ClauseExpr → Clauses
 all_clauses_of [] = NoClauses
 all_clauses_of (clause ∷ clauses) = MoreClauses (clause_of clause) (all_clauses_of clauses)
 
+-- a declaration of locals or statics
 abbrev pub locals_of : LocalsItem → Locals
 locals_of locals = record { place = locals.place; kind = locals.kind; names = locals.names.items }
 
+-- the `initial` of a procedure, if it has one
 abbrev pub initial_of : Option InitialItem → Initial
 initial_of None = NoInitial
 initial_of (Some initial) = Initially initial.place (tree_of initial.value)

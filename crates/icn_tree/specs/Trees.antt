@@ -41,18 +41,22 @@ mutual
     Return : Place → Tree → Tree
     Suspend : Place → Tree → MaybeTree → Tree
 
+  -- a part of a form that may be missing
   pub data MaybeTree : Type 0 where
     Absent : MaybeTree
     Present : Tree → MaybeTree
 
+  -- the elements of a list, in their order
   pub data Trees : Type 0 where
     NoTrees : Trees
     More : Tree → Trees → Trees
 
+  -- a clause of a `case`: its default, or a guard with the value behind it
   pub data Clause : Type 0 where
     Default : Place → Tree → Clause
     Guarded : Place → Tree → Tree → Clause
 
+  -- the clauses of a `case`, in their order
   pub data Clauses : Type 0 where
     NoClauses : Clauses
     MoreClauses : Clause → Clauses → Clauses
