@@ -8,6 +8,7 @@ use Rattle.std.specs.Str.{bytes_eq}
 abbrev pub with_text : List (List ℕ) → List ℕ → List (List ℕ)
 with_text texts text = if list_any (bytes_eq text) texts then texts else texts ++ text ∷ []
 
+-- the integers with one more, unless it is there
 abbrev pub with_integer : List ℤ → ℤ → List ℤ
 with_integer integers n = if list_any (int_eq n) integers then integers else integers ++ n ∷ []
 
@@ -16,6 +17,7 @@ abbrev pub with_texts : List (List ℕ) → List (List ℕ) → List (List ℕ)
 with_texts texts [] = texts
 with_texts texts (text ∷ others) = with_texts (with_text texts text) others
 
+-- the integers with others, each once
 abbrev pub with_integers : List ℤ → List ℤ → List ℤ
 with_integers integers [] = integers
 with_integers integers (n ∷ others) = with_integers (with_integer integers n) others

@@ -45,9 +45,11 @@ instr_size Coact = 1
 instr_size Coret = 1
 instr_size Cofail = 1
 
+-- how many bytes the instructions of a procedure have in an image
 abbrev pub body_size : List Instr → ℕ
 body_size instrs = sum_by instr_size instrs
 
+-- how many bytes the instructions of all procedures have in an image
 abbrev pub bodies_size : List Proc → ℕ
 bodies_size procs = sum_by (λ proc. body_size proc.instrs) procs
 
@@ -55,5 +57,6 @@ bodies_size procs = sum_by (λ proc. body_size proc.instrs) procs
 abbrev pub strings_size : List (List ℕ) → ℕ
 strings_size strings = sum_by (λ string. length string + 2) strings
 
+-- how many bytes the record types have in an image
 abbrev pub records_size : List RecordType → ℕ
 records_size records = sum_by (λ kind. length kind.fields * 2 + 4) records

@@ -22,6 +22,7 @@ is_joinable_proc proc =
     is_name proc.name && (not proc.collects || nat_lt 0 (params_in proc.names)) && list_all is_name (entry_names proc.names)
     && list_all (λ instr. is_joinable_instr (length proc.names) instr) proc.instrs
 
+-- each name of the declaration is one that linked code can have
 abbrev pub is_joinable_decl : Decl → Bool
 is_joinable_decl (Global name) = is_name name
 is_joinable_decl (Procedure name) = is_name name

@@ -25,6 +25,7 @@ use Rattle.icn_link.specs.Units.{all_decls, all_procs}
 
 -- Names
 
+-- a name is among these
 abbrev pub is_among : List (List ℕ) → List ℕ → Bool
 is_among names name = list_any (bytes_eq name) names
 
@@ -45,11 +46,13 @@ variable_instr Local locals statics global = Instrs.Local locals
 variable_instr Static locals statics global = Instrs.Static statics
 variable_instr Global locals statics global = Instrs.Global global
 
+-- how many locals there are behind a variable
 abbrev pub locals_behind : Variable → ℕ → ℕ
 locals_behind Local locals = suc locals
 locals_behind Static locals = locals
 locals_behind Global locals = locals
 
+-- how many statics there are behind a variable
 abbrev pub statics_behind : Variable → ℕ → ℕ
 statics_behind Local statics = statics
 statics_behind Static statics = suc statics
@@ -68,6 +71,7 @@ is_local Local = true
 is_local Static = false
 is_local Global = false
 
+-- a static
 abbrev pub is_static : Variable → Bool
 is_static Local = false
 is_static Static = true
@@ -102,6 +106,7 @@ scope_with tables variables label = record {
   label = label;
 }
 
+-- what the instructions of a procedure are resolved by: the tables, its variables and its labels
 abbrev pub scope_of : AllMentions → Proc → Scope
 scope_of tables proc =
     scope_with tables (variables tables.globals 0 0 proc.names) (λ label. label_address label proc.instrs)
@@ -117,18 +122,21 @@ entry_of tables proc locals statics instrs = record {
   instrs = instrs;
 }
 
+-- a procedure of linked code
 abbrev pub proc_entry : AllMentions → Proc → ProcEntry
 proc_entry tables proc =
     entry_of tables proc (locals_in tables.globals proc.names) (statics_in tables.globals proc.names) (resolve (scope_of tables proc) proc.instrs)
 
 -- Records and globals
 
+-- a record type of linked code
 abbrev pub record_entry : AllMentions → List ℕ → List (List ℕ) → RecordType
 record_entry tables name fields = record {
   name = text_place tables.strings name;
   fields = map (text_place tables.fields) fields;
 }
 
+-- the record type that a declaration is, if it is one
 abbrev pub records_in : AllMentions → Decl → List RecordType
 records_in tables (Record name fields) = record_entry tables name fields ∷ []
 records_in tables (GlobalDecl name) = []
@@ -155,6 +163,7 @@ global_with tables procs records name = record {
   start = start_by (procs name) (records name) (is_among tables.declared name) (function_named name);
 }
 
+-- a global of linked code, with what it begins with
 abbrev pub global_entry : AllMentions → List (List ℕ) → List (List ℕ) → List ℕ → GlobalEntry
 global_entry tables procs records name = global_with tables (place_of procs) (place_of records) name
 
@@ -164,15 +173,18 @@ global_entry tables procs records name = global_with tables (place_of procs) (pl
 abbrev pub with_bit : List ℕ → ℕ → List ℕ
 with_bit bits b = slice_set bits (b / 8) (bit_or (slice_index bits (b / 8)) (2 ^ (b % 8)))
 
+-- the bits with those of more bytes
 abbrev pub with_bits : List ℕ → List ℕ → List ℕ
 with_bits bits [] = bits
 with_bits bits (b ∷ bytes) = with_bits (with_bit bits b) bytes
 
+-- a set of bytes as its 256 bits
 abbrev pub cset_of : List ℕ → Cset
 cset_of bytes = record { bits = with_bits (replicate 32 0) bytes }
 
 -- The code
 
+-- the tables of linked code, by what is mentioned
 abbrev pub tables_with : AllMentions → List Decl → List Proc → Tables
 tables_with tables decls procs = record {
   strings = tables.strings;
@@ -184,6 +196,7 @@ tables_with tables decls procs = record {
   procs = map (proc_entry tables) procs;
 }
 
+-- the joined code of declarations and procedures
 abbrev pub joined_of : List Decl → List Proc → Tables
 joined_of decls procs = tables_with (all_mentions decls procs) decls procs
 

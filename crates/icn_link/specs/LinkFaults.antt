@@ -28,10 +28,12 @@ missing_by names (Global name) = None
 missing_by names (Procedure name) = None
 missing_by names (Record name fields) = None
 
+-- the first unit that these declarations link and no unit is
 abbrev pub missing_in : List (List ℕ) → List Decl → Option (List ℕ)
 missing_in names [] = None
 missing_in names (decl ∷ decls) = option_or (missing_by names decl) (missing_in names decls)
 
+-- a linked unit is not there
 abbrev pub missing_fault : ℕ → List ℕ → LinkFault
 missing_fault unit name = K2 unit name
 
@@ -41,6 +43,7 @@ missing_from names place [] = None
 missing_from names place (unit ∷ units) =
     option_or (option_map (missing_fault place) (missing_in names unit.decls)) (missing_from names (suc place) units)
 
+-- the names of the units
 abbrev pub unit_names : List UnitRead → List (List ℕ)
 unit_names units = map (λ unit. unit.name) units
 
@@ -55,29 +58,36 @@ pub record Owner : Type 0 where
   pub name : List ℕ
   pub place : DeclPlace
 
+-- a declaration, by the places of its unit and its own
 abbrev pub place_at : ℕ → ℕ → DeclPlace
 place_at unit decl = record { unit = unit; decl = decl }
 
+-- the procedure or the record of this name at this place
 abbrev pub owner : List ℕ → ℕ → ℕ → Owner
 owner name unit decl = record { name = name; place = place_at unit decl }
 
+-- the procedure or the record that a declaration is, if it is one
 abbrev pub owner_in : ℕ → ℕ → Decl → List Owner
 owner_in unit place (Procedure name) = owner name unit place ∷ []
 owner_in unit place (Record name fields) = owner name unit place ∷ []
 owner_in unit place (Global name) = []
 owner_in unit place (Link text) = []
 
+-- the procedures and records of a unit, from this declaration on
 abbrev pub owners_in : ℕ → ℕ → List Decl → List Owner
 owners_in unit place [] = []
 owners_in unit place (decl ∷ decls) = owner_in unit place decl ++ owners_in unit (suc place) decls
 
+-- the procedures and records of all units, from this unit on
 abbrev pub owners_from : ℕ → List UnitRead → List Owner
 owners_from place [] = []
 owners_from place (unit ∷ units) = owners_in place 0 unit.decls ++ owners_from (suc place) units
 
+-- the first one of this name
 abbrev pub owner_named : List ℕ → List Owner → Option Owner
 owner_named name owners = find (λ other. bytes_eq name other.name) owners
 
+-- the second one has the name of the first
 abbrev pub repeat_of : Owner → Owner → LinkFault
 repeat_of second first = K1 second.place.unit second.name first.place second.place
 
@@ -93,6 +103,7 @@ repeated_name units = repeated_from [] (owners_from 0 units)
 
 -- Programs that are too large
 
+-- something is too large, by this number
 abbrev pub count_fault : ℕ → LinkFault
 count_fault count = K3 count
 
@@ -132,6 +143,7 @@ local_counts globals procs = map (λ proc. locals_in globals proc.names) procs
 abbrev pub static_counts : List (List ℕ) → List Proc → List ℕ
 static_counts globals procs = map (λ proc. statics_in globals proc.names) procs
 
+-- the first fault, where there is one, else the second
 infixr 5 ◌orelse◌
 abbrev pub ◌orelse◌ : Option LinkFault → Option LinkFault → Option LinkFault
 a orelse b = option_or a b
@@ -148,6 +160,7 @@ too_large_of decls procs =
     orelse over 65535 (static_counts (globals decls procs) procs)
     orelse over 1073741824 (length (image_of (joined_of decls procs)) ∷ [])
 
+-- the first bound that the units pass together
 abbrev pub too_large : List UnitRead → Option LinkFault
 too_large units = too_large_of (all_decls units) (all_procs units)
 

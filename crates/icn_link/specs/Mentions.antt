@@ -63,6 +63,7 @@ mention_of Unit.Coret = NoMention
 mention_of Unit.Cofail = NoMention
 mention_of (Unit.Lab label) = NoMention
 
+-- the integer that is mentioned, if one is
 abbrev pub integer_in : Mention → List ℤ
 integer_in (AnInteger n) = n ∷ []
 integer_in NoMention = []
@@ -71,6 +72,7 @@ integer_in (ASet members) = []
 integer_in (AField name) = []
 integer_in (Operands count) = []
 
+-- the text that is mentioned, if one is
 abbrev pub text_in : Mention → List (List ℕ)
 text_in (AText bytes) = bytes ∷ []
 text_in NoMention = []
@@ -79,6 +81,7 @@ text_in (ASet members) = []
 text_in (AField name) = []
 text_in (Operands count) = []
 
+-- the set of bytes that is mentioned, if one is
 abbrev pub set_in : Mention → List (List ℕ)
 set_in (ASet members) = members ∷ []
 set_in NoMention = []
@@ -87,6 +90,7 @@ set_in (AText bytes) = []
 set_in (AField name) = []
 set_in (Operands count) = []
 
+-- the field's name that is mentioned, if one is
 abbrev pub field_in : Mention → List (List ℕ)
 field_in (AField name) = name ∷ []
 field_in NoMention = []
@@ -121,18 +125,21 @@ global_in (Procedure name) = name ∷ []
 global_in (Link text) = []
 global_in (Record name fields) = name ∷ []
 
+-- the fields of a record
 abbrev pub fields_in : Decl → List (List ℕ)
 fields_in (Record name fields) = fields
 fields_in (Global name) = []
 fields_in (Procedure name) = []
 fields_in (Link text) = []
 
+-- the name of a record
 abbrev pub record_name_in : Decl → List (List ℕ)
 record_name_in (Record name fields) = name ∷ []
 record_name_in (Global name) = []
 record_name_in (Procedure name) = []
 record_name_in (Link text) = []
 
+-- the names of all records
 abbrev pub record_names : List Decl → List (List ℕ)
 record_names decls = flat_map record_name_in decls
 
@@ -147,9 +154,11 @@ function_by Kinds.Parameter name = []
 function_by Kinds.Local name = []
 function_by Kinds.Static name = []
 
+-- the built-in function that an undeclared name may be, if there is one
 abbrev pub function_in : UnitName → List (List ℕ)
 function_in entry = function_by entry.kind entry.name
 
+-- the built-in functions that the names of a procedure may be
 abbrev pub functions_in : Proc → List (List ℕ)
 functions_in proc = flat_map function_in proc.names
 
@@ -172,6 +181,7 @@ abbrev pub string_mentions : List Decl → List Proc → List (List ℕ)
 string_mentions decls procs = fields decls procs ++ (record_names decls ++ (globals decls procs ++ (proc_names procs
     ++ mentioned_by text_in procs)))
 
+-- all texts that are mentioned, each once
 abbrev pub strings : List Decl → List Proc → List (List ℕ)
 strings decls procs = with_texts [] (string_mentions decls procs)
 

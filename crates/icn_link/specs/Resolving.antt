@@ -55,10 +55,12 @@ instr_in S U.Coret = Some I.Coret
 instr_in S U.Cofail = Some I.Cofail
 instr_in S (U.Lab label) = None
 
+-- the instruction, if there is one
 abbrev pub instr_list : Option Instr → List Instr
 instr_list None = []
 instr_list (Some instr) = instr ∷ []
 
+-- an instruction in linked code; the place of a label is none
 abbrev pub resolved_one : Scope → UnitInstr → List Instr
 resolved_one S instr = instr_list (instr_in S instr)
 

@@ -41,6 +41,7 @@ mention_seen (Kept.Set members) = ASet members.now
 mention_seen (Kept.Field name) = AField name.now
 mention_seen (Kept.Operands count) = Operands count
 
+-- a procedure or a record that is kept, with the place of its declaration
 abbrev pub owner_seen : KeptOwner → Owner
 owner_seen owner = record { name = owner.name.now; place = owner.place }
 
