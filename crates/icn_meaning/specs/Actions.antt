@@ -31,6 +31,7 @@ try v (MoreClauses (Default place e) cases) default s k r st = try v cases defau
 try v (MoreClauses (Guarded place c b) cases) default s k r st =
     eval c s (Args (Operating Equivalent) (Val v ∷ []) NoTrees s and_then Cut r (Go b s k) and_then Nothing) (Do (Try v cases default s k) or_else r) st
 
+-- an action is done
 abbrev pub act : Action → Choices → Store → State
 act (Go e s k) r st = eval e s k r st
 act (Give v k) r st = succeed (Val v) k r st

@@ -25,6 +25,7 @@ abbrev pub begun_if : Bool → ℕ → Initial → Trees → Surroundings → Ch
 begun_if false n (Initially place e) body s r st = rest (More e body) s r (record st { begun = slice_set st.begun n true })
 begun_if done n _ body s r st = rest body s r st
 
+-- a procedure begins, with its `initial` where that was not done
 abbrev pub begin : ℕ → Routine → Surroundings → Choices → Store → State
 begin n routine s r st = begun_if (slice_index_or st.begun n true) n routine.initial routine.body s r st
 
@@ -40,6 +41,7 @@ collect false n routine vs level a k r st = enter n routine (fit_count routine.p
 collect true n routine vs level a k r st = let plain = routine.parameters - 1 in with_made (list_row (drop plain vs) (setting_in a st)) a r st (λ list st.
     enter n routine (fit_count plain vs ++ list ∷ []) level k r st)
 
+-- a procedure is called, unless that is too deep
 abbrev pub call_if : Bool → ℕ → Routine → List Value → ℕ → ℕ → Works → Choices → Store → State
 call_if true n routine vs level a k r st = collect routine.collects n routine vs level a k r st
 call_if false n routine vs level a k r st = errs 301 None r st
@@ -52,16 +54,19 @@ call n routine vs level a k r st = call_if (nat_le level st.world.heap.bounds.le
 abbrev pub construct : ℕ → Kind → List Value → ℕ → Works → Choices → Store → State
 construct number kind vs a k r st = with_made (record_row number (fit_count (length kind.fields) vs) (setting_in a st)) a r st (λ v st. succeed (Val v) k r st)
 
+-- what a number stands for is called: a procedure, a record constructor or a function
 abbrev pub invoke_callee : Callee → ℕ → List Item → Surroundings → Works → Choices → Store → State
 invoke_callee (IsRoutine routine) n xs s k r st = values xs (activation_of s) r st (λ vs. call n routine vs (suc (frame_of s).level) (activation_of s) k r st)
 invoke_callee (IsKind number kind) n xs s k r st = values xs (activation_of s) r st (λ vs. construct number kind vs (activation_of s) k r st)
 invoke_callee (IsFunction f) n xs s k r st = answer (apply st.names (Function f) xs (setting_in (activation_of s) st)) (activation_of s) k r st
 invoke_callee IsNothing n xs s k r st = errs 106 (Some (Procedure n)) r st
 
+-- the argument that was selected is the result, or it fails
 abbrev pub choose_item : Option Item → Works → Choices → Store → State
 choose_item (Some x) k r st = succeed x k r st
 choose_item None k r st = fail r st
 
+-- the argument of this number, from 1 on
 abbrev pub argument_at : Option ℕ → List Item → Option Item
 argument_at (Some (suc p)) xs = slice_get xs p
 argument_at _ xs = None
@@ -76,6 +81,7 @@ abbrev pub invoke : Program → Value → List Item → Surroundings → Works �
 invoke program (Procedure n) xs s k r st = invoke_callee (callee_of program n) n xs s k r st
 invoke program v xs s k r st = choose (number_of v) v xs k r st
 
+-- values as items
 abbrev pub items : List Value → List Item
 items [] = []
 items (v ∷ vs) = Val v ∷ items vs
@@ -86,10 +92,12 @@ apply_to_list program p (AList l) s k r st = invoke program p (items (list_at st
 apply_to_list program p (ARecord n) s k r st = invoke program p (items (record_at st.world.heap n).fields) s k r st
 apply_to_list program p v s k r st = errs 126 (Some v) r st
 
+-- the variable of a field; a record without that field is error 207
 abbrev pub field_at : Option ℕ → ℕ → Works → Choices → Store → State
 field_at (Some n) x k r st = succeed (Var (Whole (Field x n))) k r st
 field_at None x k r st = errs 207 (Some (ARecord x)) r st
 
+-- the fields of a kind of record
 abbrev pub fields_in : Option Kind → List (List ℕ)
 fields_in (Some kind) = kind.fields
 fields_in None = []
@@ -130,6 +138,7 @@ return_item x (InCall frame k r) st = succeed x k r st
 return_item x (InScan p s) st = return_item x s (restore_pair p st)
 return_item x (InLoop s k r a rn) st = return_item x s st
 
+-- the procedure gives a result and ends
 abbrev pub return : Item → Surroundings → Choices → Store → State
 return x s r st = outgoing x (activation_of s) r st (λ x. return_item x s st)
 
@@ -139,5 +148,6 @@ suspend_call x b s (InCall frame k r0) r st = succeed x k (Back b s or_else r) s
 suspend_call x b s (InScan p around) r st = suspend_call x b s around r st
 suspend_call x b s (InLoop around k r0 a rn) r st = suspend_call x b s around r st
 
+-- the procedure gives a result and may be resumed
 abbrev pub suspend : Item → MaybeTree → Surroundings → Choices → Store → State
 suspend x b s r st = outgoing x (activation_of s) r st (λ x. suspend_call x b s s r (exchanged_oldest s st))

@@ -6,21 +6,27 @@ use Rattle.icn_defs.specs.StepRows.{coexpression_row}
 use Rattle.icn_meaning.specs.Contexts.{frame_of, activation_of, Works, Nothing, ◌and_then◌, Choices, NoChoice, ◌or_else◌, Result, Exhaust, Surroundings, InCall, Status, Fresh, Active, Waiting, AfterResult, Exhausted, Coexpression, Store, State, eval, succeed, fail, hop, lost}
 use Rattle.icn_meaning.specs.Turns.{turn, errs, locals_of, setting_in, with_made, value}
 
+-- the co-expression of this number; where there is none, an exhausted one
 abbrev pub coexpression_of : ℕ → Store → Coexpression
 coexpression_of c st = slice_index_or st.coexpressions c (record { status = Exhausted; activator = zero; body = Empty; procedure = zero; values = [] })
 
+-- whether a co-expression has begun, is active, waits or is exhausted
 abbrev pub status_of : ℕ → Store → Status
 status_of c st = (coexpression_of c st).status
 
+-- what activated a co-expression last
 abbrev pub activator_of : ℕ → Store → ℕ
 activator_of c st = (coexpression_of c st).activator
 
+-- another co-expression under this number
 abbrev pub with_coexpression : ℕ → Coexpression → Store → Store
 with_coexpression c co st = record st { coexpressions = slice_set st.coexpressions c co }
 
+-- the co-expression has another status
 abbrev pub with_status : ℕ → Status → Store → Store
 with_status c status st = let co = coexpression_of c st in with_coexpression c (record co { status = status }) st
 
+-- the co-expression has another activator
 abbrev pub with_activator : ℕ → ℕ → Store → Store
 with_activator c activator st = let co = coexpression_of c st in with_coexpression c (record co { activator = activator }) st
 
@@ -33,6 +39,7 @@ abbrev pub count_result : ℕ → Store → Store
 count_result c st = let counts = st.world.heap.coexps in
     record st { world = record st.world { heap = record st.world.heap { coexps = slice_set counts c (suc (slice_index_or counts c zero)) } } }
 
+-- one more co-expression, which has not begun
 abbrev pub with_fresh : Tree → ℕ → List Value → Store → Store
 with_fresh e procedure locals st = let co : Coexpression = record { status = Fresh; activator = zero; body = e; procedure = procedure; values = locals } in
     record st { coexpressions = st.coexpressions ++ co ∷ [] }
@@ -45,6 +52,7 @@ fresh e procedure locals a k r st = with_made (coexpression_row (length locals) 
 abbrev pub create : Tree → Surroundings → Works → Choices → Store → State
 create e s k r st = turn st (λ st. fresh e (frame_of s).procedure (locals_of (activation_of s) st) (activation_of s) k r st)
 
+-- a new co-expression, made as this one was
 abbrev pub refreshed_from : Option Coexpression → ℕ → Works → Choices → Store → State
 refreshed_from (Some co) a k r st = fresh co.body co.procedure co.values a k r st
 refreshed_from None a k r st = lost
@@ -69,6 +77,7 @@ entered_in (AfterResult r) c v st = fail r (make_active c st)
 entered_in Exhausted c v st = hop c (record st { active = c })
 entered_in Active c v st = lost
 
+-- a co-expression is entered with a value
 abbrev pub enter_coexp : ℕ → Value → Store → State
 enter_coexp c v st = entered_in (status_of c st) c v st
 
@@ -80,6 +89,7 @@ failed_in Exhausted c st = hop c (record st { active = c })
 failed_in Fresh c st = lost
 failed_in Active c st = lost
 
+-- a co-expression is entered with failure
 abbrev pub fail_coexp : ℕ → Store → State
 fail_coexp c st = failed_in (status_of c st) c st
 
@@ -87,6 +97,7 @@ fail_coexp c st = failed_in (status_of c st) c st
 abbrev pub transmit : Value → ℕ → Works → Choices → Store → State
 transmit v c k r st = enter_coexp c v (with_activator c st.active (with_status st.active (Waiting k r) st))
 
+-- an exhausted co-expression fails, the active one gives the value at once, and another one is entered
 abbrev pub sent_if : Bool → Status → Value → ℕ → Works → Choices → Store → State
 sent_if is_active Exhausted v c k r st = fail r st
 sent_if true status v c k r st = succeed (Val v) k r st
@@ -101,6 +112,7 @@ activate v other k r st = errs 118 (Some other) r st
 abbrev pub gives : Value → Choices → Store → State
 gives v r st = enter_coexp (activator_of st.active st) v (count_result st.active (with_status st.active (AfterResult r) st))
 
+-- the expression of a co-expression has a result, which goes to its activator
 abbrev pub result : Item → ℕ → Choices → Store → State
 result x a r st = turn st (λ st. value x a r st (λ v. gives v r st))
 

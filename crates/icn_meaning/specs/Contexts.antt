@@ -96,6 +96,8 @@ mutual
     InScan : ℕ → Surroundings → Surroundings
     InLoop : Surroundings → Works → Choices → Action → Choices → Surroundings
 
+-- a co-expression has not begun, is active, waits for the result of an activation, waits behind a result of its own, or is
+-- exhausted
 pub data Status : Type 0 where
   Fresh : Status
   Active : Status
@@ -136,10 +138,12 @@ pub data State : Type 0 where
   over : Ending → Store → State
   lost : State
 
+-- the call around
 abbrev pub frame_of : Surroundings → Frame
 frame_of (InCall frame k r) = frame
 frame_of (InScan p s) = frame_of s
 frame_of (InLoop s k r a rn) = frame_of s
 
+-- the activation of the call around
 abbrev pub activation_of : Surroundings → ℕ
 activation_of s = (frame_of s).activation

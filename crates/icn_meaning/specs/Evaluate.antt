@@ -22,25 +22,31 @@ use Rattle.icn_meaning.specs.Actions.{off, act, break, next}
 use Rattle.icn_meaning.specs.Coexpressions.{activator_of, create}
 use Rattle.icn_meaning.specs.Calls.{operands}
 
+-- the value of a literal
 abbrev pub literal : Literal → Value
 literal (IntegerLiteral n) = Integer n
 literal (TextLiteral bytes) = Text bytes
 literal (CsetLiteral members) = Chars members
 
+-- the keyword of this name, if it is among these
 abbrev pub keyword_among : List ℕ → List KeywordName → Option KeywordName
 keyword_among name [] = None
 keyword_among name (keyword ∷ others) = if bytes_eq name (keyword_name keyword) then Some keyword else keyword_among name others
 
+-- a value is the result
 abbrev pub give_value : Value → Works → Choices → Store → State
 give_value v k r st = succeed (Val v) k r st
 
+-- what keywords tell of the run: the level, the active co-expression and its activator
 abbrev pub standing_of : Surroundings → Store → Standing
 standing_of s st = record { level = (frame_of s).level; current = st.active; source = activator_of st.active st }
 
+-- the item is the result, or it fails
 abbrev pub item_or_failure : Option Item → Works → Choices → Store → State
 item_or_failure (Some x) k r st = succeed x k r st
 item_or_failure None k r st = fail r st
 
+-- a keyword gives its value or variable, or fails
 abbrev pub keyword : Option KeywordName → Surroundings → Works → Choices → Store → State
 keyword (Some word) s k r st = item_or_failure (keyword_item (standing_of s st) word) k r st
 keyword None s k r st = lost
@@ -65,14 +71,17 @@ subscripts program place x NoTrees s k r st = eval x s k r st
 subscripts program place x (More i NoTrees) s k r st = operands program (Operating SubscriptOp) [] (More x (More i NoTrees)) s k r st
 subscripts program place x (More i (More j js)) s k r st = subscripts program place (Subscript place x (More i NoTrees)) (More j js) s k r st
 
+-- a co-expression of each expression
 abbrev pub creations : Place → Trees → Trees
 creations place NoTrees = NoTrees
 creations place (More e es) = More (Create place e) (creations place es)
 
+-- the step of `to`, which is 1 where none is written
 abbrev pub step_of : Place → MaybeTree → Tree
 step_of place Absent = Constant place (IntegerLiteral (pos 1))
 step_of place (Present by) = by
 
+-- the `else` part is evaluated where the condition fails, if there is one
 abbrev pub otherwise : MaybeTree → Surroundings → Works → Choices → Choices
 otherwise Absent s k r = r
 otherwise (Present b) s k r = Do (Go b s k) or_else r
@@ -85,16 +94,19 @@ repeat_alternation e s flag k r st = eval e s (Raise flag and_then k) (Again e s
 abbrev pub inside : Tree → Surroundings → Works → Choices → Surroundings
 inside loop s k r = InLoop s k r (Pass loop s k) r
 
+-- the three loops with a control expression
 abbrev pub loops : LoopKind → Tree → Tree → MaybeTree → Surroundings → Works → Choices → Store → State
 loops Loops.While loop c b s k r st = eval c (inside loop s k r) (Cut r (Body b (inside loop s k r) (Pass loop s k)) and_then Nothing) r st
 loops Loops.Until loop c b s k r st = eval c (inside loop s k r) (Cut r Fails and_then Nothing) (Do (Body b (inside loop s k r) (Pass loop s k)) or_else r) st
 loops Loops.Every loop e b s k r st = eval e (InLoop s k r Fails r) (Each b s k r and_then Nothing) r st
 
+-- an operator before its operand
 abbrev pub before : Program → Operator → Tree → Surroundings → Works → Choices → Store → State
 before program Bar e s k r st = repeat_alternation e s (length st.flags) k r st
 before program At e s k r st = operands program Activating [] (More Empty (More e NoTrees)) s k r st
 before program o e s k r st = operands program (Operating (prefix_op o)) [] (More e NoTrees) s k r st
 
+-- an operator between two operands
 abbrev pub between : Program → Operator → Tree → Tree → Surroundings → Works → Choices → Store → State
 between program Ampersand a b s k r st = eval a s (Then b s and_then k) r st
 between program Question a b s k r st = eval a s (Scan b s and_then k) r st
@@ -104,6 +116,7 @@ between program At a b s k r st = operands program Activating [] (More a (More b
 between program Bang a b s k r st = operands program Spreading [] (More a (More b NoTrees)) s k r st
 between program o a b s k r st = operands program (Operating (infix_op o)) [] (More a (More b NoTrees)) s k r st
 
+-- what the evaluation of an expression goes on as
 abbrev pub on_eval : Program → Tree → Surroundings → Works → Choices → Store → State
 on_eval program Empty s k r st = give_value Null k r st
 on_eval program (Constant place value) s k r st = give_value (literal value) k r st

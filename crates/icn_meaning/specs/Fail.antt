@@ -18,6 +18,7 @@ abbrev pub back : MaybeTree → Surroundings → Choices → Store → State
 back Absent s r st = fail r st
 back (Present b) s r st = eval b s (Cut r Fails and_then Nothing) r st
 
+-- what the newest choice does where something fails
 abbrev pub on_fail : Choices → Store → State
 on_fail NoChoice st = over Done st
 on_fail (Do a or_else r) st = act a r st

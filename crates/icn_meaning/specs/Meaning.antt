@@ -21,6 +21,7 @@ step program (hop c st) = pass_failure c st
 step program (over ending st) = over ending st
 step program lost = lost
 
+-- so many steps of the evaluation
 abbrev pub steps : Program → ℕ → State → State
 steps program n state = after_steps (step program) n state
 
@@ -44,10 +45,12 @@ first_store program launch = record {
 abbrev pub main_called : ℕ → Routine → List (List ℕ) → Store → State
 main_called n routine words st = with_made (words_row words (setting_in zero st)) zero NoChoice st (λ list st. call n routine (list ∷ []) 1 zero Nothing NoChoice st)
 
+-- `main` is called; a program without it is error 117
 abbrev pub main_in : Option Routine → ℕ → List (List ℕ) → Store → State
 main_in (Some routine) n words st = main_called n routine words st
 main_in None n words st = errs 117 None NoChoice st
 
+-- the procedure of this number is called as `main`
 abbrev pub main_at : Program → Option ℕ → List (List ℕ) → Store → State
 main_at program (Some n) words st = main_in (slice_get program.routines n) n words st
 main_at program None words st = errs 117 None NoChoice st
@@ -56,6 +59,7 @@ main_at program None words st = errs 117 None NoChoice st
 abbrev pub start : Program → Launch → State
 start program launch = main_at program (place_of (codes "main") (routine_names program.routines)) launch.words (first_store program launch)
 
+-- what is seen of an evaluation that is over
 abbrev pub observed : State → Option Observed
 observed (over ending st) = Some (record { ending = ending; outside = st.outside })
 observed state = None

@@ -42,6 +42,7 @@ abbrev pub has_name : List ℕ → List (List ℕ) → Bool
 has_name name [] = false
 has_name name (other ∷ names) = if bytes_eq name other then true else has_name name names
 
+-- the place, counted from one entry before
 abbrev pub later : Option ℕ → Option ℕ
 later None = None
 later (Some n) = Some (suc n)
@@ -51,6 +52,7 @@ abbrev pub place_of : List ℕ → List (List ℕ) → Option ℕ
 place_of name [] = None
 place_of name (other ∷ names) = if bytes_eq name other then Some zero else later (place_of name names)
 
+-- the names with one in front, where it passed a test
 abbrev pub with_name : Bool → List ℕ → List (List ℕ) → List (List ℕ)
 with_name true name names = name ∷ names
 with_name false name names = names
@@ -65,6 +67,7 @@ abbrev pub without_names : List (List ℕ) → List (List ℕ) → List (List �
 without_names known [] = []
 without_names known (name ∷ names) = with_name (not (has_name name known)) name (without_names known names)
 
+-- the names that pass a test
 abbrev pub only : (List ℕ → Bool) → List (List ℕ) → List (List ℕ)
 only test [] = []
 only test (name ∷ names) = with_name (test name) name (only test names)
@@ -100,32 +103,39 @@ abbrev mutual
   names_in (Return place value) = names_in value
   names_in (Suspend place value body) = names_in value ++ names_in_maybe body
 
+  -- the names in a part that may be missing
   pub names_in_maybe : MaybeTree → List (List ℕ)
   names_in_maybe Absent = []
   names_in_maybe (Present tree) = names_in tree
 
+  -- the names in a list of expressions
   pub names_in_all : Trees → List (List ℕ)
   names_in_all NoTrees = []
   names_in_all (More tree trees) = names_in tree ++ names_in_all trees
 
+  -- the names in the guarded clauses of a `case`
   pub names_in_guarded : Clauses → List (List ℕ)
   names_in_guarded NoClauses = []
   names_in_guarded (MoreClauses (Default place value) cases) = names_in_guarded cases
   names_in_guarded (MoreClauses (Guarded place guard value) cases) = names_in guard ++ names_in value ++ names_in_guarded cases
 
+  -- the names in the default of a `case`
   pub names_in_default : Clauses → List (List ℕ)
   names_in_default NoClauses = []
   names_in_default (MoreClauses (Default place value) cases) = names_in value
   names_in_default (MoreClauses (Guarded place guard value) cases) = names_in_default cases
 
+-- the names in an `initial`
 abbrev pub names_in_initial : Initial → List (List ℕ)
 names_in_initial NoInitial = []
 names_in_initial (Initially place tree) = names_in tree
 
+-- the texts of names
 abbrev pub texts : List Name → List (List ℕ)
 texts [] = []
 texts (name ∷ names) = name.text ∷ texts names
 
+-- the names that are declared local
 abbrev pub locals_among : List Locals → List (List ℕ)
 locals_among [] = []
 locals_among (locals ∷ others) = of_kind locals.kind ++ locals_among others
@@ -134,6 +144,7 @@ locals_among (locals ∷ others) = of_kind locals.kind ++ locals_among others
     of_kind Kinds.Local = texts locals.names
     of_kind Kinds.Static = []
 
+-- the names that are declared static
 abbrev pub statics_among : List Locals → List (List ℕ)
 statics_among [] = []
 statics_among (locals ∷ others) = of_kind locals.kind ++ statics_among others
@@ -146,13 +157,16 @@ statics_among (locals ∷ others) = of_kind locals.kind ++ statics_among others
 abbrev pub own_names : ProcedureTree → List (List ℕ)
 own_names procedure = texts procedure.parameters ++ locals_among procedure.locals
 
+-- the names in a procedure that it does not declare, each once
 abbrev pub undeclared_names : ProcedureTree → List (List ℕ)
 undeclared_names procedure = with_more_names [] (without_names (own_names procedure ++ statics_among procedure.locals) (names_in_initial procedure.initial ++ names_in_all procedure.body))
 
+-- the declarations of all files, as one
 abbrev pub joined_declarations : List (List Declaration) → List Declaration
 joined_declarations [] = []
 joined_declarations (file ∷ files) = file ++ joined_declarations files
 
+-- the names that are declared as globals, procedures and records
 abbrev pub global_names : List Declaration → List (List ℕ)
 global_names [] = []
 global_names (GlobalDeclaration place names ∷ others) = texts names ++ global_names others
@@ -161,16 +175,19 @@ global_names (ProcedureOf procedure ∷ others) = procedure.name.text ∷ global
 global_names (Link place items ∷ others) = global_names others
 global_names (Invocable place items ∷ others) = global_names others
 
+-- the procedures among the declarations
 abbrev pub procedures_of : List Declaration → List ProcedureTree
 procedures_of [] = []
 procedures_of (ProcedureOf procedure ∷ others) = procedure ∷ procedures_of others
 procedures_of (_ ∷ others) = procedures_of others
 
+-- the kinds of record among the declarations
 abbrev pub kinds_of : List Declaration → List Kind
 kinds_of [] = []
 kinds_of (Record place name fields ∷ others) = record { name = name.text; fields = texts fields } ∷ kinds_of others
 kinds_of (_ ∷ others) = kinds_of others
 
+-- the function of this name, if it is among these
 abbrev pub function_among : List ℕ → List Func → Option Func
 function_among name [] = None
 function_among name (function ∷ others) = if bytes_eq name (func_name function) then Some function else function_among name others
@@ -179,10 +196,12 @@ function_among name (function ∷ others) = if bytes_eq name (func_name function
 abbrev pub function_named : List ℕ → Option Func
 function_named name = function_among name functions
 
+-- a function was found
 abbrev pub is_there : Option Func → Bool
 is_there (Some function) = true
 is_there None = false
 
+-- the name is that of a built-in function
 abbrev pub names_function : List ℕ → Bool
 names_function name = is_there (function_named name)
 
@@ -209,19 +228,23 @@ routine_of globals first procedure = record {
   body = procedure.body;
 }
 
+-- the procedures with their names resolved, where so many statics stand before
 abbrev pub routines_of : List (List ℕ) → ℕ → List ProcedureTree → List Routine
 routines_of globals first [] = []
 routines_of globals first (procedure ∷ others) =
     routine_of globals first procedure ∷ routines_of globals (first + length (statics_among procedure.locals)) others
 
+-- how many statics all procedures have
 abbrev pub statics_in : List Routine → ℕ
 statics_in [] = zero
 statics_in (routine ∷ others) = length routine.statics + statics_in others
 
+-- the names of the procedures
 abbrev pub routine_names : List Routine → List (List ℕ)
 routine_names [] = []
 routine_names (routine ∷ others) = routine.name ∷ routine_names others
 
+-- the names of the kinds of record
 abbrev pub kind_names : List Kind → List (List ℕ)
 kind_names [] = []
 kind_names (kind ∷ others) = kind.name ∷ kind_names others
@@ -235,14 +258,17 @@ start_by procedures records None None true function = Null
 start_by procedures records None None false (Some function) = Procedure (procedures + records + pred (func_number function))
 start_by procedures records None None false None = Null
 
+-- the value that a global of this name begins with
 abbrev pub start_of : List (List ℕ) → List (List ℕ) → List (List ℕ) → List ℕ → Value
 start_of procedures records declared name =
     start_by (length procedures) (length records) (place_of name procedures) (place_of name records) (has_name name declared) (function_named name)
 
+-- the values that globals begin with
 abbrev pub starts_of : List (List ℕ) → List (List ℕ) → List (List ℕ) → List (List ℕ) → List Value
 starts_of procedures records declared [] = []
 starts_of procedures records declared (name ∷ names) = start_of procedures records declared name ∷ starts_of procedures records declared names
 
+-- the program of these declarations
 abbrev pub program_of : List Declaration → Program
 program_of declarations = let globals = globals_of declarations in let routines = routines_of globals zero (procedures_of declarations) in record {
   routines = routines;
@@ -256,6 +282,7 @@ program_of declarations = let globals = globals_of declarations in let routines 
 abbrev pub program : List (List Declaration) → Program
 program files = program_of (joined_declarations files)
 
+-- the names of a program's procedures and kinds of record
 abbrev pub names_of : Program → Names
 names_of program = record { procedures = routine_names program.routines; records = kind_names program.kinds }
 
@@ -266,6 +293,7 @@ pub data Callee : Type 0 where
   IsFunction : Func → Callee
   IsNothing : Callee
 
+-- the function of this number, counted behind procedures and kinds of record
 abbrev pub function_numbered : ℕ → List Func → Callee
 function_numbered n [] = IsNothing
 function_numbered n (function ∷ others) = if func_number function == suc n then IsFunction function else function_numbered n others
@@ -276,11 +304,13 @@ kind_or_function n place [] = function_numbered n functions
 kind_or_function zero place (kind ∷ kinds) = IsKind place kind
 kind_or_function (suc n) place (kind ∷ kinds) = kind_or_function n (suc place) kinds
 
+-- what a number stands for: procedures come first, then kinds of record, then functions
 abbrev pub callee_among : ℕ → List Routine → List Kind → Callee
 callee_among n [] kinds = kind_or_function n zero kinds
 callee_among zero (routine ∷ routines) kinds = IsRoutine routine
 callee_among (suc n) (routine ∷ routines) kinds = callee_among n routines kinds
 
+-- what a number stands for in a program
 abbrev pub callee_of : Program → ℕ → Callee
 callee_of program n = callee_among n program.routines program.kinds
 
@@ -291,6 +321,7 @@ meant_by first None (Some n) global = Static (first + n)
 meant_by first None None (Some n) = Global n
 meant_by first None None None = Local zero
 
+-- what a name means in a procedure
 abbrev pub meaning_in : List (List ℕ) → List ℕ → Option Routine → Root
 meaning_in globals name None = Local zero
 meaning_in globals name (Some routine) = meant_by routine.first_static (place_of name routine.locals) (place_of name routine.statics) (place_of name globals)

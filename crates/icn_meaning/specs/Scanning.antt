@@ -2,12 +2,15 @@
 use Rattle.std.specs.Prelude.{ℕ, List, [], ◌∷◌, ◌++◌, length, slice_index_or, slice_set}
 use Rattle.icn_meaning.specs.Contexts.{Surroundings, InCall, InScan, InLoop, Pair, Store}
 
+-- the subject and the position at present
 abbrev pub pair_now : Store → Pair
 pair_now st = record { subject = st.world.subject; position = st.world.position }
 
+-- the pair that a cell keeps
 abbrev pub saved_in : ℕ → Store → Pair
 saved_in p st = slice_index_or st.saved p (record { subject = []; position = 1 })
 
+-- the subject and the position are these
 abbrev pub with_pair : Pair → Store → Store
 with_pair pair st = record st { world = record st.world { subject = pair.subject; position = pair.position } }
 
@@ -27,6 +30,7 @@ restore_pair p st = with_pair (saved_in p st) st
 abbrev pub exchange_pairs : ℕ → Store → Store
 exchange_pairs p st = with_pair (saved_in p st) (record st { saved = slice_set st.saved p (pair_now st) })
 
+-- the pair of the oldest scan is exchanged with the present one, if a scan is open
 abbrev pub exchanged_if : List ℕ → Store → Store
 exchanged_if [] st = st
 exchanged_if (p ∷ []) st = exchange_pairs p st

@@ -16,6 +16,7 @@ use Rattle.icn_meaning.specs.Actions.{act}
 use Rattle.icn_meaning.specs.Coexpressions.{result}
 use Rattle.icn_meaning.specs.Calls.{operands, return, suspend}
 
+-- a repeated alternation has had a result
 abbrev pub raise_flag : ℕ → Store → Store
 raise_flag flag st = record st { flags = slice_set st.flags flag true }
 
@@ -26,6 +27,7 @@ limit (Some (pos (suc n))) v e s k r st = eval e s (Count (length st.limits) r a
 limit (Some (negsuc n)) v e s k r st = errs 205 (Some v) r st
 limit None v e s k r st = errs 101 (Some v) r st
 
+-- how many results a limit leaves after one more
 abbrev pub remaining : ℕ → Store → ℕ
 remaining c st = pred (slice_index_or st.limits c zero)
 
@@ -34,6 +36,7 @@ abbrev pub count_by : ℕ → Item → Works → Choices → Choices → Store �
 count_by zero x k r0 r st = succeed x k r0 st
 count_by (suc n) x k r0 r st = succeed x k r st
 
+-- a result of a limited expression is counted
 abbrev pub count_down : ℕ → Item → Works → Choices → Choices → Store → State
 count_down c x k r0 r st = count_by (remaining c st) x k r0 r (record st { limits = slice_set st.limits c (remaining c st) })
 
@@ -42,6 +45,7 @@ abbrev pub scan_in : ℕ → Value → Tree → Surroundings → Works → Choic
 scan_in p (Text text) e s k r st = eval e (InScan p s) (Leave p and_then k) (Restore p or_else r) (enter_scan text st)
 scan_in p v e s k r st = fail r st
 
+-- a scan begins with the text of a value
 abbrev pub scan : Item → Tree → Surroundings → Works → Choices → Store → State
 scan x e s k r st = value x (activation_of s) r st (λ v. with_made (text_row v (setting_in (activation_of s) st)) (activation_of s) r st (λ text st. scan_in (new_cell st) text e s k r st))
 
@@ -57,11 +61,13 @@ abbrev pub each : MaybeTree → Surroundings → Works → Choices → Choices �
 each Absent s k r0 r st = fail r st
 each (Present b) s k r0 r st = eval b (InLoop s k r0 Fails r) (Cut r Fails and_then Nothing) r st
 
+-- the default of a `case`, if it has one
 abbrev pub default_of : Clauses → MaybeTree
 default_of NoClauses = Absent
 default_of (MoreClauses (Default place e) cases) = Present e
 default_of (MoreClauses (Guarded place c b) cases) = default_of cases
 
+-- what the next work does with a result
 abbrev pub on_succeed : Program → Item → Works → Choices → Store → State
 on_succeed program x Nothing r st = over Done st
 on_succeed program x (Args form xs es s and_then k) r st = operands program form (x ∷ xs) es s k r st

@@ -16,6 +16,7 @@ end_run ending text st = over ending (record st { outside = with_errors text st.
 abbrev pub errs : ℕ → Option Value → Choices → Store → State
 errs n offending r st = end_run (Errored n) (error_report st.names st.world.heap n offending) st
 
+-- a turn is counted before its event, or the run ends at the bound
 abbrev pub turn_if : Bool → Store → (Store → State) → State
 turn_if true st go = go (record st { turns = suc st.turns })
 turn_if false st go = end_run AtBound bound_report st
@@ -24,6 +25,7 @@ turn_if false st go = end_run AtBound bound_report st
 abbrev pub turn : Store → (Store → State) → State
 turn st go = turn_if (nat_lt st.turns st.world.heap.bounds.turns) st go
 
+-- the locals of an activation
 abbrev pub locals_of : ℕ → Store → List Value
 locals_of a st = slice_index_or st.activations a []
 
