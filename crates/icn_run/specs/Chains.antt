@@ -33,6 +33,7 @@ mutual
     mark : Label → Chain → Outer
     limit : ℕ → Chain → Outer
 
+-- a stack that waits: its chain, with its place
 pub record Parked : Type 0 where
   pub chain : Chain
   pub place : ℕ
@@ -53,99 +54,125 @@ pub data Frame : Type 0 where
   at_base : (proc activation : ℕ) → Frame
   in_call : (proc activation level place : ℕ) → Chain → Frame
 
+-- the frame of the procedure that runs, outside all its marks
 abbrev pub frame_of : Outer → Frame
 frame_of (base proc activation) = at_base proc activation
 frame_of (call proc activation level place caller) = in_call proc activation level place caller
 frame_of (mark label (chain items s scans outer)) = frame_of outer
 frame_of (limit count (chain items s scans outer)) = frame_of outer
 
+-- what is outside the operands of a chain
 abbrev pub outer_of : Chain → Outer
 outer_of (chain items s scans outer) = outer
 
+-- the saved pairs of the procedure's open scans, by their cells
 abbrev pub scans_of : Chain → List ℕ
 scans_of (chain items s scans outer) = scans
 
+-- the frame of the procedure that runs
 abbrev pub frame : Linked → Frame
 frame m = frame_of (outer_of m.chain)
 
+-- the same with another chain
 abbrev pub with_chain : Chain → Linked → Linked
 with_chain new m = record m { chain = new }
 
+-- another pair in a cell of saved pairs
 abbrev pub with_saved : ℕ → Pair → Linked → Linked
 with_saved n pair m = record m { saved = slice_set m.saved n pair }
 
+-- a new chain: a frame with a cell of its own for its locals
 abbrev pub begin : ℕ → List Value → ℕ → Linked → Linked
 begin proc values place m = record m { chain = chain [] none [] (base proc (length m.activations)); place = place; activations = m.activations ++ values ∷ [] }
 
+-- the procedure of a frame
 abbrev pub proc_of : Frame → ℕ
 proc_of (at_base proc activation) = proc
 proc_of (in_call proc activation level place caller) = proc
 
+-- how deep the procedure of a frame is called
 abbrev pub level_of : Frame → ℕ
 level_of (at_base proc activation) = 1
 level_of (in_call proc activation level place caller) = level
 
+-- the cell with the locals of a frame
 abbrev pub activation_of : Frame → ℕ
 activation_of (at_base proc activation) = activation
 activation_of (in_call proc activation level place caller) = activation
 
+-- the frame has no caller
 abbrev pub is_base_frame : Frame → Bool
 is_base_frame (at_base proc activation) = true
 is_base_frame (in_call proc activation level place caller) = false
 
+-- the locals of the procedure that runs
 abbrev pub locals : Linked → List Value
 locals m = slice_index_or m.activations (activation_of (frame m)) []
 
+-- the procedure that runs has other locals
 abbrev pub set_locals : List Value → Linked → Linked
 set_locals values m = record m { activations = slice_set m.activations (activation_of (frame m)) values }
 
+-- one more operand
 abbrev pub push_on : Item → Chain → Chain
 push_on item (chain items s scans outer) = chain (item ∷ items) s scans outer
 
+-- an operand is pushed
 abbrev pub push : Item → Linked → Linked
 push item m = with_chain (push_on item m.chain) m
 
+-- the newest operand, if there is one, and what is left
 abbrev pub pop_from : Linked → Chain → Option (Item × Linked)
 pop_from m (chain [] s scans outer) = None
 pop_from m (chain (item ∷ items) s scans outer) = Some (item, with_chain (chain items s scans outer) m)
 
+-- the newest operand of the innermost mark, if there is one, and what is left
 abbrev pub pop : Linked → Option (Item × Linked)
 pop m = pop_from m m.chain
 
+-- so many operands, the oldest first, in front of those that were found
 abbrev pub take_top : ℕ → List Item → List Item → Option (List Item × List Item)
 take_top zero items found = Some (found, items)
 take_top (suc n) [] found = None
 take_top (suc n) (item ∷ items) found = take_top n items (item ∷ found)
 
+-- so many operands of this chain, if there are as many, and what is left
 abbrev pub take_from : ℕ → Linked → Chain → Option (List Item × Linked)
 take_from n m (chain items s scans outer) = option_map (λ parts. (parts.0, with_chain (chain parts.1 s scans outer) m)) (take_top n items [])
 
+-- the newest operands of the innermost mark, if there are as many, and what is left
 abbrev pub take_items : ℕ → Linked → Option (List Item × Linked)
 take_items n m = take_from n m m.chain
 
+-- the newest operand of a chain, if there is one
 abbrev pub first_of_chain : Chain → Option Item
 first_of_chain (chain [] s scans outer) = None
 first_of_chain (chain (item ∷ items) s scans outer) = Some item
 
+-- the newest operand outside, if there is one
 abbrev pub below_outer : Outer → Option Item
 below_outer (base proc activation) = None
 below_outer (call proc activation level place caller) = first_of_chain caller
 below_outer (mark label outside) = first_of_chain outside
 below_outer (limit count outside) = first_of_chain outside
 
+-- the operand directly below the innermost mark
 abbrev pub below : Linked → Option Item
 below m = below_outer (outer_of m.chain)
 
 -- Marks. One whose label may change, which the place of its instruction tells, has a cell.
 
+-- a mark with this label
 abbrev pub push_mark : Label → Linked → Linked
 push_mark label m = with_chain (chain [] none (scans_of m.chain) (mark label m.chain)) m
 
+-- a mark is opened; where it repeats, it has a cell that tells whether there was a result
 abbrev pub open_mark : (ℕ → ℕ → Bool) → Option ℕ → Linked → Linked
 open_mark repeats label m = if repeats (proc_of (frame m)) (pred m.place)
     then record (push_mark (flagged label (length m.flags) (pred m.place)) m) { flags = m.flags ++ false ∷ [] }
     else push_mark (fixed label) m
 
+-- a mark that counts results down is opened
 abbrev pub open_limit : ℕ → Linked → Linked
 open_limit count m = record m { chain = chain [] none (scans_of m.chain) (limit (length m.limits) m.chain); limits = m.limits ++ count ∷ [] }
 
@@ -154,6 +181,7 @@ abbrev pub forget_label : ℕ → List (ℕ × ℕ) → List (ℕ × ℕ)
 forget_label flag [] = []
 forget_label flag (entry ∷ others) = if entry.0 == flag then forget_label flag others else (entry ∷ forget_label flag others)
 
+-- the label that a mark got later, if it got one
 abbrev pub label_of : ℕ → List (ℕ × ℕ) → Option ℕ
 label_of flag [] = None
 label_of flag (entry ∷ others) = if entry.0 == flag then Some entry.1 else label_of flag others
@@ -163,35 +191,44 @@ abbrev pub relabelled_if : Bool → ℕ → ℕ → Linked → Linked
 relabelled_if true label flag m = record m { flags = slice_set m.flags flag true; relabels = forget_label flag m.relabels }
 relabelled_if false label flag m = record m { flags = slice_set m.flags flag false; relabels = (flag, label) ∷ forget_label flag m.relabels }
 
+-- the innermost mark gets another label, if it can change
 abbrev pub relabel_in : ℕ → Linked → Outer → Option Linked
 relabel_in label m (mark (flagged old flag place) outside) = Some (relabelled_if (label == place) label flag m)
 relabel_in label m outer = None
 
+-- the innermost mark gets another label
 abbrev pub relabel : ℕ → Linked → Option Linked
 relabel label m = relabel_in label m (outer_of m.chain)
 
+-- how many results a limit leaves after one more
 abbrev pub remaining : ℕ → Linked → ℕ
 remaining n m = pred (slice_index_or m.limits n 0)
 
+-- one result of a limit is counted, where the innermost mark is one
 abbrev pub count_in : Linked → Outer → Option (ℕ × Linked)
 count_in m (limit n outside) = Some (remaining n m, record m { limits = slice_set m.limits n (remaining n m) })
 count_in m outer = None
 
+-- one result of the innermost mark, which is a limit, is counted
 abbrev pub count_down : Linked → Option (ℕ × Linked)
 count_down m = count_in m (outer_of m.chain)
 
 -- Open scans
 
+-- the pair that a cell keeps
 abbrev pub saved_at : Linked → ℕ → Pair
 saved_at m n = slice_index_or m.saved n (record { subject = []; position = 1 })
 
+-- the pair that a scan saved, if there is a scan
 abbrev pub pair_at : Linked → Option ℕ → Option Pair
 pair_at m scan = option_map (saved_at m) scan
 
+-- the newest open scan, if there is one
 abbrev pub first_scan : List ℕ → Option ℕ
 first_scan [] = None
 first_scan (n ∷ scans) = Some n
 
+-- the same cell, or none both times
 abbrev pub is_same : Option ℕ → Option ℕ → Bool
 is_same None None = true
 is_same (Some m) (Some n) = m == n
@@ -206,26 +243,32 @@ oldest_from until (n ∷ scans) = if is_same (first_scan scans) until then Some 
 abbrev pub oldest : Option ℕ → List ℕ → Option ℕ
 oldest until scans = if is_same (first_scan scans) until then None else oldest_from until scans
 
+-- the saved pair of a scan is exchanged, if there is a scan
 abbrev pub swap_at : Pair → Linked → Option ℕ → Option (Pair × Linked)
 swap_at pair m None = None
 swap_at pair m (Some n) = Some (saved_at m n, with_saved n pair m)
 
+-- the saved pair of the newest open scan is exchanged
 abbrev pub swap_newest : Pair → Linked → Option (Pair × Linked)
 swap_newest pair m = swap_at pair m (slice_get (scans_of m.chain) 0)
 
+-- the saved pair of the procedure's oldest open scan is exchanged
 abbrev pub swap_oldest : Pair → Linked → Option (Pair × Linked)
 swap_oldest pair m = swap_at pair m (oldest None (scans_of m.chain))
 
 -- Dropping a mark
 
+-- the mark is dropped, and the pair comes back that its oldest open scan saved
 abbrev pub unmark_in : Linked → Chain → Option (Linked × Option Pair)
 unmark_in m outside = Some (with_chain outside m, pair_at m (oldest (first_scan (scans_of outside)) (scans_of m.chain)))
 
+-- the mark or the limit is dropped, if the innermost one is there
 abbrev pub unmark_from : Linked → Outer → Option (Linked × Option Pair)
 unmark_from m (mark label outside) = unmark_in m outside
 unmark_from m (limit n outside) = unmark_in m outside
 unmark_from m outer = None
 
+-- the innermost mark is dropped with all that it suspended
 abbrev pub unmark : Linked → Option (Linked × Option Pair)
 unmark m = unmark_from m (outer_of m.chain)
 
@@ -245,17 +288,20 @@ repeat_mark label flag place outside m true =
     Repeats (record m { chain = chain [] none (scans_of outside) (mark (flagged label flag place) outside); place = suc place; flags = slice_set m.flags flag false })
 repeat_mark label flag place outside m false = dropped_by m outside label (label_of flag m.relabels)
 
+-- where failing goes on once the innermost mark is dropped, by what it is
 abbrev pub drop_from : Linked → Outer → MarkDrop Linked
 drop_from m (mark (fixed label) outside) = dropped_to m outside label
 drop_from m (mark (flagged label flag place) outside) = repeat_mark label flag place outside m (slice_index_or m.flags flag false)
 drop_from m (limit n outside) = Outside (with_chain outside m)
 drop_from m outer = NoMark
 
+-- where failing goes on once the innermost mark is dropped
 abbrev pub drop_mark : Linked → MarkDrop Linked
 drop_mark m = drop_from m (outer_of m.chain)
 
 -- Suspending
 
+-- another newest suspension
 abbrev pub suspend_in : Suspensions → Chain → Chain
 suspend_in s (chain items old scans outer) = chain items s scans outer
 
@@ -264,43 +310,53 @@ abbrev pub without_scan : Chain → Chain
 without_scan (chain items s [] outer) = chain items s [] outer
 without_scan (chain items s (n ∷ scans) outer) = chain items s scans outer
 
+-- one more open scan
 abbrev pub with_scan : ℕ → Chain → Chain
 with_scan n (chain items s scans outer) = chain items s (n ∷ scans) outer
 
+-- something is suspended in the innermost mark
 abbrev pub suspend : Why → Linked → Linked
 suspend (Scan pair) m = let n = length m.saved in
     record m { chain = with_scan n (suspend_in (suspension (scanning n) m.place m.chain) m.chain); saved = m.saved ++ pair ∷ [] }
 suspend Escan m = with_chain (without_scan (suspend_in (suspension (because Escan) m.place m.chain) m.chain)) m
 suspend why m = with_chain (suspend_in (suspension (because why) m.place m.chain) m.chain) m
 
+-- the innermost mark is left suspended in the one outside, if it is there
 abbrev pub suspend_outer : Linked → Outer → Option Linked
 suspend_outer m (mark label outside) = Some (with_chain (suspend_in (suspension (because Alt) m.place m.chain) outside) m)
 suspend_outer m (limit n outside) = Some (with_chain (suspend_in (suspension (because Alt) m.place m.chain) outside) m)
 suspend_outer m outer = None
 
+-- the innermost mark is left suspended in the one outside
 abbrev pub suspend_mark : Linked → Option Linked
 suspend_mark m = suspend_outer m (outer_of m.chain)
 
+-- the procedure is left suspended in its caller, if it has one
 abbrev pub suspend_frame : Linked → Frame → Option Linked
 suspend_frame m (at_base proc activation) = None
 suspend_frame m (in_call proc activation level place caller) = Some (record m { chain = suspend_in (suspension (because Proc) m.place m.chain) caller; place = place })
 
+-- the procedure is left suspended in its caller
 abbrev pub suspend_proc : Linked → Option Linked
 suspend_proc m = suspend_frame m (frame m)
 
+-- why it was suspended, with the pair that its scan saved
 abbrev pub why_of : Reason → Linked → Why
 why_of (because why) m = why
 why_of (scanning n) m = Scan (saved_at m n)
 
+-- the newest suspension comes back, if there is one
 abbrev pub resume_from : Linked → Chain → Option (Why × Linked)
 resume_from m (chain items none scans outer) = None
 resume_from m (chain items (suspension reason place inside) scans outer) = Some (why_of reason m, record m { chain = inside; place = place })
 
+-- the newest suspension of the innermost mark comes back
 abbrev pub resume : Linked → Option (Why × Linked)
 resume m = resume_from m m.chain
 
 -- Calls
 
+-- a procedure is entered, with the way back to its caller
 abbrev pub enter : ℕ → List Value → Linked → Linked
 enter proc values m = record m {
   chain = chain [] none [] (call proc (length m.activations) (suc (level_of (frame m))) m.place m.chain);
@@ -308,10 +364,12 @@ enter proc values m = record m {
   activations = m.activations ++ values ∷ [];
 }
 
+-- the way back to the caller, if there is one
 abbrev pub leave_frame : Linked → Frame → Option Linked
 leave_frame m (at_base proc activation) = None
 leave_frame m (in_call proc activation level place caller) = Some (record m { chain = caller; place = place })
 
+-- the procedure ends and its caller goes on
 abbrev pub leave : Linked → Option Linked
 leave m = leave_frame m (frame m)
 

@@ -6,6 +6,7 @@ use Rattle.icn_run.specs.Stacks.{Frames, flat, empty}
 use Rattle.icn_run.specs.Step as Step
 use Rattle.icn_run.specs.Step.{Program, Observed, Launch}
 
+-- a state of a run on flat stacks
 abbrev pub State : Type 0
 State = Step.State Frames Frames
 
@@ -13,6 +14,7 @@ State = Step.State Frames Frames
 abbrev pub step : Program → State → State
 step P state = Step.step flat P state
 
+-- so many steps on flat stacks
 abbrev pub steps : Program → ℕ → State → State
 steps P n state = Step.steps flat P n state
 

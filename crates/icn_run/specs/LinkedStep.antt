@@ -9,6 +9,7 @@ use Rattle.icn_run.specs.Chains.{Parked, Linked, linked, empty}
 use Rattle.icn_run.specs.Step as Step
 use Rattle.icn_run.specs.Step.{Program, Observed, Launch, instrs_of}
 
+-- a state of a run on linked marks
 abbrev pub State : Type 0
 State = Step.State Parked Linked
 
@@ -16,6 +17,7 @@ State = Step.State Parked Linked
 abbrev pub step : (ℕ → ℕ → Bool) → Program → State → State
 step repeats P state = Step.step (linked repeats) P state
 
+-- so many steps on linked marks
 abbrev pub steps : (ℕ → ℕ → Bool) → Program → ℕ → State → State
 steps repeats P n state = Step.steps (linked repeats) P n state
 
@@ -36,5 +38,6 @@ is_chfail_to place instr = false
 abbrev pub repeats_anywhere : ℕ → ℕ → Bool
 repeats_anywhere proc place = true
 
+-- the mark at this place of a procedure is one of a repeated alternation: a `chfail` names it
 abbrev pub repeats_of : Tables → ℕ → ℕ → Bool
 repeats_of tables proc place = list_any (is_chfail_to place) (instrs_of tables proc)

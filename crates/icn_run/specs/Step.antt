@@ -68,14 +68,17 @@ abbrev pub with_found : {A K M : Type 0} → Option A → (A → State K M) → 
 with_found None next = stuck
 with_found (Some found) next = next found
 
+-- both parts of a pair, one after the other
 abbrev pub on_pair : {A B C : Type 0} → (A → B → C) → A × B → C
 on_pair next pair = next pair.0 pair.1
 
 -- Ends and turns
 
+-- the run ends by an error, with its report on the error output
 abbrev pub errs : {K M : Type 0} → ℕ → Option Value → Store K → State K M
 errs n value st = over (Errored n) (with_errors (error_report st.names st.world.heap n value) st.outside)
 
+-- the run ends at the bound of turns, with its report on the error output
 abbrev pub at_bound : {K M : Type 0} → Store K → State K M
 at_bound st = over AtBound (with_errors bound_report st.outside)
 
@@ -98,6 +101,7 @@ here C m st = record { world = st.world; locals = C.locals m; outside = st.outsi
 abbrev pub with_world : {K : Type 0} → World → Store K → Store K
 with_world world st = record st { world = world }
 
+-- what an operation left of the world and the outside
 abbrev pub with_at : {K : Type 0} → Setting → Store K → Store K
 with_at seen st = record st { world = seen.world; outside = seen.outside }
 
@@ -122,6 +126,7 @@ abbrev pub with_values : {K M : Type 0} → Calls K M → List Item → M → St
 with_values C [] m st next = next []
 with_values C (item ∷ items) m st next = with_value C item m st (λ value. with_values C items m st (λ values. next (value ∷ values)))
 
+-- the item is pushed, and the code goes on
 abbrev pub push_item : {K M : Type 0} → Calls K M → Item → M → Store K → State K M
 push_item C item m st = running (C.push item m) st
 
@@ -139,9 +144,11 @@ list_made C values m st next = with_made C (list_row values (here C m st)) m st 
 
 -- The code
 
+-- the instructions of a procedure
 abbrev pub instrs_of : Tables → ℕ → List Instr
 instrs_of tables proc = option_map_or (λ (entry : Procedure). entry.instrs) (slice_get tables.procs proc) []
 
+-- how many statics a procedure has
 abbrev pub statics_of : Procedure → ℕ
 statics_of entry = entry.statics
 
@@ -155,6 +162,7 @@ statics_before tables proc = sum_by statics_of (take proc tables.procs)
 abbrev pub pair_now : {K : Type 0} → Store K → Pair
 pair_now st = record { subject = st.world.subject; position = st.world.position }
 
+-- the subject and the position are these
 abbrev pub with_pair : {K : Type 0} → Pair → Store K → Store K
 with_pair pair st = with_world (record st.world { subject = pair.subject; position = pair.position }) st
 
@@ -173,6 +181,7 @@ abbrev pub maybe_exchanged : {K M : Type 0} → Option (Pair × M) → M → Sto
 maybe_exchanged None m st next = next m st
 maybe_exchanged (Some swap) m st next = next swap.1 (with_pair swap.0 st)
 
+-- the pair that a scan had saved is the present one, if there was a scan
 abbrev pub swapped_back : {K M : Type 0} → Option (Pair × M) → Store K → Store K
 swapped_back None st = st
 swapped_back (Some swap) st = with_pair swap.0 st
@@ -183,21 +192,27 @@ all_left C m st = swapped_back (C.swap_oldest (pair_now st) m) st
 
 -- Co-expressions. Each number of a value is that of one; elsewhere there is an exhausted one.
 
+-- the co-expression of this number; where there is none, an exhausted one
 abbrev pub coexp_at : {K : Type 0} → ℕ → Store K → Coexp K
 coexp_at n st = slice_index_or st.coexps n (record { status = Exhausted; activator = zero; values = []; proc = zero; place = zero })
 
+-- whether a co-expression has begun, is active, waits or is exhausted
 abbrev pub status_of : {K : Type 0} → ℕ → Store K → Status K
 status_of n st = (coexp_at n st).status
 
+-- what activated a co-expression last
 abbrev pub activator_of : {K : Type 0} → ℕ → Store K → ℕ
 activator_of n st = (coexp_at n st).activator
 
+-- another co-expression under this number
 abbrev pub with_coexp : {K : Type 0} → ℕ → Coexp K → Store K → Store K
 with_coexp n coexp st = record st { coexps = slice_set st.coexps n coexp }
 
+-- the co-expression has another status
 abbrev pub with_status : {K : Type 0} → ℕ → Status K → Store K → Store K
 with_status n status st = let coexp = coexp_at n st in with_coexp n (record coexp { status = status }) st
 
+-- the co-expression has another activator
 abbrev pub with_activator : {K : Type 0} → ℕ → ℕ → Store K → Store K
 with_activator n activator st = let coexp = coexp_at n st in with_coexp n (record coexp { activator = activator }) st
 
@@ -205,6 +220,7 @@ with_activator n activator st = let coexp = coexp_at n st in with_coexp n (recor
 abbrev pub make_active : {K : Type 0} → ℕ → Store K → Store K
 make_active n st = with_status n Active (record st { active = n })
 
+-- a co-expression is entered with failure, by its status
 abbrev pub fail_by : {K M : Type 0} → Calls K M → Status K → ℕ → M → Store K → State K M
 fail_by C Fresh n m st = stuck
 fail_by C Active n m st = stuck
@@ -215,9 +231,11 @@ fail_by C Exhausted n m st = hopping m (record st { active = n })
 abbrev pub passed_failure : {K M : Type 0} → Calls K M → ℕ → M → Store K → State K M
 passed_failure C n m st = fail_by C (status_of n st) n m st
 
+-- a fresh co-expression begins
 abbrev pub begun_by : {K M : Type 0} → Calls K M → Coexp K → M → Store K → State K M
 begun_by C coexp m st = running (C.begin coexp.proc coexp.values coexp.place m) st
 
+-- a co-expression is entered with a value, by its status
 abbrev pub give_by : {K M : Type 0} → Calls K M → Status K → ℕ → Value → M → Store K → State K M
 give_by C Fresh n value m st = begun_by C (coexp_at n st) m (make_active n st)
 give_by C Active n value m st = stuck
@@ -250,9 +268,11 @@ abbrev pub is_main : ℕ → Bool
 is_main zero = true
 is_main (suc n) = false
 
+-- the expression of a co-expression runs itself, in no call
 abbrev pub is_create_body : {K M : Type 0} → Calls K M → M → Store K → Bool
 is_create_body C m st = C.is_base m && not (is_main st.active)
 
+-- one more co-expression, which has not begun
 abbrev pub with_new : {K : Type 0} → List Value → ℕ → ℕ → Store K → Store K
 with_new values proc place st = record st { coexps = st.coexps ++ record { status = Fresh; activator = zero; values = values; proc = proc; place = place } ∷ [] }
 
@@ -260,10 +280,12 @@ with_new values proc place st = record st { coexps = st.coexps ++ record { statu
 abbrev pub coexp_made : {K M : Type 0} → Calls K M → List Value → ℕ → ℕ → M → Store K → State K M
 coexp_made C values proc place m st = with_made C (coexpression_row (length values) (here C m st)) m st (λ value m st. push_item C (Val value) m (with_new values proc place st))
 
+-- a new co-expression, made as this one was
 abbrev pub refreshed_from : {K M : Type 0} → Calls K M → Option (Coexp K) → M → Store K → State K M
 refreshed_from C (Some coexp) m st = coexp_made C coexp.values coexp.proc coexp.place m st
 refreshed_from C None m st = stuck
 
+-- a copy of a co-expression that has not begun; `&main` has none
 abbrev pub refresh : {K M : Type 0} → Calls K M → Value → M → Store K → State K M
 refresh C (ACoexp zero) m st = errs 215 (Some (ACoexp zero)) st
 refresh C (ACoexp (suc n)) m st = refreshed_from C (slice_get st.coexps (suc n)) m st
@@ -273,11 +295,13 @@ refresh C value m st = errs 118 (Some value) st
 abbrev pub entered_by : {K M : Type 0} → Calls K M → ℕ → Value → M → Store K → State K M
 entered_by C n value m st = passed_value C n value m (with_activator n st.active (with_status st.active (Waiting (C.kept m)) st))
 
+-- an exhausted co-expression fails, the active one gives the value at once, and another one is entered
 abbrev pub entered_if : {K M : Type 0} → Calls K M → Bool → Status K → ℕ → Value → M → Store K → State K M
 entered_if C is_active Exhausted n value m st = failing m st
 entered_if C true status n value m st = push_item C (Val value) m st
 entered_if C false status n value m st = entered_by C n value m st
 
+-- a value is sent to a co-expression
 abbrev pub activation : {K M : Type 0} → Calls K M → Value → Value → M → Store K → State K M
 activation C value (ACoexp n) m st = entered_if C (n == st.active) (status_of n st) n value m st
 activation C value other m st = errs 118 (Some other) st
@@ -292,6 +316,7 @@ fill_nulls n values = take n (values ++ replicate n Null)
 abbrev pub enter_procedure : {K M : Type 0} → Calls K M → ℕ → Procedure → List Value → M → Store K → State K M
 enter_procedure C n entry parameters m st = running (C.enter n (parameters ++ replicate entry.locals Null) m) st
 
+-- values for all parameters; where the last one collects, it gets a list of those that are left
 abbrev pub collect_rest : {K M : Type 0} → Calls K M → Bool → ℕ → List Value → M → Store K → (List Value → M → Store K → State K M) → State K M
 collect_rest C false n arguments m st next = next (fill_nulls n arguments) m st
 collect_rest C true n arguments m st next = list_made C (drop (n - 1) arguments) m st (λ rest m st. next (fill_nulls (n - 1) arguments ++ rest ∷ []) m st)
@@ -300,6 +325,7 @@ collect_rest C true n arguments m st next = list_made C (drop (n - 1) arguments)
 abbrev pub with_parameters : {K M : Type 0} → Calls K M → Procedure → List Value → M → Store K → (List Value → M → Store K → State K M) → State K M
 with_parameters C entry arguments m st next = collect_rest C entry.collects entry.parameters arguments m st next
 
+-- a procedure is called, unless that is too deep
 abbrev pub called_if : {K M : Type 0} → Calls K M → Bool → ℕ → Procedure → List Value → M → Store K → State K M
 called_if C true n entry arguments m st = with_parameters C entry arguments m st (λ parameters m st. enter_procedure C n entry parameters m st)
 called_if C false n entry arguments m st = errs 301 None st
@@ -321,6 +347,7 @@ argument_at place items = None
 abbrev pub choose_item : ℤ → List Item → Option Item
 choose_item n items = argument_at (place_of n (length items)) items
 
+-- the item is pushed, or the code fails where there is none
 abbrev pub pushed_or_fails : {K M : Type 0} → Calls K M → Option Item → M → Store K → State K M
 pushed_or_fails C (Some item) m st = push_item C item m st
 pushed_or_fails C None m st = failing m st
@@ -337,23 +364,28 @@ pub data Callee : Type 0 where
   IsFunc : Func → Callee
   IsNothing : Callee
 
+-- a function that was found, or nothing
 abbrev pub func_callee : Option Func → Callee
 func_callee (Some func) = IsFunc func
 func_callee None = IsNothing
 
+-- the record constructor or the function of this number, counted behind procedures
 abbrev pub record_among : ℕ → ℕ → List RecordType → Callee
 record_among n kind [] = func_callee (func_of (suc n))
 record_among zero kind (entry ∷ entries) = IsRecord kind entry
 record_among (suc n) kind (entry ∷ entries) = record_among n (suc kind) entries
 
+-- what a number stands for: procedures come first, then records, then functions
 abbrev pub callee_among : ℕ → List Procedure → List RecordType → Callee
 callee_among n [] records = record_among n zero records
 callee_among zero (entry ∷ entries) records = IsProc entry
 callee_among (suc n) (entry ∷ entries) records = callee_among n entries records
 
+-- what a number stands for in a code
 abbrev pub callee_of : Tables → ℕ → Callee
 callee_of tables n = callee_among n tables.procs tables.records
 
+-- what a number stands for is called
 abbrev pub callee_called : {K M : Type 0} → Calls K M → Callee → ℕ → List Item → M → Store K → State K M
 callee_called C (IsProc entry) n items m st = with_values C items m st (λ arguments. call_procedure C n entry arguments m st)
 callee_called C (IsRecord kind entry) n items m st = with_values C items m st (λ arguments. construct_record C kind entry arguments m st)
@@ -370,14 +402,17 @@ abbrev pub invoked_with : {K M : Type 0} → Calls K M → Program → List Item
 invoked_with C P [] m st = stuck
 invoked_with C P (callee ∷ items) m st = with_value C callee m st (λ value. invoke_value C P value items m st)
 
+-- a value as an item
 abbrev pub plain : Value → Item
 plain value = Val value
 
+-- a value is called with the elements of a list or the fields of a record as arguments
 abbrev pub elements_called : {K M : Type 0} → Calls K M → Program → Value → Value → M → Store K → State K M
 elements_called C P callee (AList n) m st = invoke_value C P callee (map plain (list_at st.world.heap n).items) m st
 elements_called C P callee (ARecord n) m st = invoke_value C P callee (map plain (record_at st.world.heap n).fields) m st
 elements_called C P callee from m st = errs 126 (Some from) st
 
+-- a value is applied to the elements of another one
 abbrev pub applied_to_elements : {K M : Type 0} → Calls K M → Program → List Item → M → Store K → State K M
 applied_to_elements C P (callee ∷ from ∷ []) m st = with_value C callee m st (λ callee. with_value C from m st (λ from. elements_called C P callee from m st))
 applied_to_elements C P items m st = stuck
@@ -386,10 +421,12 @@ applied_to_elements C P items m st = stuck
 abbrev pub field_place : Tables → ℕ → ℕ → Option ℕ
 field_place tables field kind = option_and_then (λ (entry : RecordType). position (λ other. other == field) entry.fields) (slice_get tables.records kind)
 
+-- the variable of a field; a record without that field is error 207
 abbrev pub field_taken : {K M : Type 0} → Calls K M → Option ℕ → ℕ → M → Store K → State K M
 field_taken C (Some place) n m st = push_item C (Var (Whole (Field n place))) m st
 field_taken C None n m st = errs 207 (Some (ARecord n)) st
 
+-- the variable of a record's field; what is no record is error 107
 abbrev pub field_of : {K M : Type 0} → Calls K M → Program → ℕ → Value → M → Store K → State K M
 field_of C P field (ARecord n) m st = field_taken C (field_place P field (record_at st.world.heap n).kind) n m st
 field_of C P field value m st = errs 107 (Some value) st
@@ -404,6 +441,7 @@ with_result C item m st next = next item
 abbrev pub finish_run : {K M : Type 0} → Store K → State K M
 finish_run st = if is_main st.active then over Done st.outside else stuck
 
+-- the caller goes on; without one the run is over
 abbrev pub return_to : {K M : Type 0} → Option M → (M → Store K → State K M) → Store K → State K M
 return_to None next st = finish_run st
 return_to (Some caller) next st = next caller st
@@ -418,6 +456,7 @@ proc_fails C m st = return_to (C.leave m) failing (all_left C m st)
 abbrev pub without_mark : {K M : Type 0} → Calls K M → Program → M → Store K → State K M
 without_mark C P m st = if is_create_body C m st then exhaust_active C P m st else proc_fails C m st
 
+-- where failing goes on once a mark is dropped
 abbrev pub mark_dropped : {K M : Type 0} → Calls K M → Program → M → Store K → MarkDrop M → State K M
 mark_dropped C P m st NoMark = without_mark C P m st
 mark_dropped C P m st (Goes after) = running after st
@@ -432,6 +471,7 @@ resume_by C P (Scan pair) m st = failing m (with_pair pair st)
 resume_by C P Escan m st = with_exchange (C.swap_newest (pair_now st) m) failing st
 resume_by C P Proc m st = turn P st (λ st. maybe_exchanged (C.swap_oldest (pair_now st) m) m st running)
 
+-- the suspension is resumed, if there is one; else the mark is dropped
 abbrev pub resumed_or_dropped : {K M : Type 0} → Calls K M → Program → M → Store K → Option (Why × M) → State K M
 resumed_or_dropped C P m st None = mark_dropped C P m st (C.drop_mark m)
 resumed_or_dropped C P m st (Some back) = resume_by C P back.0 back.1 st
@@ -446,15 +486,19 @@ fails C P m st = resumed_or_dropped C P m st (C.resume m)
 abbrev pub members_of : Cset → List ℕ
 members_of set = filter (has set) (range_with_len 0 256)
 
+-- what keywords tell of the run: the level, the active co-expression and its activator
 abbrev pub standing_of : {K M : Type 0} → Calls K M → M → Store K → Standing
 standing_of C m st = record { level = C.level m; current = st.active; source = activator_of st.active st }
 
+-- it goes on with the operand on top
 abbrev pub with_popped : {K M : Type 0} → Calls K M → M → (Item → M → State K M) → State K M
 with_popped C m next = with_found (C.pop m) (on_pair next)
 
+-- it goes on with so many operands
 abbrev pub with_taken : {K M : Type 0} → Calls K M → ℕ → M → (List Item → M → State K M) → State K M
 with_taken C n m next = with_found (C.take n m) (on_pair next)
 
+-- it goes on without the innermost mark, and with the pair that its oldest open scan saved, if one is open
 abbrev pub unmark_then : {K M : Type 0} → Calls K M → M → Store K → (M → Store K → State K M) → State K M
 unmark_then C m st next = with_found (C.unmark m) (on_pair (λ outside pair. next outside (scans_left pair st)))
 
@@ -470,17 +514,21 @@ abbrev pub limited_result : {K M : Type 0} → Calls K M → Item → ℕ → M 
 limited_result C item zero m st = unmark_then C m st (push_item C item)
 limited_result C item (suc n) m st = with_found (C.suspend_mark m) (λ after. push_item C item after st)
 
+-- a scan begins: the present pair is saved, and the subject is this text
 abbrev pub scan_opened : {K M : Type 0} → Calls K M → Value → M → Store K → State K M
 scan_opened C (Text text) m st = running (C.suspend (Scan (pair_now st)) m) (with_pair (record { subject = text; position = 1 }) st)
 scan_opened C value m st = failing m st
 
+-- `initial` is passed where it was done; else it is done now, and that is noted
 abbrev pub initial_if : {K M : Type 0} → Calls K M → Bool → ℕ → M → Store K → State K M
 initial_if C true label m st = running (C.go label m) st
 initial_if C false label m st = running m (record st { begun = slice_set st.begun (C.proc m) true })
 
+-- `initial` is done once in a run
 abbrev pub initial_done : {K M : Type 0} → Calls K M → ℕ → M → Store K → State K M
 initial_done C label m st = initial_if C (slice_index_or st.begun (C.proc m) true) label m st
 
+-- a value is sent to a co-expression, both taken from operands
 abbrev pub activation_of : {K M : Type 0} → Calls K M → List Item → M → Store K → State K M
 activation_of C (value ∷ other ∷ []) m st = with_value C value m st (λ value. with_value C other m st (λ other. activation C value other m st))
 activation_of C items m st = stuck
@@ -495,6 +543,7 @@ abbrev pub field_applied : {K M : Type 0} → Calls K M → Program → ℕ → 
 field_applied C P k (item ∷ items) m st = with_value C item m st (λ value. field_of C P k value m st)
 field_applied C P k [] m st = stuck
 
+-- the expression of a co-expression has a result, which goes to its activator
 abbrev pub coexp_result : {K M : Type 0} → Calls K M → Program → M → Store K → State K M
 coexp_result C P m st = if is_create_body C m st
     then with_popped C m (λ item m. turn P st (λ st. with_value C item m st (λ value. result_given C value m st)))
@@ -547,6 +596,7 @@ instruction_at C P m = slice_get (instrs_of P (C.proc m)) (C.place m)
 
 -- Steps
 
+-- one step: the instruction that is due, failing, or passing failure on; what is over stays
 abbrev pub step : {K M : Type 0} → Calls K M → Program → State K M → State K M
 step C P (running m st) = with_found (instruction_at C P m) (λ instr. instruction C P instr (C.go (suc (C.place m)) m) st)
 step C P (failing m st) = fails C P m st
@@ -554,6 +604,7 @@ step C P (hopping m st) = hop C P m st
 step C P (over ending outside) = over ending outside
 step C P stuck = stuck
 
+-- so many steps
 abbrev pub steps : {K M : Type 0} → Calls K M → Program → ℕ → State K M → State K M
 steps C P n state = after_steps (step C P) n state
 
@@ -571,12 +622,15 @@ start_value tables (Starts.Procedure place) = ProcedureValue place
 start_value tables (Starts.Record place) = ProcedureValue (length tables.procs + place)
 start_value tables (Starts.Function func) = ProcedureValue (length tables.procs + length tables.records + pred (func_number func))
 
+-- the value that a global begins with
 abbrev pub global_value : Tables → GlobalEntry → Value
 global_value tables global = start_value tables global.start
 
+-- the values that all globals begin with
 abbrev pub first_globals : Tables → List Value
 first_globals tables = map (global_value tables) tables.globals
 
+-- how many statics all procedures have
 abbrev pub static_count : Tables → ℕ
 static_count tables = sum_by statics_of tables.procs
 
@@ -584,6 +638,7 @@ static_count tables = sum_by statics_of tables.procs
 abbrev pub proc_name : Tables → Procedure → List ℕ
 proc_name tables entry = slice_index_or tables.strings entry.name []
 
+-- the name of a record type
 abbrev pub record_name : Tables → RecordType → List ℕ
 record_name tables entry = slice_index_or tables.strings entry.name []
 
@@ -591,6 +646,7 @@ record_name tables entry = slice_index_or tables.strings entry.name []
 abbrev pub all_names : Tables → Names
 all_names tables = record { procedures = map (proc_name tables) tables.procs; records = map (record_name tables) tables.records }
 
+-- the store that a run begins with
 abbrev pub first_store : {K : Type 0} → Program → Launch → Store K
 first_store P launch = record {
   world = first_world launch.bounds (first_globals P) (static_count P);
@@ -607,6 +663,7 @@ abbrev pub procedure_at : Start → Option ℕ
 procedure_at (Starts.Procedure place) = Some place
 procedure_at start = None
 
+-- the procedure that the global `main` begins with, if there is one
 abbrev pub main_of : Tables → Option ℕ
 main_of tables = option_and_then (λ (global : GlobalEntry). procedure_at global.start) (find (λ global. bytes_eq (name_of tables.strings global) (codes "main")) tables.globals)
 
@@ -615,10 +672,12 @@ abbrev pub begun_if : {K M : Type 0} → Calls K M → Bool → ℕ → Procedur
 begun_if C true n entry arguments m st = with_parameters C entry arguments m st (λ parameters m st. running (C.begin n (parameters ++ replicate entry.locals Null) 0 m) st)
 begun_if C false n entry arguments m st = errs 301 None st
 
+-- `main` is called with the words of the launch; a program without it is error 117
 abbrev pub start_of : {K M : Type 0} → Calls K M → Program → List (List ℕ) → M → Store K → Option ℕ → State K M
 start_of C P words m st None = errs 117 None st
 start_of C P words m st (Some main) = with_found (slice_get P.procs main) (λ (entry : Procedure).
     with_made C (words_row words (here C m st)) m st (λ list m st. begun_if C (nat_le 1 st.world.heap.bounds.levels) main entry (list ∷ []) m st))
 
+-- where a run begins
 abbrev pub start : {K M : Type 0} → Calls K M → M → Program → Launch → State K M
 start C m P launch = start_of C P launch.words m (first_store P launch) (main_of P)
