@@ -20,11 +20,13 @@ pub record IsReady (names : Names) (world : World) (locals : List Val) : Type 0 
   pub live : All (IsLive (extent_of world.heap)) locals
 
 -- what was answered, and what it leaves, has a name and is of the world
-pub record IsReadyAnswer (names : Names) (world : World) (locals : List Val) (result : Result Outcome Halt) : Type 0 where
+pub record IsReadyAnswer (names : Names) (world : World) (locals : List Val)
+    (result : Result Outcome Halt) : Type 0 where
   pub named : AnswerNamed names world locals result
   pub live : IsLiveAnswer (reach_of world locals) result
   pub live_locals : All (IsLive (extent_of world.heap)) locals
 
 -- what is given, and what it leaves, has a name
 abbrev pub ComesNamed : Names → World → List Val → Outcome → Type 0
-ComesNamed names world locals outcome = OutcomeNamed names (outcome_in (extent_of world.heap) outcome (setting_of (outside_of []) world locals))
+ComesNamed names world locals outcome =
+    OutcomeNamed names (outcome_in (extent_of world.heap) outcome (setting_of (outside_of []) world locals))

@@ -61,7 +61,8 @@ pub fn push_applied<N: Names>(
     requires applicable { IsApplicable what (length items.now) }
     requires ready { IsReady (N.known names.now) w.old l.old.vals.items }
     requires items { All (IsLiveItem (reach_of w.old l.old.vals.items)) items.now }
-    requires items_named { All (ItemNamed (N.known names.now)) (map (item_in (extent_of w.old.heap)) items.now) }
+    requires items_named { All (ItemNamed (N.known names.now))
+        (map (item_in (extent_of w.old.heap)) items.now) }
     ensures { IfOk result (λ goes_on. IsTrue goes_on → IsReady (N.known names.now) w.new l.new.vals.items) }
 {
     let answer = first(w, l, names, streams, what, items);
@@ -79,7 +80,8 @@ fn first<N: Names>(
     requires applicable { IsApplicable what (length items.now) }
     requires ready { IsReady (N.known names.now) w.old l.old.vals.items }
     requires items { All (IsLiveItem (reach_of w.old l.old.vals.items)) items.now }
-    requires items_named { All (ItemNamed (N.known names.now)) (map (item_in (extent_of w.old.heap)) items.now) }
+    requires items_named { All (ItemNamed (N.known names.now))
+        (map (item_in (extent_of w.old.heap)) items.now) }
     ensures { IsReadyAnswer (N.known names.now) w.new l.new.vals.items result }
 {
     apply(

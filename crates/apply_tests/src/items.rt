@@ -26,7 +26,8 @@ pub fn items_of<N: Names>(
 ) -> Result<Vec<Item>, AllocError>
     requires { IsReady (N.known names.now) w.now l.now.vals.items }
     ensures live { IfOk result (λ items. All (IsLiveItem (reach_of w.now l.now.vals.items)) items.items) }
-    ensures named { IfOk result (λ items. All (ItemNamed (N.known names.now)) (map (item_in (extent_of w.now.heap)) items.items)) }
+    ensures named { IfOk result
+        (λ items. All (ItemNamed (N.known names.now)) (map (item_in (extent_of w.now.heap)) items.items)) }
 {
     let mut items = Vec::new(alloc);
     for word in words.split(' ') {
@@ -67,8 +68,10 @@ fn word_value<N: Names>(w: &World, _l: &Slots, _names: &N, place: usize) -> Val
 
 // The variable that a word names among so many globals and locals, if it does.
 fn variable(globals: usize, locals: usize, word: &[u8]) -> Option<VarRef>
-    ensures live { (reach : Reach) → reach.globals ≡ globals → reach.locals ≡ locals → IfSome result (IsLiveVariable reach) }
-    ensures named { (names : NamesData) (all : Extent) → IfSome result (λ variable. VariableNamed names (variable_in all variable)) }
+    ensures live { (reach : Reach) → reach.globals ≡ globals → reach.locals ≡ locals
+        → IfSome result (IsLiveVariable reach) }
+    ensures named { (names : NamesData) (all : Extent)
+        → IfSome result (λ variable. VariableNamed names (variable_in all variable)) }
 {
     if word == b"&subject".as_slice() {
         return Some(VarRef::Whole(Root::Keyword(KeywordVariable::Subject)));

@@ -16,7 +16,8 @@ use icn_simulation::same_ends;
 /// something is observed: it neither goes on for ever nor lacks anything on the way.
 pub fn programs_mean()
     ensures { (files : List (List Declaration)) (tables : Tables) (launch : Launch)
-        → IsLinked files tables → keeps_rules tables ≡ true → (seen : Observed) × FilesMean files launch seen }
+        → IsLinked files tables → keeps_rules tables ≡ true
+        → (seen : Observed) × FilesMean files launch seen }
 {
     joined_code_is_verified();
     runs_end();

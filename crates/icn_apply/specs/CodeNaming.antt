@@ -11,4 +11,7 @@ record_named tables entry = slice_index_or tables.strings entry.name []
 
 -- the names of the procedures and of the records
 abbrev pub names_of : Tables → Names
-names_of tables = record { procedures = map (procedure_named tables) tables.procs; records = map (record_named tables) tables.records }
+names_of tables = record {
+  procedures = map (procedure_named tables) tables.procs;
+  records = map (record_named tables) tables.records;
+}

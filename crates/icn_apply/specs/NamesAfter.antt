@@ -21,7 +21,8 @@ AnswerNamed names world locals (Ok outcome) =
 AnswerNamed names world locals (Err (Error number offending)) =
     OptionNamed names (option_map (value_in (extent_of world.heap)) offending)
     × SettingNamed names (setting_of (outside_of []) world locals)
-AnswerNamed names world locals (Err (Ends status)) = SettingNamed names (setting_of (outside_of []) world locals)
+AnswerNamed names world locals (Err (Ends status)) =
+    SettingNamed names (setting_of (outside_of []) world locals)
 AnswerNamed names world locals (Err ReadFault) = ⊤
 AnswerNamed names world locals (Err WriteFault) = ⊤
 AnswerNamed names world locals (Err NoMemory) = ⊤

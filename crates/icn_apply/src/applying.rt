@@ -49,10 +49,14 @@ pub fn apply<L: Locals, N: Names, I: Source, O: Sink, E: Sink>(
     requires locals { All (IsLive (extent_of w.old.heap)) (L.items l.old) }
     requires args { All (IsLiveItem (reach_of w.old (L.items l.old))) args.now }
     requires named { SettingNamed (N.known names.now) (setting_of (outside_of []) w.old (L.items l.old)) }
-    requires args_named { All (ItemNamed (N.known names.now)) (map (item_in (extent_of w.old.heap)) args.now) }
-    ensures applies { Applies (step_rows.apply (N.known names.now) (applied_of what) (map (item_in (extent_of w.old.heap)) args.now))
-        (call_state w.old (L.items l.old) (call_streams (I.left input.old) (I.faults input.old) (O.state out.old) (E.state err.old)))
-        (call_state w.new (L.items l.new) (call_streams (I.left input.new) (I.faults input.new) (O.state out.new) (E.state err.new))) result }
+    requires args_named { All (ItemNamed (N.known names.now))
+        (map (item_in (extent_of w.old.heap)) args.now) }
+    ensures applies { Applies (step_rows.apply (N.known names.now) (applied_of what)
+        (map (item_in (extent_of w.old.heap)) args.now))
+        (call_state w.old (L.items l.old)
+        (call_streams (I.left input.old) (I.faults input.old) (O.state out.old) (E.state err.old)))
+        (call_state w.new (L.items l.new)
+        (call_streams (I.left input.new) (I.faults input.new) (O.state out.new) (E.state err.new))) result }
     ensures named { AnswerNamed (N.known names.now) w.new (L.items l.new) result }
     ensures sized { AnswerKeepsSizes w.old w.new result }
 {
@@ -79,11 +83,14 @@ pub fn again<L: Locals, N: Names, I: Source, O: Sink, E: Sink>(
     requires named { SettingNamed (N.known names.now) (setting_of (outside_of []) w.old (L.items l.old)) }
     requires rest_named { ResidualNamed (N.known names.now) (residual_in (extent_of w.old.heap) rest) }
     ensures applies { Applies (rows.again (residual_in (extent_of w.old.heap) rest))
-        (call_state w.old (L.items l.old) (call_streams (I.left input.old) (I.faults input.old) (O.state out.old) (E.state err.old)))
-        (call_state w.new (L.items l.new) (call_streams (I.left input.new) (I.faults input.new) (O.state out.new) (E.state err.new))) result }
+        (call_state w.old (L.items l.old)
+        (call_streams (I.left input.old) (I.faults input.old) (O.state out.old) (E.state err.old)))
+        (call_state w.new (L.items l.new)
+        (call_streams (I.left input.new) (I.faults input.new) (O.state out.new) (E.state err.new))) result }
     ensures named { AnswerNamed (N.known names.now) w.new (L.items l.new) result }
     ensures sized { AnswerKeepsSizes w.old w.new result }
-    ensures memory { undoes_in_place (residual_in (extent_of w.old.heap) rest) ≡ true → IfErr result (λ halt. halt ≢ NoMemory) }
+    ensures memory { undoes_in_place (residual_in (extent_of w.old.heap) rest) ≡ true
+        → IfErr result (λ halt. halt ≢ NoMemory) }
 {
     resume(rest, w, l, buffer, input, out, err)
 }
@@ -101,9 +108,12 @@ fn resume<L: Locals, I: Source, O: Sink, E: Sink>(
     requires locals { All (IsLive (extent_of w.old.heap)) (L.items l.old) }
     requires rest { IsLiveResidual (reach_of w.old (L.items l.old)) rest }
     ensures applies { Applies (rows.again (residual_in (extent_of w.old.heap) rest))
-        (call_state w.old (L.items l.old) (call_streams (I.left input.old) (I.faults input.old) (O.state out.old) (E.state err.old)))
-        (call_state w.new (L.items l.new) (call_streams (I.left input.new) (I.faults input.new) (O.state out.new) (E.state err.new))) result }
-    ensures memory { undoes_in_place (residual_in (extent_of w.old.heap) rest) ≡ true → IfErr result (λ halt. halt ≢ NoMemory) }
+        (call_state w.old (L.items l.old)
+        (call_streams (I.left input.old) (I.faults input.old) (O.state out.old) (E.state err.old)))
+        (call_state w.new (L.items l.new)
+        (call_streams (I.left input.new) (I.faults input.new) (O.state out.new) (E.state err.new))) result }
+    ensures memory { undoes_in_place (residual_in (extent_of w.old.heap) rest) ≡ true
+        → IfErr result (λ halt. halt ≢ NoMemory) }
 {
     match rest {
         Residual::TableKeys { table, place } => Ok(key_again(w, l, table, place)),

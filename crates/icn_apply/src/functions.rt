@@ -39,10 +39,14 @@ pub fn apply_function<L: Locals, N: Names, I: Source, O: Sink, E: Sink>(
     requires locals { All (IsLive (extent_of w.old.heap)) (L.items l.now) }
     requires args { All (IsLiveItem (reach_of w.old (L.items l.now))) args.now }
     requires named { SettingNamed (N.known names.now) (setting_of (outside_of []) w.old (L.items l.now)) }
-    requires args_named { All (ItemNamed (N.known names.now)) (map (item_in (extent_of w.old.heap)) args.now) }
-    ensures applies { Applies (function_row (N.known names.now) func (map (item_in (extent_of w.old.heap)) args.now))
-        (call_state w.old (L.items l.now) (call_streams (I.left input.old) (I.faults input.old) (O.state out.old) (E.state err.old)))
-        (call_state w.new (L.items l.now) (call_streams (I.left input.new) (I.faults input.new) (O.state out.new) (E.state err.new))) result }
+    requires args_named { All (ItemNamed (N.known names.now))
+        (map (item_in (extent_of w.old.heap)) args.now) }
+    ensures applies { Applies (function_row (N.known names.now) func
+        (map (item_in (extent_of w.old.heap)) args.now))
+        (call_state w.old (L.items l.now)
+        (call_streams (I.left input.old) (I.faults input.old) (O.state out.old) (E.state err.old)))
+        (call_state w.new (L.items l.now)
+        (call_streams (I.left input.new) (I.faults input.new) (O.state out.new) (E.state err.new))) result }
     ensures named { AnswerNamed (N.known names.now) w.new (L.items l.now) result }
     ensures sized { AnswerKeepsSizes w.old w.new result }
 {
@@ -66,8 +70,10 @@ fn apply_scanning<L: Locals, N: Names>(
     requires locals { All (IsLive (extent_of w.old.heap)) (L.items l.now) }
     requires args { All (IsLiveItem (reach_of w.old (L.items l.now))) args.now }
     requires named { SettingNamed (N.known _names.now) (setting_of (outside_of []) w.old (L.items l.now)) }
-    requires args_named { All (ItemNamed (N.known _names.now)) (map (item_in (extent_of w.old.heap)) args.now) }
-    ensures applies { (handed : CallStreams) → Applies (function_row (N.known _names.now) func (map (item_in (extent_of w.old.heap)) args.now))
+    requires args_named { All (ItemNamed (N.known _names.now))
+        (map (item_in (extent_of w.old.heap)) args.now) }
+    ensures applies { (handed : CallStreams)
+        → Applies (function_row (N.known _names.now) func (map (item_in (extent_of w.old.heap)) args.now))
         (call_state w.old (L.items l.now) handed) (call_state w.new (L.items l.now) handed) result }
     ensures named { AnswerNamed (N.known _names.now) w.new (L.items l.now) result }
     ensures sized { AnswerKeepsSizes w.old w.new result }
@@ -88,8 +94,10 @@ fn apply_to_strings<L: Locals, N: Names>(
     requires locals { All (IsLive (extent_of w.old.heap)) (L.items l.now) }
     requires args { All (IsLiveItem (reach_of w.old (L.items l.now))) args.now }
     requires named { SettingNamed (N.known names.now) (setting_of (outside_of []) w.old (L.items l.now)) }
-    requires args_named { All (ItemNamed (N.known names.now)) (map (item_in (extent_of w.old.heap)) args.now) }
-    ensures applies { (handed : CallStreams) → Applies (function_row (N.known names.now) func (map (item_in (extent_of w.old.heap)) args.now))
+    requires args_named { All (ItemNamed (N.known names.now))
+        (map (item_in (extent_of w.old.heap)) args.now) }
+    ensures applies { (handed : CallStreams)
+        → Applies (function_row (N.known names.now) func (map (item_in (extent_of w.old.heap)) args.now))
         (call_state w.old (L.items l.now) handed) (call_state w.new (L.items l.now) handed) result }
     ensures named { AnswerNamed (N.known names.now) w.new (L.items l.now) result }
     ensures sized { AnswerKeepsSizes w.old w.new result }
@@ -110,8 +118,10 @@ fn apply_to_structures<L: Locals, N: Names>(
     requires locals { All (IsLive (extent_of w.old.heap)) (L.items l.now) }
     requires args { All (IsLiveItem (reach_of w.old (L.items l.now))) args.now }
     requires named { SettingNamed (N.known names.now) (setting_of (outside_of []) w.old (L.items l.now)) }
-    requires args_named { All (ItemNamed (N.known names.now)) (map (item_in (extent_of w.old.heap)) args.now) }
-    ensures applies { (handed : CallStreams) → Applies (function_row (N.known names.now) func (map (item_in (extent_of w.old.heap)) args.now))
+    requires args_named { All (ItemNamed (N.known names.now))
+        (map (item_in (extent_of w.old.heap)) args.now) }
+    ensures applies { (handed : CallStreams)
+        → Applies (function_row (N.known names.now) func (map (item_in (extent_of w.old.heap)) args.now))
         (call_state w.old (L.items l.now) handed) (call_state w.new (L.items l.now) handed) result }
     ensures named { AnswerNamed (N.known names.now) w.new (L.items l.now) result }
     ensures sized { AnswerKeepsSizes w.old w.new result }

@@ -20,7 +20,8 @@ use Rattle.icn_vars.specs.Stops.{StopsFinding, StopsPassing}
 -- locals after, whatever the outside.
 abbrev pub Answers : World → List Val → World → List Val → Row → Result Outcome Halt → Type 0
 Answers old locals new locals' row result =
-    (outside : Outside) → ComesToAnswer (extent_of new.heap) row (setting_of outside old locals) (setting_of outside new locals') result
+    (outside : Outside) → ComesToAnswer (extent_of new.heap) row (setting_of outside old locals)
+    (setting_of outside new locals') result
 
 -- A thing is found, shows as this, and the row goes on in the setting after it; or the row stops there. The
 -- extent is that of the setting after it.

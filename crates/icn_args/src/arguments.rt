@@ -32,7 +32,8 @@ pub fn is_null(val: Val) -> bool
 
 /// A value, or another one where it is null.
 pub fn value_or(default: Val, val: Val) -> Val
-    ensures value { (all : Extent) → value_in all result ≡ value_or (value_in all default) (value_in all val) }
+    ensures value { (all : Extent)
+        → value_in all result ≡ value_or (value_in all default) (value_in all val) }
     ensures live { (all : Extent) → IsLive all default → IsLive all val → IsLive all result }
 {
     match val {
@@ -47,7 +48,10 @@ pub fn values_of<L: Locals>(w: &World, l: &L, items: &[Item]) -> Result<Vec<Val>
     requires live { All (IsLiveItem (reach_of w.now (L.items l.now))) items.now }
     ensures live { IfOk result (λ vals. All (IsLive (extent_of w.now.heap)) vals.items) }
     ensures stops { IfErr result (IsLiveStop (extent_of w.now.heap)) }
-    ensures found { (outside : Outside) → Found (extent_of w.now.heap) (the_values (map (item_in (extent_of w.now.heap)) items.now)) (setting_of outside w.now (L.items l.now)) (setting_of outside w.now (L.items l.now)) (λ vals. map (value_in (extent_of w.now.heap)) vals.items) result }
+    ensures found { (outside : Outside)
+        → Found (extent_of w.now.heap) (the_values (map (item_in (extent_of w.now.heap)) items.now))
+        (setting_of outside w.now (L.items l.now)) (setting_of outside w.now (L.items l.now))
+        (λ vals. map (value_in (extent_of w.now.heap)) vals.items) result }
 {
     let mut vals = Vec::new(*w.globals.allocator());
     let mut rest = items;

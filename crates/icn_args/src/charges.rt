@@ -20,9 +20,12 @@ pub fn text_of<L: Locals>(w: &mut World, l: &L, val: Val) -> Result<Span, Stop>
     requires live { IsLive (extent_of w.old.heap) val }
     requires has { HasText (value_in (extent_of w.old.heap) val) }
     ensures live { IfOk result (IsText (extent_of w.new.heap)) }
-    ensures text { IfOk result (λ span. text_in (extent_of w.new.heap) span ≡ the_text (value_in (extent_of w.old.heap) val)) }
+    ensures text { IfOk result
+        (λ span. text_in (extent_of w.new.heap) span ≡ the_text (value_in (extent_of w.old.heap) val)) }
     ensures stops { IfErr result (IsLiveStop (extent_of w.new.heap)) }
-    ensures step { (outside : Outside) → Passed (extent_of w.new.heap) (costs_text (value_in (extent_of w.old.heap) val)) (setting_of outside w.old (L.items l.now)) (setting_of outside w.new (L.items l.now)) result }
+    ensures step { (outside : Outside)
+        → Passed (extent_of w.new.heap) (costs_text (value_in (extent_of w.old.heap) val))
+        (setting_of outside w.old (L.items l.now)) (setting_of outside w.new (L.items l.now)) result }
     ensures locals { All (IsLive (extent_of w.new.heap)) (L.items l.now) }
     ensures kept { KeepsItems (reach_of w.old (L.items l.now)) (reach_of w.new (L.items l.now)) }
 {
@@ -42,10 +45,14 @@ pub fn texts_of<L: Locals>(w: &mut World, l: &L, a: Val, b: Val) -> Result<(Span
     requires second_has { HasText (value_in (extent_of w.old.heap) b) }
     ensures first_live { IfOk result (λ two. IsText (extent_of w.new.heap) two.0) }
     ensures second_live { IfOk result (λ two. IsText (extent_of w.new.heap) two.1) }
-    ensures first_text { IfOk result (λ two. text_in (extent_of w.new.heap) two.0 ≡ the_text (value_in (extent_of w.old.heap) a)) }
-    ensures second_text { IfOk result (λ two. text_in (extent_of w.new.heap) two.1 ≡ the_text (value_in (extent_of w.old.heap) b)) }
+    ensures first_text { IfOk result
+        (λ two. text_in (extent_of w.new.heap) two.0 ≡ the_text (value_in (extent_of w.old.heap) a)) }
+    ensures second_text { IfOk result
+        (λ two. text_in (extent_of w.new.heap) two.1 ≡ the_text (value_in (extent_of w.old.heap) b)) }
     ensures stops { IfErr result (IsLiveStop (extent_of w.new.heap)) }
-    ensures step { (outside : Outside) → Passed (extent_of w.new.heap) (costs_texts (value_in (extent_of w.old.heap) a ∷ value_in (extent_of w.old.heap) b ∷ [])) (setting_of outside w.old (L.items l.now)) (setting_of outside w.new (L.items l.now)) result }
+    ensures step { (outside : Outside) → Passed (extent_of w.new.heap)
+        (costs_texts (value_in (extent_of w.old.heap) a ∷ value_in (extent_of w.old.heap) b ∷ []))
+        (setting_of outside w.old (L.items l.now)) (setting_of outside w.new (L.items l.now)) result }
     ensures locals { All (IsLive (extent_of w.new.heap)) (L.items l.now) }
     ensures kept { KeepsItems (reach_of w.old (L.items l.now)) (reach_of w.new (L.items l.now)) }
 {
@@ -61,7 +68,8 @@ pub fn build<L: Locals>(w: &mut World, l: &L, bytes: &[u8]) -> Result<Span, Stop
     ensures live { IfOk result (IsText (extent_of w.new.heap)) }
     ensures text { IfOk result (λ span. text_in (extent_of w.new.heap) span ≡ bytes.now) }
     ensures stops { IfErr result (IsLiveStop (extent_of w.new.heap)) }
-    ensures step { (outside : Outside) → Passed (extent_of w.new.heap) (costs_bytes (length bytes.now)) (setting_of outside w.old (L.items l.now)) (setting_of outside w.new (L.items l.now)) result }
+    ensures step { (outside : Outside) → Passed (extent_of w.new.heap) (costs_bytes (length bytes.now))
+        (setting_of outside w.old (L.items l.now)) (setting_of outside w.new (L.items l.now)) result }
     ensures locals { All (IsLive (extent_of w.new.heap)) (L.items l.now) }
     ensures kept { KeepsItems (reach_of w.old (L.items l.now)) (reach_of w.new (L.items l.now)) }
 {
@@ -75,9 +83,12 @@ pub fn join<L: Locals>(w: &mut World, l: &L, a: Span, b: Span) -> Result<Span, S
     requires first { IsText (extent_of w.old.heap) a }
     requires second { IsText (extent_of w.old.heap) b }
     ensures live { IfOk result (IsText (extent_of w.new.heap)) }
-    ensures text { IfOk result (λ span. text_in (extent_of w.new.heap) span ≡ text_in (extent_of w.old.heap) a ++ text_in (extent_of w.old.heap) b) }
+    ensures text { IfOk result (λ span. text_in (extent_of w.new.heap) span ≡ text_in (extent_of w.old.heap) a
+        ++ text_in (extent_of w.old.heap) b) }
     ensures stops { IfErr result (IsLiveStop (extent_of w.new.heap)) }
-    ensures step { (outside : Outside) → Passed (extent_of w.new.heap) (costs_bytes (length (text_in (extent_of w.old.heap) a ++ text_in (extent_of w.old.heap) b))) (setting_of outside w.old (L.items l.now)) (setting_of outside w.new (L.items l.now)) result }
+    ensures step { (outside : Outside) → Passed (extent_of w.new.heap)
+        (costs_bytes (length (text_in (extent_of w.old.heap) a ++ text_in (extent_of w.old.heap) b)))
+        (setting_of outside w.old (L.items l.now)) (setting_of outside w.new (L.items l.now)) result }
     ensures locals { All (IsLive (extent_of w.new.heap)) (L.items l.now) }
     ensures kept { KeepsItems (reach_of w.old (L.items l.now)) (reach_of w.new (L.items l.now)) }
 {

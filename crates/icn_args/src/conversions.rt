@@ -19,7 +19,8 @@ use icn_vars::Stop;
 /// The integer that a value is or converts to. The error is 101 about the value. It takes no memory.
 pub fn integer_of(heap: &Heap, val: Val) -> Result<i64, Stop>
     requires { IsLive (extent_of heap.now) val }
-    ensures found { (setting : Setting) → Found (extent_of heap.now) (integer (value_in (extent_of heap.now) val)) setting setting (λ (n : ℤ). n) result }
+    ensures found { (setting : Setting) → Found (extent_of heap.now)
+        (integer (value_in (extent_of heap.now) val)) setting setting (λ (n : ℤ). n) result }
     ensures stops { IfErr result (IsLiveStop (extent_of heap.now)) }
 {
     to_integer(heap, val).ok_or(Stop::Error(101, Some(val)))
@@ -28,7 +29,8 @@ pub fn integer_of(heap: &Heap, val: Val) -> Result<i64, Stop>
 /// The integer that a value is or converts to, as arithmetic wants it. The error is 102 about the value. It takes no memory.
 pub fn number_of(heap: &Heap, val: Val) -> Result<i64, Stop>
     requires { IsLive (extent_of heap.now) val }
-    ensures found { (setting : Setting) → Found (extent_of heap.now) (number (value_in (extent_of heap.now) val)) setting setting (λ (n : ℤ). n) result }
+    ensures found { (setting : Setting) → Found (extent_of heap.now)
+        (number (value_in (extent_of heap.now) val)) setting setting (λ (n : ℤ). n) result }
     ensures stops { IfErr result (IsLiveStop (extent_of heap.now)) }
 {
     to_integer(heap, val).ok_or(Stop::Error(102, Some(val)))
@@ -37,7 +39,8 @@ pub fn number_of(heap: &Heap, val: Val) -> Result<i64, Stop>
 /// The cset that a value is or converts to. The error is 104 about the value. It takes no memory.
 pub fn cset_of(heap: &Heap, val: Val) -> Result<Cset, Stop>
     requires { IsLive (extent_of heap.now) val }
-    ensures found { (setting : Setting) → Found (extent_of heap.now) (cset (value_in (extent_of heap.now) val)) setting setting members_of result }
+    ensures found { (setting : Setting) → Found (extent_of heap.now)
+        (cset (value_in (extent_of heap.now) val)) setting setting members_of result }
     ensures stops { IfErr result (IsLiveStop (extent_of heap.now)) }
 {
     to_cset(heap, val).ok_or(Stop::Error(104, Some(val)))
@@ -46,7 +49,8 @@ pub fn cset_of(heap: &Heap, val: Val) -> Result<Cset, Stop>
 /// That a value is or converts to a text. The error is 103 about the value. Nothing is made or charged yet: `text_of` does that,
 /// after all checks.
 pub fn check_text(val: Val) -> Result<(), Stop>
-    ensures found { (all : Extent) (setting : Setting) → Found all (string (value_in all val)) setting setting (λ done. the_text (value_in all val)) result }
+    ensures found { (all : Extent) (setting : Setting)
+        → Found all (string (value_in all val)) setting setting (λ done. the_text (value_in all val)) result }
     ensures stops { (all : Extent) → IsLive all val → IfErr result (IsLiveStop all) }
     ensures has { (all : Extent) → OnOk result (HasText (value_in all val)) }
 {
@@ -58,7 +62,8 @@ pub fn check_text(val: Val) -> Result<(), Stop>
 
 /// An integer at or above 0. The error is 205 about the value that it comes from.
 pub fn natural_of(n: i64, val: Val) -> Result<u64, Stop>
-    ensures found { (all : Extent) (setting : Setting) → Found all (natural n (value_in all val)) setting setting (λ n. n) result }
+    ensures found { (all : Extent) (setting : Setting)
+        → Found all (natural n (value_in all val)) setting setting (λ n. n) result }
     ensures stops { (all : Extent) → IsLive all val → IfErr result (IsLiveStop all) }
 {
     u64::try_from(n).map_err(|_| Stop::Error(205, Some(val)))
@@ -66,7 +71,8 @@ pub fn natural_of(n: i64, val: Val) -> Result<u64, Stop>
 
 /// What an operation on integers gives, or 201, 202 or 203 where it gives nothing.
 pub fn computed(given: Result<i64, Arith>) -> Result<i64, Stop>
-    ensures found { (all : Extent) (setting : Setting) → Found all (computed given) setting setting (λ (n : ℤ). n) result }
+    ensures found { (all : Extent) (setting : Setting)
+        → Found all (computed given) setting setting (λ (n : ℤ). n) result }
     ensures stops { (all : Extent) → IfErr result (IsLiveStop all) }
 {
     match given {

@@ -23,7 +23,8 @@ pub enum Keeper {
 
 /// The file that a value is. The error is 105 about the value.
 pub fn file_of(val: Val) -> Result<File, Stop>
-    ensures found { (all : Extent) (setting : Setting) → Found all (file (value_in all val)) setting setting file_of result }
+    ensures found { (all : Extent) (setting : Setting)
+        → Found all (file (value_in all val)) setting setting file_of result }
     ensures stops { (all : Extent) → IsLive all val → IfErr result (IsLiveStop all) }
 {
     match val {
@@ -34,7 +35,8 @@ pub fn file_of(val: Val) -> Result<File, Stop>
 
 /// The number of the list that a value is. The error is 108 about the value.
 pub fn list_of(val: Val) -> Result<u32, Stop>
-    ensures found { (all : Extent) (setting : Setting) → Found all (list (value_in all val)) setting setting (λ (id : ℕ). id) result }
+    ensures found { (all : Extent) (setting : Setting)
+        → Found all (list (value_in all val)) setting setting (λ (id : ℕ). id) result }
     ensures live { (all : Extent) → IsLive all val → IfOk result (λ id. IsLive all (List id)) }
     ensures stops { (all : Extent) → IsLive all val → IfErr result (IsLiveStop all) }
 {
@@ -46,7 +48,8 @@ pub fn list_of(val: Val) -> Result<u32, Stop>
 
 /// The number of the table that a value is. The error is 124 about the value.
 pub fn table_of(val: Val) -> Result<u32, Stop>
-    ensures found { (all : Extent) (setting : Setting) → Found all (table (value_in all val)) setting setting (λ (id : ℕ). id) result }
+    ensures found { (all : Extent) (setting : Setting)
+        → Found all (table (value_in all val)) setting setting (λ (id : ℕ). id) result }
     ensures live { (all : Extent) → IsLive all val → IfOk result (λ id. IsLive all (Table id)) }
     ensures stops { (all : Extent) → IsLive all val → IfErr result (IsLiveStop all) }
 {
@@ -58,7 +61,8 @@ pub fn table_of(val: Val) -> Result<u32, Stop>
 
 /// The set or the table that a value is. The error is 122 about the value.
 pub fn keeper_of(val: Val) -> Result<Keeper, Stop>
-    ensures found { (all : Extent) (setting : Setting) → Found all (keeper (value_in all val)) setting setting keeper_in result }
+    ensures found { (all : Extent) (setting : Setting)
+        → Found all (keeper (value_in all val)) setting setting keeper_in result }
     ensures live { (all : Extent) → IsLive all val → IfOk result (IsLiveKeeper all) }
     ensures stops { (all : Extent) → IsLive all val → IfErr result (IsLiveStop all) }
 {

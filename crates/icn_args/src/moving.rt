@@ -31,7 +31,8 @@ pub fn tab_to<L: Locals>(w: &mut World, l: &L, place: u64) -> Outcome
     requires locals { All (IsLive (extent_of w.old.heap)) (L.items l.now) }
     requires low { 1 ≤ place }
     requires high { place ≤ length (text_in (extent_of w.old.heap) w.old.pair.subject) + 1 }
-    ensures row { (outside : Outside) → tabs_to place (setting_of outside w.old (L.items l.now)) ≡ outcome_in (extent_of w.new.heap) result (setting_of outside w.new (L.items l.now)) }
+    ensures row { (outside : Outside) → tabs_to place (setting_of outside w.old (L.items l.now))
+        ≡ outcome_in (extent_of w.new.heap) result (setting_of outside w.new (L.items l.now)) }
     ensures live { IsLiveOutcome (reach_of w.new (L.items l.now)) result }
     ensures locals { All (IsLive (extent_of w.new.heap)) (L.items l.now) }
     ensures kept { KeepsItems (reach_of w.old (L.items l.now)) (reach_of w.new (L.items l.now)) }

@@ -19,7 +19,10 @@ pub fn new_list<L: Locals>(w: &mut World, l: &L, items: &[Val]) -> Result<Val, S
     requires items { All (IsLive (extent_of w.old.heap)) items.now }
     ensures live { IfOk result (IsLive (extent_of w.new.heap)) }
     ensures stops { IfErr result (IsLiveStop (extent_of w.new.heap)) }
-    ensures found { (outside : Outside) → Found (extent_of w.new.heap) (new_list_of (map (value_in (extent_of w.old.heap)) items.now)) (setting_of outside w.old (L.items l.now)) (setting_of outside w.new (L.items l.now)) (value_in (extent_of w.new.heap)) result }
+    ensures found { (outside : Outside)
+        → Found (extent_of w.new.heap) (new_list_of (map (value_in (extent_of w.old.heap)) items.now))
+        (setting_of outside w.old (L.items l.now)) (setting_of outside w.new (L.items l.now))
+        (value_in (extent_of w.new.heap)) result }
     ensures locals { All (IsLive (extent_of w.new.heap)) (L.items l.now) }
     ensures kept { KeepsItems (reach_of w.old (L.items l.now)) (reach_of w.new (L.items l.now)) }
 {

@@ -30,24 +30,34 @@ values_for n vals = take n (vals ++ replicate n Null)
 
 -- what a number names: a procedure, the constructor of a kind of records, a function, or nothing
 abbrev pub IsCallee : Tables → ℕ → Callee → Type 0
-IsCallee tables n Callees.Proc = (entry : Proc) × ((slice_get tables.procs n ≡ Some entry) × (callee_of tables n ≡ code.IsProc entry))
-IsCallee tables n (Callees.Rec kind) = (entry : RecordType) × ((slice_get tables.records kind ≡ Some entry) × (callee_of tables n ≡ code.IsRecord kind entry))
+IsCallee tables n Callees.Proc =
+    (entry : Proc) × ((slice_get tables.procs n ≡ Some entry) × (callee_of tables n ≡ code.IsProc entry))
+IsCallee tables n (Callees.Rec kind) = (entry : RecordType)
+    × ((slice_get tables.records kind ≡ Some entry) × (callee_of tables n ≡ code.IsRecord kind entry))
 IsCallee tables n (Callees.Func func) = callee_of tables n ≡ code.IsFunc func
 IsCallee tables n Callees.Nothing = callee_of tables n ≡ code.IsNothing
 
 -- what comes of arguments that become parameters, of which the last one may collect
-abbrev pub with_parameters_in : Bool → ℕ → World → FlatStack → List Val → Store Frames → (List Value → Frames → Store Frames → State Frames Frames) → State Frames Frames
-with_parameters_in collects count w m vals st next = collect_rest flat collects count (map (value_in (extent_of w.heap)) vals) (stack_in (extent_of w.heap) m) st next
+abbrev pub with_parameters_in : Bool → ℕ → World → FlatStack → List Val → Store Frames
+    → (List Value → Frames → Store Frames → State Frames Frames) → State Frames Frames
+with_parameters_in collects count w m vals st next = collect_rest flat collects count
+    (map (value_in (extent_of w.heap)) vals) (stack_in (extent_of w.heap) m) st next
 
 -- Arguments become parameters, in the world after it, where the stack is the same, or why they do not.
-abbrev pub FindsParameters : {A : Type 0} → Bool → ℕ → World → FlatStack → List Val → World → List Val → Result A Stop → Type 0
-FindsParameters collects count w m vals v parameters result = (st : Store Frames) (next : List Value → Frames → Store Frames → State Frames Frames) → st.world ≡ world_of w
-    → MatchResult result (λ _. with_parameters_in collects count w m vals st next ≡ next (map (value_in (extent_of v.heap)) parameters) (stack_in (extent_of v.heap) m) (with_world (world_of v) st))
+abbrev pub FindsParameters : {A : Type 0} → Bool → ℕ → World → FlatStack → List Val → World → List Val
+    → Result A Stop → Type 0
+FindsParameters collects count w m vals v parameters result =
+    (st : Store Frames) (next : List Value → Frames → Store Frames → State Frames Frames)
+    → st.world ≡ world_of w
+    → MatchResult result (λ _. with_parameters_in collects count w m vals st next
+    ≡ next (map (value_in (extent_of v.heap)) parameters) (stack_in (extent_of v.heap) m)
+    (with_world (world_of v) st))
     (λ stop. HaltsWith (with_parameters_in collects count w m vals st next) st v (halt_of stop))
 
 -- how many fields the records of a kind have
 abbrev pub field_count : Tables → ℕ → ℕ
-field_count tables kind = option_map_or (λ (entry : RecordType). length entry.fields) (slice_get tables.records kind) 0
+field_count tables kind =
+    option_map_or (λ (entry : RecordType). length entry.fields) (slice_get tables.records kind) 0
 
 -- the function that is called, where one is
 abbrev pub function_callee : code.Callee → Option Func

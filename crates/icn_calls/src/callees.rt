@@ -72,7 +72,9 @@ pub fn callee_of(code: &Code, number: u32) -> Callee
 /// The built-in function that a value names, where it names one. It takes no memory.
 pub fn function_of(code: &Code, callee: Val) -> Option<Func>
     ensures function { result ≡ function_in (tables_of code.now) callee }
-    ensures invoked { IfSome result (λ func. (all : Extent) (items : List Item) (m : Frames) (st : Store Frames) → invoke_value calls (tables_of code.now) (value_in all callee) items m st ≡ outcome calls (apply st.names (Function func) items (here calls m st)) m st) }
+    ensures invoked { IfSome result (λ func. (all : Extent) (items : List Item) (m : Frames)
+        (st : Store Frames) → invoke_value calls (tables_of code.now) (value_in all callee) items m st
+        ≡ outcome calls (apply st.names (Function func) items (here calls m st)) m st) }
 {
     let Val::Proc(number) = callee else {
         return None;

@@ -65,7 +65,8 @@ fn collect<K: Stack<Cell> + Drop>(
     ensures stops { IfErr result (IsLiveStop (extent_of world.new.heap)) }
     ensures kept { KeepsItems (reach_of world.old []) (reach_of world.new []) }
     ensures counts { OnOk result (KeepsCounts world.old world.new) }
-    ensures step { FindsParameters true count world.old frames.old.flat vals.old.items world.new vals.new.items result }
+    ensures step { FindsParameters true count world.old frames.old.flat vals.old.items world.new
+        vals.new.items result }
 {
     let list = list_of(frames, world, from_place(vals, count - 1))?;
     fit(vals, count - 1)?;
@@ -92,7 +93,8 @@ pub fn take_parameters<K: Stack<Cell> + Drop>(
     ensures stops { IfErr result (IsLiveStop (extent_of world.new.heap)) }
     ensures kept { KeepsItems (reach_of world.old []) (reach_of world.new []) }
     ensures counts { OnOk result (KeepsCounts world.old world.new) }
-    ensures step { FindsParameters collects count world.old frames.old.flat vals.old.items world.new vals.new.items result }
+    ensures step { FindsParameters collects count world.old frames.old.flat vals.old.items world.new
+        vals.new.items result }
 {
     if collects {
         return collect(frames, world, vals, count);
@@ -110,7 +112,8 @@ fn enter<K: Stack<Cell> + Drop>(
     locals: u32,
 ) -> Result<(), AllocError>
     requires { flat.level frames.old.flat + 1 < 2 ^ 64 }
-    ensures { OnOk result (frames.new.flat ≡ flat.enter number (parameters.old.items ++ replicate locals Null) 0 frames.old.flat) }
+    ensures { OnOk result (frames.new.flat
+        ≡ flat.enter number (parameters.old.items ++ replicate locals Null) 0 frames.old.flat) }
 {
     add_nulls(parameters, locals)?;
     frames.enter(number, parameters, 0)?;
@@ -133,8 +136,14 @@ pub fn call_procedure<K: Stack<Cell> + Drop>(
     requires bounds { (heap_of world.old.heap).bounds ≡ limits_of limits.now }
     requires stack { (tables : Tables) × IsLiveStack tables (reach_of world.old []) frames.old.flat }
     requires vals { All (IsLive (extent_of world.old.heap)) vals.old.items }
-    ensures step { (entry : Proc) → slice_get (tables_of code.now).procs number ≡ Some entry → (st : Store FramesRead) → st.world ≡ world_of world.old → MatchResult result (λ _. RunsWith (call_procedure calls number entry (map (value_in (extent_of world.old.heap)) vals.old.items) (stack_in (extent_of world.old.heap) frames.old.flat) st) st world.new frames.new.flat) (HaltsWith (call_procedure calls number entry (map (value_in (extent_of world.old.heap)) vals.old.items) (stack_in (extent_of world.old.heap) frames.old.flat) st) st world.new) }
-    ensures live { IsLiveStack (tables_of code.now) (reach_of world.old []) frames.old.flat → OnOk result (IsLiveStack (tables_of code.now) (reach_of world.new []) frames.new.flat) }
+    ensures step { (entry : Proc) → slice_get (tables_of code.now).procs number ≡ Some entry
+        → (st : Store FramesRead) → st.world ≡ world_of world.old → MatchResult result (λ _.
+        RunsWith (call_procedure calls number entry (map (value_in (extent_of world.old.heap)) vals.old.items)
+        (stack_in (extent_of world.old.heap) frames.old.flat) st) st world.new frames.new.flat)
+        (HaltsWith (call_procedure calls number entry (map (value_in (extent_of world.old.heap))
+        vals.old.items) (stack_in (extent_of world.old.heap) frames.old.flat) st) st world.new) }
+    ensures live { IsLiveStack (tables_of code.now) (reach_of world.old []) frames.old.flat
+        → OnOk result (IsLiveStack (tables_of code.now) (reach_of world.new []) frames.new.flat) }
     ensures halt { IfErr result (IsLiveHalt (reach_of world.new [])) }
     ensures kept { KeepsItems (reach_of world.old []) (reach_of world.new []) }
     ensures counts { OnOk result (KeepsCounts world.old world.new) }

@@ -42,7 +42,8 @@ pub fn record_of<K: Stack<Cell> + Drop>(
     ensures stops { IfErr result (IsLiveStop (extent_of world.new.heap)) }
     ensures kept { KeepsItems (reach_of world.old []) (reach_of world.new []) }
     ensures counts { OnOk result (KeepsCounts world.old world.new) }
-    ensures made { MakesValue (record_row kind (map (value_in (extent_of world.old.heap)) fields.now)) world.old frames.old.flat world.new result }
+    ensures made { MakesValue (record_row kind (map (value_in (extent_of world.old.heap)) fields.now))
+        world.old frames.old.flat world.new result }
 {
     frames.local_count();
     let activation = Activation { frames };
@@ -52,7 +53,8 @@ pub fn record_of<K: Stack<Cell> + Drop>(
 // How many fields a kind has, which must be there.
 fn field_count(code: &Code, kind: u32) -> usize
     requires { kind < length (tables_of code.now).records }
-    ensures { (entry : RecordType) → slice_get (tables_of code.now).records kind ≡ Some entry → result ≡ length entry.fields }
+    ensures { (entry : RecordType) → slice_get (tables_of code.now).records kind ≡ Some entry
+        → result ≡ length entry.fields }
 {
     code.records[kind as usize].fields.as_slice().len()
 }
@@ -79,8 +81,14 @@ pub fn construct<K: Stack<Cell> + Drop>(
     requires there { kind < length (tables_of code.now).records }
     requires stack { (tables : Tables) × IsLiveStack tables (reach_of world.old []) frames.old.flat }
     requires vals { All (IsLive (extent_of world.old.heap)) vals.old.items }
-    ensures step { (entry : RecordType) → slice_get (tables_of code.now).records kind ≡ Some entry → (st : Store FramesRead) → st.world ≡ world_of world.old → MatchResult result (λ _. RunsWith (construct_record calls kind entry (map (value_in (extent_of world.old.heap)) vals.old.items) (stack_in (extent_of world.old.heap) frames.old.flat) st) st world.new frames.new.flat) (HaltsWith (construct_record calls kind entry (map (value_in (extent_of world.old.heap)) vals.old.items) (stack_in (extent_of world.old.heap) frames.old.flat) st) st world.new) }
-    ensures live { (tables : Tables) → IsLiveStack tables (reach_of world.old []) frames.old.flat → OnOk result (IsLiveStack tables (reach_of world.new []) frames.new.flat) }
+    ensures step { (entry : RecordType) → slice_get (tables_of code.now).records kind ≡ Some entry
+        → (st : Store FramesRead) → st.world ≡ world_of world.old → MatchResult result (λ _.
+        RunsWith (construct_record calls kind entry (map (value_in (extent_of world.old.heap)) vals.old.items)
+        (stack_in (extent_of world.old.heap) frames.old.flat) st) st world.new frames.new.flat)
+        (HaltsWith (construct_record calls kind entry (map (value_in (extent_of world.old.heap))
+        vals.old.items) (stack_in (extent_of world.old.heap) frames.old.flat) st) st world.new) }
+    ensures live { (tables : Tables) → IsLiveStack tables (reach_of world.old []) frames.old.flat
+        → OnOk result (IsLiveStack tables (reach_of world.new []) frames.new.flat) }
     ensures halt { IfErr result (IsLiveHalt (reach_of world.new [])) }
     ensures kept { KeepsItems (reach_of world.old []) (reach_of world.new []) }
     ensures counts { OnOk result (KeepsCounts world.old world.new) }

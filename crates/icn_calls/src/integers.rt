@@ -56,7 +56,8 @@ fn item_at(items: &[Item], place: usize) -> Option<Item>
 /// The argument of a number, from the left from 1 on or from the right from -1 on, where it is there. It takes no memory.
 pub fn chosen(items: &[Item], n: i64) -> Option<Item>
     requires { length items.now < 2 ^ 63 }
-    ensures item { (all : Extent) → option_map (item_in all) result ≡ choose_item n (map (item_in all) items.now) }
+    ensures item { (all : Extent)
+        → option_map (item_in all) result ≡ choose_item n (map (item_in all) items.now) }
     ensures live { (reach : Reach) → All (IsLiveItem reach) items.now → IfSome result (IsLiveItem reach) }
 {
     let Some(place) = place_of(n, items.len() as u64) else {
@@ -76,9 +77,17 @@ pub fn call_integer<K: Stack<Cell> + Drop>(
 ) -> Result<Stage, Halt>
     requires few { length items.now < 2 ^ 63 }
     requires callee { IsLive (extent_of world.now.heap) callee }
-    requires items { All (IsLiveItem (with_locals (flat.local_count frames.old.flat) (reach_of world.now []))) items.now }
-    ensures step { (st : Store FramesRead) → st.world ≡ world_of world.now → MatchResult result (StandsWith (integer_called calls (value_in (extent_of world.now.heap) callee) (number_of (value_in (extent_of world.now.heap) callee)) (map (item_in (extent_of world.now.heap)) items.now) (stack_in (extent_of world.now.heap) frames.old.flat) st) st world.now frames.new.flat) (HaltsWith (integer_called calls (value_in (extent_of world.now.heap) callee) (number_of (value_in (extent_of world.now.heap) callee)) (map (item_in (extent_of world.now.heap)) items.now) (stack_in (extent_of world.now.heap) frames.old.flat) st) st world.now) }
-    ensures live { (tables : Tables) → IsLiveStack tables (reach_of world.now []) frames.old.flat → OnOk result (IsLiveStack tables (reach_of world.now []) frames.new.flat) }
+    requires items { All (IsLiveItem (with_locals (flat.local_count frames.old.flat) (reach_of world.now [])))
+        items.now }
+    ensures step { (st : Store FramesRead) → st.world ≡ world_of world.now
+        → MatchResult result (StandsWith (integer_called calls (value_in (extent_of world.now.heap) callee)
+        (number_of (value_in (extent_of world.now.heap) callee)) (map (item_in (extent_of world.now.heap))
+        items.now) (stack_in (extent_of world.now.heap) frames.old.flat) st) st world.now frames.new.flat)
+        (HaltsWith (integer_called calls (value_in (extent_of world.now.heap) callee)
+        (number_of (value_in (extent_of world.now.heap) callee)) (map (item_in (extent_of world.now.heap))
+        items.now) (stack_in (extent_of world.now.heap) frames.old.flat) st) st world.now) }
+    ensures live { (tables : Tables) → IsLiveStack tables (reach_of world.now []) frames.old.flat
+        → OnOk result (IsLiveStack tables (reach_of world.now []) frames.new.flat) }
     ensures halt { IfErr result (IsLiveHalt (reach_of world.now [])) }
     ensures going { IfOk result IsGoing }
 {

@@ -42,9 +42,17 @@ fn call_with<K: Stack<Cell> + Drop>(
     requires there { number < length (tables_of code.now).procs }
     requires bounds { (heap_of world.old.heap).bounds ≡ limits_of limits.now }
     requires stack { (tables : Tables) × IsLiveStack tables (reach_of world.old []) frames.old.flat }
-    requires items { All (IsLiveItem (with_locals (flat.local_count frames.old.flat) (reach_of world.old []))) items.now }
-    ensures step { (entry : Proc) → slice_get (tables_of code.now).procs number ≡ Some entry → (st : Store FramesRead) → st.world ≡ world_of world.old → MatchResult result (StandsWith (with_values_in world.old frames.old.flat items.now st (λ values. call_procedure calls number entry values (stack_in (extent_of world.old.heap) frames.old.flat) st)) st world.new frames.new.flat) (HaltsWith (with_values_in world.old frames.old.flat items.now st (λ values. call_procedure calls number entry values (stack_in (extent_of world.old.heap) frames.old.flat) st)) st world.new) }
-    ensures live { IsLiveStack (tables_of code.now) (reach_of world.old []) frames.old.flat → OnOk result (IsLiveStack (tables_of code.now) (reach_of world.new []) frames.new.flat) }
+    requires items { All (IsLiveItem (with_locals (flat.local_count frames.old.flat) (reach_of world.old [])))
+        items.now }
+    ensures step { (entry : Proc) → slice_get (tables_of code.now).procs number ≡ Some entry
+        → (st : Store FramesRead) → st.world ≡ world_of world.old
+        → MatchResult result (StandsWith (with_values_in world.old frames.old.flat items.now st (λ values.
+        call_procedure calls number entry values (stack_in (extent_of world.old.heap) frames.old.flat) st))
+        st world.new frames.new.flat)
+        (HaltsWith (with_values_in world.old frames.old.flat items.now st (λ values. call_procedure calls
+        number entry values (stack_in (extent_of world.old.heap) frames.old.flat) st)) st world.new) }
+    ensures live { IsLiveStack (tables_of code.now) (reach_of world.old []) frames.old.flat
+        → OnOk result (IsLiveStack (tables_of code.now) (reach_of world.new []) frames.new.flat) }
     ensures halt { IfErr result (IsLiveHalt (reach_of world.new [])) }
     ensures going { IfOk result IsGoing }
     ensures kept { KeepsItems (reach_of world.old []) (reach_of world.new []) }
@@ -69,9 +77,17 @@ fn construct_with<K: Stack<Cell> + Drop>(
 ) -> Result<Stage, Halt>
     requires there { kind < length (tables_of code.now).records }
     requires stack { (tables : Tables) × IsLiveStack tables (reach_of world.old []) frames.old.flat }
-    requires items { All (IsLiveItem (with_locals (flat.local_count frames.old.flat) (reach_of world.old []))) items.now }
-    ensures step { (entry : RecordType) → slice_get (tables_of code.now).records kind ≡ Some entry → (st : Store FramesRead) → st.world ≡ world_of world.old → MatchResult result (StandsWith (with_values_in world.old frames.old.flat items.now st (λ values. construct_record calls kind entry values (stack_in (extent_of world.old.heap) frames.old.flat) st)) st world.new frames.new.flat) (HaltsWith (with_values_in world.old frames.old.flat items.now st (λ values. construct_record calls kind entry values (stack_in (extent_of world.old.heap) frames.old.flat) st)) st world.new) }
-    ensures live { (tables : Tables) → IsLiveStack tables (reach_of world.old []) frames.old.flat → OnOk result (IsLiveStack tables (reach_of world.new []) frames.new.flat) }
+    requires items { All (IsLiveItem (with_locals (flat.local_count frames.old.flat) (reach_of world.old [])))
+        items.now }
+    ensures step { (entry : RecordType) → slice_get (tables_of code.now).records kind ≡ Some entry
+        → (st : Store FramesRead) → st.world ≡ world_of world.old
+        → MatchResult result (StandsWith (with_values_in world.old frames.old.flat items.now st (λ values.
+        construct_record calls kind entry values (stack_in (extent_of world.old.heap) frames.old.flat) st))
+        st world.new frames.new.flat)
+        (HaltsWith (with_values_in world.old frames.old.flat items.now st (λ values. construct_record calls
+        kind entry values (stack_in (extent_of world.old.heap) frames.old.flat) st)) st world.new) }
+    ensures live { (tables : Tables) → IsLiveStack tables (reach_of world.old []) frames.old.flat
+        → OnOk result (IsLiveStack tables (reach_of world.new []) frames.new.flat) }
     ensures halt { IfErr result (IsLiveHalt (reach_of world.new [])) }
     ensures going { IfOk result IsGoing }
     ensures kept { KeepsItems (reach_of world.old []) (reach_of world.new []) }
@@ -103,9 +119,17 @@ pub fn invoke<K: Stack<Cell> + Drop>(
     requires bounds { (heap_of world.old.heap).bounds ≡ limits_of limits.now }
     requires stack { (tables : Tables) × IsLiveStack tables (reach_of world.old []) frames.old.flat }
     requires callee { IsLive (extent_of world.old.heap) callee }
-    requires items { All (IsLiveItem (with_locals (flat.local_count frames.old.flat) (reach_of world.old []))) items.now }
-    ensures step { (st : Store FramesRead) → st.world ≡ world_of world.old → MatchResult result (StandsWith (invoke_value calls (tables_of code.now) (value_in (extent_of world.old.heap) callee) (map (item_in (extent_of world.old.heap)) items.now) (stack_in (extent_of world.old.heap) frames.old.flat) st) st world.new frames.new.flat) (HaltsWith (invoke_value calls (tables_of code.now) (value_in (extent_of world.old.heap) callee) (map (item_in (extent_of world.old.heap)) items.now) (stack_in (extent_of world.old.heap) frames.old.flat) st) st world.new) }
-    ensures live { IsLiveStack (tables_of code.now) (reach_of world.old []) frames.old.flat → OnOk result (IsLiveStack (tables_of code.now) (reach_of world.new []) frames.new.flat) }
+    requires items { All (IsLiveItem (with_locals (flat.local_count frames.old.flat) (reach_of world.old [])))
+        items.now }
+    ensures step { (st : Store FramesRead) → st.world ≡ world_of world.old
+        → MatchResult result (StandsWith (invoke_value calls (tables_of code.now)
+        (value_in (extent_of world.old.heap) callee) (map (item_in (extent_of world.old.heap)) items.now)
+        (stack_in (extent_of world.old.heap) frames.old.flat) st) st world.new frames.new.flat)
+        (HaltsWith (invoke_value calls (tables_of code.now)
+        (value_in (extent_of world.old.heap) callee) (map (item_in (extent_of world.old.heap)) items.now)
+        (stack_in (extent_of world.old.heap) frames.old.flat) st) st world.new) }
+    ensures live { IsLiveStack (tables_of code.now) (reach_of world.old []) frames.old.flat
+        → OnOk result (IsLiveStack (tables_of code.now) (reach_of world.new []) frames.new.flat) }
     ensures halt { IfErr result (IsLiveHalt (reach_of world.new [])) }
     ensures going { IfOk result IsGoing }
     ensures kept { KeepsItems (reach_of world.old []) (reach_of world.new []) }

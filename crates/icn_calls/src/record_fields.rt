@@ -45,7 +45,8 @@ fn first_place(numbers: &[u32], number: u32) -> Option<u16>
 // The fields of a kind, which must be there.
 fn fields_of(code: &Code, kind: u32) -> &[u32]
     requires { kind < length (tables_of code.now).records }
-    ensures { (entry : RecordType) → slice_get (tables_of code.now).records kind ≡ Some entry → result.now ≡ entry.fields }
+    ensures { (entry : RecordType) → slice_get (tables_of code.now).records kind ≡ Some entry
+        → result.now ≡ entry.fields }
 {
     code.records[kind as usize].fields.as_slice()
 }
@@ -77,8 +78,13 @@ pub fn push_field<K: Stack<Cell> + Drop>(
     requires stack { (tables : Tables) × IsLiveStack tables (reach_of world.now []) frames.old.flat }
     requires item { IsLiveItem (with_locals (flat.local_count frames.old.flat) (reach_of world.now [])) item }
     requires sizes { FitSizes (field_count (tables_of code.now)) (heap_of world.now.heap) }
-    ensures step { (st : Store FramesRead) → st.world ≡ world_of world.now → MatchResult result (λ _. RunsWith (field_applied calls (tables_of code.now) field (item_in (extent_of world.now.heap) item ∷ []) (stack_in (extent_of world.now.heap) frames.old.flat) st) st world.now frames.new.flat) (HaltsWith (field_applied calls (tables_of code.now) field (item_in (extent_of world.now.heap) item ∷ []) (stack_in (extent_of world.now.heap) frames.old.flat) st) st world.now) }
-    ensures live { (tables : Tables) → IsLiveStack tables (reach_of world.now []) frames.old.flat → OnOk result (IsLiveStack tables (reach_of world.now []) frames.new.flat) }
+    ensures step { (st : Store FramesRead) → st.world ≡ world_of world.now → MatchResult result
+        (λ _. RunsWith (field_applied calls (tables_of code.now) field (item_in (extent_of world.now.heap)
+        item ∷ []) (stack_in (extent_of world.now.heap) frames.old.flat) st) st world.now frames.new.flat)
+        (HaltsWith (field_applied calls (tables_of code.now) field (item_in (extent_of world.now.heap) item
+        ∷ []) (stack_in (extent_of world.now.heap) frames.old.flat) st) st world.now) }
+    ensures live { (tables : Tables) → IsLiveStack tables (reach_of world.now []) frames.old.flat
+        → OnOk result (IsLiveStack tables (reach_of world.now []) frames.new.flat) }
     ensures halt { IfErr result (IsLiveHalt (reach_of world.now [])) }
 {
     let val = value_of(frames, world, item)?;

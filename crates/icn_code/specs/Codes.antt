@@ -35,7 +35,14 @@ abbrev pub record_of : Record → RecordType
 record_of kind = record { name = kind.name; fields = kind.fields.items }
 
 abbrev pub proc_of : Procedure → Proc
-proc_of proc = record { name = proc.name; parameters = proc.parameters; collects = proc.collects; locals = proc.locals; statics = proc.statics; instrs = proc.instrs.items }
+proc_of proc = record {
+  name = proc.name;
+  parameters = proc.parameters;
+  collects = proc.collects;
+  locals = proc.locals;
+  statics = proc.statics;
+  instrs = proc.instrs.items;
+}
 
 -- the record types, as plain lists
 abbrev pub records_of : List Record → List RecordType

@@ -30,7 +30,8 @@ is_integer (negsuc n) = nat_lt n (2 ^ 63)
 
 -- a record's name is a string, and its fields are fields
 abbrev pub is_record : ℕ → ℕ → RecordType → Bool
-is_record strings fields kind = nat_lt kind.name strings && is_count (length kind.fields) && list_all (λ field. nat_lt field fields) kind.fields
+is_record strings fields kind = nat_lt kind.name strings && is_count (length kind.fields)
+    && list_all (λ field. nat_lt field fields) kind.fields
 
 abbrev pub is_start : ℕ → ℕ → Start → Bool
 is_start records procs Null = true
@@ -74,7 +75,8 @@ is_instr tables proc _ = true
 -- a last parameter collects only where there is one; parameters and other locals are numbered together
 abbrev pub is_head : ℕ → Proc → Bool
 is_head strings proc =
-    nat_lt proc.name strings && (not proc.collects || nat_lt 0 proc.parameters) && is_count (proc.parameters + proc.locals) && is_count proc.statics
+    nat_lt proc.name strings && (not proc.collects || nat_lt 0 proc.parameters)
+    && is_count (proc.parameters + proc.locals) && is_count proc.statics
     && nat_lt (length proc.instrs) (2 ^ 32)
 
 abbrev pub is_proc : Tables → Proc → Bool
@@ -83,15 +85,18 @@ is_proc tables proc = is_head (length tables.strings) proc && list_all (is_instr
 -- how many entries the tables have
 abbrev pub are_counts : Tables → Bool
 are_counts tables =
-    is_count (length tables.strings) && is_count (length tables.csets) && is_count (length tables.integers) && is_count (length tables.fields)
+    is_count (length tables.strings) && is_count (length tables.csets) && is_count (length tables.integers)
+    && is_count (length tables.fields)
     && is_count (length tables.records) && is_count (length tables.globals) && is_count (length tables.procs)
 
 -- the tables keep all rules
 unfoldable pub keeps_rules : Tables → Bool
 keeps_rules tables =
-    are_counts tables && list_all is_string tables.strings && list_all is_cset tables.csets && list_all is_integer tables.integers
+    are_counts tables && list_all is_string tables.strings && list_all is_cset tables.csets
+    && list_all is_integer tables.integers
     && list_all (λ name. nat_lt name (length tables.strings)) tables.fields
     && list_all (is_record (length tables.strings) (length tables.fields)) tables.records
-    && list_all (is_global (length tables.strings) (length tables.records) (length tables.procs)) tables.globals
+    && list_all (is_global (length tables.strings) (length tables.records) (length tables.procs))
+    tables.globals
     && names_differ (map (name_of tables.strings) tables.globals)
     && list_all (is_proc tables) tables.procs

@@ -66,5 +66,13 @@ pub struct Code {
     /// The global variables, whose names differ.
     pub globals: Vec<Global>,
     pub procs: Vec<Procedure>,
-    ghost rules: { IsTrue (keeps_rules (record { strings = strings.items; csets = csets.items; integers = integers.items; fields = fields.items; records = records_of records.items; globals = globals.items; procs = procs_of procs.items })) },
+    ghost rules: { IsTrue (keeps_rules (record {
+      strings = strings.items;
+      csets = csets.items;
+      integers = integers.items;
+      fields = fields.items;
+      records = records_of records.items;
+      globals = globals.items;
+      procs = procs_of procs.items;
+    })) },
 }

@@ -33,16 +33,22 @@ plain_at xs p = option_map plain (shape_at xs p)
 
 -- the code of a procedure has the shapes that the verifier wants
 abbrev pub CodesHaveShapes : Type 0
-CodesHaveShapes = (L : Linkage) (j : ℕ) (N : Names) (i : Initial) (es : Trees) → FitInitial L j N i → FitAll L j N [] true es → V.HasShapes (C.procedure N i es) (plain_at (procedure N i es))
+CodesHaveShapes = (L : Linkage) (j : ℕ) (N : Names) (i : Initial) (es : Trees) → FitInitial L j N i
+    → FitAll L j N [] true es → V.HasShapes (C.procedure N i es) (plain_at (procedure N i es))
 
 -- each shape that reaches a place of the code is the noted one
 abbrev pub ReachedAsNoted : Type 0
-ReachedAsNoted = (L : Linkage) (j : ℕ) (N : Names) (i : Initial) (es : Trees) → FitInitial L j N i → FitAll L j N [] true es → (p : ℕ) (t : PlainShape) → Reaches (C.procedure N i es) p t → plain_at (procedure N i es) p ≡ Some t
+ReachedAsNoted = (L : Linkage) (j : ℕ) (N : Names) (i : Initial) (es : Trees) → FitInitial L j N i
+    → FitAll L j N [] true es → (p : ℕ) (t : PlainShape) → Reaches (C.procedure N i es) p t
+    → plain_at (procedure N i es) p ≡ Some t
 
 -- no rule is broken by the code, but for the second half of V2: that the shape that a backward label wants reaches the label
 abbrev pub NearlySound : Type 0
-NearlySound = (L : Linkage) (j : ℕ) (N : Names) (i : Initial) (es : Trees) → FitInitial L j N i → FitAll L j N [] true es → (p : ℕ) (rule : Rule) → Breaks (C.procedure N i es) p rule → LacksShape (C.procedure N i es) p
+NearlySound = (L : Linkage) (j : ℕ) (N : Names) (i : Initial) (es : Trees) → FitInitial L j N i
+    → FitAll L j N [] true es → (p : ℕ) (rule : Rule) → Breaks (C.procedure N i es) p rule
+    → LacksShape (C.procedure N i es) p
 
 -- the code of a procedure keeps V1 to V5
 abbrev pub CodesSound : Type 0
-CodesSound = (L : Linkage) (j : ℕ) (N : Names) (i : Initial) (es : Trees) → FitInitial L j N i → FitAll L j N [] true es → IsSound (C.procedure N i es)
+CodesSound = (L : Linkage) (j : ℕ) (N : Names) (i : Initial) (es : Trees) → FitInitial L j N i
+    → FitAll L j N [] true es → IsSound (C.procedure N i es)

@@ -29,13 +29,15 @@ pub data Infixes : Operator → Form → Type 0 where
   x_limit : Infixes Signs.Backslash Limiting
   x_at : Infixes Signs.At (Applying I.Coact)
   x_bang : Infixes Signs.Bang (Applying I.Appl)
-  x_op : {o : Operator} → is_infix o ≡ true → arity (infix_op o) ≡ 2 → Infixes o (Applying (I.Op (infix_op o)))
+  x_op : {o : Operator} → is_infix o ≡ true → arity (infix_op o) ≡ 2
+      → Infixes o (Applying (I.Op (infix_op o)))
 
 pub data Augments : Operator → Form → Type 0 where
   u_both : Augments Signs.Ampersand Both
   u_scan : Augments Signs.Question Scanning
   u_at : Augments Signs.At (Applying I.Coact)
-  u_op : {o : Operator} → is_update o ≡ true → arity (infix_op o) ≡ 2 → Augments o (Applying (I.Op (infix_op o)))
+  u_op : {o : Operator} → is_update o ≡ true → arity (infix_op o) ≡ 2
+      → Augments o (Applying (I.Op (infix_op o)))
 
 pub data Prefixes : Operator → PrefixForm → Type 0 where
   p_at : Prefixes Signs.At Activating
@@ -44,8 +46,10 @@ pub data Prefixes : Operator → PrefixForm → Type 0 where
 
 -- a keyword is known, and N knows it
 pub data KeywordFits (N : Names) (text : List ℕ) : Type 0 where
-  k_fail : bytes_eq text (codes "fail") ≡ true → keyword_among text keywords ≡ Some Keywords.Fail → KeywordFits N text
-  k_word : bytes_eq text (codes "fail") ≡ false → keyword_among text keywords ≡ Some (N.keyword text) → KeywordFits N text
+  k_fail : bytes_eq text (codes "fail") ≡ true → keyword_among text keywords ≡ Some Keywords.Fail
+      → KeywordFits N text
+  k_word : bytes_eq text (codes "fail") ≡ false → keyword_among text keywords ≡ Some (N.keyword text)
+      → KeywordFits N text
 
 abbrev pub Some_trees : Trees → Type 0
 Some_trees NoTrees = ⊥
@@ -61,7 +65,8 @@ abbrev mutual
   pub Fit : Linkage → ℕ → Names → List Bool → Bool → Tree → Type 0
   Fit L j N B c T.Empty = Unit {0}
   Fit L j N B c (T.Constant place v) = Loads L j (literal_code N v) (Val (literal v))
-  Fit L j N B c (T.Identifier name) = Loads L j (N.variable name.text) (Var (Whole (meaning_of L.program j name.text)))
+  Fit L j N B c (T.Identifier name) =
+      Loads L j (N.variable name.text) (Var (Whole (meaning_of L.program j name.text)))
   Fit L j N B c (T.Keyword place name) = KeywordFits N name.text
   Fit L j N B c (T.Parentheses place es) = Some_trees es × FitAll L j N B c es
   Fit L j N B c (T.Listing place es) = FitAll L j N B c es
@@ -70,14 +75,17 @@ abbrev mutual
   Fit L j N B c (T.CoCall place f es) = Fit L j N B c f × FitCreates L j N es
   Fit L j N B c (T.Subscript place x es) = Fit L j N B c x × Some_trees es × FitAll L j N B c es
   Fit L j N B c (T.Section place kind x a b) = Fit L j N B c x × Fit L j N B c a × Fit L j N B c b
-  Fit L j N B c (T.Field place x name) = Fit L j N B c x × Applies L (M.Taking name.text) 1 (I.Field (N.field name.text))
+  Fit L j N B c (T.Field place x name) =
+      Fit L j N B c x × Applies L (M.Taking name.text) 1 (I.Field (N.field name.text))
   Fit L j N B c (T.Prefix place o e) = Prefixes o (prefix_of o) × Fit L j N B c e
   Fit L j N B c (T.Not place e) = Fit L j N B c e
   Fit L j N B c (T.Binary place (Plain o) a b) = Infixes o (form_of o) × Fit L j N B c a × Fit L j N B c b
-  Fit L j N B c (T.Binary place (Augmented o) a b) = Augments o (form_of o) × Fit L j N B c a × Fit L j N B c b
+  Fit L j N B c (T.Binary place (Augmented o) a b) =
+      Augments o (form_of o) × Fit L j N B c a × Fit L j N B c b
   Fit L j N B c (T.To place a b by) = Fit L j N B c a × Fit L j N B c b × FitBy L j N B c by
   Fit L j N B c (T.If place e a b) = Fit L j N B c e × Fit L j N B c a × FitMaybe L j N B c b
-  Fit L j N B c (T.Case place e cases) = Fit L j N B c e × FitClauses L j N B c cases × FitDefault L j N B c cases
+  Fit L j N B c (T.Case place e cases) =
+      Fit L j N B c e × FitClauses L j N B c cases × FitDefault L j N B c cases
   Fit L j N B c (T.Loop place While e b) = Fit L j N (true ∷ B) c e × FitMaybe L j N (true ∷ B) c b
   Fit L j N B c (T.Loop place Until e b) = Fit L j N (true ∷ B) c e × FitMaybe L j N (true ∷ B) c b
   Fit L j N B c (T.Loop place Every e b) = Fit L j N (false ∷ B) c e × FitMaybe L j N (true ∷ B) c b

@@ -26,8 +26,10 @@ At xs p s = shape_at xs p ≡ Some s
 -- places that have the shape that it leaves there. So no run of the verifier leaves these shapes, and V1 to V5 hold wherever it comes.
 pub record HasShapes (instrs : List Instr) (xs : List Note) : Type 0 where
   pub begins : At xs 0 (start false)
-  pub each : (p : ℕ) (s : Shape) → At xs p s → (i : Instr) × (slice_get instrs p ≡ Some i) × Fine (At xs) p i s
+  pub each : (p : ℕ) (s : Shape) → At xs p s
+      → (i : Instr) × (slice_get instrs p ≡ Some i) × Fine (At xs) p i s
 
 -- the code of a procedure is verified
 abbrev pub CodesVerified : Type 0
-CodesVerified = (L : Linkage) (j : ℕ) (N : Names) (i : Initial) (es : Trees) → FitInitial L j N i → FitAll L j N [] true es → HasShapes (C.procedure N i es) (procedure N i es)
+CodesVerified = (L : Linkage) (j : ℕ) (N : Names) (i : Initial) (es : Trees) → FitInitial L j N i
+    → FitAll L j N [] true es → HasShapes (C.procedure N i es) (procedure N i es)

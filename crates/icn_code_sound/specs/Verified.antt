@@ -45,17 +45,20 @@ pub data Fine (At : ℕ → Shape → Type 0) : ℕ → Instr → Shape → Type
   f_limit : {p : ℕ} (s : Shape) → At (suc p) (within Limited s) → Fine At p I.Limit (more s)
   f_lsusp : {p : ℕ} (s : Shape) → At (suc p) (more s) → Fine At p I.Lsusp (more (within Limited s))
   f_efail : {p : ℕ} (s : Shape) → Fine At p I.Efail s
-  f_chfail : {p l : ℕ} (s : Shape) → At (suc p) (more (marked s)) → At l s → l ≤ p → Fine At p (I.Chfail l) (more (marked s))
+  f_chfail : {p l : ℕ} (s : Shape) → At (suc p) (more (marked s)) → At l s → l ≤ p
+      → Fine At p (I.Chfail l) (more (marked s))
   f_goto : {p l : ℕ} (s : Shape) → At l s → p < l → Fine At p (I.Goto l) s
   f_loop : {p l : ℕ} (s : Shape) → At l s → l ≤ p → Fine At p (I.Loop l) s
   f_bscan : {p : ℕ} (s : Shape) → At (suc p) (scanned s) → Fine At p I.Bscan (more s)
   f_escan : {p : ℕ} (s : Shape) → At (suc p) (more s) → Fine At p I.Escan (more (scanned s))
   f_ccase : {p : ℕ} (s : Shape) → At (suc p) (more (marked (more s))) → Fine At p I.Ccase (marked (more s))
-  f_init : {p l : ℕ} (s : Shape) → s.in_create ≡ false → At (suc p) s → At l s → p < l → Fine At p (I.Init l) s
+  f_init : {p l : ℕ} (s : Shape) → s.in_create ≡ false → At (suc p) s → At l s → p < l
+      → Fine At p (I.Init l) s
   f_psusp : {p : ℕ} (s : Shape) → s.in_create ≡ false → At (suc p) (more s) → Fine At p I.Psusp (more s)
   f_pret : {p : ℕ} (s : Shape) → s.in_create ≡ false → Fine At p I.Pret (more s)
   f_pfail : {p : ℕ} (s : Shape) → s.in_create ≡ false → Fine At p I.Pfail s
-  f_create : {p l : ℕ} (s : Shape) → At (suc p) (start true) → At l (more s) → p < l → Fine At p (I.Create l) s
+  f_create : {p l : ℕ} (s : Shape) → At (suc p) (start true) → At l (more s) → p < l
+      → Fine At p (I.Create l) s
   f_coret : {p : ℕ} (s : Shape) → s.in_create ≡ true → At (suc p) (more s) → Fine At p I.Coret (more s)
   f_cofail : {p : ℕ} (s : Shape) → s.in_create ≡ true → Fine At p I.Cofail s
 
@@ -70,11 +73,13 @@ pub data NextTo (At : ℕ → Shape → Type 0) : Bool → (m k : ℕ) → Shape
   n_yes : {m k g : ℕ} {s t : Shape} → k ≤ m → Drop (suc (m - k)) s t → At g t → NextTo At true m k s g
 
 -- the shape where a tree stands that ends before the place r, in these loops: their places of `break` have the shape of the loop with an operand more
-pub data Ctx (At : ℕ → Shape → Type 0) (r : ℕ) : List Depth → List Ways → List Bool → Bool → Shape → Type 0 where
+pub data Ctx (At : ℕ → Shape → Type 0) (r : ℕ) : List Depth → List Ways → List Bool → Bool → Shape
+    → Type 0 where
   c_proper : (s : Shape) → s.in_create ≡ false → Ctx At r [] [] [] true s
   c_create : (s : Shape) → s.in_create ≡ true → Ctx At r [] [] [] false s
   c_loop : {m k l g : ℕ} {D : List Depth} {W : List Ways} {b : Bool} {B : List Bool} {c : Bool} {s t : Shape}
-      → Drop (suc m) s t → r ≤ l → r ≤ g → At l (more t) → NextTo At b m k s g → Ctx At r D W B c t → Ctx At r (loop_of (suc m) k ∷ D) (ways l g ∷ W) (b ∷ B) c s
+      → Drop (suc m) s t → r ≤ l → r ≤ g → At l (more t) → NextTo At b m k s g → Ctx At r D W B c t
+      → Ctx At r (loop_of (suc m) k ∷ D) (ways l g ∷ W) (b ∷ B) c s
 
 -- each place from here has the shape that is noted
 abbrev pub Has : (ℕ → Shape → Type 0) → ℕ → List Note → Type 0

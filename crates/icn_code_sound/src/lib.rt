@@ -10,7 +10,8 @@ ghost use Rattle.icn_code_sound.specs.Bridge.{CodesHaveShapes, CodesSound};
 
 /// The joined code of files that break no rule is verified code.
 pub fn joined_code_is_verified()
-    ensures { (files : List (List Declaration)) (tables : Tables) → IsLinked files tables → IsVerified tables }
+    ensures { (files : List (List Declaration)) (tables : Tables) → IsLinked files tables
+        → IsVerified tables }
 {}
 
 /// The translation of a procedure whose trees fit has the shapes that the verifier wants, which are those that are noted beside its instructions,

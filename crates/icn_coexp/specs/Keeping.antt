@@ -21,7 +21,13 @@ status_seen (Waiting stack) = code.Waiting stack.flat
 status_seen Exhausted = code.Exhausted
 
 abbrev pub coexp_seen : {K : Type 0} → Entry K → Coexp
-coexp_seen entry = record { status = status_seen entry.status; activator = entry.activator; values = entry.values.items; proc = entry.proc; place = entry.place }
+coexp_seen entry = record {
+  status = status_seen entry.status;
+  activator = entry.activator;
+  values = entry.values.items;
+  proc = entry.proc;
+  place = entry.place;
+}
 
 abbrev pub running_seen : {K : Type 0} → Running K → Option FlatStack
 running_seen (On stack) = Some stack.flat
@@ -34,7 +40,8 @@ room_of HopDue = 0
 
 -- the table that the entries are, with the active one and the stack that runs
 abbrev pub table_seen : {K : Type 0} → List (Entry K) → ℕ → Running K → Table
-table_seen entries active running = record { coexps = map coexp_seen entries; active = active; running = running_seen running }
+table_seen entries active running =
+    record { coexps = map coexp_seen entries; active = active; running = running_seen running }
 
 -- another status or another activator of one of the entries
 
@@ -47,7 +54,8 @@ abbrev pub status_put : {K : Type 0} → ℕ → Status K → List (Entry K) →
 status_put n status entries = status_put_in n status entries (slice_get entries n)
 
 abbrev pub activator_put_in : {K : Type 0} → ℕ → ℕ → List (Entry K) → Option (Entry K) → List (Entry K)
-activator_put_in n activator entries (Some entry) = slice_set entries n (record entry { activator = activator })
+activator_put_in n activator entries (Some entry) =
+    slice_set entries n (record entry { activator = activator })
 activator_put_in n activator entries None = entries
 
 -- the entries, of which this one has another activator
@@ -100,18 +108,21 @@ IsBegun None = ⊥
 
 -- `&main` has begun and is never exhausted; a fresh one has the stack with which it begins; a waiting one has room for the value that enters it
 abbrev pub StatusFits : {K : Type 0} → Option ℕ → ℕ → Entry K → Status K → Type 0
-StatusFits active n entry (Fresh stack) = (0 < n) × (stack.flat ≡ flat.begin entry.proc entry.values.items entry.place)
+StatusFits active n entry (Fresh stack) =
+    (0 < n) × (stack.flat ≡ flat.begin entry.proc entry.values.items entry.place)
 StatusFits active n entry Active = Some n ≡ active
 StatusFits active n entry (Waiting stack) = 0 < stack.spare
 StatusFits active n entry Exhausted = 0 < n
 
 -- an entry among all, of which at most one is active
-pub record Fits {K : Type 0} (entries : List (Entry K)) (active : Option ℕ) (n : ℕ) (entry : Entry K) : Type 0 where
+pub record Fits {K : Type 0} (entries : List (Entry K)) (active : Option ℕ) (n : ℕ)
+    (entry : Entry K) : Type 0 where
   pub status : StatusFits active n entry entry.status
   pub activator : IsBegun (slice_get entries entry.activator)
 
 abbrev pub AllFit : {K : Type 0} → List (Entry K) → Option ℕ → Type 0
-AllFit entries active = (n : ℕ) (entry : Entry _) → slice_get entries n ≡ Some entry → Fits entries active n entry
+AllFit entries active =
+    (n : ℕ) (entry : Entry _) → slice_get entries n ≡ Some entry → Fits entries active n entry
 
 -- the active one runs, or a hop is due and it is exhausted
 abbrev pub RunsAs : {K : Type 0} → Running K → Status K → Type 0

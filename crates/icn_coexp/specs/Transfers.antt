@@ -32,7 +32,8 @@ pub record SeenStacks : Type 0 where
 
 -- the same with this stack as the one that runs
 abbrev pub with_stack : SeenStacks → SeenStack → SeenStacks
-with_stack stacks stack = record { table = record stacks.table { running = Some stack.flat }; spare = stack.spare }
+with_stack stacks stack =
+    record { table = record stacks.table { running = Some stack.flat }; spare = stack.spare }
 
 -- as a run begins
 abbrev pub main_coexp : Coexp
@@ -80,7 +81,8 @@ with_status n status coexps = with_status_in n status coexps (slice_get coexps n
 
 -- another activator of one of them
 abbrev pub with_activator_in : ℕ → ℕ → List Coexp → Option Coexp → List Coexp
-with_activator_in n activator coexps (Some coexp) = slice_set coexps n (record coexp { activator = activator })
+with_activator_in n activator coexps (Some coexp) =
+    slice_set coexps n (record coexp { activator = activator })
 with_activator_in n activator coexps None = coexps
 
 abbrev pub with_activator : ℕ → ℕ → List Coexp → List Coexp
@@ -88,7 +90,10 @@ with_activator n activator coexps = with_activator_in n activator coexps (slice_
 
 -- one more, made with these values for this procedure, to begin at this place
 abbrev pub with_new : List Val → ℕ → ℕ → Table → Table
-with_new values proc place t = record t { coexps = t.coexps ++ record { status = Fresh; activator = 0; values = values; proc = proc; place = place } ∷ [] }
+with_new values proc place t = record t {
+  coexps = t.coexps ++ record { status = Fresh; activator = 0; values = values; proc = proc; place = place }
+      ∷ [];
+}
 
 -- one more, made as another one was
 abbrev pub with_copy : Table → Option Coexp → Table
@@ -141,7 +146,8 @@ with_waiting t = wait_on t t.running
 
 -- another one is entered with a value: the active one waits, and becomes its activator
 abbrev pub enter_other : ℕ → Val → Table → Option Table
-enter_other n value t = let left = with_waiting t in enter_with n value (record left { coexps = with_activator n t.active left.coexps })
+enter_other n value t = let left = with_waiting t in
+    enter_with n value (record left { coexps = with_activator n t.active left.coexps })
 
 -- the active one gives a value to its activator, and waits
 abbrev pub give : Val → Table → Option Table
@@ -160,7 +166,8 @@ exhausted_of status = false
 abbrev pub Activates : ℕ → Val → Table → Went → Table → Type 0
 Activates n value t (Wents.Same v) u = (n ≡ t.active) × (v ≡ value) × (u ≡ t)
 Activates n value t Wents.Exhausted u = (status_of n t ≡ Exhausted) × (u ≡ t)
-Activates n value t Wents.Moved u = (n ≢ t.active) × (exhausted_of (status_of n t) ≡ false) × (enter_other n value t ≡ Some u)
+Activates n value t Wents.Moved u =
+    (n ≢ t.active) × (exhausted_of (status_of n t) ≡ false) × (enter_other n value t ≡ Some u)
 
 -- where nothing moved the room stays
 abbrev pub KeepsRoom : Went → ℕ → ℕ → Type 0

@@ -47,7 +47,8 @@ impl<K: Stack<Cell> + Drop> Running<K> {
     /// The stack that runs. No hop may be due.
     pub fn stack_mut(&mut self) -> &mut Frames<K>
         requires { IsOn self.old }
-        ensures* writes_back { sem 𝓛 (Lends (the_row K.row K.Stack) (frames_row K.row K.Stack) self.entry result On) }
+        ensures* writes_back { sem 𝓛
+            (Lends (the_row K.row K.Stack) (frames_row K.row K.Stack) self.entry result On) }
         ensures value { self.old ≡ On result.now }
     {
         match self {

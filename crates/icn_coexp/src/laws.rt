@@ -5,7 +5,10 @@ ghost use Rattle.icn_coexp.specs.Transfers.{Table, source, enter_other, give, ex
 
 /// A transfer changes at most the co-expression that is left and the one that is entered.
 pub fn transfers_keep_others()
-    ensures enters { (n : ℕ) (v : Val) (t u : Table) → enter_other n v t ≡ Some u → KeepsOthers t.active n t.coexps u.coexps }
-    ensures gives { (v : Val) (t u : Table) → give v t ≡ Some u → KeepsOthers t.active (source t) t.coexps u.coexps }
-    ensures exhausts { (t u : Table) → exhaust t ≡ Some u → KeepsOthers t.active (source t) t.coexps u.coexps }
+    ensures enters { (n : ℕ) (v : Val) (t u : Table) → enter_other n v t ≡ Some u
+        → KeepsOthers t.active n t.coexps u.coexps }
+    ensures gives { (v : Val) (t u : Table) → give v t ≡ Some u
+        → KeepsOthers t.active (source t) t.coexps u.coexps }
+    ensures exhausts { (t u : Table) → exhaust t ≡ Some u
+        → KeepsOthers t.active (source t) t.coexps u.coexps }
 {}

@@ -42,7 +42,8 @@ impl<K: Stack<Cell> + Drop> Model for Stacks<K> {
 
     ghost use Rattle.icn_coexp.specs.Keeping.{table_seen, room_of, Kept};
 
-    ghost view = { λ s. record { table = table_seen s.entries.items s.active s.running; spare = room_of s.running } };
+    ghost view = { λ s.
+        record { table = table_seen s.entries.items s.active s.running; spare = room_of s.running } };
 
     ghost invariant = { λ s. Kept s.entries.items s.active s.running };
 }
@@ -121,7 +122,8 @@ impl<K: Stack<Cell> + Drop> Stacks<K> {
     /// The stack of the active one, to run on. No hop may be due.
     pub fn frames(&mut self) -> &mut Frames<K>
         requires { IsSome self.old.table.running }
-        ensures* writes_back { sem 𝓛 (Lends (the_row K.row K.Stack) (frames_row K.row K.Stack) self.entry result (with_stack self.old)) }
+        ensures* writes_back { sem 𝓛 (Lends (the_row K.row K.Stack)
+            (frames_row K.row K.Stack) self.entry result (with_stack self.old)) }
         ensures running { self.old.table.running ≡ Some result.now.flat }
         ensures spare { self.old.spare ≡ result.now.spare }
     {
@@ -158,7 +160,8 @@ impl<K: Stack<Cell> + Drop> Stacks<K> {
         requires live { id < length self.old.table.coexps }
         requires few { length self.old.table.coexps < 2 ^ 32 }
         ensures number { IfOk result (λ id. id ≡ length self.old.table.coexps) }
-        ensures made { OnOk result (self.new.table ≡ with_copy self.old.table (slice_get self.old.table.coexps id)) }
+        ensures made { OnOk result
+            (self.new.table ≡ with_copy self.old.table (slice_get self.old.table.coexps id)) }
         ensures unchanged { OnErr result (self.new.table ≡ self.old.table) }
         ensures spare { self.new.spare ≡ self.old.spare }
     {
@@ -232,7 +235,8 @@ impl<K: Stack<Cell> + Drop> Stacks<K> {
         requires runs { IsSome self.old.table.running }
         requires room { 0 < self.old.spare }
         ensures table { give v self.old.table ≡ Some self.new.table }
-        ensures others { KeepsOthers self.old.table.active (source self.old.table) self.old.table.coexps self.new.table.coexps }
+        ensures others { KeepsOthers self.old.table.active
+            (source self.old.table) self.old.table.coexps self.new.table.coexps }
         ensures went { result ≡ went_to self.new.table }
     {
         let to = self.source();
@@ -253,7 +257,8 @@ impl<K: Stack<Cell> + Drop> Stacks<K> {
     pub fn exhaust(&mut self) -> Went
         requires other { 0 < self.old.table.active }
         ensures table { exhaust self.old.table ≡ Some self.new.table }
-        ensures others { KeepsOthers self.old.table.active (source self.old.table) self.old.table.coexps self.new.table.coexps }
+        ensures others { KeepsOthers self.old.table.active
+            (source self.old.table) self.old.table.coexps self.new.table.coexps }
         ensures went { result ≡ went_to self.new.table }
     {
         let to = self.source();

@@ -21,5 +21,7 @@ pub record AreCounted {K : Type 0} (m : Machine K) : Type 0 where
 
 -- the same where a turn more was counted, for whatever is entered next
 pub record HasTurn {K : Type 0} (m : Machine K) : Type 0 where
-  pub results : (n : ℕ) → 0 < n → slice_index (heap_of m.world.heap).coexps n + slice_index (heap_of m.world.heap).coexps n + 1 ≤ m.turns
+  pub results : (n : ℕ) → 0 < n
+      → slice_index (heap_of m.world.heap).coexps n + slice_index (heap_of m.world.heap).coexps n + 1
+      ≤ m.turns
   pub activators : EnterOthers m.stacks.table.coexps

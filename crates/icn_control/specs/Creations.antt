@@ -29,15 +29,18 @@ with_coexps beside table st = record st { coexps = map (coexp_in beside.all) tab
 
 -- a co-expression of so many locals is charged; then the store has the co-expressions of another table, and the value of the new one is pushed
 abbrev pub charged_and_made : Beside → ℕ → Table → Table → Frames → State Frames Frames
-charged_and_made beside count before after n = with_made flat (coexpression_row count (here flat n (store_with beside before))) n (store_with beside before)
+charged_and_made beside count before after n = with_made flat
+    (coexpression_row count (here flat n (store_with beside before))) n (store_with beside before)
     (λ value n st. push_item flat (Val value) n (with_coexps beside after st))
 
 -- What a table adds, read, is what the definitions add: to create, a co-expression with the present values of the locals, for the procedure and the
 -- place that stand there; to refresh, one with what another one was made with.
 pub record CreationsAreRead (beside : Beside) (t : Table) (n : Frames) : Type 0 where
   pub creates : (m : FlatStack)
-      → coexp_made flat (flat.locals (stack_in beside.all m)) (flat.proc (stack_in beside.all m)) (flat.place (stack_in beside.all m)) n (store_with beside t)
-      ≡ charged_and_made beside (length (held.locals m)) t (with_new (held.locals m) (held.proc m) m.place t) n
+      → coexp_made flat (flat.locals (stack_in beside.all m)) (flat.proc (stack_in beside.all m))
+      (flat.place (stack_in beside.all m)) n (store_with beside t)
+      ≡ charged_and_made beside (length (held.locals m)) t
+      (with_new (held.locals m) (held.proc m) m.place t) n
   pub refreshes : (k : ℕ) → suc k < length t.coexps
       → refresh flat (ACoexp (suc k)) n (store_with beside t)
       ≡ charged_and_made beside (length (values_of (suc k) t)) t (with_copy t (slice_get t.coexps (suc k))) n
@@ -46,7 +49,8 @@ pub record CreationsAreRead (beside : Beside) (t : Table) (n : Frames) : Type 0 
 
 abbrev pub created_on : ℕ → Table → Option FlatStack → Table
 created_on label t (Some m) =
-    record (with_new (held.locals m) (held.proc m) m.place t) { running = Some (held.push (HeldVal (HeldCoexp (length t.coexps))) (held.go label m)) }
+    record (with_new (held.locals m) (held.proc m) m.place t)
+    { running = Some (held.push (HeldVal (HeldCoexp (length t.coexps))) (held.go label m)) }
 created_on label t None = t
 
 abbrev pub create_entry : ℕ → Table → Table
@@ -55,7 +59,8 @@ create_entry label t = created_on label t t.running
 -- The stack that runs gets the value of a co-expression that is made as another one was.
 
 abbrev pub copied_on : ℕ → Table → Option FlatStack → Table
-copied_on id t (Some m) = record (with_copy t (slice_get t.coexps id)) { running = Some (held.push (HeldVal (HeldCoexp (length t.coexps))) m) }
+copied_on id t (Some m) = record (with_copy t
+    (slice_get t.coexps id)) { running = Some (held.push (HeldVal (HeldCoexp (length t.coexps))) m) }
 copied_on id t None = t
 
 abbrev pub copy_entry : ℕ → Table → Table
@@ -63,7 +68,10 @@ copy_entry id t = copied_on id t t.running
 
 -- A co-expression of so many locals is charged, and is the next one of the heap; or why it is not.
 abbrev pub MakesCoexp : {A : Type 0} → ℕ → World → World → Result A Stop → Type 0
-MakesCoexp count w v result = (outside : Outside) (locals : List Held) → All (IsLive (extent_of w.heap)) locals
+MakesCoexp count w v result =
+    (outside : Outside) (locals : List Held) → All (IsLive (extent_of w.heap)) locals
     → MatchResult result
-    (λ _. coexpression_row count (setting_of outside w locals) ≡ Gives (Val (ACoexp (length (heap_of w.heap).coexps))) (setting_of outside v locals))
-    (λ stop. HaltsRow (extent_of v.heap) (coexpression_row count) (setting_of outside w locals) (setting_of outside v locals) (halt_of stop))
+    (λ _. coexpression_row count (setting_of outside w locals)
+    ≡ Gives (Val (ACoexp (length (heap_of w.heap).coexps))) (setting_of outside v locals))
+    (λ stop. HaltsRow (extent_of v.heap) (coexpression_row count) (setting_of outside w locals)
+    (setting_of outside v locals) (halt_of stop))

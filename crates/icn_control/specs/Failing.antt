@@ -11,10 +11,13 @@ use Rattle.icn_control.specs.declared.machine.Machine.{Machine}
 
 -- the same of the stack and the store of a machine
 abbrev pub DueAt : {K : Type 0} → Tables → Outside → State Frames Frames → Machine K → Due → Type 0
-DueAt tables outside state m due = IsDue (extent m) tables state (store_seen tables outside m) (stack_of m) due
+DueAt tables outside state m due =
+    IsDue (extent m) tables state (store_seen tables outside m) (stack_of m) due
 
 -- Where what the stack and the store of a machine name has a name, so it is after it failed, and so is what is to be resumed.
 pub record FailsNamed {K : Type 0} (before after : Machine K) (due : Due) : Type 0 where
-  pub stack : (names : Names) → StackNamed names (stack_seen before) → StackNamed names (stack_seen after) × DueNamed names (extent after) due
-  pub store : (names : Names) (tables : Tables) (outside : Outside) → StoreNamed names (store_seen tables outside before)
+  pub stack : (names : Names) → StackNamed names (stack_seen before)
+      → StackNamed names (stack_seen after) × DueNamed names (extent after) due
+  pub store : (names : Names) (tables : Tables) (outside : Outside)
+      → StoreNamed names (store_seen tables outside before)
       → StoreNamed names (store_seen tables outside after)

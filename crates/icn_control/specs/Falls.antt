@@ -23,7 +23,8 @@ abbrev pub IsDue : Extent → Tables → State Frames Frames → Store Frames �
 IsDue all tables state st m Dues.Failing = state ≡ failing (stack_in all m) st
 IsDue all tables state st m Dues.Running = state ≡ running (stack_in all m) st
 IsDue all tables state st m Dues.Beginning = state ≡ turn tables st (running (stack_in all m))
-IsDue all tables state st m (Dues.Resuming rest) = state ≡ resume_by flat tables (Op (residual_in all rest)) (stack_in all m) st
+IsDue all tables state st m (Dues.Resuming rest) =
+    state ≡ resume_by flat tables (Op (residual_in all rest)) (stack_in all m) st
 IsDue all tables state st m Dues.Reentering = state ≡ resume_by flat tables Proc (stack_in all m) st
 IsDue all tables state st m Dues.Leaving = state ≡ without_mark flat tables (stack_in all m) st
 
@@ -34,12 +35,14 @@ FallsTo tables state st w m due = IsDue (extent_of w.heap) tables state (with_wo
 -- the innermost mark of a stack is dropped
 abbrev pub DropsTo : FlatStack → FlatStack → Due → Type 0
 DropsTo m n due =
-    (all : Extent) (tables : Tables) (st : Store Frames) → IsDue all tables (mark_dropped flat tables (stack_in all m) st (flat.drop_mark (stack_in all m)))
+    (all : Extent) (tables : Tables) (st : Store Frames)
+    → IsDue all tables (mark_dropped flat tables (stack_in all m) st (flat.drop_mark (stack_in all m)))
     st n due
 
 -- what is resumed is of the world
 abbrev pub IsLiveDue : Reach → FlatStack → Due → Type 0
-IsLiveDue reach m (Dues.Resuming rest) = IsLiveResidual (with_locals (locals_at m.registers m.cells) reach) rest
+IsLiveDue reach m (Dues.Resuming rest) =
+    IsLiveResidual (with_locals (locals_at m.registers m.cells) reach) rest
 IsLiveDue reach m Dues.Failing = ⊤
 IsLiveDue reach m Dues.Running = ⊤
 IsLiveDue reach m Dues.Beginning = ⊤
@@ -66,4 +69,5 @@ DueNamed names all Dues.Leaving = ⊤
 
 -- where what a stack names has a name, so it is on the stack after, and so is what is to be resumed
 abbrev pub FallsNamed : Extent → FlatStack → FlatStack → Due → Type 0
-FallsNamed all m n due = (names : Names) → StackNamed names (stack_in all m) → StackNamed names (stack_in all n) × DueNamed names all due
+FallsNamed all m n due = (names : Names) → StackNamed names (stack_in all m)
+    → StackNamed names (stack_in all n) × DueNamed names all due

@@ -29,10 +29,12 @@ pub record Beside : Type 0 where
 
 -- the store of a table
 abbrev pub store_with : Beside → Table → Store Frames
-store_with beside table = store_in beside.names beside.outside beside.world beside.turns beside.begun beside.all table
+store_with beside table =
+    store_in beside.names beside.outside beside.world beside.turns beside.begun beside.all table
 
 -- the stack that is taken up goes on; where none is, a hop is due
-abbrev pub land : Beside → (Frames → Store Frames → State Frames Frames) → Frames → Table → Option FlatStack → State Frames Frames
+abbrev pub land : Beside → (Frames → Store Frames → State Frames Frames) → Frames → Table → Option FlatStack
+    → State Frames Frames
 land beside next m table (Some n) = next (stack_in beside.all n) (store_with beside table)
 land beside next m table None = hopping m (store_with beside table)
 
@@ -40,8 +42,12 @@ land beside next m table None = hopping m (store_with beside table)
 -- passed on to it.
 pub record TransfersAreRead (beside : Beside) (t u : Table) (m : Frames) : Type 0 where
   pub exhausts : exhaust t ≡ Some u
-      → passed_failure flat (activator_of t.active (store_with beside t)) m (with_status t.active Exhausted (store_with beside t)) ≡ land beside failing m u u.running
+      → passed_failure flat (activator_of t.active (store_with beside t)) m
+      (with_status t.active Exhausted (store_with beside t)) ≡ land beside failing m u u.running
   pub gives : (value : Val) (n : FlatStack) → t.running ≡ Some n → give value t ≡ Some u
-      → passed_value flat (activator_of t.active (store_with beside t)) (value_in beside.all value) m (with_status t.active (Waiting (stack_in beside.all n)) (store_with beside t)) ≡ land beside running m u u.running
+      → passed_value flat (activator_of t.active (store_with beside t)) (value_in beside.all value) m
+      (with_status t.active (Waiting (stack_in beside.all n)) (store_with beside t))
+      ≡ land beside running m u u.running
   pub enters : (k : ℕ) (value : Val) (n : FlatStack) → t.running ≡ Some n → enter_other k value t ≡ Some u
-      → entered_by flat k (value_in beside.all value) (stack_in beside.all n) (store_with beside t) ≡ land beside running (stack_in beside.all n) u u.running
+      → entered_by flat k (value_in beside.all value) (stack_in beside.all n) (store_with beside t)
+      ≡ land beside running (stack_in beside.all n) u u.running

@@ -72,15 +72,21 @@ pub record IsRooted (r : Registers) (cells : List Cell) : Type 0 where
 -- is above 0, and no call is deeper than 32 bits count.
 abbrev pub AreLive : Tables → Reach → ℕ → List Cell → Type 0
 AreLive tables reach n [] = ⊤
-AreLive tables reach n (Operand item ∷ cells) = IsLiveItem (with_locals n reach) item × AreLive tables reach n cells
+AreLive tables reach n (Operand item ∷ cells) =
+    IsLiveItem (with_locals n reach) item × AreLive tables reach n cells
 AreLive tables reach n (Local value ∷ cells) = IsLive reach.extent value × AreLive tables reach n cells
-AreLive tables reach n (Base proc locals ∷ cells) = (locals ≡ variable_count tables proc) × AreLive tables reach 0 cells
+AreLive tables reach n (Base proc locals ∷ cells) =
+    (locals ≡ variable_count tables proc) × AreLive tables reach 0 cells
 AreLive tables reach n (Call proc locals level r place ∷ cells) =
-    (locals ≡ variable_count tables proc) × ((level ≤ 4294967295) × (IsRooted r cells × AreLive tables reach (locals_at r cells) cells))
-AreLive tables reach n (Mark label changed r ∷ cells) = IsRooted r cells × AreLive tables reach (locals_at r cells) cells
-AreLive tables reach n (Limit count r ∷ cells) = (0 < count) × (IsRooted r cells × AreLive tables reach (locals_at r cells) cells)
+    (locals ≡ variable_count tables proc)
+    × ((level ≤ 4294967295) × (IsRooted r cells × AreLive tables reach (locals_at r cells) cells))
+AreLive tables reach n (Mark label changed r ∷ cells) =
+    IsRooted r cells × AreLive tables reach (locals_at r cells) cells
+AreLive tables reach n (Limit count r ∷ cells) =
+    (0 < count) × (IsRooted r cells × AreLive tables reach (locals_at r cells) cells)
 AreLive tables reach n (Suspension why r place ∷ cells) =
-    IsLiveWhy (with_locals (locals_at r cells) reach) why × (IsRooted r cells × AreLive tables reach (locals_at r cells) cells)
+    IsLiveWhy (with_locals (locals_at r cells) reach) why
+    × (IsRooted r cells × AreLive tables reach (locals_at r cells) cells)
 
 -- what the cells of a stack hold is of the world
 pub record IsLiveStack (tables : Tables) (reach : Reach) (m : FlatStack) : Type 0 where
@@ -93,4 +99,5 @@ StaysLive m n = (tables : Tables) (reach : Reach) → IsLiveStack tables reach m
 
 -- the pair that comes back is of the heap, where the stack was of the world
 abbrev pub MaybeStaysLive : FlatStack → Option Pair → Type 0
-MaybeStaysLive m pair = (tables : Tables) (reach : Reach) → IsLiveStack tables reach m → MaybeLivePair reach.extent pair
+MaybeStaysLive m pair =
+    (tables : Tables) (reach : Reach) → IsLiveStack tables reach m → MaybeLivePair reach.extent pair

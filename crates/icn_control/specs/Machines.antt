@@ -73,7 +73,8 @@ stack_seen m = stack_in (extent m) (stack_of m)
 
 -- the store of the run's state that a machine stands for, with this outside
 abbrev pub store_seen : {K : Type 0} → Tables → Outside → Machine K → Store Frames
-store_seen tables outside m = store_in (all_names tables) outside (world_of m.world) m.turns m.begun.items (extent m) m.stacks.table
+store_seen tables outside m =
+    store_in (all_names tables) outside (world_of m.world) m.turns m.begun.items (extent m) m.stacks.table
 
 -- what an instruction comes to
 abbrev pub does : {K : Type 0} → Tables → Outside → Instr → Machine K → State Frames Frames
@@ -84,7 +85,8 @@ does tables outside instr m = instruction flat tables instr (stack_seen m) (stor
 abbrev pub StandsAt : {K : Type 0} → Tables → Outside → State Frames Frames → Machine K → Stage → Type 0
 StandsAt tables outside state m Stages.Runs = state ≡ running (stack_seen m) (store_seen tables outside m)
 StandsAt tables outside state m Stages.Fails = state ≡ failing (stack_seen m) (store_seen tables outside m)
-StandsAt tables outside state m Stages.HopDue = (old : Frames) × (state ≡ hopping old (store_seen tables outside m))
+StandsAt tables outside state m Stages.HopDue =
+    (old : Frames) × (state ≡ hopping old (store_seen tables outside m))
 StandsAt tables outside state m Stages.Over = state ≡ over Done outside
 StandsAt tables outside state m Stages.AtBound = state ≡ at_bound (store_seen tables outside m)
 
@@ -98,15 +100,18 @@ HasStack m Stages.AtBound = ⊤
 
 -- The run is over by an error or with a status; what neither reads nor writes comes to no fault. Of want of memory this says nothing.
 abbrev pub HaltsAt : {K : Type 0} → Tables → Outside → State Frames Frames → Machine K → Halt → Type 0
-HaltsAt tables outside state m (Halts.Error number offending) = state ≡ errs number (option_map (value_in (extent m)) offending) (store_seen tables outside m)
+HaltsAt tables outside state m (Halts.Error number offending) =
+    state ≡ errs number (option_map (value_in (extent m)) offending) (store_seen tables outside m)
 HaltsAt tables outside state m (Halts.Ends status) = state ≡ over (Exit status) outside
 HaltsAt tables outside state m Halts.ReadFault = ⊥
 HaltsAt tables outside state m Halts.WriteFault = ⊥
 HaltsAt tables outside state m Halts.NoMemory = ⊤
 
 -- the machine stands at this state of the run, or it halts as the run ends in it
-abbrev pub ComesTo : {K : Type 0} → Tables → Outside → State Frames Frames → Machine K → Result Stage Halt → Type 0
-ComesTo tables outside state m result = MatchResult result (StandsAt tables outside state m) (HaltsAt tables outside state m)
+abbrev pub ComesTo : {K : Type 0} → Tables → Outside → State Frames Frames → Machine K → Result Stage Halt
+    → Type 0
+ComesTo tables outside state m result =
+    MatchResult result (StandsAt tables outside state m) (HaltsAt tables outside state m)
 
 -- What a machine keeps
 
@@ -130,7 +135,8 @@ IsLiveRunning tables reach None = ⊤
 -- all stacks of a table hold what is of the world
 pub record AreLiveStacks (tables : Tables) (reach : Reach) (table : Table) : Type 0 where
   pub runs : IsLiveRunning tables reach table.running
-  pub coexps : (n : ℕ) (coexp : Coexp) → slice_get table.coexps n ≡ Some coexp → IsLiveCoexp tables reach n coexp
+  pub coexps : (n : ℕ) (coexp : Coexp) → slice_get table.coexps n ≡ Some coexp
+      → IsLiveCoexp tables reach n coexp
 
 -- what a world may name, with no locals
 abbrev pub world_reach : {K : Type 0} → Machine K → Reach

@@ -22,7 +22,8 @@ abbrev pub with_top : Frames → Store Frames → (Value → Frames → State Fr
 with_top m st next = with_popped flat m (λ item m. with_value flat item m st (λ value. next value m))
 
 -- the values of the two top operands, that of the lower one first, with the stack below them
-abbrev pub with_two : Frames → Store Frames → (Value → Value → Frames → State Frames Frames) → State Frames Frames
+abbrev pub with_two : Frames → Store Frames → (Value → Value → Frames → State Frames Frames)
+    → State Frames Frames
 with_two m st next = with_popped flat m (λ upper m. with_popped flat m (λ lower m.
     with_value flat lower m st (λ first. with_value flat upper m st (λ second. next first second m))))
 
@@ -30,16 +31,20 @@ with_two m st next = with_popped flat m (λ upper m. with_popped flat m (λ lowe
 
 -- the top operand is taken for its value, or has none for this reason
 abbrev pub TakesTop : World → FlatStack → FlatStack → Result Val Stop → Type 0
-TakesTop w m n result = (st : Store Frames) (next : Value → Frames → State Frames Frames) → st.world ≡ world_of w
+TakesTop w m n result =
+    (st : Store Frames) (next : Value → Frames → State Frames Frames) → st.world ≡ world_of w
     → MatchResult result
-    (λ val. with_top (stack_in (extent_of w.heap) m) st next ≡ next (value_in (extent_of w.heap) val) (stack_in (extent_of w.heap) n))
+    (λ val. with_top (stack_in (extent_of w.heap) m) st next
+    ≡ next (value_in (extent_of w.heap) val) (stack_in (extent_of w.heap) n))
     (λ stop. HaltsWith (with_top (stack_in (extent_of w.heap) m) st next) st w (halt_of stop))
 
 -- the two top operands are taken for their values, or one has none for this reason
 abbrev pub TakesTwo : World → FlatStack → FlatStack → Result (Val × Val) Stop → Type 0
-TakesTwo w m n result = (st : Store Frames) (next : Value → Value → Frames → State Frames Frames) → st.world ≡ world_of w
+TakesTwo w m n result =
+    (st : Store Frames) (next : Value → Value → Frames → State Frames Frames) → st.world ≡ world_of w
     → MatchResult result
-    (λ two. with_two (stack_in (extent_of w.heap) m) st next ≡ next (value_in (extent_of w.heap) two.0) (value_in (extent_of w.heap) two.1) (stack_in (extent_of w.heap) n))
+    (λ two. with_two (stack_in (extent_of w.heap) m) st next ≡ next (value_in (extent_of w.heap) two.0)
+    (value_in (extent_of w.heap) two.1) (stack_in (extent_of w.heap) n))
     (λ stop. HaltsWith (with_two (stack_in (extent_of w.heap) m) st next) st w (halt_of stop))
 
 -- the number of a co-expression

@@ -40,7 +40,8 @@ StandsWith state st w m Stages.AtBound = ⊥
 
 -- an error, or want of memory
 abbrev pub HaltsWith : State Frames Frames → Store Frames → World → Halt → Type 0
-HaltsWith state st w (Halts.Error number offending) = state ≡ errs number (option_map (value_in (extent_of w.heap)) offending) (with_world (world_of w) st)
+HaltsWith state st w (Halts.Error number offending) =
+    state ≡ errs number (option_map (value_in (extent_of w.heap)) offending) (with_world (world_of w) st)
 HaltsWith state st w (Halts.Ends status) = ⊥
 HaltsWith state st w Halts.ReadFault = ⊥
 HaltsWith state st w Halts.WriteFault = ⊥
@@ -49,17 +50,20 @@ HaltsWith state st w Halts.NoMemory = ⊤
 -- The instruction, done on a stack in a world, goes on with another stack in another world, or halts there.
 abbrev pub DoesWith : {A : Type 0} → Instr → World → FlatStack → World → FlatStack → Result A Halt → Type 0
 DoesWith instr w m v n result = (tables : Tables) (st : Store Frames) → st.world ≡ world_of w
-    → MatchResult result (λ _. RunsWith (instruction_state (extent_of w.heap) tables instr m st) st v n) (HaltsWith (instruction_state (extent_of w.heap) tables instr m st) st v)
+    → MatchResult result (λ _. RunsWith (instruction_state (extent_of w.heap) tables instr m st) st v n)
+    (HaltsWith (instruction_state (extent_of w.heap) tables instr m st) st v)
 
 -- The same where the instruction may fail.
 abbrev pub ComesWith : Instr → World → FlatStack → World → FlatStack → Result Stage Halt → Type 0
 ComesWith instr w m v n result = (tables : Tables) (st : Store Frames) → st.world ≡ world_of w
-    → MatchResult result (StandsWith (instruction_state (extent_of w.heap) tables instr m st) st v n) (HaltsWith (instruction_state (extent_of w.heap) tables instr m st) st v)
+    → MatchResult result (StandsWith (instruction_state (extent_of w.heap) tables instr m st) st v n)
+    (HaltsWith (instruction_state (extent_of w.heap) tables instr m st) st v)
 
 -- the value of an item, or why there is none
 abbrev pub FindsValue : Extent → Item → Setting → Result Val Stop → Type 0
 FindsValue all item setting (Ok val) = value_row item setting ≡ Gives (ItemVal (value_in all val)) setting
-FindsValue all item setting (Err (StopError number offending)) = value_row item setting ≡ Error number (option_map (value_in all) offending) setting
+FindsValue all item setting (Err (StopError number offending)) =
+    value_row item setting ≡ Error number (option_map (value_in all) offending) setting
 FindsValue all item setting (Err StopNoMemory) = ⊤
 
 -- the exchange of the oldest open scan's pair, or of the newest one's

@@ -19,7 +19,8 @@ pair_in all pair = record { subject = text_in all pair.subject; position = pair.
 
 -- what the cells of a stack stand for, by the texts of a heap
 abbrev pub reading_of : Extent → Interpretation
-reading_of all = record { value = value_in all; item = item_in all; residual = residual_in all; pair = pair_in all }
+reading_of all =
+    record { value = value_in all; item = item_in all; residual = residual_in all; pair = pair_in all }
 
 -- the stack that a machine's stack stands for
 abbrev pub stack_in : Extent → FlatStack → Frames
@@ -37,20 +38,24 @@ instruction_state all tables instr m st = instruction flat tables instr (stack_i
 
 -- the instruction goes on with another stack, in these tables
 abbrev pub GoesOnIn : Tables → Instr → FlatStack → FlatStack → Type 0
-GoesOnIn tables instr m n = (all : Extent) (st : Store Frames) → instruction_state all tables instr m st ≡ running (stack_in all n) st
+GoesOnIn tables instr m n =
+    (all : Extent) (st : Store Frames) → instruction_state all tables instr m st ≡ running (stack_in all n) st
 
 -- the instruction goes on with another stack, in any tables
 abbrev pub GoesOn : Instr → FlatStack → FlatStack → Type 0
-GoesOn instr m n = (all : Extent) (tables : Tables) (st : Store Frames) → instruction_state all tables instr m st ≡ running (stack_in all n) st
+GoesOn instr m n = (all : Extent) (tables : Tables) (st : Store Frames)
+    → instruction_state all tables instr m st ≡ running (stack_in all n) st
 
 -- It goes on with another stack, and the pair comes back that was saved, if one was.
 abbrev pub GoesOnLeaving : Instr → FlatStack → Option HeldPair → FlatStack → Type 0
 GoesOnLeaving instr m pair n =
-    (all : Extent) (tables : Tables) (st : Store Frames) → instruction_state all tables instr m st ≡ running (stack_in all n) (scans_left (maybe_pair_in all pair) st)
+    (all : Extent) (tables : Tables) (st : Store Frames) → instruction_state all tables instr m st
+    ≡ running (stack_in all n) (scans_left (maybe_pair_in all pair) st)
 
 -- It fails with this stack.
 abbrev pub IsFailing : Instr → FlatStack → Type 0
-IsFailing instr m = (all : Extent) (tables : Tables) (st : Store Frames) → instruction_state all tables instr m st ≡ failing (stack_in all m) st
+IsFailing instr m = (all : Extent) (tables : Tables) (st : Store Frames)
+    → instruction_state all tables instr m st ≡ failing (stack_in all m) st
 
 -- the instruction that opens a plain mark with this label, or without one
 abbrev pub mark_of : Option ℕ → Instr

@@ -35,7 +35,8 @@ use std::alloc::{AllocError, Global};
 pub fn create<K: Stack<Cell> + Drop>(m: &mut Machine<K>, label: u32) -> Result<Stage, Halt>
     requires runs { IsSome m.old.stacks.table.running }
     requires sound { (tables : Tables) × IsSound tables m.old }
-    ensures step { (tables : Tables) (outside : Outside) → ComesTo tables outside (does tables outside (Instrs.Create label) m.old) m.new result }
+    ensures step { (tables : Tables) (outside : Outside)
+        → ComesTo tables outside (does tables outside (Instrs.Create label) m.old) m.new result }
     ensures sound { (tables : Tables) → IsSound tables m.old → OnOk result (IsSound tables m.new) }
     ensures halt { IfErr result (IsLiveHalt (world_reach m.new)) }
     ensures limits { m.new.limits ≡ m.old.limits }
@@ -60,7 +61,8 @@ pub fn refresh<K: Stack<Cell> + Drop>(m: &mut Machine<K>) -> Result<Stage, Halt>
     requires runs { IsSome m.old.stacks.table.running }
     requires operand { IsSome (flat.pop (stack_of m.old)) }
     requires sound { (tables : Tables) × IsSound tables m.old }
-    ensures step { (tables : Tables) (outside : Outside) → ComesTo tables outside (does tables outside (Instrs.Op Ops.Refresh) m.old) m.new result }
+    ensures step { (tables : Tables) (outside : Outside)
+        → ComesTo tables outside (does tables outside (Instrs.Op Ops.Refresh) m.old) m.new result }
     ensures sound { (tables : Tables) → IsSound tables m.old → OnOk result (IsSound tables m.new) }
     ensures halt { IfErr result (IsLiveHalt (world_reach m.new)) }
     ensures limits { m.new.limits ≡ m.old.limits }
@@ -88,7 +90,8 @@ fn make_again<K: Stack<Cell> + Drop>(m: &mut Machine<K>, id: u32) -> Result<Stag
     requires other { 0 < id }
     requires there { id < length m.old.stacks.table.coexps }
     requires sound { (tables : Tables) × IsSound tables m.old }
-    ensures step { (tables : Tables) (outside : Outside) → ComesTo tables outside (refresh calls (ACoexp id) (stack_seen m.old) (store_seen tables outside m.old)) m.new result }
+    ensures step { (tables : Tables) (outside : Outside) → ComesTo tables outside
+        (refresh calls (ACoexp id) (stack_seen m.old) (store_seen tables outside m.old)) m.new result }
     ensures sound { (tables : Tables) → IsSound tables m.old → OnOk result (IsSound tables m.new) }
     ensures halt { IfErr result (IsLiveHalt (world_reach m.new)) }
     ensures limits { m.new.limits ≡ m.old.limits }
@@ -108,12 +111,15 @@ fn make_again<K: Stack<Cell> + Drop>(m: &mut Machine<K>, id: u32) -> Result<Stag
 pub fn charge_coexp(world: &mut World, locals: u64) -> Result<(), Stop>
     ensures row { MakesCoexp locals world.old world.new result }
     ensures stops { IfErr result (IsLiveStop (extent_of world.new.heap)) }
-    ensures live { OnOk result (IsLive (extent_of world.new.heap) (HeldCoexp (length (heap_of world.old.heap).coexps))) }
+    ensures live { OnOk result
+        (IsLive (extent_of world.new.heap) (HeldCoexp (length (heap_of world.old.heap).coexps))) }
     ensures few { OnOk result (length (heap_of world.old.heap).coexps < 2 ^ 32) }
     ensures kept { KeepsItems (reach_of world.old []) (reach_of world.new []) }
     ensures bounds { OnOk result ((heap_of world.new.heap).bounds ≡ (heap_of world.old.heap).bounds) }
-    ensures more { OnOk result (length (heap_of world.new.heap).coexps ≡ suc (length (heap_of world.old.heap).coexps)) }
-    ensures counts { OnOk result ((n : ℕ) → slice_index (heap_of world.new.heap).coexps n ≡ slice_index (heap_of world.old.heap).coexps n) }
+    ensures more { OnOk result
+        (length (heap_of world.new.heap).coexps ≡ suc (length (heap_of world.old.heap).coexps)) }
+    ensures counts { OnOk result ((n : ℕ)
+        → slice_index (heap_of world.new.heap).coexps n ≡ slice_index (heap_of world.old.heap).coexps n) }
 {
     world.heap.charge_coexp(locals)?;
     few_coexps(&world.heap);

@@ -41,13 +41,18 @@ pub enum Due {
 /// It takes no memory.
 pub fn fall<K: Stack<Cell> + Drop>(frames: &mut Frames<K>, world: &mut World) -> Due
     requires live { (tables : Tables) × IsLiveStack tables (reach_of world.old []) frames.old.flat }
-    requires goes_on { (tables : Tables) × ((st : Store FramesRead) × (fails calls tables (stack_in (extent_of world.old.heap) frames.old.flat) st ≢ stuck)) }
-    ensures step { (tables : Tables) (st : Store FramesRead) → st.world ≡ world_of world.old → FallsTo tables (fails calls tables (stack_in (extent_of world.old.heap) frames.old.flat) st) st world.new frames.new.flat result }
-    ensures live { (tables : Tables) → IsLiveStack tables (reach_of world.old []) frames.old.flat → IsLiveStack tables (reach_of world.new []) frames.new.flat }
+    requires goes_on { (tables : Tables) × ((st : Store FramesRead)
+        × (fails calls tables (stack_in (extent_of world.old.heap) frames.old.flat) st ≢ stuck)) }
+    ensures step { (tables : Tables) (st : Store FramesRead) → st.world ≡ world_of world.old
+        → FallsTo tables (fails calls tables (stack_in (extent_of world.old.heap) frames.old.flat) st) st
+        world.new frames.new.flat result }
+    ensures live { (tables : Tables) → IsLiveStack tables (reach_of world.old []) frames.old.flat
+        → IsLiveStack tables (reach_of world.new []) frames.new.flat }
     ensures due { IsLiveDue (reach_of world.new []) frames.new.flat result }
     ensures less { FallsBelow frames.old.flat frames.new.flat result }
     ensures named { FallsNamed (extent_of world.old.heap) frames.old.flat frames.new.flat result }
-    ensures world_named { (names : Names) → WorldNamed names (world_of world.old) → WorldNamed names (world_of world.new) }
+    ensures world_named { (names : Names) → WorldNamed names (world_of world.old)
+        → WorldNamed names (world_of world.new) }
     ensures heap { world.new.heap ≡ world.old.heap }
     ensures reach { reach_of world.new [] ≡ reach_of world.old [] }
 {

@@ -19,8 +19,10 @@ use icn_frames::Cell;
 pub fn fail_once<K: Stack<Cell> + Drop>(m: &mut Machine<K>) -> Due
     requires runs { IsSome m.old.stacks.table.running }
     requires sound { (tables : Tables) × IsSound tables m.old }
-    requires goes_on { (tables : Tables) × ((outside : Outside) × (fails calls tables (stack_seen m.old) (store_seen tables outside m.old) ≢ stuck)) }
-    ensures step { (tables : Tables) (outside : Outside) → DueAt tables outside (fails calls tables (stack_seen m.old) (store_seen tables outside m.old)) m.new result }
+    requires goes_on { (tables : Tables) × ((outside : Outside)
+        × (fails calls tables (stack_seen m.old) (store_seen tables outside m.old) ≢ stuck)) }
+    ensures step { (tables : Tables) (outside : Outside) → DueAt tables outside
+        (fails calls tables (stack_seen m.old) (store_seen tables outside m.old)) m.new result }
     ensures sound { (tables : Tables) → IsSound tables m.old → IsSound tables m.new }
     ensures runs { IsSome m.new.stacks.table.running }
     ensures limits { m.new.limits ≡ m.old.limits }

@@ -20,7 +20,8 @@ pub fn exhaust<K: Stack<Cell> + Drop>(m: &mut Machine<K>) -> Stage
     requires runs { IsSome m.old.stacks.table.running }
     requires other { 0 < m.old.stacks.table.active }
     requires bounds { (heap_of m.old.world.heap).bounds ≡ limits_of m.old.limits }
-    ensures step { (tables : Tables) (outside : Outside) → StandsAt tables outside (exhaust_active calls tables (stack_seen m.old) (store_seen tables outside m.old)) m.new result }
+    ensures step { (tables : Tables) (outside : Outside) → StandsAt tables outside
+        (exhaust_active calls tables (stack_seen m.old) (store_seen tables outside m.old)) m.new result }
     ensures sound { (tables : Tables) → IsSound tables m.old → IsSound tables m.new }
     ensures limits { m.new.limits ≡ m.old.limits }
     ensures stack { HasStack m.new result }
@@ -33,7 +34,8 @@ pub fn exhaust<K: Stack<Cell> + Drop>(m: &mut Machine<K>) -> Stage
 pub fn hop<K: Stack<Cell> + Drop>(m: &mut Machine<K>) -> Stage
     requires due { m.old.stacks.table.running ≡ None }
     requires bounds { (heap_of m.old.world.heap).bounds ≡ limits_of m.old.limits }
-    ensures step { (tables : Tables) (outside : Outside) (old : FramesRead) → StandsAt tables outside (hop calls tables old (store_seen tables outside m.old)) m.new result }
+    ensures step { (tables : Tables) (outside : Outside) (old : FramesRead)
+        → StandsAt tables outside (hop calls tables old (store_seen tables outside m.old)) m.new result }
     ensures sound { (tables : Tables) → IsSound tables m.old → IsSound tables m.new }
     ensures limits { m.new.limits ≡ m.old.limits }
     ensures stack { HasStack m.new result }
@@ -46,7 +48,8 @@ pub fn hop<K: Stack<Cell> + Drop>(m: &mut Machine<K>) -> Stage
 fn pass_failure<K: Stack<Cell> + Drop>(m: &mut Machine<K>) -> Stage
     requires other { 0 < m.old.stacks.table.active }
     requires bounds { (heap_of m.old.world.heap).bounds ≡ limits_of m.old.limits }
-    ensures step { (tables : Tables) (outside : Outside) (old : FramesRead) → StandsAt tables outside (exhaust_active calls tables old (store_seen tables outside m.old)) m.new result }
+    ensures step { (tables : Tables) (outside : Outside) (old : FramesRead) → StandsAt tables outside
+        (exhaust_active calls tables old (store_seen tables outside m.old)) m.new result }
     ensures sound { (tables : Tables) → IsSound tables m.old → IsSound tables m.new }
     ensures limits { m.new.limits ≡ m.old.limits }
     ensures stack { HasStack m.new result }

@@ -15,7 +15,8 @@ use icn_frames::Cell;
 pub fn init<K: Stack<Cell> + Drop>(m: &mut Machine<K>, label: u32)
     requires runs { IsSome m.old.stacks.table.running }
     requires begun { flat.proc (stack_of m.old) < vec_len m.old.begun }
-    ensures step { (tables : Tables) (outside : Outside) → StandsAt tables outside (does tables outside (Instrs.Init label) m.old) m.new Stages.Runs }
+    ensures step { (tables : Tables) (outside : Outside)
+        → StandsAt tables outside (does tables outside (Instrs.Init label) m.old) m.new Stages.Runs }
     ensures sound { (tables : Tables) → IsSound tables m.old → IsSound tables m.new }
     ensures limits { m.new.limits ≡ m.old.limits }
     ensures stack { IsSome m.new.stacks.table.running }

@@ -98,8 +98,10 @@ fn both_cases() -> Cset
 /// `&fail` gives nothing.
 pub fn keyword_item(word: Keyword, level: u64, current: u32, source: u32) -> Option<Item>
     requires { level ≤ 4294967295 }
-    ensures item { (all : Extent) → option_map (item_in all) result ≡ keyword_item (record { level = level; current = current; source = source }) word }
-    ensures live { (reach : Reach) → current < reach.extent.coexps → source < reach.extent.coexps → IfSome result (IsLiveItem reach) }
+    ensures item { (all : Extent) → option_map (item_in all) result
+        ≡ keyword_item (record { level = level; current = current; source = source }) word }
+    ensures live { (reach : Reach) → current < reach.extent.coexps → source < reach.extent.coexps
+        → IfSome result (IsLiveItem reach) }
 {
     match word {
         Keyword::Ascii => Some(Item::Val(Val::Chars(ascii()))),
@@ -137,7 +139,8 @@ pub fn push_keyword<K: Stack<Cell> + Drop>(
 ) -> Result<Stage, AllocError>
     requires runs { IsSome m.old.stacks.table.running }
     requires sound { (tables : Tables) × IsSound tables m.old }
-    ensures step { IfOk result (λ stage. (tables : Tables) (outside : Outside) → StandsAt tables outside (does tables outside (Instrs.Keywd word) m.old) m.new stage) }
+    ensures step { IfOk result (λ stage. (tables : Tables) (outside : Outside)
+        → StandsAt tables outside (does tables outside (Instrs.Keywd word) m.old) m.new stage) }
     ensures sound { OnOk result ((tables : Tables) → IsSound tables m.old → IsSound tables m.new) }
     ensures limits { m.new.limits ≡ m.old.limits }
     ensures stack { IfOk result (HasStack m.new) }

@@ -17,8 +17,10 @@ use icn_frames::Cell;
 pub fn end_failing<K: Stack<Cell> + Drop>(m: &mut Machine<K>) -> Stage
     requires runs { IsSome m.old.stacks.table.running }
     requires sound { (tables : Tables) × IsSound tables m.old }
-    requires goes_on { (tables : Tables) × ((outside : Outside) × (without_mark calls tables (stack_seen m.old) (store_seen tables outside m.old) ≢ stuck)) }
-    ensures step { (tables : Tables) (outside : Outside) → StandsAt tables outside (without_mark calls tables (stack_seen m.old) (store_seen tables outside m.old)) m.new result }
+    requires goes_on { (tables : Tables) × ((outside : Outside)
+        × (without_mark calls tables (stack_seen m.old) (store_seen tables outside m.old) ≢ stuck)) }
+    ensures step { (tables : Tables) (outside : Outside) → StandsAt tables outside
+        (without_mark calls tables (stack_seen m.old) (store_seen tables outside m.old)) m.new result }
     ensures sound { (tables : Tables) → IsSound tables m.old → IsSound tables m.new }
     ensures limits { m.new.limits ≡ m.old.limits }
     ensures stack { HasStack m.new result }

@@ -22,7 +22,8 @@ pub fn limit<K: Stack<Cell> + Drop>(frames: &mut Frames<K>, world: &World) -> Re
     requires operand { IsSome (flat.pop frames.old.flat) }
     requires live { (tables : Tables) × IsLiveStack tables (reach_of world.now []) frames.old.flat }
     ensures step { ComesWith Instrs.Limit world.now frames.old.flat world.now frames.new.flat result }
-    ensures live { (tables : Tables) → IsLiveStack tables (reach_of world.now []) frames.old.flat → OnOk result (IsLiveStack tables (reach_of world.now []) frames.new.flat) }
+    ensures live { (tables : Tables) → IsLiveStack tables (reach_of world.now []) frames.old.flat
+        → OnOk result (IsLiveStack tables (reach_of world.now []) frames.new.flat) }
     ensures halt { IfErr result (IsLiveHalt (reach_of world.now [])) }
 {
     let x = frames.pop();

@@ -32,9 +32,13 @@ pub fn push_list<K: Stack<Cell> + Drop>(
     vals: &mut Vec<Val>,
 ) -> Result<(), Halt>
     requires stack { (tables : Tables) × IsLiveStack tables (reach_of world.old []) frames.old.flat }
-    requires items { All (IsLiveItem (with_locals (flat.local_count frames.old.flat) (reach_of world.old []))) items.now }
-    ensures step { (st : Store FramesRead) → st.world ≡ world_of world.old → MatchResult result (λ _. RunsWith (push_list world.old frames.old.flat items.now st) st world.new frames.new.flat) (HaltsWith (push_list world.old frames.old.flat items.now st) st world.new) }
-    ensures live { (tables : Tables) → IsLiveStack tables (reach_of world.old []) frames.old.flat → OnOk result (IsLiveStack tables (reach_of world.new []) frames.new.flat) }
+    requires items { All (IsLiveItem (with_locals (flat.local_count frames.old.flat) (reach_of world.old [])))
+        items.now }
+    ensures step { (st : Store FramesRead) → st.world ≡ world_of world.old → MatchResult result
+        (λ _. RunsWith (push_list world.old frames.old.flat items.now st) st world.new frames.new.flat)
+        (HaltsWith (push_list world.old frames.old.flat items.now st) st world.new) }
+    ensures live { (tables : Tables) → IsLiveStack tables (reach_of world.old []) frames.old.flat
+        → OnOk result (IsLiveStack tables (reach_of world.new []) frames.new.flat) }
     ensures halt { IfErr result (IsLiveHalt (reach_of world.new [])) }
     ensures kept { KeepsItems (reach_of world.old []) (reach_of world.new []) }
     ensures counts { OnOk result (KeepsCounts world.old world.new) }
@@ -60,7 +64,8 @@ pub fn make_list<K: Stack<Cell> + Drop>(
     requires runs { IsSome m.old.stacks.table.running }
     requires operands { IsSome (take_operands count (stack_of m.old)) }
     requires sound { (tables : Tables) × IsSound tables m.old }
-    ensures step { (tables : Tables) (outside : Outside) → ComesTo tables outside (does tables outside (Instrs.Llist count) m.old) m.new result }
+    ensures step { (tables : Tables) (outside : Outside)
+        → ComesTo tables outside (does tables outside (Instrs.Llist count) m.old) m.new result }
     ensures sound { (tables : Tables) → IsSound tables m.old → OnOk result (IsSound tables m.new) }
     ensures halt { IfErr result (IsLiveHalt (world_reach m.new)) }
     ensures limits { m.new.limits ≡ m.old.limits }

@@ -22,7 +22,8 @@ pub fn push_integer<K: Stack<Cell> + Drop>(
     place: u32,
 ) -> Result<(), AllocError>
     requires { place < length (tables_of code.now).integers }
-    ensures step { OnOk result (GoesOnIn (tables_of code.now) (Instrs.Int place) frames.old.flat frames.new.flat) }
+    ensures step { OnOk result
+        (GoesOnIn (tables_of code.now) (Instrs.Int place) frames.old.flat frames.new.flat) }
     ensures live { OnOk result (StaysLive frames.old.flat frames.new.flat) }
 {
     let n = code.integers[place as usize];
@@ -49,7 +50,8 @@ pub fn push_global<K: Stack<Cell> + Drop>(
     place: u32,
 ) -> Result<(), AllocError>
     ensures step { OnOk result (GoesOn (Instrs.Global place) frames.old.flat frames.new.flat) }
-    ensures live { OnOk result ((tables : Tables) (reach : Reach) → place < reach.globals → IsLiveStack tables reach frames.old.flat → IsLiveStack tables reach frames.new.flat) }
+    ensures live { OnOk result ((tables : Tables) (reach : Reach) → place < reach.globals
+        → IsLiveStack tables reach frames.old.flat → IsLiveStack tables reach frames.new.flat) }
 {
     frames.push(Item::Var(VarRef::Whole(Root::Global(place))))?;
     Ok(())
@@ -62,7 +64,8 @@ pub fn push_cset<K: Stack<Cell> + Drop>(
     place: u32,
 ) -> Result<(), AllocError>
     requires { place < length (tables_of code.now).csets }
-    ensures step { OnOk result (GoesOnIn (tables_of code.now) (Instrs.Cset place) frames.old.flat frames.new.flat) }
+    ensures step { OnOk result
+        (GoesOnIn (tables_of code.now) (Instrs.Cset place) frames.old.flat frames.new.flat) }
     ensures live { OnOk result (StaysLive frames.old.flat frames.new.flat) }
 {
     let set = cset_at(code, place);
@@ -78,8 +81,10 @@ pub fn push_static<K: Stack<Cell> + Drop>(
     place: u32,
 ) -> Result<(), AllocError>
     requires few { first + place < 2 ^ 32 }
-    ensures step { OnOk result ((tables : Tables) → first ≡ statics_before tables (flat.proc frames.old.flat) → GoesOnIn tables (Instrs.Static place) frames.old.flat frames.new.flat) }
-    ensures live { OnOk result ((tables : Tables) (reach : Reach) → first + place < reach.statics → IsLiveStack tables reach frames.old.flat → IsLiveStack tables reach frames.new.flat) }
+    ensures step { OnOk result ((tables : Tables) → first ≡ statics_before tables (flat.proc frames.old.flat)
+        → GoesOnIn tables (Instrs.Static place) frames.old.flat frames.new.flat) }
+    ensures live { OnOk result ((tables : Tables) (reach : Reach) → first + place < reach.statics
+        → IsLiveStack tables reach frames.old.flat → IsLiveStack tables reach frames.new.flat) }
 {
     frames.push(Item::Var(VarRef::Whole(Root::Static(first + place))))?;
     Ok(())

@@ -19,7 +19,8 @@ pub fn unmark<K: Stack<Cell> + Drop>(m: &mut Machine<K>)
     requires runs { IsSome m.old.stacks.table.running }
     requires mark { flat.at_base (stack_of m.old) ≡ false }
     requires sound { (tables : Tables) × IsSound tables m.old }
-    ensures step { (tables : Tables) (outside : Outside) → StandsAt tables outside (does tables outside Instrs.Unmark m.old) m.new Stages.Runs }
+    ensures step { (tables : Tables) (outside : Outside)
+        → StandsAt tables outside (does tables outside Instrs.Unmark m.old) m.new Stages.Runs }
     ensures sound { (tables : Tables) → IsSound tables m.old → IsSound tables m.new }
     ensures limits { m.new.limits ≡ m.old.limits }
     ensures stack { IsSome m.new.stacks.table.running }
@@ -36,7 +37,8 @@ pub fn lsusp<K: Stack<Cell> + Drop>(m: &mut Machine<K>) -> Result<(), AllocError
     requires mark { IfSome (flat.pop (stack_of m.old)) (λ popped. flat.at_base popped.1 ≡ false) }
     requires count { IfSome (flat.pop (stack_of m.old)) (λ popped. IsSome (flat.count_down popped.1)) }
     requires sound { (tables : Tables) × IsSound tables m.old }
-    ensures step { (tables : Tables) (outside : Outside) → OnOk result (StandsAt tables outside (does tables outside Instrs.Lsusp m.old) m.new Stages.Runs) }
+    ensures step { (tables : Tables) (outside : Outside)
+        → OnOk result (StandsAt tables outside (does tables outside Instrs.Lsusp m.old) m.new Stages.Runs) }
     ensures sound { (tables : Tables) → IsSound tables m.old → OnOk result (IsSound tables m.new) }
     ensures limits { m.new.limits ≡ m.old.limits }
     ensures stack { OnOk result (IsSome m.new.stacks.table.running) }

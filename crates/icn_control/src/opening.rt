@@ -43,7 +43,9 @@ fn subject_of<K: Stack<Cell> + Drop>(
     ensures stops { IfErr result (IsLiveStop (extent_of world.new.heap)) }
     ensures kept { KeepsItems (reach_of world.old []) (reach_of world.new []) }
     ensures counts { OnOk result (KeepsCounts world.old world.new) }
-    ensures made { MatchResult result (λ span. MakesValue (text_row (value_in (extent_of world.old.heap) v)) world.old frames.old.flat world.new (Ok (TextVal span))) (λ stop. MakesValue (text_row (value_in (extent_of world.old.heap) v)) world.old frames.old.flat world.new (Err stop)) }
+    ensures made { MatchResult result (λ span. MakesValue (text_row (value_in (extent_of world.old.heap) v))
+        world.old frames.old.flat world.new (Ok (TextVal span))) (λ stop. MakesValue
+        (text_row (value_in (extent_of world.old.heap) v)) world.old frames.old.flat world.new (Err stop)) }
 {
     check_text(v)?;
     frames.local_count();
@@ -58,8 +60,11 @@ fn open_over<K: Stack<Cell> + Drop>(
     text: Span,
 ) -> Result<(), AllocError>
     requires { IsText (extent_of world.old.heap) text }
-    ensures step { OnOk result ((st : Store FramesRead) → st.world ≡ world_of world.old → RunsWith (scan_opened calls (Text (text_in (extent_of world.old.heap) text)) (stack_in (extent_of world.old.heap) frames.old.flat) st) st world.new frames.new.flat) }
-    ensures live { (tables : Tables) → IsLiveStack tables (reach_of world.old []) frames.old.flat → OnOk result (IsLiveStack tables (reach_of world.new []) frames.new.flat) }
+    ensures step { OnOk result ((st : Store FramesRead) → st.world ≡ world_of world.old
+        → RunsWith (scan_opened calls (Text (text_in (extent_of world.old.heap) text))
+        (stack_in (extent_of world.old.heap) frames.old.flat) st) st world.new frames.new.flat) }
+    ensures live { (tables : Tables) → IsLiveStack tables (reach_of world.old []) frames.old.flat
+        → OnOk result (IsLiveStack tables (reach_of world.new []) frames.new.flat) }
     ensures reach { reach_of world.new [] ≡ reach_of world.old [] }
     ensures heap { world.new.heap ≡ world.old.heap }
 {
@@ -82,7 +87,8 @@ pub fn open_scan<K: Stack<Cell> + Drop>(
     requires operand { IsSome (flat.pop frames.old.flat) }
     requires live { (tables : Tables) × IsLiveStack tables (reach_of world.old []) frames.old.flat }
     ensures step { DoesWith Instrs.Bscan world.old frames.old.flat world.new frames.new.flat result }
-    ensures live { (tables : Tables) → IsLiveStack tables (reach_of world.old []) frames.old.flat → OnOk result (IsLiveStack tables (reach_of world.new []) frames.new.flat) }
+    ensures live { (tables : Tables) → IsLiveStack tables (reach_of world.old []) frames.old.flat
+        → OnOk result (IsLiveStack tables (reach_of world.new []) frames.new.flat) }
     ensures halt { IfErr result (IsLiveHalt (reach_of world.new [])) }
     ensures kept { KeepsItems (reach_of world.old []) (reach_of world.new []) }
     ensures counts { OnOk result (KeepsCounts world.old world.new) }

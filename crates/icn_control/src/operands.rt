@@ -17,7 +17,8 @@ pub fn take_operands<K: Stack<Cell> + Drop>(
     count: usize,
 ) -> Result<(), AllocError>
     requires { IsSome (take_operands count frames.old.flat) }
-    ensures taken { OnOk result (take_operands count frames.old.flat ≡ Some (items.new.items, frames.new.flat)) }
+    ensures taken { OnOk result
+        (take_operands count frames.old.flat ≡ Some (items.new.items, frames.new.flat)) }
     ensures spare { OnOk result (frames.new.spare ≡ frames.old.spare + count) }
 {
     items.resize(count, Item::Val(Val::Null))?;

@@ -63,7 +63,13 @@ pub fn result_of<K: Stack<Cell> + Drop>(
     ensures spare { frames.new.spare ≡ frames.old.spare }
     ensures live { IfOk result (λ x. (n : ℕ) → IsLiveItem (with_locals n (reach_of world.now [])) x) }
     ensures stops { IfErr result (IsLiveStop (extent_of world.now.heap)) }
-    ensures value { (st : Store FramesRead) (next : ItemRead → State FramesRead FramesRead) → st.world ≡ world_of world.now → MatchResult result (λ x. with_result calls (item_in (extent_of world.now.heap) item) (stack_in (extent_of world.now.heap) frames.old.flat) st next ≡ next (item_in (extent_of world.now.heap) x)) (λ stop. HaltsWith (with_result calls (item_in (extent_of world.now.heap) item) (stack_in (extent_of world.now.heap) frames.old.flat) st next) st world.now (halt_of stop)) }
+    ensures value { (st : Store FramesRead) (next : ItemRead → State FramesRead FramesRead)
+        → st.world ≡ world_of world.now
+        → MatchResult result (λ x. with_result calls (item_in (extent_of world.now.heap) item)
+        (stack_in (extent_of world.now.heap) frames.old.flat) st next
+        ≡ next (item_in (extent_of world.now.heap) x))
+        (λ stop. HaltsWith (with_result calls (item_in (extent_of world.now.heap) item)
+        (stack_in (extent_of world.now.heap) frames.old.flat) st next) st world.now (halt_of stop)) }
 {
     if is_local(item) {
         let v = value_of(frames, world, item)?;
@@ -75,8 +81,11 @@ pub fn result_of<K: Stack<Cell> + Drop>(
 /// Ends the procedure, which fails, and all its scans are left. It takes no memory.
 pub fn leave_failing<K: Stack<Cell> + Drop>(frames: &mut Frames<K>, world: &mut World) -> Stage
     requires live { (tables : Tables) × IsLiveStack tables (reach_of world.old []) frames.old.flat }
-    ensures step { (st : Store FramesRead) → st.world ≡ world_of world.old → StandsWith (proc_fails calls (stack_in (extent_of world.old.heap) frames.old.flat) st) st world.new frames.new.flat result }
-    ensures live { (tables : Tables) → IsLiveStack tables (reach_of world.old []) frames.old.flat → IsLiveStack tables (reach_of world.new []) frames.new.flat }
+    ensures step { (st : Store FramesRead) → st.world ≡ world_of world.old
+        → StandsWith (proc_fails calls (stack_in (extent_of world.old.heap) frames.old.flat) st) st world.new
+        frames.new.flat result }
+    ensures live { (tables : Tables) → IsLiveStack tables (reach_of world.old []) frames.old.flat
+        → IsLiveStack tables (reach_of world.new []) frames.new.flat }
     ensures heap { world.new.heap ≡ world.old.heap }
     ensures reach { reach_of world.new [] ≡ reach_of world.old [] }
 {
@@ -92,8 +101,11 @@ pub fn leave_failing<K: Stack<Cell> + Drop>(frames: &mut Frames<K>, world: &mut 
 /// Ends the procedure, which fails, as it has no more instructions. It takes no memory.
 pub fn fail_procedure<K: Stack<Cell> + Drop>(frames: &mut Frames<K>, world: &mut World) -> Stage
     requires live { (tables : Tables) × IsLiveStack tables (reach_of world.old []) frames.old.flat }
-    ensures step { (tables : Tables) (st : Store FramesRead) → st.world ≡ world_of world.old → StandsWith (instruction_state (extent_of world.old.heap) tables Instrs.Pfail frames.old.flat st) st world.new frames.new.flat result }
-    ensures live { (tables : Tables) → IsLiveStack tables (reach_of world.old []) frames.old.flat → IsLiveStack tables (reach_of world.new []) frames.new.flat }
+    ensures step { (tables : Tables) (st : Store FramesRead) → st.world ≡ world_of world.old
+        → StandsWith (instruction_state (extent_of world.old.heap) tables Instrs.Pfail frames.old.flat st) st
+        world.new frames.new.flat result }
+    ensures live { (tables : Tables) → IsLiveStack tables (reach_of world.old []) frames.old.flat
+        → IsLiveStack tables (reach_of world.new []) frames.new.flat }
     ensures heap { world.new.heap ≡ world.old.heap }
     ensures reach { reach_of world.new [] ≡ reach_of world.old [] }
 {
@@ -110,7 +122,8 @@ pub fn give_back<K: Stack<Cell> + Drop>(
     requires operand { IsSome (flat.pop frames.old.flat) }
     requires live { (tables : Tables) × IsLiveStack tables (reach_of world.old []) frames.old.flat }
     ensures step { ComesWith Instrs.Pret world.old frames.old.flat world.new frames.new.flat result }
-    ensures live { (tables : Tables) → IsLiveStack tables (reach_of world.old []) frames.old.flat → OnOk result (IsLiveStack tables (reach_of world.new []) frames.new.flat) }
+    ensures live { (tables : Tables) → IsLiveStack tables (reach_of world.old []) frames.old.flat
+        → OnOk result (IsLiveStack tables (reach_of world.new []) frames.new.flat) }
     ensures halt { IfErr result (IsLiveHalt (reach_of world.new [])) }
     ensures heap { world.new.heap ≡ world.old.heap }
     ensures reach { reach_of world.new [] ≡ reach_of world.old [] }
@@ -137,7 +150,8 @@ pub fn suspend_with<K: Stack<Cell> + Drop>(
     requires operand { IsSome (flat.pop frames.old.flat) }
     requires live { (tables : Tables) × IsLiveStack tables (reach_of world.old []) frames.old.flat }
     ensures step { ComesWith Instrs.Psusp world.old frames.old.flat world.new frames.new.flat result }
-    ensures live { (tables : Tables) → IsLiveStack tables (reach_of world.old []) frames.old.flat → OnOk result (IsLiveStack tables (reach_of world.new []) frames.new.flat) }
+    ensures live { (tables : Tables) → IsLiveStack tables (reach_of world.old []) frames.old.flat
+        → OnOk result (IsLiveStack tables (reach_of world.new []) frames.new.flat) }
     ensures halt { IfErr result (IsLiveHalt (reach_of world.new [])) }
     ensures heap { world.new.heap ≡ world.old.heap }
     ensures reach { reach_of world.new [] ≡ reach_of world.old [] }

@@ -22,10 +22,13 @@ use icn_vars::{Halt, World};
 pub fn swap_pairs<K: Stack<Cell> + Drop>(frames: &mut Frames<K>, world: &mut World, oldest: bool)
     requires scan { IsSome frames.old.flat.registers.scan }
     requires live { (tables : Tables) × IsLiveStack tables (reach_of world.old []) frames.old.flat }
-    ensures stack { flat.swap_by oldest world.old.pair frames.old.flat ≡ Some (world.new.pair, frames.new.flat) }
+    ensures stack { flat.swap_by oldest world.old.pair frames.old.flat
+        ≡ Some (world.new.pair, frames.new.flat) }
     ensures spare { frames.new.spare ≡ frames.old.spare }
-    ensures live { (tables : Tables) → IsLiveStack tables (reach_of world.old []) frames.old.flat → IsLiveStack tables (reach_of world.new []) frames.new.flat }
-    ensures world { world_of world.new ≡ paired (pair_in (extent_of world.old.heap) world.new.pair) (world_of world.old) }
+    ensures live { (tables : Tables) → IsLiveStack tables (reach_of world.old []) frames.old.flat
+        → IsLiveStack tables (reach_of world.new []) frames.new.flat }
+    ensures world { world_of world.new
+        ≡ paired (pair_in (extent_of world.old.heap) world.new.pair) (world_of world.old) }
     ensures heap { world.new.heap ≡ world.old.heap }
     ensures reach { reach_of world.new [] ≡ reach_of world.old [] }
 {
@@ -36,9 +39,15 @@ pub fn swap_pairs<K: Stack<Cell> + Drop>(frames: &mut Frames<K>, world: &mut Wor
 /// Exchanges the pair of the world with that of the oldest open scan of the procedure, if one is open. It takes no memory.
 pub fn swap_if_scanning<K: Stack<Cell> + Drop>(frames: &mut Frames<K>, world: &mut World)
     requires live { (tables : Tables) × IsLiveStack tables (reach_of world.old []) frames.old.flat }
-    ensures step { (st : Store FramesRead) (next : FramesRead → Store FramesRead → State FramesRead FramesRead) → st.world ≡ world_of world.old → maybe_exchanged (calls.swap_oldest (pair_now st) (stack_in (extent_of world.old.heap) frames.old.flat)) (stack_in (extent_of world.old.heap) frames.old.flat) st next ≡ next (stack_in (extent_of world.new.heap) frames.new.flat) (with_world (world_of world.new) st) }
+    ensures step { (st : Store FramesRead)
+        (next : FramesRead → Store FramesRead → State FramesRead FramesRead)
+        → st.world ≡ world_of world.old → maybe_exchanged (calls.swap_oldest (pair_now st)
+        (stack_in (extent_of world.old.heap) frames.old.flat))
+        (stack_in (extent_of world.old.heap) frames.old.flat) st next
+        ≡ next (stack_in (extent_of world.new.heap) frames.new.flat) (with_world (world_of world.new) st) }
     ensures spare { frames.new.spare ≡ frames.old.spare }
-    ensures live { (tables : Tables) → IsLiveStack tables (reach_of world.old []) frames.old.flat → IsLiveStack tables (reach_of world.new []) frames.new.flat }
+    ensures live { (tables : Tables) → IsLiveStack tables (reach_of world.old []) frames.old.flat
+        → IsLiveStack tables (reach_of world.new []) frames.new.flat }
     ensures heap { world.new.heap ≡ world.old.heap }
     ensures reach { reach_of world.new [] ≡ reach_of world.old [] }
 {
@@ -56,7 +65,8 @@ pub fn leave_scan<K: Stack<Cell> + Drop>(
     requires scan { IsSome frames.old.flat.registers.scan }
     requires live { (tables : Tables) × IsLiveStack tables (reach_of world.old []) frames.old.flat }
     ensures step { DoesWith Instrs.Escan world.old frames.old.flat world.new frames.new.flat result }
-    ensures live { (tables : Tables) → IsLiveStack tables (reach_of world.old []) frames.old.flat → OnOk result (IsLiveStack tables (reach_of world.new []) frames.new.flat) }
+    ensures live { (tables : Tables) → IsLiveStack tables (reach_of world.old []) frames.old.flat
+        → OnOk result (IsLiveStack tables (reach_of world.new []) frames.new.flat) }
     ensures heap { world.new.heap ≡ world.old.heap }
     ensures reach { reach_of world.new [] ≡ reach_of world.old [] }
 {

@@ -28,8 +28,11 @@ pub fn push_string<K: Stack<Cell> + Drop>(
 ) -> Result<(), AllocError>
     requires place { place < length (tables_of code.now).strings }
     requires live { (tables : Tables) × IsLiveStack tables (reach_of world.old []) frames.old.flat }
-    ensures step { OnOk result ((st : Store FramesRead) → st.world ≡ world_of world.old → RunsWith (instruction_state (extent_of world.old.heap) (tables_of code.now) (Instrs.Str place) frames.old.flat st) st world.new frames.new.flat) }
-    ensures live { (tables : Tables) → IsLiveStack tables (reach_of world.old []) frames.old.flat → OnOk result (IsLiveStack tables (reach_of world.new []) frames.new.flat) }
+    ensures step { OnOk result ((st : Store FramesRead) → st.world ≡ world_of world.old
+        → RunsWith (instruction_state (extent_of world.old.heap) (tables_of code.now)
+        (Instrs.Str place) frames.old.flat st) st world.new frames.new.flat) }
+    ensures live { (tables : Tables) → IsLiveStack tables (reach_of world.old []) frames.old.flat
+        → OnOk result (IsLiveStack tables (reach_of world.new []) frames.new.flat) }
     ensures kept { KeepsItems (reach_of world.old []) (reach_of world.new []) }
     ensures heap { heap_of world.new.heap ≡ heap_of world.old.heap }
 {

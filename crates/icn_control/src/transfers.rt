@@ -39,7 +39,8 @@ pub fn coact<K: Stack<Cell> + Drop>(m: &mut Machine<K>) -> Result<Stage, Halt>
     requires upper { IsSome (flat.pop (stack_of m.old)) }
     requires lower { IfSome (flat.pop (stack_of m.old)) (λ popped. IsSome (flat.pop popped.1)) }
     requires sound { (tables : Tables) × IsSound tables m.old }
-    ensures step { (tables : Tables) (outside : Outside) → ComesTo tables outside (does tables outside Instrs.Coact m.old) m.new result }
+    ensures step { (tables : Tables) (outside : Outside)
+        → ComesTo tables outside (does tables outside Instrs.Coact m.old) m.new result }
     ensures sound { (tables : Tables) → IsSound tables m.old → OnOk result (IsSound tables m.new) }
     ensures halt { IfErr result (IsLiveHalt (world_reach m.new)) }
     ensures limits { m.new.limits ≡ m.old.limits }
@@ -67,7 +68,8 @@ pub fn coret<K: Stack<Cell> + Drop>(m: &mut Machine<K>) -> Result<Stage, Halt>
     requires base { flat.is_base (stack_of m.old) ≡ true }
     requires other { 0 < m.old.stacks.table.active }
     requires sound { (tables : Tables) × IsSound tables m.old }
-    ensures step { (tables : Tables) (outside : Outside) → ComesTo tables outside (does tables outside Instrs.Coret m.old) m.new result }
+    ensures step { (tables : Tables) (outside : Outside)
+        → ComesTo tables outside (does tables outside Instrs.Coret m.old) m.new result }
     ensures sound { (tables : Tables) → IsSound tables m.old → OnOk result (IsSound tables m.new) }
     ensures halt { IfErr result (IsLiveHalt (world_reach m.new)) }
     ensures limits { m.new.limits ≡ m.old.limits }
@@ -94,7 +96,9 @@ fn activate<K: Stack<Cell> + Drop>(m: &mut Machine<K>, id: u32, v: Val) -> Stage
     requires there { id < length m.old.stacks.table.coexps }
     requires room { 0 < m.old.stacks.spare }
     requires value { IsLive (extent m.old) v }
-    ensures step { (tables : Tables) (outside : Outside) → StandsAt tables outside (activation calls (value_in (extent m.old) v) (ACoexp id) (stack_seen m.old) (store_seen tables outside m.old)) m.new result }
+    ensures step { (tables : Tables) (outside : Outside)
+        → StandsAt tables outside (activation calls (value_in (extent m.old) v) (ACoexp id) (stack_seen m.old)
+        (store_seen tables outside m.old)) m.new result }
     ensures sound { (tables : Tables) → HasTurn m.old → IsSound tables m.old → IsSound tables m.new }
     ensures world { m.new.world ≡ m.old.world }
     ensures limits { m.new.limits ≡ m.old.limits }
@@ -135,7 +139,8 @@ pub fn take_value<K: Stack<Cell> + Drop>(frames: &mut Frames<K>, world: &World) 
     requires operand { IsSome (flat.pop frames.old.flat) }
     requires stack { (tables : Tables) × IsLiveStack tables (reach_of world.now []) frames.old.flat }
     ensures step { TakesTop world.now frames.old.flat frames.new.flat result }
-    ensures live { (tables : Tables) → IsLiveStack tables (reach_of world.now []) frames.old.flat → IsLiveStack tables (reach_of world.now []) frames.new.flat }
+    ensures live { (tables : Tables) → IsLiveStack tables (reach_of world.now []) frames.old.flat
+        → IsLiveStack tables (reach_of world.now []) frames.new.flat }
     ensures value { IfOk result (IsLive (extent_of world.now.heap)) }
     ensures stops { IfErr result (IsLiveStop (extent_of world.now.heap)) }
     ensures room { 0 < frames.new.spare }
@@ -153,7 +158,8 @@ pub fn take_two_values<K: Stack<Cell> + Drop>(
     requires lower { IfSome (flat.pop frames.old.flat) (λ popped. IsSome (flat.pop popped.1)) }
     requires stack { (tables : Tables) × IsLiveStack tables (reach_of world.now []) frames.old.flat }
     ensures step { TakesTwo world.now frames.old.flat frames.new.flat result }
-    ensures live { (tables : Tables) → IsLiveStack tables (reach_of world.now []) frames.old.flat → IsLiveStack tables (reach_of world.now []) frames.new.flat }
+    ensures live { (tables : Tables) → IsLiveStack tables (reach_of world.now []) frames.old.flat
+        → IsLiveStack tables (reach_of world.now []) frames.new.flat }
     ensures lower { IfOk result (λ two. IsLive (extent_of world.now.heap) two.0) }
     ensures upper { IfOk result (λ two. IsLive (extent_of world.now.heap) two.1) }
     ensures stops { IfErr result (IsLiveStop (extent_of world.now.heap)) }

@@ -19,7 +19,8 @@ use icn_frames::Cell;
 pub fn go_back<K: Stack<Cell> + Drop>(m: &mut Machine<K>, label: u32) -> Stage
     requires runs { IsSome m.old.stacks.table.running }
     requires bounds { (heap_of m.old.world.heap).bounds ≡ limits_of m.old.limits }
-    ensures step { (tables : Tables) (outside : Outside) → StandsAt tables outside (does tables outside (Instrs.Loop label) m.old) m.new result }
+    ensures step { (tables : Tables) (outside : Outside)
+        → StandsAt tables outside (does tables outside (Instrs.Loop label) m.old) m.new result }
     ensures sound { (tables : Tables) → IsSound tables m.old → IsSound tables m.new }
     ensures limits { m.new.limits ≡ m.old.limits }
     ensures stack { HasStack m.new result }
@@ -35,7 +36,8 @@ pub fn go_back<K: Stack<Cell> + Drop>(m: &mut Machine<K>, label: u32) -> Stage
 /// Something begins again, as a turn: a repeated alternation to which failing came back. It takes no memory.
 pub fn begin_again<K: Stack<Cell> + Drop>(m: &mut Machine<K>) -> Stage
     requires bounds { (heap_of m.old.world.heap).bounds ≡ limits_of m.old.limits }
-    ensures step { (tables : Tables) (outside : Outside) → StandsAt tables outside (turn tables (store_seen tables outside m.old) (running (stack_seen m.old))) m.new result }
+    ensures step { (tables : Tables) (outside : Outside) → StandsAt tables outside
+        (turn tables (store_seen tables outside m.old) (running (stack_seen m.old))) m.new result }
     ensures sound { (tables : Tables) → IsSound tables m.old → IsSound tables m.new }
     ensures limits { m.new.limits ≡ m.old.limits }
     ensures stack { IsSome m.old.stacks.table.running → HasStack m.new result }
@@ -52,7 +54,8 @@ pub fn reenter<K: Stack<Cell> + Drop>(m: &mut Machine<K>) -> Stage
     requires runs { IsSome m.old.stacks.table.running }
     requires bounds { (heap_of m.old.world.heap).bounds ≡ limits_of m.old.limits }
     requires sound { (tables : Tables) × IsSound tables m.old }
-    ensures step { (tables : Tables) (outside : Outside) → StandsAt tables outside (resume_by calls tables Proc (stack_seen m.old) (store_seen tables outside m.old)) m.new result }
+    ensures step { (tables : Tables) (outside : Outside) → StandsAt tables outside
+        (resume_by calls tables Proc (stack_seen m.old) (store_seen tables outside m.old)) m.new result }
     ensures sound { (tables : Tables) → IsSound tables m.old → IsSound tables m.new }
     ensures limits { m.new.limits ≡ m.old.limits }
     ensures stack { HasStack m.new result }

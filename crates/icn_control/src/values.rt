@@ -36,7 +36,9 @@ pub fn value_of<K: Stack<Cell> + Drop>(
     ensures spare { frames.new.spare ≡ frames.old.spare }
     ensures live { IfOk result (IsLive (extent_of world.now.heap)) }
     ensures stops { IfErr result (IsLiveStop (extent_of world.now.heap)) }
-    ensures value { (st : Store FramesRead) → st.world ≡ world_of world.now → FindsValue (extent_of world.now.heap) (item_in (extent_of world.now.heap) item) (here calls (stack_in (extent_of world.now.heap) frames.old.flat) st) result }
+    ensures value { (st : Store FramesRead) → st.world ≡ world_of world.now
+        → FindsValue (extent_of world.now.heap) (item_in (extent_of world.now.heap) item)
+        (here calls (stack_in (extent_of world.now.heap) frames.old.flat) st) result }
 {
     frames.local_count();
     let activation = Activation { frames };
@@ -52,7 +54,8 @@ pub fn values_of<K: Stack<Cell> + Drop>(
     vals: &mut Vec<Val>,
 ) -> Result<(), Stop>
     requires stack { (tables : Tables) × IsLiveStack tables (reach_of world.now []) frames.old.flat }
-    requires items { All (IsLiveItem (with_locals (flat.local_count frames.old.flat) (reach_of world.now []))) items.now }
+    requires items { All (IsLiveItem (with_locals (flat.local_count frames.old.flat) (reach_of world.now [])))
+        items.now }
     ensures same { frames.new.flat ≡ frames.old.flat }
     ensures spare { frames.new.spare ≡ frames.old.spare }
     ensures live { OnOk result (All (IsLive (extent_of world.now.heap)) vals.new.items) }
@@ -91,7 +94,8 @@ pub fn list_of<K: Stack<Cell> + Drop>(
     ensures stops { IfErr result (IsLiveStop (extent_of world.new.heap)) }
     ensures kept { KeepsItems (reach_of world.old []) (reach_of world.new []) }
     ensures counts { OnOk result (KeepsCounts world.old world.new) }
-    ensures made { MakesValue (list_row (map (value_in (extent_of world.old.heap)) vals.now)) world.old frames.old.flat world.new result }
+    ensures made { MakesValue (list_row (map (value_in (extent_of world.old.heap)) vals.now)) world.old
+        frames.old.flat world.new result }
 {
     frames.local_count();
     let activation = Activation { frames };

@@ -12,7 +12,8 @@ use icn_vars::World;
 /// Makes a saved pair the present one. It takes no memory.
 pub fn set_pair(world: &mut World, pair: Pair)
     requires { IsLivePair (extent_of world.old.heap) pair }
-    ensures world { world_of world.new ≡ paired (pair_in (extent_of world.old.heap) pair) (world_of world.old) }
+    ensures world { world_of world.new
+        ≡ paired (pair_in (extent_of world.old.heap) pair) (world_of world.old) }
     ensures pair { world.new.pair ≡ pair }
     ensures heap { world.new.heap ≡ world.old.heap }
     ensures reach { reach_of world.new [] ≡ reach_of world.old [] }
@@ -23,7 +24,8 @@ pub fn set_pair(world: &mut World, pair: Pair)
 /// Makes a saved pair the present one, if there is one. It takes no memory.
 pub fn restore_pair(world: &mut World, pair: Option<Pair>)
     requires { MaybeLivePair (extent_of world.old.heap) pair }
-    ensures world { world_of world.new ≡ maybe_paired (maybe_pair_in (extent_of world.old.heap) pair) (world_of world.old) }
+    ensures world { world_of world.new
+        ≡ maybe_paired (maybe_pair_in (extent_of world.old.heap) pair) (world_of world.old) }
     ensures heap { world.new.heap ≡ world.old.heap }
     ensures reach { reach_of world.new [] ≡ reach_of world.old [] }
 {

@@ -44,9 +44,13 @@ pub fn to_cset(heap: &Heap, val: Val) -> Option<Cset>
 pub fn to_text(heap: &mut Heap, val: Val) -> Result<Option<Span>, Full>
     requires { IsLive (extent_of heap.old) val }
     ensures live { IfOk result (λ found. IfSome found (IsText (extent_of heap.new))) }
-    ensures text { IfOk result (λ found. option_map (text_in (extent_of heap.new)) found ≡ text_of (value_in (extent_of heap.old) val)) }
-    ensures step { MatchResult result (λ _. heap_with_text (heap_of heap.old) (value_in (extent_of heap.old) val) ≡ Ok (heap_of heap.new)) (Refuses (heap_with_text (heap_of heap.old) (value_in (extent_of heap.old) val))) }
-    ensures limits { LimitsFirst (heap_with_text (heap_of heap.old) (value_in (extent_of heap.old) val)) result }
+    ensures text { IfOk result (λ found. option_map (text_in (extent_of heap.new)) found
+        ≡ text_of (value_in (extent_of heap.old) val)) }
+    ensures step { MatchResult result
+        (λ _. heap_with_text (heap_of heap.old) (value_in (extent_of heap.old) val) ≡ Ok (heap_of heap.new))
+        (Refuses (heap_with_text (heap_of heap.old) (value_in (extent_of heap.old) val))) }
+    ensures limits { LimitsFirst (heap_with_text (heap_of heap.old) (value_in (extent_of heap.old) val))
+        result }
     ensures kept { Keeps (extent_of heap.old) (extent_of heap.new) }
     ensures unchanged { OnErr result (heap_of heap.new ≡ heap_of heap.old) }
 {

@@ -34,7 +34,8 @@ pub fn image<N: Names>(
     requires live { IsLive (extent_of heap.now) val }
     requires named { IsNamed (N.known names.now) val }
     requires records { AreRecordsNamed (N.known names.now) (heap_of heap.now) }
-    ensures { IfOk result (λ text. text.items ≡ image (N.known names.now) (heap_of heap.now) (value_in (extent_of heap.now) val)) }
+    ensures { IfOk result (λ text. text.items
+        ≡ image (N.known names.now) (heap_of heap.now) (value_in (extent_of heap.now) val)) }
 {
     let mut out = Vec::new(alloc);
     push_image(&mut out, heap, names, val)?;
@@ -50,7 +51,8 @@ fn push_image<N: Names>(
     requires live { IsLive (extent_of heap.now) val }
     requires named { IsNamed (N.known names.now) val }
     requires records { AreRecordsNamed (N.known names.now) (heap_of heap.now) }
-    ensures { OnOk result (out.new.items ≡ out.old.items ++ image (N.known names.now) (heap_of heap.now) (value_in (extent_of heap.now) val)) }
+    ensures { OnOk result (out.new.items ≡ out.old.items
+        ++ image (N.known names.now) (heap_of heap.now) (value_in (extent_of heap.now) val)) }
 {
     match val {
         Val::Null => push(out, b"&null"),
@@ -111,7 +113,8 @@ fn push_structure(
     val: Val,
 ) -> Result<(), AllocError>
     requires { IsLive (extent_of heap.now) val }
-    ensures { OnOk result (out.new.items ≡ out.old.items ++ numbered_image name.now (id + 1) (size_of (heap_of heap.now) (value_in (extent_of heap.now) val))) }
+    ensures { OnOk result (out.new.items ≡ out.old.items ++ numbered_image name.now (id + 1)
+        (size_of (heap_of heap.now) (value_in (extent_of heap.now) val))) }
 {
     push(out, name)?;
     push_number(out, u64::from(id) + 1, heap.size(val).unwrap_or(0))
@@ -125,7 +128,8 @@ fn push_record<N: Names>(
 ) -> Result<(), AllocError>
     requires live { IsLive (extent_of heap.now) (Rec id) }
     requires records { AreRecordsNamed (N.known names.now) (heap_of heap.now) }
-    ensures { OnOk result (out.new.items ≡ out.old.items ++ image (N.known names.now) (heap_of heap.now) (ARecord id)) }
+    ensures { OnOk result
+        (out.new.items ≡ out.old.items ++ image (N.known names.now) (heap_of heap.now) (ARecord id)) }
 {
     push(out, b"record ")?;
     push(out, record_name(heap, names, id))?;

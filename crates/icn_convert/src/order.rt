@@ -26,7 +26,8 @@ pub fn compare<N: Names>(heap: &Heap, names: &N, a: Val, b: Val) -> Ordering
     requires first_named { IsNamed (N.known names.now) a }
     requires second_named { IsNamed (N.known names.now) b }
     requires records { AreRecordsNamed (N.known names.now) (heap_of heap.now) }
-    ensures { result ≡ value_cmp (N.known names.now) (heap_of heap.now) (value_in (extent_of heap.now) a) (value_in (extent_of heap.now) b) }
+    ensures { result ≡ value_cmp (N.known names.now) (heap_of heap.now) (value_in (extent_of heap.now) a)
+        (value_in (extent_of heap.now) b) }
 {
     match rank(a).cmp(&rank(b)) {
         Ordering::Equal => compare_texts(heap, names, a, b).then(number(a).cmp(&number(b))),
@@ -41,7 +42,9 @@ fn compare_texts<'a, N: Names>(heap: &'a Heap, names: &'a N, a: Val, b: Val) -> 
     requires first_named { IsNamed (N.known names.now) a }
     requires second_named { IsNamed (N.known names.now) b }
     requires records { AreRecordsNamed (N.known names.now) (heap_of heap.now) }
-    ensures { result ≡ slice_cmp nat_cmp (sorted_shape (N.known names.now) (heap_of heap.now) (value_in (extent_of heap.now) a)).text (sorted_shape (N.known names.now) (heap_of heap.now) (value_in (extent_of heap.now) b)).text }
+    ensures { result ≡ slice_cmp nat_cmp
+        (sorted_shape (N.known names.now) (heap_of heap.now) (value_in (extent_of heap.now) a)).text
+        (sorted_shape (N.known names.now) (heap_of heap.now) (value_in (extent_of heap.now) b)).text }
 {
     sort_text(heap, names, a)
         .as_bytes()
@@ -108,7 +111,8 @@ fn sort_text<'a, N: Names>(heap: &'a Heap, names: &'a N, val: Val) -> SortText<'
     requires live { IsLive (extent_of heap.now) val }
     requires named { IsNamed (N.known names.now) val }
     requires records { AreRecordsNamed (N.known names.now) (heap_of heap.now) }
-    ensures { sorted_by result ≡ (sorted_shape (N.known names.now) (heap_of heap.now) (value_in (extent_of heap.now) val)).text }
+    ensures { sorted_by result
+        ≡ (sorted_shape (N.known names.now) (heap_of heap.now) (value_in (extent_of heap.now) val)).text }
 {
     match val {
         Val::Text(span) => SortText::Bytes(heap.bytes(span)),

@@ -32,24 +32,30 @@ abbrev mutual
   faults context (Listing place elements) = all_faults context elements
   faults context (Compound place exprs) = all_faults context exprs
   faults context (Call place callee arguments) = faults context callee ++ all_faults context arguments
-  faults context (CoCall place callee arguments) = faults context callee ++ all_faults create_context arguments
-  faults context (Subscript place subject subscripts) = faults context subject ++ all_faults context subscripts
-  faults context (Section place kind subject from to) = faults context subject ++ (faults context from ++ faults context to)
+  faults context (CoCall place callee arguments) =
+      faults context callee ++ all_faults create_context arguments
+  faults context (Subscript place subject subscripts) =
+      faults context subject ++ all_faults context subscripts
+  faults context (Section place kind subject from to) =
+      faults context subject ++ (faults context from ++ faults context to)
   faults context (Field place subject name) = faults context subject
   faults context (Prefix place operator operand) = faults context operand
   faults context (Not place operand) = faults context operand
   faults context (Binary place operator first second) = faults context first ++ faults context second
   faults context (To place from to by) = faults context from ++ (faults context to ++ maybe_faults context by)
-  faults context (If place condition first second) = faults context condition ++ (faults context first ++ maybe_faults context second)
+  faults context (If place condition first second) =
+      faults context condition ++ (faults context first ++ maybe_faults context second)
   faults context (Case place subject clauses) = faults context subject ++ clauses_faults context false clauses
-  faults context (Loop place kind control body) = faults (enter_loop (next_in_control kind) context) control ++ maybe_faults (enter_loop true context) body
+  faults context (Loop place kind control body) = faults (enter_loop (next_in_control kind) context) control
+      ++ maybe_faults (enter_loop true context) body
   faults context (Repeat place body) = faults (enter_loop true context) body
   faults context (Create place body) = faults create_context body
   faults context (Next place) = next_faults context place
   faults context (Fail place) = result_faults context place
   faults context (Break place value) = break_faults context place ++ faults (leave_loop context) value
   faults context (Return place value) = result_faults context place ++ faults context value
-  faults context (Suspend place value body) = result_faults context place ++ (faults context value ++ maybe_faults context body)
+  faults context (Suspend place value body) =
+      result_faults context place ++ (faults context value ++ maybe_faults context body)
 
   pub maybe_faults : Context → MaybeTree → List Fault
   maybe_faults context Absent = []
@@ -63,10 +69,12 @@ abbrev mutual
   -- the clauses of a `case`, behind those among which a `default` was or was not
   pub clauses_faults : Context → Bool → Clauses → List Fault
   clauses_faults context has_default NoClauses = []
-  clauses_faults context has_default (MoreClauses clause clauses) = clause_faults context has_default clause ++ clauses_faults context (is_default has_default clause) clauses
+  clauses_faults context has_default (MoreClauses clause clauses) = clause_faults context has_default clause
+      ++ clauses_faults context (is_default has_default clause) clauses
 
   pub clause_faults : Context → Bool → Clause → List Fault
-  clause_faults context has_default (Default place value) = default_faults has_default place ++ faults context value
+  clause_faults context has_default (Default place value) =
+      default_faults has_default place ++ faults context value
   clause_faults context has_default (Guarded place guard value) = faults context guard ++ faults context value
 
   -- a `default` was before, or this is one
@@ -86,7 +94,8 @@ fault_if_met rule met name = if met name.text then fault rule name.place else []
 -- names that were met, or that stand among those before them
 abbrev pub all_repeated : Rule → NameTest → List Name → List Fault
 all_repeated rule met [] = []
-all_repeated rule met (name ∷ names) = fault_if_met rule met name ++ all_repeated rule (with_name met name.text) names
+all_repeated rule met (name ∷ names) =
+    fault_if_met rule met name ++ all_repeated rule (with_name met name.text) names
 
 -- more than 65535 names at once
 abbrev pub too_many : ℕ → Name → List Fault
@@ -102,11 +111,14 @@ initial_faults (Initially place value) = faults outermost value
 
 -- the context rules that a procedure breaks, where names were declared before it
 abbrev pub procedure_faults : NameTest → Procedure → List Fault
-procedure_faults met procedure = too_many (length (declared_names procedure)) procedure.name ++ (fault_if_met C8 met procedure.name
-    ++ (all_repeated C1 none_met (declared_names procedure) ++ (initial_faults procedure.initial ++ all_faults outermost procedure.body)))
+procedure_faults met procedure =
+    too_many (length (declared_names procedure)) procedure.name ++ (fault_if_met C8 met procedure.name
+    ++ (all_repeated C1 none_met (declared_names procedure)
+    ++ (initial_faults procedure.initial ++ all_faults outermost procedure.body)))
 
 abbrev pub record_faults : NameTest → Name → List Name → List Fault
-record_faults met name fields = too_many (length fields) name ++ (fault_if_met C8 met name ++ all_repeated C6 none_met fields)
+record_faults met name fields =
+    too_many (length fields) name ++ (fault_if_met C8 met name ++ all_repeated C6 none_met fields)
 
 -- the names of procedures and records, behind a declaration
 abbrev pub names_after : NameTest → Declaration → NameTest
@@ -125,7 +137,8 @@ declaration_faults met (ProcedureOf procedure) = procedure_faults met procedure
 
 abbrev pub declarations_faults : NameTest → List Declaration → List Fault
 declarations_faults met [] = []
-declarations_faults met (declaration ∷ others) = declaration_faults met declaration ++ declarations_faults (names_after met declaration) others
+declarations_faults met (declaration ∷ others) =
+    declaration_faults met declaration ++ declarations_faults (names_after met declaration) others
 
 -- the faults of a file
 abbrev pub context_faults : List Declaration → List Fault

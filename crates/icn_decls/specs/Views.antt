@@ -29,7 +29,8 @@ fault_of (Err broken) = Some (record { rule = broken.rule; place = broken.place 
 -- what a check answers: the first of the faults, or none where there is none, or want of memory
 abbrev pub Checks : List Fault → Result (Unit {0}) ContextFault → Type 0
 Checks faults (Ok done) = None ≡ first_of faults
-Checks faults (Err (BrokenFault rule file line)) = Some (record { rule = rule; place = record { line = line; file = file } }) ≡ first_of faults
+Checks faults (Err (BrokenFault rule file line)) =
+    Some (record { rule = rule; place = record { line = line; file = file } }) ≡ first_of faults
 Checks faults (Err NoMemory) = Unit {0}
 
 -- the same of a check that hands something on

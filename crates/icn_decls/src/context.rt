@@ -76,7 +76,8 @@ impl<'a> Context<'a> {
 
     // A word of loops with no loop to belong to.
     fn loopless(self, rule: Rule, place: Place) -> Broken
-        ensures { Some (record { rule = result.rule; place = result.place }) ≡ first_of (loopless self.entry.in_create rule place) }
+        ensures { Some (record { rule = result.rule; place = result.place })
+            ≡ first_of (loopless self.entry.in_create rule place) }
     {
         if self.in_create {
             Broken::at(place, Rule::C4)

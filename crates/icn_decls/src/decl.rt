@@ -41,7 +41,8 @@ fn check_names<'a>(met: &mut NameSet<'a>, names: &'a [Name], rule: Rule) -> Resu
 
 // The first name of locals and statics that breaks the rule of names declared twice.
 fn check_locals<'a>(met: &mut NameSet<'a>, locals: &'a [Locals]) -> Result<(), ContextFault>
-    ensures { Checks (all_repeated Rule.C1 (has met.old) (flat_map (λ l. l.names) (map locals_of locals.now))) result }
+    ensures { Checks (all_repeated Rule.C1 (has met.old) (flat_map (λ l. l.names) (map locals_of locals.now)))
+        result }
 {
     for local in locals {
         check_names(met, &local.names, Rule::C1)?;
@@ -97,7 +98,8 @@ fn check_procedure<'a>(
 
 // The first rule that the expressions of a procedure break.
 fn check_bodies(procedure: &Procedure) -> Result<(), Broken>
-    ensures { fault_of result ≡ first_of (initial_faults (procedure_of procedure.now).initial ++ all_faults outermost (procedure_of procedure.now).body) }
+    ensures { fault_of result ≡ first_of (initial_faults (procedure_of procedure.now).initial
+        ++ all_faults outermost (procedure_of procedure.now).body) }
 {
     if let Some(initial) = &procedure.initial {
         check(&initial.value, Context::outermost())?;

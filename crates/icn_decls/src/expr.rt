@@ -128,7 +128,8 @@ pub fn check(expr: &Expr, context: Context<'_>) -> Result<(), Broken>
 // The same in one more loop, where `next` may stand or not.
 #[cycle(check)]
 fn check_looped(expr: &Expr, context: Context<'_>, next: bool) -> Result<(), Broken>
-    ensures { fault_of result ≡ first_of (faults (enter_loop next (context_of context.entry)) (tree_of expr.now)) }
+    ensures { fault_of result
+        ≡ first_of (faults (enter_loop next (context_of context.entry)) (tree_of expr.now)) }
 {
     let loops = Loops::Inside(next, context.loops);
     let inside = Context {
@@ -152,7 +153,8 @@ pub fn check_all(exprs: &[Expr], context: Context<'_>) -> Result<(), Broken>
 // The first rule that the clauses of a `case` break.
 #[cycle(check)]
 fn check_clauses(clauses: &[Clause], context: Context<'_>) -> Result<(), Broken>
-    ensures { fault_of result ≡ first_of (clauses_faults (context_of context.entry) false (all_clauses_of clauses.now)) }
+    ensures { fault_of result
+        ≡ first_of (clauses_faults (context_of context.entry) false (all_clauses_of clauses.now)) }
 {
     let mut has_default = false;
     for clause in clauses {
@@ -165,7 +167,8 @@ fn check_clauses(clauses: &[Clause], context: Context<'_>) -> Result<(), Broken>
 // The first rule that a clause breaks, behind those among which a `default` was or was not.
 #[cycle(check)]
 fn check_clause(clause: &Clause, context: Context<'_>, has_default: bool) -> Result<(), Broken>
-    ensures { fault_of result ≡ first_of (clause_faults (context_of context.entry) has_default (clause_of clause.now)) }
+    ensures { fault_of result
+        ≡ first_of (clause_faults (context_of context.entry) has_default (clause_of clause.now)) }
 {
     match clause {
         Clause::Default { place, value } => {

@@ -88,7 +88,8 @@ are_sums heap =
 -- each structure cost a cell, and each co-expression but `&main`
 abbrev pub are_counted : Heap → Bool
 are_counted heap =
-    nat_le (length heap.lists + length heap.sets + length heap.tables + length heap.records + length heap.coexps) (heap.cells + 1)
+    nat_le (length heap.lists + length heap.sets + length heap.tables + length heap.records
+    + length heap.coexps) (heap.cells + 1)
 
 -- what stands in the structures is live
 abbrev pub is_heap : Names → Heap → Bool

@@ -118,7 +118,8 @@ procedure_image names number =
 abbrev pub record_number : Names → Heap → ℕ → ℕ
 record_number names heap id =
     1 + count_by
-    (λ (other : Record). bytes_eq (unwrap_or (slice_get names.records other.kind) []) (record_name names heap id))
+    (λ (other : Record).
+    bytes_eq (unwrap_or (slice_get names.records other.kind) []) (record_name names heap id))
     (take id heap.records)
 
 -- a structure, by its type or name, its number and its size

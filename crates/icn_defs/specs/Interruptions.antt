@@ -71,4 +71,5 @@ pub record IsReadingOf (input : List ℕ) (outside : Outside) (reading : Reading
 pub record IsOutsideOf (input : List ℕ) (outside : Outside) : Type 0 where
   pub taken : ℕ
   pub left : outside.left ≡ drop taken input
-  pub readings : (place : ℕ) (reading : Reading) → slice_get outside.readings place ≡ Some reading → IsReadingOf input outside reading
+  pub readings : (place : ℕ) (reading : Reading) → slice_get outside.readings place ≡ Some reading
+      → IsReadingOf input outside reading

@@ -41,7 +41,8 @@ after_steps step zero state = state
 after_steps step (suc n) state = after_steps step n (step state)
 
 -- The run that takes these steps from this start on comes to an end, of which this is observed.
-pub record Observes {S : Type 0} (step : S → S) (observed : S → Option Observed) (start : S) (seen : Observed) : Type 0 where
+pub record Observes {S : Type 0} (step : S → S) (observed : S → Option Observed) (start : S)
+    (seen : Observed) : Type 0 where
   pub count : ℕ
   pub is : observed (after_steps step count start) ≡ Some seen
 
@@ -55,7 +56,16 @@ with_errors text outside = record outside { errors = outside.errors ++ text }
 
 -- The heap before anything is made. Co-expression 0 is `&main`, whose results are counted like those of the others.
 abbrev pub first_heap : Bounds → Heap
-first_heap bounds = record { lists = []; sets = []; tables = []; records = []; coexps = zero ∷ []; strings = zero; cells = zero; bounds = bounds }
+first_heap bounds = record {
+  lists = [];
+  sets = [];
+  tables = [];
+  records = [];
+  coexps = zero ∷ [];
+  strings = zero;
+  cells = zero;
+  bounds = bounds;
+}
 
 -- the world before anything is done, with these globals and so many statics
 abbrev pub first_world : Bounds → List Value → ℕ → World

@@ -23,23 +23,30 @@ pub fn numbers_lead_back()
     ensures keywords { (keyword : Keyword) → keyword_of (keyword_number keyword) ≡ Some keyword }
     ensures op_numbers { (n : ℕ) (op : Op) → op_of n ≡ Some op → op_number op ≡ n }
     ensures func_numbers { (n : ℕ) (func : Func) → func_of n ≡ Some func → func_number func ≡ n }
-    ensures keyword_numbers { (n : ℕ) (keyword : Keyword) → keyword_of n ≡ Some keyword → keyword_number keyword ≡ n }
+    ensures keyword_numbers { (n : ℕ) (keyword : Keyword) → keyword_of n ≡ Some keyword
+        → keyword_number keyword ≡ n }
 {}
 
 /// Where an operation, a function or a resumption goes on, there are as many locals of the activation at hand, globals and statics as before,
 /// and the limits are the same.
 pub fn rows_keep()
-    ensures operations { (op : Op) (items : List Item) (at : Setting) → KeepsIn at (operation_row op items at) }
-    ensures functions { (names : Names) (func : Func) (items : List Item) (at : Setting) → KeepsIn at (function_row names func items at) }
+    ensures operations { (op : Op) (items : List Item) (at : Setting)
+        → KeepsIn at (operation_row op items at) }
+    ensures functions { (names : Names) (func : Func) (items : List Item) (at : Setting)
+        → KeepsIn at (function_row names func items at) }
     ensures resumed { (residual : Residual) (at : Setting) → KeepsIn at (again residual at) }
 {}
 
 /// A run that ended, and one that a failed reading broke off, left first parts of what it puts and takes, as every run that was broken off. A
 /// program's outside begins as one that a run comes to, and each put and each reading keeps it so.
 pub fn broken_off()
-    ensures ended { (input : List ℕ) (seen : Observed) (before after : Streams) → IsOutsideOf input seen.outside → Ends seen before after → Breaks input seen before after }
-    ensures reading { (input : List ℕ) (seen : Observed) (before after : Streams) → IsOutsideOf input seen.outside → BreaksReading seen before after → Breaks input seen before after }
+    ensures ended { (input : List ℕ) (seen : Observed) (before after : Streams)
+        → IsOutsideOf input seen.outside → Ends seen before after → Breaks input seen before after }
+    ensures reading { (input : List ℕ) (seen : Observed) (before after : Streams)
+        → IsOutsideOf input seen.outside → BreaksReading seen before after → Breaks input seen before after }
     ensures begun { (input : List ℕ) → IsOutsideOf input (outside_of input) }
-    ensures put { (input : List ℕ) (outside : Outside) (file : File) (text : List ℕ) → IsOutsideOf input outside → IsOutsideOf input (put_on file text outside) }
-    ensures read { (input : List ℕ) (outside : Outside) (asked : Request) → IsOutsideOf input outside → IsOutsideOf input (after_reading asked outside) }
+    ensures put { (input : List ℕ) (outside : Outside) (file : File) (text : List ℕ)
+        → IsOutsideOf input outside → IsOutsideOf input (put_on file text outside) }
+    ensures read { (input : List ℕ) (outside : Outside) (asked : Request) → IsOutsideOf input outside
+        → IsOutsideOf input (after_reading asked outside) }
 {}

@@ -221,44 +221,72 @@ abbrev pub frame : {V L C : Type 0} → ℕ → Place → PartialForm V L C → 
 frame level place holds = record { level = level; place = place; holds = holds }
 
 -- an operand that begins with a word
-abbrev pub word_step : {V L C : Type 0} → Builds V L C → ℕ → Place → Word → List (Frame V L C) → List Token → State V L C
-word_step make level place Words.Not frames tokens = Starting 12 (frame level place NotOperand ∷ frames) tokens
+abbrev pub word_step : {V L C : Type 0} → Builds V L C → ℕ → Place → Word → List (Frame V L C) → List Token
+    → State V L C
+word_step make level place Words.Not frames tokens =
+    Starting 12 (frame level place NotOperand ∷ frames) tokens
 word_step make level place Words.If frames tokens = Starting 1 (frame level place Condition ∷ frames) tokens
-word_step make level place Words.Case frames tokens = Starting 1 (frame level place CaseSubject ∷ frames) tokens
-word_step make level place Words.While frames tokens = Starting 1 (frame level place (Control Loops.While) ∷ frames) tokens
-word_step make level place Words.Until frames tokens = Starting 1 (frame level place (Control Loops.Until) ∷ frames) tokens
-word_step make level place Words.Every frames tokens = Starting 1 (frame level place (Control Loops.Every) ∷ frames) tokens
-word_step make level place Words.Repeat frames tokens = Starting 1 (frame level place RepeatBody ∷ frames) tokens
-word_step make level place Words.Create frames tokens = Starting 1 (frame level place CreateBody ∷ frames) tokens
-word_step make level place Words.Next frames tokens = Climbing level place (make.next_form place) frames tokens
-word_step make level place Words.Fail frames tokens = Climbing level place (make.fail_form place) frames tokens
-word_step make level place Words.Break frames tokens = Starting 0 (frame level place BreakValue ∷ frames) tokens
-word_step make level place Words.Return frames tokens = Starting 0 (frame level place ReturnValue ∷ frames) tokens
-word_step make level place Words.Suspend frames tokens = Starting 0 (frame level place SuspendValue ∷ frames) tokens
+word_step make level place Words.Case frames tokens =
+    Starting 1 (frame level place CaseSubject ∷ frames) tokens
+word_step make level place Words.While frames tokens =
+    Starting 1 (frame level place (Control Loops.While) ∷ frames) tokens
+word_step make level place Words.Until frames tokens =
+    Starting 1 (frame level place (Control Loops.Until) ∷ frames) tokens
+word_step make level place Words.Every frames tokens =
+    Starting 1 (frame level place (Control Loops.Every) ∷ frames) tokens
+word_step make level place Words.Repeat frames tokens =
+    Starting 1 (frame level place RepeatBody ∷ frames) tokens
+word_step make level place Words.Create frames tokens =
+    Starting 1 (frame level place CreateBody ∷ frames) tokens
+word_step make level place Words.Next frames tokens =
+    Climbing level place (make.next_form place) frames tokens
+word_step make level place Words.Fail frames tokens =
+    Climbing level place (make.fail_form place) frames tokens
+word_step make level place Words.Break frames tokens =
+    Starting 0 (frame level place BreakValue ∷ frames) tokens
+word_step make level place Words.Return frames tokens =
+    Starting 0 (frame level place ReturnValue ∷ frames) tokens
+word_step make level place Words.Suspend frames tokens =
+    Starting 0 (frame level place SuspendValue ∷ frames) tokens
 word_step make level place _ frames tokens = Broken
 
 -- an operand that begins with an operator: a keyword behind its `&`, or an operator and its operand
-abbrev pub operator_step : {V L C : Type 0} → Builds V L C → ℕ → Place → Option (Operator × Option Operator) → List (Frame V L C) → List Token → State V L C
-operator_step make level place None frames tokens = unless_broken (name_by (keyword_text (next tokens)) tokens) (λ name. Climbing level place (make.keyword place name) frames (behind tokens))
-operator_step make level place (Some found) frames tokens = Starting 12 (frame level place (PrefixOperand found.0) ∷ frames) (before place found.1 tokens)
+abbrev pub operator_step : {V L C : Type 0} → Builds V L C → ℕ → Place → Option (Operator × Option Operator)
+    → List (Frame V L C) → List Token → State V L C
+operator_step make level place None frames tokens =
+    unless_broken (name_by (keyword_text (next tokens)) tokens)
+    (λ name. Climbing level place (make.keyword place name) frames (behind tokens))
+operator_step make level place (Some found) frames tokens =
+    Starting 12 (frame level place (PrefixOperand found.0) ∷ frames) (before place found.1 tokens)
 
 -- an operand that begins with a bracket
-abbrev pub mark_step : {V L C : Type 0} → Builds V L C → ℕ → Place → Punctuation → List (Frame V L C) → List Token → State V L C
-mark_step make level place OpenParenthesis frames tokens = Starting 0 (frame level place (Elements Round make.no_elements) ∷ frames) tokens
-mark_step make level place OpenBracket frames tokens = Starting 0 (frame level place (Elements Square make.no_elements) ∷ frames) tokens
-mark_step make level place OpenBrace frames tokens = Starting 0 (frame level place (Elements Curly make.no_elements) ∷ frames) tokens
+abbrev pub mark_step : {V L C : Type 0} → Builds V L C → ℕ → Place → Punctuation → List (Frame V L C)
+    → List Token → State V L C
+mark_step make level place OpenParenthesis frames tokens =
+    Starting 0 (frame level place (Elements Round make.no_elements) ∷ frames) tokens
+mark_step make level place OpenBracket frames tokens =
+    Starting 0 (frame level place (Elements Square make.no_elements) ∷ frames) tokens
+mark_step make level place OpenBrace frames tokens =
+    Starting 0 (frame level place (Elements Curly make.no_elements) ∷ frames) tokens
 mark_step make level place _ frames tokens = Broken
 
 -- an operand, by its first token
-abbrev pub operand_step : {V L C : Type 0} → Builds V L C → ℕ → Place → Kind → List (Frame V L C) → List Token → State V L C
-operand_step make level place (IdentifierKind text) frames tokens = Climbing level place (make.identifier (record { text = text; place = place })) frames tokens
-operand_step make level place (IntegerKind n) frames tokens = Climbing level place (make.constant place (Integer n)) frames tokens
-operand_step make level place (TextKind text) frames tokens = Climbing level place (make.constant place (Text text)) frames tokens
-operand_step make level place (CsetKind set) frames tokens = Climbing level place (make.constant place (Cset set)) frames tokens
+abbrev pub operand_step : {V L C : Type 0} → Builds V L C → ℕ → Place → Kind → List (Frame V L C) → List Token
+    → State V L C
+operand_step make level place (IdentifierKind text) frames tokens =
+    Climbing level place (make.identifier (record { text = text; place = place })) frames tokens
+operand_step make level place (IntegerKind n) frames tokens =
+    Climbing level place (make.constant place (Integer n)) frames tokens
+operand_step make level place (TextKind text) frames tokens =
+    Climbing level place (make.constant place (Text text)) frames tokens
+operand_step make level place (CsetKind set) frames tokens =
+    Climbing level place (make.constant place (Cset set)) frames tokens
 operand_step make level place (WordKind word) frames tokens = word_step make level place word frames tokens
-operand_step make level place (OperatorKind operator) frames tokens = operator_step make level place (prefix_of operator) frames tokens
+operand_step make level place (OperatorKind operator) frames tokens =
+    operator_step make level place (prefix_of operator) frames tokens
 operand_step make level place (AugmentedKind operator) frames tokens = Broken
-operand_step make level place (PunctuationKind mark) frames tokens = mark_step make level place mark frames tokens
+operand_step make level place (PunctuationKind mark) frames tokens =
+    mark_step make level place mark frames tokens
 
 -- an empty part, where the level allows it
 abbrev pub empty_step : {V L C : Type 0} → Builds V L C → ℕ → List (Frame V L C) → List Token → State V L C
@@ -266,50 +294,72 @@ empty_step make zero frames tokens = Closing make.empty false frames tokens
 empty_step make (suc level) frames tokens = Broken
 
 -- an operand, where the token can begin one; else an empty part
-abbrev pub start_by : {V L C : Type 0} → Builds V L C → Bool → ℕ → Token → List (Frame V L C) → List Token → State V L C
-start_by make true level token frames tokens = operand_step make (climbing_level level) (record { line = token.line; file = token.file }) token.kind frames tokens
+abbrev pub start_by : {V L C : Type 0} → Builds V L C → Bool → ℕ → Token → List (Frame V L C) → List Token
+    → State V L C
+start_by make true level token frames tokens = operand_step make (climbing_level level)
+    (record { line = token.line; file = token.file }) token.kind frames tokens
 start_by make false level token frames tokens = empty_step make level frames (token ∷ tokens)
 
 -- where a part of this level is to begin: its first token is read, or the part is empty
 abbrev pub start_step : {V L C : Type 0} → Builds V L C → ℕ → List (Frame V L C) → List Token → State V L C
 start_step make level frames [] = empty_step make level frames []
-start_step make level frames (token ∷ tokens) = start_by make (kind_begins token.kind) level token frames tokens
+start_step make level frames (token ∷ tokens) =
+    start_by make (kind_begins token.kind) level token frames tokens
 
 -- Climbing
 
 -- an operator between operands: its right operand begins
-abbrev pub infix_step : {V L C : Type 0} → Builds V L C → ℕ → Place → V → Infix → List (Frame V L C) → List Token → State V L C
-infix_step make level place tree operator frames tokens = Starting (right_level (infix_level operator)) (frame level place (RightOperand operator tree) ∷ frames) tokens
+abbrev pub infix_step : {V L C : Type 0} → Builds V L C → ℕ → Place → V → Infix → List (Frame V L C)
+    → List Token → State V L C
+infix_step make level place tree operator frames tokens = Starting (right_level (infix_level operator))
+    (frame level place (RightOperand operator tree) ∷ frames) tokens
 
 -- a dot with a field's name, or an operator between operands
-abbrev pub plain_step : {V L C : Type 0} → Builds V L C → Bool → ℕ → Place → V → Operator → List (Frame V L C) → List Token → State V L C
-plain_step make true level place tree operator frames tokens = unless_broken (name_by (identifier_text (next tokens)) tokens) (λ name. Climbing level place (make.field place tree name) frames (behind tokens))
-plain_step make false level place tree operator frames tokens = infix_step make level place tree (Plain operator) frames tokens
+abbrev pub plain_step : {V L C : Type 0} → Builds V L C → Bool → ℕ → Place → V → Operator → List (Frame V L C)
+    → List Token → State V L C
+plain_step make true level place tree operator frames tokens =
+    unless_broken (name_by (identifier_text (next tokens)) tokens)
+    (λ name. Climbing level place (make.field place tree name) frames (behind tokens))
+plain_step make false level place tree operator frames tokens =
+    infix_step make level place tree (Plain operator) frames tokens
 
 -- a bracket behind a tree: a call, subscripts, or a call with co-expressions
-abbrev pub suffix_step : {V L C : Type 0} → Builds V L C → ℕ → Place → V → Punctuation → List (Frame V L C) → List Token → State V L C
-suffix_step make level place tree OpenParenthesis frames tokens = Starting 0 (frame level place (Elements (Arguments tree) make.no_elements) ∷ frames) tokens
-suffix_step make level place tree OpenBracket frames tokens = Starting 0 (frame level place (Elements (Subscripts tree) make.no_elements) ∷ frames) tokens
-suffix_step make level place tree OpenBrace frames tokens = Starting 0 (frame level place (Elements (CoArguments tree) make.no_elements) ∷ frames) tokens
+abbrev pub suffix_step : {V L C : Type 0} → Builds V L C → ℕ → Place → V → Punctuation → List (Frame V L C)
+    → List Token → State V L C
+suffix_step make level place tree OpenParenthesis frames tokens =
+    Starting 0 (frame level place (Elements (Arguments tree) make.no_elements) ∷ frames) tokens
+suffix_step make level place tree OpenBracket frames tokens =
+    Starting 0 (frame level place (Elements (Subscripts tree) make.no_elements) ∷ frames) tokens
+suffix_step make level place tree OpenBrace frames tokens =
+    Starting 0 (frame level place (Elements (CoArguments tree) make.no_elements) ∷ frames) tokens
 suffix_step make level place tree _ frames tokens = Broken
 
 -- a tree goes on with this token
-abbrev pub extend_step : {V L C : Type 0} → Builds V L C → ℕ → Place → V → Kind → List (Frame V L C) → List Token → State V L C
-extend_step make level place tree (OperatorKind operator) frames tokens = plain_step make (is_dot operator) level place tree operator frames tokens
-extend_step make level place tree (AugmentedKind operator) frames tokens = infix_step make level place tree (Augmented operator) frames tokens
-extend_step make level place tree (WordKind word) frames tokens = Starting 5 (frame level place (ToOperand tree) ∷ frames) tokens
-extend_step make level place tree (PunctuationKind mark) frames tokens = suffix_step make level place tree mark frames tokens
+abbrev pub extend_step : {V L C : Type 0} → Builds V L C → ℕ → Place → V → Kind → List (Frame V L C)
+    → List Token → State V L C
+extend_step make level place tree (OperatorKind operator) frames tokens =
+    plain_step make (is_dot operator) level place tree operator frames tokens
+extend_step make level place tree (AugmentedKind operator) frames tokens =
+    infix_step make level place tree (Augmented operator) frames tokens
+extend_step make level place tree (WordKind word) frames tokens =
+    Starting 5 (frame level place (ToOperand tree) ∷ frames) tokens
+extend_step make level place tree (PunctuationKind mark) frames tokens =
+    suffix_step make level place tree mark frames tokens
 extend_step make level place tree _ frames tokens = Broken
 
 -- the tree goes on where the level allows it; else the part is complete
-abbrev pub climb_by : {V L C : Type 0} → Builds V L C → Bool → ℕ → Place → V → Token → List (Frame V L C) → List Token → State V L C
-climb_by make true level place tree token frames tokens = extend_step make level place tree token.kind frames tokens
+abbrev pub climb_by : {V L C : Type 0} → Builds V L C → Bool → ℕ → Place → V → Token → List (Frame V L C)
+    → List Token → State V L C
+climb_by make true level place tree token frames tokens =
+    extend_step make level place tree token.kind frames tokens
 climb_by make false level place tree token frames tokens = Closing tree true frames (token ∷ tokens)
 
 -- a tree was read: the next token makes a larger one of it, or the part is complete
-abbrev pub climb_step : {V L C : Type 0} → Builds V L C → ℕ → Place → V → List (Frame V L C) → List Token → State V L C
+abbrev pub climb_step : {V L C : Type 0} → Builds V L C → ℕ → Place → V → List (Frame V L C) → List Token
+    → State V L C
 climb_step make level place tree frames [] = Closing tree true frames []
-climb_step make level place tree frames (token ∷ tokens) = climb_by make (nat_le level (kind_goes_on token.kind)) level place tree token frames tokens
+climb_step make level place tree frames (token ∷ tokens) =
+    climb_by make (nat_le level (kind_goes_on token.kind)) level place tree token frames tokens
 
 -- Closing
 
@@ -342,69 +392,119 @@ section_subject make (Subscripts subject) true true = Some subject
 section_subject make _ _ _ = None
 
 -- the second position of a section begins, where its sign stands in subscripts
-abbrev pub section_by : {V L C : Type 0} → Builds V L C → Option V → Option SectionKind → ℕ → Place → V → List (Frame V L C) → List Token → State V L C
-section_by make (Some subject) (Some kind) level place from frames tokens = Starting 1 (frame level place (SectionEnd kind subject from) ∷ frames) tokens
+abbrev pub section_by : {V L C : Type 0} → Builds V L C → Option V → Option SectionKind → ℕ → Place → V
+    → List (Frame V L C) → List Token → State V L C
+section_by make (Some subject) (Some kind) level place from frames tokens =
+    Starting 1 (frame level place (SectionEnd kind subject from) ∷ frames) tokens
 section_by make _ _ level place from frames tokens = Broken
 
 -- an element is complete: another one begins, the bracket closes, or it was the first position of a section
-abbrev pub element_by : {V L C : Type 0} → Builds V L C → Bool → Bool → Bracket V → L → ℕ → Place → V → Bool → List (Frame V L C) → List Token → State V L C
-element_by make true closer bracket trees level place tree present frames tokens = Starting 0 (frame level place (Elements bracket (make.with_element trees tree)) ∷ frames) (behind tokens)
-element_by make false true bracket trees level place tree present frames tokens = Climbing level place (bracket_tree make bracket place (make.with_element trees tree)) frames (behind tokens)
-element_by make false false bracket trees level place tree present frames tokens = section_by make (section_subject make bracket (make.has_none trees) present) (section_kind (next tokens)) level place tree frames (behind tokens)
+abbrev pub element_by : {V L C : Type 0} → Builds V L C → Bool → Bool → Bracket V → L → ℕ → Place → V → Bool
+    → List (Frame V L C) → List Token → State V L C
+element_by make true closer bracket trees level place tree present frames tokens =
+    Starting 0 (frame level place (Elements bracket (make.with_element trees tree)) ∷ frames) (behind tokens)
+element_by make false true bracket trees level place tree present frames tokens = Climbing level place
+    (bracket_tree make bracket place (make.with_element trees tree)) frames (behind tokens)
+element_by make false false bracket trees level place tree present frames tokens =
+    section_by make (section_subject make bracket (make.has_none trees) present)
+    (section_kind (next tokens)) level place tree frames (behind tokens)
 
 -- a clause begins here
-abbrev pub clause_by : {V L C : Type 0} → Builds V L C → Bool → ℕ → Place → V → C → List (Frame V L C) → List Token → State V L C
-clause_by make true level place subject clauses frames tokens = state_if (is_colon (next (behind tokens))) (Starting 1 (frame level place (DefaultValue subject clauses (place_of tokens)) ∷ frames) (behind (behind tokens)))
-clause_by make false level place subject clauses frames tokens = Starting 1 (frame level place (ClauseGuard subject clauses (place_of tokens)) ∷ frames) tokens
+abbrev pub clause_by : {V L C : Type 0} → Builds V L C → Bool → ℕ → Place → V → C → List (Frame V L C)
+    → List Token → State V L C
+clause_by make true level place subject clauses frames tokens =
+    state_if (is_colon (next (behind tokens))) (Starting 1
+    (frame level place (DefaultValue subject clauses (place_of tokens)) ∷ frames) (behind (behind tokens)))
+clause_by make false level place subject clauses frames tokens =
+    Starting 1 (frame level place (ClauseGuard subject clauses (place_of tokens)) ∷ frames) tokens
 
 -- a clause of a `case` begins, a guarded one or the default
-abbrev pub clause_step : {V L C : Type 0} → Builds V L C → ℕ → Place → V → C → List (Frame V L C) → List Token → State V L C
-clause_step make level place subject clauses frames tokens = clause_by make (is_default (next tokens)) level place subject clauses frames tokens
+abbrev pub clause_step : {V L C : Type 0} → Builds V L C → ℕ → Place → V → C → List (Frame V L C) → List Token
+    → State V L C
+clause_step make level place subject clauses frames tokens =
+    clause_by make (is_default (next tokens)) level place subject clauses frames tokens
 
 -- a clause is complete
-abbrev pub clause_end : {V L C : Type 0} → Builds V L C → Bool → ℕ → Place → V → C → List (Frame V L C) → List Token → State V L C
-clause_end make true level place subject clauses frames tokens = clause_step make level place subject clauses frames (behind tokens)
-clause_end make false level place subject clauses frames tokens = state_if (is_close_brace (next tokens)) (Climbing level place (make.case_form place subject clauses) frames (behind tokens))
+abbrev pub clause_end : {V L C : Type 0} → Builds V L C → Bool → ℕ → Place → V → C → List (Frame V L C)
+    → List Token → State V L C
+clause_end make true level place subject clauses frames tokens =
+    clause_step make level place subject clauses frames (behind tokens)
+clause_end make false level place subject clauses frames tokens = state_if (is_close_brace (next tokens))
+    (Climbing level place (make.case_form place subject clauses) frames (behind tokens))
 
 -- where this token stands next a further part follows, else the form is complete
-abbrev pub part_or : {V L C : Type 0} → Builds V L C → Bool → Frame V L C → V → List (Frame V L C) → List Token → State V L C
+abbrev pub part_or : {V L C : Type 0} → Builds V L C → Bool → Frame V L C → V → List (Frame V L C)
+    → List Token → State V L C
 part_or make true more tree frames tokens = Starting 1 (more ∷ frames) (behind tokens)
 part_or make false more tree frames tokens = Climbing more.level more.place tree frames tokens
 
 -- where `by` stands next its operand begins; else the form is complete
-abbrev pub by_or : {V L C : Type 0} → Builds V L C → Bool → Frame V L C → V → List (Frame V L C) → List Token → State V L C
+abbrev pub by_or : {V L C : Type 0} → Builds V L C → Bool → Frame V L C → V → List (Frame V L C) → List Token
+    → State V L C
 by_or make true more tree frames tokens = Starting 5 (more ∷ frames) (behind tokens)
 by_or make false more tree frames tokens = Climbing more.level more.place tree frames tokens
 
 -- a part is complete, by the form that it is of
-abbrev pub close_by : {V L C : Type 0} → Builds V L C → PartialForm V L C → ℕ → Place → V → Bool → List (Frame V L C) → List Token → State V L C
-close_by make (Elements bracket trees) level place tree present frames tokens = element_by make (is_separator (separator_of bracket) (next tokens)) (is_closer bracket (next tokens)) bracket trees level place tree present frames tokens
-close_by make (SectionEnd kind subject from) level place tree present frames tokens = state_if (is_close_bracket (next tokens)) (Climbing level place (make.section place kind subject from tree) frames (behind tokens))
-close_by make (PrefixOperand operator) level place tree present frames tokens = Climbing level place (make.prefix place operator tree) frames tokens
-close_by make NotOperand level place tree present frames tokens = Climbing level place (make.not_form place tree) frames tokens
-close_by make (RightOperand operator left) level place tree present frames tokens = Climbing level place (make.binary place operator left tree) frames tokens
-close_by make (ToOperand from) level place tree present frames tokens = by_or make (is_by (next tokens)) (frame level place (ByOperand from tree)) (make.to_form place from tree None) frames tokens
-close_by make (ByOperand from to) level place tree present frames tokens = Climbing level place (make.to_form place from to (Some tree)) frames tokens
-close_by make Condition level place tree present frames tokens = state_if (is_then (next tokens)) (Starting 1 (frame level place (Consequence tree) ∷ frames) (behind tokens))
-close_by make (Consequence condition) level place tree present frames tokens = part_or make (is_else (next tokens)) (frame level place (Alternative condition tree)) (make.if_form place condition tree None) frames tokens
-close_by make (Alternative condition first) level place tree present frames tokens = Climbing level place (make.if_form place condition first (Some tree)) frames tokens
-close_by make CaseSubject level place tree present frames tokens = state_if (is_of (next tokens) && is_open_brace (next (behind tokens))) (clause_step make level place tree make.no_clauses frames (behind (behind tokens)))
-close_by make (ClauseGuard subject clauses at) level place tree present frames tokens = state_if (is_colon (next tokens)) (Starting 1 (frame level place (GuardedValue subject clauses at tree) ∷ frames) (behind tokens))
-close_by make (GuardedValue subject clauses at guard) level place tree present frames tokens = clause_end make (is_separator BySemicolon (next tokens)) level place subject (make.with_guarded clauses at guard tree) frames tokens
-close_by make (DefaultValue subject clauses at) level place tree present frames tokens = clause_end make (is_separator BySemicolon (next tokens)) level place subject (make.with_default clauses at tree) frames tokens
-close_by make (Control kind) level place tree present frames tokens = part_or make (is_do (next tokens)) (frame level place (LoopBody kind tree)) (make.loop_form place kind tree None) frames tokens
-close_by make (LoopBody kind control) level place tree present frames tokens = Climbing level place (make.loop_form place kind control (Some tree)) frames tokens
-close_by make RepeatBody level place tree present frames tokens = Climbing level place (make.repeat_form place tree) frames tokens
-close_by make CreateBody level place tree present frames tokens = Climbing level place (make.create_form place tree) frames tokens
-close_by make BreakValue level place tree present frames tokens = Climbing level place (make.break_form place tree) frames tokens
-close_by make ReturnValue level place tree present frames tokens = Climbing level place (make.return_form place tree) frames tokens
-close_by make SuspendValue level place tree present frames tokens = part_or make (is_do (next tokens)) (frame level place (SuspendBody tree)) (make.suspend_form place tree None) frames tokens
-close_by make (SuspendBody value) level place tree present frames tokens = Climbing level place (make.suspend_form place value (Some tree)) frames tokens
+abbrev pub close_by : {V L C : Type 0} → Builds V L C → PartialForm V L C → ℕ → Place → V → Bool
+    → List (Frame V L C) → List Token → State V L C
+close_by make (Elements bracket trees) level place tree present frames tokens =
+    element_by make (is_separator (separator_of bracket) (next tokens))
+    (is_closer bracket (next tokens)) bracket trees level place tree present frames tokens
+close_by make (SectionEnd kind subject from) level place tree present frames tokens =
+    state_if (is_close_bracket (next tokens))
+    (Climbing level place (make.section place kind subject from tree) frames (behind tokens))
+close_by make (PrefixOperand operator) level place tree present frames tokens =
+    Climbing level place (make.prefix place operator tree) frames tokens
+close_by make NotOperand level place tree present frames tokens =
+    Climbing level place (make.not_form place tree) frames tokens
+close_by make (RightOperand operator left) level place tree present frames tokens =
+    Climbing level place (make.binary place operator left tree) frames tokens
+close_by make (ToOperand from) level place tree present frames tokens = by_or make (is_by (next tokens))
+    (frame level place (ByOperand from tree)) (make.to_form place from tree None) frames tokens
+close_by make (ByOperand from to) level place tree present frames tokens =
+    Climbing level place (make.to_form place from to (Some tree)) frames tokens
+close_by make Condition level place tree present frames tokens = state_if (is_then (next tokens))
+    (Starting 1 (frame level place (Consequence tree) ∷ frames) (behind tokens))
+close_by make (Consequence condition) level place tree present frames tokens =
+    part_or make (is_else (next tokens)) (frame level place (Alternative condition tree))
+    (make.if_form place condition tree None) frames tokens
+close_by make (Alternative condition first) level place tree present frames tokens =
+    Climbing level place (make.if_form place condition first (Some tree)) frames tokens
+close_by make CaseSubject level place tree present frames tokens =
+    state_if (is_of (next tokens) && is_open_brace (next (behind tokens)))
+    (clause_step make level place tree make.no_clauses frames (behind (behind tokens)))
+close_by make (ClauseGuard subject clauses at) level place tree present frames tokens =
+    state_if (is_colon (next tokens))
+    (Starting 1 (frame level place (GuardedValue subject clauses at tree) ∷ frames) (behind tokens))
+close_by make (GuardedValue subject clauses at guard) level place tree present frames tokens =
+    clause_end make (is_separator BySemicolon (next tokens)) level place subject
+    (make.with_guarded clauses at guard tree) frames tokens
+close_by make (DefaultValue subject clauses at) level place tree present frames tokens =
+    clause_end make (is_separator BySemicolon (next tokens)) level place subject
+    (make.with_default clauses at tree) frames tokens
+close_by make (Control kind) level place tree present frames tokens = part_or make (is_do (next tokens))
+    (frame level place (LoopBody kind tree)) (make.loop_form place kind tree None) frames tokens
+close_by make (LoopBody kind control) level place tree present frames tokens =
+    Climbing level place (make.loop_form place kind control (Some tree)) frames tokens
+close_by make RepeatBody level place tree present frames tokens =
+    Climbing level place (make.repeat_form place tree) frames tokens
+close_by make CreateBody level place tree present frames tokens =
+    Climbing level place (make.create_form place tree) frames tokens
+close_by make BreakValue level place tree present frames tokens =
+    Climbing level place (make.break_form place tree) frames tokens
+close_by make ReturnValue level place tree present frames tokens =
+    Climbing level place (make.return_form place tree) frames tokens
+close_by make SuspendValue level place tree present frames tokens = part_or make (is_do (next tokens))
+    (frame level place (SuspendBody tree)) (make.suspend_form place tree None) frames tokens
+close_by make (SuspendBody value) level place tree present frames tokens =
+    Climbing level place (make.suspend_form place value (Some tree)) frames tokens
 
 -- a part is complete: it goes into the newest open form, or all is read
-abbrev pub close_step : {V L C : Type 0} → Builds V L C → V → Bool → List (Frame V L C) → List Token → State V L C
+abbrev pub close_step : {V L C : Type 0} → Builds V L C → V → Bool → List (Frame V L C) → List Token
+    → State V L C
 close_step make tree present [] tokens = Finished tree tokens
-close_step make tree present (newest ∷ frames) tokens = close_by make newest.holds newest.level newest.place tree present frames tokens
+close_step make tree present (newest ∷ frames) tokens =
+    close_by make newest.holds newest.level newest.place tree present frames tokens
 
 -- one step of the reading
 abbrev pub step : {V L C : Type 0} → Builds V L C → State V L C → State V L C

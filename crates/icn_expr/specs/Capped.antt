@@ -43,7 +43,8 @@ one_if make a None = one (λ x. make x Absent) a
 one_if make a (Some b) = two (λ x y. make x (Present y)) a b
 
 -- a form with two parts and a third one that may be missing
-abbrev pub two_if : {A B D : Type 0} → (A → B → MaybeTree → D) → Capped A → Capped B → Option (Capped Tree) → Capped D
+abbrev pub two_if : {A B D : Type 0} → (A → B → MaybeTree → D) → Capped A → Capped B → Option (Capped Tree)
+    → Capped D
 two_if make a b None = two (λ x y. make x y Absent) a b
 two_if make a b (Some c) = three (λ x y z. make x y (Present z)) a b c
 
@@ -109,6 +110,8 @@ capped = record {
   with_element = λ elements last. join_capped with_last elements last;
   has_none = has_none;
   no_clauses = Some (NoClauses, 0);
-  with_default = λ clauses place value. join_capped (λ c v. with_last_clause c (Default place v)) clauses value;
-  with_guarded = λ clauses place guard value. joined_three (λ c g v. with_last_clause c (Guarded place g v)) clauses guard value;
+  with_default = λ clauses place value.
+      join_capped (λ c v. with_last_clause c (Default place v)) clauses value;
+  with_guarded = λ clauses place guard value.
+      joined_three (λ c g v. with_last_clause c (Guarded place g v)) clauses guard value;
 }

@@ -21,7 +21,8 @@ abbrev mutual
   height (Not place operand) = suc (height operand)
   height (Binary place operator left right) = suc (max (height left) (height right))
   height (To place from to by) = suc (max (height from) (max (height to) (height_if by)))
-  height (If place condition first other) = suc (max (height condition) (max (height first) (height_if other)))
+  height (If place condition first other) =
+      suc (max (height condition) (max (height first) (height_if other)))
   height (Case place subject clauses) = suc (max (height subject) (highest_clause clauses))
   height (Loop place kind control body) = suc (max (height control) (height_if body))
   height (Repeat place body) = suc (height body)

@@ -56,7 +56,8 @@ holding_of (H.Consequence condition) = Consequence (capped_of condition)
 holding_of (H.Alternative condition first) = Alternative (capped_of condition) (capped_of first)
 holding_of H.CaseSubject = CaseSubject
 holding_of (H.ClauseGuard subject done at) = ClauseGuard (capped_of subject) (branches_of done) at
-holding_of (H.GuardedValue subject done at guard) = GuardedValue (capped_of subject) (branches_of done) at (capped_of guard)
+holding_of (H.GuardedValue subject done at guard) =
+    GuardedValue (capped_of subject) (branches_of done) at (capped_of guard)
 holding_of (H.DefaultValue subject done at) = DefaultValue (capped_of subject) (branches_of done) at
 holding_of (H.Control kind) = Control kind
 holding_of (H.LoopBody kind control) = LoopBody kind (capped_of control)
@@ -91,7 +92,8 @@ CappedState = State (Capped Tree) (Capped Trees) (Capped Clauses)
 -- where the reading stands, with the open forms and the tokens left
 abbrev pub state_of : StateValue → List OpenFrame → List Token → CappedState
 state_of (S.Starting level) frames tokens = Starting level frames tokens
-state_of (S.StartingWith place operator) frames tokens = Starting 12 frames (before place (Some operator) tokens)
+state_of (S.StartingWith place operator) frames tokens =
+    Starting 12 frames (before place (Some operator) tokens)
 state_of (S.Climbing level place value) frames tokens = Climbing level place (capped_of value) frames tokens
 state_of (S.Closing value present) frames tokens = Closing (capped_of value) present frames tokens
 state_of (S.Finished value) frames tokens = Finished (capped_of value) tokens

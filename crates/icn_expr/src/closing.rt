@@ -28,7 +28,8 @@ fn condition<'a>(
     value: Value,
     tokens: &'a [Token],
 ) -> Result<(State, &'a [Token]), AllocError>
-    ensures { IfOk result (λ r. state_of r.0 (stack_of stack.new) r.1.now ≡ close_by capped ConditionHolding level place (capped_of value) true (stack_of stack.old) tokens.now) }
+    ensures { IfOk result (λ r. state_of r.0 (stack_of stack.new) r.1.now ≡ close_by capped ConditionHolding
+        level place (capped_of value) true (stack_of stack.old) tokens.now) }
 {
     if !then_next(tokens) {
         discard(value);
@@ -50,7 +51,8 @@ fn consequence<'a>(
     value: Value,
     tokens: &'a [Token],
 ) -> Result<(State, &'a [Token]), AllocError>
-    ensures { IfOk result (λ r. state_of r.0 (stack_of stack.new) r.1.now ≡ close_by capped (Consequence (capped_of before)) level place (capped_of value) true (stack_of stack.old) tokens.now) }
+    ensures { IfOk result (λ r. state_of r.0 (stack_of stack.new) r.1.now ≡ close_by capped
+        (Consequence (capped_of before)) level place (capped_of value) true (stack_of stack.old) tokens.now) }
 {
     if else_next(tokens) {
         return Ok((
@@ -74,7 +76,8 @@ fn to_operand<'a>(
     value: Value,
     tokens: &'a [Token],
 ) -> Result<(State, &'a [Token]), AllocError>
-    ensures { IfOk result (λ r. state_of r.0 (stack_of stack.new) r.1.now ≡ close_by capped (ToOperand (capped_of from)) level place (capped_of value) true (stack_of stack.old) tokens.now) }
+    ensures { IfOk result (λ r. state_of r.0 (stack_of stack.new) r.1.now ≡ close_by capped
+        (ToOperand (capped_of from)) level place (capped_of value) true (stack_of stack.old) tokens.now) }
 {
     if by_next(tokens) {
         return Ok((
@@ -98,7 +101,8 @@ fn control<'a>(
     value: Value,
     tokens: &'a [Token],
 ) -> Result<(State, &'a [Token]), AllocError>
-    ensures { IfOk result (λ r. state_of r.0 (stack_of stack.new) r.1.now ≡ close_by capped (Control kind) level place (capped_of value) true (stack_of stack.old) tokens.now) }
+    ensures { IfOk result (λ r. state_of r.0 (stack_of stack.new) r.1.now
+        ≡ close_by capped (Control kind) level place (capped_of value) true (stack_of stack.old) tokens.now) }
 {
     if do_next(tokens) {
         return Ok((
@@ -121,7 +125,8 @@ fn suspended<'a>(
     value: Value,
     tokens: &'a [Token],
 ) -> Result<(State, &'a [Token]), AllocError>
-    ensures { IfOk result (λ r. state_of r.0 (stack_of stack.new) r.1.now ≡ close_by capped SuspendValue level place (capped_of value) true (stack_of stack.old) tokens.now) }
+    ensures { IfOk result (λ r. state_of r.0 (stack_of stack.new) r.1.now
+        ≡ close_by capped SuspendValue level place (capped_of value) true (stack_of stack.old) tokens.now) }
 {
     if do_next(tokens) {
         return Ok((
@@ -146,7 +151,9 @@ fn section_end<'a>(
     value: Value,
     tokens: &'a [Token],
 ) -> Result<(State, &'a [Token]), AllocError>
-    ensures { IfOk result (λ r. (frames : List OpenFrame) → state_of r.0 frames r.1.now ≡ close_by capped (SectionEnd kind (capped_of subject) (capped_of from)) level place (capped_of value) true frames tokens.now) }
+    ensures { IfOk result (λ r. (frames : List OpenFrame) → state_of r.0 frames r.1.now
+        ≡ close_by capped (SectionEnd kind (capped_of subject) (capped_of from)) level place
+        (capped_of value) true frames tokens.now) }
 {
     if !close_bracket_next(tokens) {
         discard(subject);
@@ -173,7 +180,8 @@ fn clause<'a>(
     clauses: Branches,
     tokens: &'a [Token],
 ) -> Result<(State, &'a [Token]), AllocError>
-    ensures { IfOk result (λ r. state_of r.0 (stack_of stack.new) r.1.now ≡ clause_step capped level place (capped_of subject) (branches_of clauses) (stack_of stack.old) tokens.now) }
+    ensures { IfOk result (λ r. state_of r.0 (stack_of stack.new) r.1.now ≡ clause_step capped level place
+        (capped_of subject) (branches_of clauses) (stack_of stack.old) tokens.now) }
 {
     let at = place_of(tokens);
     if !default_next(tokens) {
@@ -215,7 +223,8 @@ fn case_subject<'a>(
     value: Value,
     tokens: &'a [Token],
 ) -> Result<(State, &'a [Token]), AllocError>
-    ensures { IfOk result (λ r. state_of r.0 (stack_of stack.new) r.1.now ≡ close_by capped CaseSubject level place (capped_of value) true (stack_of stack.old) tokens.now) }
+    ensures { IfOk result (λ r. state_of r.0 (stack_of stack.new) r.1.now
+        ≡ close_by capped CaseSubject level place (capped_of value) true (stack_of stack.old) tokens.now) }
 {
     if !of_next(tokens) || !open_brace_next(behind(tokens)) {
         discard(value);
@@ -242,7 +251,9 @@ fn clause_guard<'a>(
     value: Value,
     tokens: &'a [Token],
 ) -> Result<(State, &'a [Token]), AllocError>
-    ensures { IfOk result (λ r. state_of r.0 (stack_of stack.new) r.1.now ≡ close_by capped (ClauseGuard (capped_of subject) (branches_of clauses) at) level place (capped_of value) true (stack_of stack.old) tokens.now) }
+    ensures { IfOk result (λ r. state_of r.0 (stack_of stack.new) r.1.now
+        ≡ close_by capped (ClauseGuard (capped_of subject) (branches_of clauses) at) level place
+        (capped_of value) true (stack_of stack.old) tokens.now) }
 {
     if !colon_next(tokens) {
         discard(subject);
@@ -272,7 +283,9 @@ fn clause_ends<'a>(
     clauses: Branches,
     tokens: &'a [Token],
 ) -> Result<(State, &'a [Token]), AllocError>
-    ensures { IfOk result (λ r. state_of r.0 (stack_of stack.new) r.1.now ≡ clause_end capped (is_separator BySemicolon (next tokens.now)) level place (capped_of subject) (branches_of clauses) (stack_of stack.old) tokens.now) }
+    ensures { IfOk result (λ r. state_of r.0 (stack_of stack.new) r.1.now
+        ≡ clause_end capped (is_separator BySemicolon (next tokens.now)) level place (capped_of subject)
+        (branches_of clauses) (stack_of stack.old) tokens.now) }
 {
     if semicolon_next(tokens) {
         return clause(stack, level, place, subject, clauses, behind(tokens));
@@ -301,7 +314,9 @@ fn guarded_value<'a>(
     value: Value,
     tokens: &'a [Token],
 ) -> Result<(State, &'a [Token]), AllocError>
-    ensures { IfOk result (λ r. state_of r.0 (stack_of stack.new) r.1.now ≡ close_by capped (GuardedValue (capped_of subject) (branches_of clauses) at (capped_of guard)) level place (capped_of value) true (stack_of stack.old) tokens.now) }
+    ensures { IfOk result (λ r. state_of r.0 (stack_of stack.new) r.1.now ≡ close_by capped
+        (GuardedValue (capped_of subject) (branches_of clauses) at (capped_of guard)) level place
+        (capped_of value) true (stack_of stack.old) tokens.now) }
 {
     let clauses = clauses.with_guarded(alloc, at, guard, value)?;
     clause_ends(stack, alloc, level, place, subject, clauses, tokens)
@@ -319,7 +334,9 @@ fn default_value<'a>(
     value: Value,
     tokens: &'a [Token],
 ) -> Result<(State, &'a [Token]), AllocError>
-    ensures { IfOk result (λ r. state_of r.0 (stack_of stack.new) r.1.now ≡ close_by capped (DefaultValue (capped_of subject) (branches_of clauses) at) level place (capped_of value) true (stack_of stack.old) tokens.now) }
+    ensures { IfOk result (λ r. state_of r.0 (stack_of stack.new) r.1.now
+        ≡ close_by capped (DefaultValue (capped_of subject) (branches_of clauses) at) level place
+        (capped_of value) true (stack_of stack.old) tokens.now) }
 {
     let clauses = clauses.with_default(alloc, at, value)?;
     clause_ends(stack, alloc, level, place, subject, clauses, tokens)
@@ -337,7 +354,9 @@ fn element<'a>(
     present: bool,
     tokens: &'a [Token],
 ) -> Result<(State, &'a [Token]), AllocError>
-    ensures { IfOk result (λ r. state_of r.0 (stack_of stack.new) r.1.now ≡ close_by capped (ElementsHolding (bracket_of bracket) (elements_of elements)) level place (capped_of value) present (stack_of stack.old) tokens.now) }
+    ensures { IfOk result (λ r. state_of r.0 (stack_of stack.new) r.1.now
+        ≡ close_by capped (ElementsHolding (bracket_of bracket) (elements_of elements)) level place
+        (capped_of value) present (stack_of stack.old) tokens.now) }
 {
     if separated(&bracket, tokens) {
         let elements = elements.with(alloc, value)?;
@@ -386,7 +405,8 @@ fn in_brackets(
     place: Place,
     elements: Elements,
 ) -> Result<Value, AllocError>
-    ensures { IfOk result (λ value. capped_of value ≡ bracket_tree capped (bracket_of bracket) place (elements_of elements)) }
+    ensures { IfOk result
+        (λ value. capped_of value ≡ bracket_tree capped (bracket_of bracket) place (elements_of elements)) }
 {
     match bracket {
         Bracket::Round => Ok(Value::parentheses(place, elements)),
@@ -409,7 +429,10 @@ fn section<'a>(
     present: bool,
     tokens: &'a [Token],
 ) -> Result<(State, &'a [Token]), AllocError>
-    ensures { IfOk result (λ r. state_of r.0 (stack_of stack.new) r.1.now ≡ section_by capped (section_subject capped (bracket_of bracket) (capped.has_none (elements_of elements)) present) (section_kind (next tokens.now)) level place (capped_of value) (stack_of stack.old) (behind_first tokens.now)) }
+    ensures { IfOk result (λ r. state_of r.0 (stack_of stack.new) r.1.now ≡ section_by capped
+        (section_subject capped (bracket_of bracket) (capped.has_none (elements_of elements)) present)
+        (section_kind (next tokens.now)) level place (capped_of value) (stack_of stack.old)
+        (behind_first tokens.now)) }
 {
     let first = elements.is_empty();
     discard_elements(elements);
@@ -446,7 +469,9 @@ fn close_frame<'a>(
     present: bool,
     tokens: &'a [Token],
 ) -> Result<(State, &'a [Token]), AllocError>
-    ensures { IfOk result (λ r. state_of r.0 (stack_of stack.new) r.1.now ≡ close_by capped (holding_of frame.holds) frame.level frame.place (capped_of value) present (stack_of stack.old) tokens.now) }
+    ensures { IfOk result
+        (λ r. state_of r.0 (stack_of stack.new) r.1.now ≡ close_by capped (holding_of frame.holds) frame.level
+        frame.place (capped_of value) present (stack_of stack.old) tokens.now) }
 {
     let Frame {
         level,
@@ -504,7 +529,8 @@ pub fn close<'a>(
     present: bool,
     tokens: &'a [Token],
 ) -> Result<(State, &'a [Token]), AllocError>
-    ensures { IfOk result (λ r. state_of r.0 (stack_of stack.new) r.1.now ≡ close_step capped (capped_of value) present (stack_of stack.old) tokens.now) }
+    ensures { IfOk result (λ r. state_of r.0 (stack_of stack.new) r.1.now
+        ≡ close_step capped (capped_of value) present (stack_of stack.old) tokens.now) }
 {
     match stack.pop() {
         Some(frame) => close_frame(stack, alloc, frame, value, present, tokens),

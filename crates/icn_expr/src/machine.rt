@@ -28,7 +28,8 @@ pub fn open(
     holds: Holding,
     awaits: u32,
 ) -> Result<State, AllocError>
-    ensures { IfOk result (λ state. (tokens : List Token) → state_of state (stack_of stack.new) tokens ≡ Starting awaits (frame_at level place (holding_of holds) ∷ stack_of stack.old) tokens) }
+    ensures { IfOk result (λ state. (tokens : List Token) → state_of state (stack_of stack.new) tokens
+        ≡ Starting awaits (frame_at level place (holding_of holds) ∷ stack_of stack.old) tokens) }
 {
     stack.push(Frame {
         level,
@@ -45,7 +46,8 @@ fn word_operand(
     place: Place,
     word: Word,
 ) -> Result<State, AllocError>
-    ensures { IfOk result (λ state. (tokens : List Token) → state_of state (stack_of stack.new) tokens ≡ word_step capped level place word (stack_of stack.old) tokens) }
+    ensures { IfOk result (λ state. (tokens : List Token) → state_of state (stack_of stack.new) tokens
+        ≡ word_step capped level place word (stack_of stack.old) tokens) }
 {
     match word {
         Word::Not => open(stack, level, place, Holding::NotOperand, 12),
@@ -66,7 +68,8 @@ fn word_operand(
 }
 
 pub fn climbing(level: u32, place: Place, value: Value) -> State
-    ensures { (frames : List OpenFrame) (tokens : List Token) → state_of result frames tokens ≡ Climbing level place (capped_of value) frames tokens }
+    ensures { (frames : List OpenFrame) (tokens : List Token)
+        → state_of result frames tokens ≡ Climbing level place (capped_of value) frames tokens }
 {
     State::Climbing {
         level,
@@ -83,7 +86,8 @@ fn mark_operand(
     place: Place,
     mark: Punctuation,
 ) -> Result<State, AllocError>
-    ensures { IfOk result (λ state. (tokens : List Token) → state_of state (stack_of stack.new) tokens ≡ mark_step capped level place mark (stack_of stack.old) tokens) }
+    ensures { IfOk result (λ state. (tokens : List Token) → state_of state (stack_of stack.new) tokens
+        ≡ mark_step capped level place mark (stack_of stack.old) tokens) }
 {
     match mark {
         Punctuation::OpenParenthesis => open_list(stack, alloc, level, place, Bracket::Round),
@@ -101,7 +105,9 @@ fn open_list(
     place: Place,
     bracket: Bracket,
 ) -> Result<State, AllocError>
-    ensures { IfOk result (λ state. (tokens : List Token) → state_of state (stack_of stack.new) tokens ≡ Starting 0 (frame_at level place (ElementsHolding (bracket_of bracket) capped.no_elements) ∷ stack_of stack.old) tokens) }
+    ensures { IfOk result (λ state. (tokens : List Token) → state_of state (stack_of stack.new) tokens
+        ≡ Starting 0 (frame_at level place (ElementsHolding (bracket_of bracket) capped.no_elements)
+        ∷ stack_of stack.old) tokens) }
 {
     open(
         stack,
@@ -121,7 +127,8 @@ fn suffix(
     value: Value,
     mark: Punctuation,
 ) -> Result<State, AllocError>
-    ensures { IfOk result (λ state. (tokens : List Token) → state_of state (stack_of stack.new) tokens ≡ suffix_step capped level place (capped_of value) mark (stack_of stack.old) tokens) }
+    ensures { IfOk result (λ state. (tokens : List Token) → state_of state (stack_of stack.new) tokens
+        ≡ suffix_step capped level place (capped_of value) mark (stack_of stack.old) tokens) }
 {
     match mark {
         Punctuation::OpenParenthesis => open_list(
@@ -154,7 +161,8 @@ fn suffix(
 
 // Nothing stands where an expression may be empty.
 fn nothing(level: u32) -> State
-    ensures { (frames : List OpenFrame) (tokens : List Token) → state_of result frames tokens ≡ empty_step capped level frames tokens }
+    ensures { (frames : List OpenFrame) (tokens : List Token)
+        → state_of result frames tokens ≡ empty_step capped level frames tokens }
 {
     if level == 0 {
         State::Closing {
@@ -175,7 +183,8 @@ fn operator_operand<'a>(
     operator: Operator,
     tokens: &'a [Token],
 ) -> Result<(State, &'a [Token]), AllocError>
-    ensures { IfOk result (λ r. state_of r.0 (stack_of stack.new) r.1.now ≡ operator_step capped level place (prefix_of operator) (stack_of stack.old) tokens.now) }
+    ensures { IfOk result (λ r. state_of r.0 (stack_of stack.new) r.1.now
+        ≡ operator_step capped level place (prefix_of operator) (stack_of stack.old) tokens.now) }
 {
     match split(operator) {
         Some((first, others)) => Ok((prefixed(stack, level, place, first, others)?, tokens)),
@@ -191,7 +200,9 @@ fn prefixed(
     first: Operator,
     others: Option<Operator>,
 ) -> Result<State, AllocError>
-    ensures { IfOk result (λ state. (tokens : List Token) → state_of state (stack_of stack.new) tokens ≡ Starting 12 (frame_at level place (PrefixOperand first) ∷ stack_of stack.old) (before place others tokens)) }
+    ensures { IfOk result
+        (λ state. (tokens : List Token) → state_of state (stack_of stack.new) tokens ≡ Starting 12
+        (frame_at level place (PrefixOperand first) ∷ stack_of stack.old) (before place others tokens)) }
 {
     stack.push(Frame {
         level,
@@ -211,7 +222,8 @@ fn keyword<'a>(
     place: Place,
     tokens: &'a [Token],
 ) -> Result<(State, &'a [Token]), AllocError>
-    ensures { IfOk result (λ r. (frames : List OpenFrame) → state_of r.0 frames r.1.now ≡ operator_step capped level place None frames tokens.now) }
+    ensures { IfOk result (λ r. (frames : List OpenFrame)
+        → state_of r.0 frames r.1.now ≡ operator_step capped level place None frames tokens.now) }
 {
     let Some((token, rest)) = tokens.split_first() else {
         return Ok((State::Broken, tokens));
@@ -240,7 +252,8 @@ fn operand<'a>(
     kind: &Kind,
     tokens: &'a [Token],
 ) -> Result<(State, &'a [Token]), AllocError>
-    ensures { IfOk result (λ r. state_of r.0 (stack_of stack.new) r.1.now ≡ operand_step capped level place kind.now (stack_of stack.old) tokens.now) }
+    ensures { IfOk result (λ r. state_of r.0 (stack_of stack.new) r.1.now
+        ≡ operand_step capped level place kind.now (stack_of stack.old) tokens.now) }
 {
     match kind {
         Kind::Word(word) => Ok((word_operand(stack, level, place, *word)?, tokens)),
@@ -282,7 +295,8 @@ pub fn start<'a>(
     level: u32,
     tokens: &'a [Token],
 ) -> Result<(State, &'a [Token]), AllocError>
-    ensures { IfOk result (λ r. state_of r.0 (stack_of stack.new) r.1.now ≡ start_step capped level (stack_of stack.old) tokens.now) }
+    ensures { IfOk result (λ r. state_of r.0 (stack_of stack.new) r.1.now
+        ≡ start_step capped level (stack_of stack.old) tokens.now) }
 {
     let Some((token, rest)) = tokens.split_first() else {
         return Ok((nothing(level), tokens));
@@ -312,7 +326,8 @@ pub fn start_with<'a>(
     operator: Operator,
     tokens: &'a [Token],
 ) -> Result<(State, &'a [Token]), AllocError>
-    ensures { IfOk result (λ r. state_of r.0 (stack_of stack.new) r.1.now ≡ start_step capped 12 (stack_of stack.old) (before place (Some operator) tokens.now)) }
+    ensures { IfOk result (λ r. state_of r.0 (stack_of stack.new) r.1.now
+        ≡ start_step capped 12 (stack_of stack.old) (before place (Some operator) tokens.now)) }
 {
     if !operator_begins(operator) {
         return Ok((State::Broken, tokens));
@@ -321,7 +336,8 @@ pub fn start_with<'a>(
 }
 
 fn closing(value: Value) -> State
-    ensures { (frames : List OpenFrame) (tokens : List Token) → state_of result frames tokens ≡ Closing (capped_of value) true frames tokens }
+    ensures { (frames : List OpenFrame) (tokens : List Token)
+        → state_of result frames tokens ≡ Closing (capped_of value) true frames tokens }
 {
     State::Closing {
         value,
@@ -338,7 +354,8 @@ pub fn climb<'a>(
     value: Value,
     tokens: &'a [Token],
 ) -> Result<(State, &'a [Token]), AllocError>
-    ensures { IfOk result (λ r. state_of r.0 (stack_of stack.new) r.1.now ≡ climb_step capped level place (capped_of value) (stack_of stack.old) tokens.now) }
+    ensures { IfOk result (λ r. state_of r.0 (stack_of stack.new) r.1.now
+        ≡ climb_step capped level place (capped_of value) (stack_of stack.old) tokens.now) }
 {
     let Some((token, rest)) = tokens.split_first() else {
         return Ok((closing(value), tokens));
@@ -359,7 +376,8 @@ fn extend<'a>(
     kind: &Kind,
     tokens: &'a [Token],
 ) -> Result<(State, &'a [Token]), AllocError>
-    ensures { IfOk result (λ r. state_of r.0 (stack_of stack.new) r.1.now ≡ extend_step capped level place (capped_of value) kind.now (stack_of stack.old) tokens.now) }
+    ensures { IfOk result (λ r. state_of r.0 (stack_of stack.new) r.1.now
+        ≡ extend_step capped level place (capped_of value) kind.now (stack_of stack.old) tokens.now) }
 {
     match kind {
         Kind::Operator(operator) => plain(stack, alloc, level, place, value, *operator, tokens),
@@ -389,7 +407,8 @@ fn plain<'a>(
     operator: Operator,
     tokens: &'a [Token],
 ) -> Result<(State, &'a [Token]), AllocError>
-    ensures { IfOk result (λ r. state_of r.0 (stack_of stack.new) r.1.now ≡ plain_step capped (is_dot operator) level place (capped_of value) operator (stack_of stack.old) tokens.now) }
+    ensures { IfOk result (λ r. state_of r.0 (stack_of stack.new) r.1.now ≡ plain_step capped
+        (is_dot operator) level place (capped_of value) operator (stack_of stack.old) tokens.now) }
 {
     match operator {
         Operator::Dot => field(alloc, level, place, value, tokens),
@@ -407,7 +426,8 @@ fn infix(
     value: Value,
     operator: Infix,
 ) -> Result<State, AllocError>
-    ensures { IfOk result (λ state. (tokens : List Token) → state_of state (stack_of stack.new) tokens ≡ infix_step capped level place (capped_of value) operator (stack_of stack.old) tokens) }
+    ensures { IfOk result (λ state. (tokens : List Token) → state_of state (stack_of stack.new) tokens
+        ≡ infix_step capped level place (capped_of value) operator (stack_of stack.old) tokens) }
 {
     open(
         stack,
@@ -426,7 +446,8 @@ fn field<'a>(
     value: Value,
     tokens: &'a [Token],
 ) -> Result<(State, &'a [Token]), AllocError>
-    ensures { IfOk result (λ r. (frames : List OpenFrame) → state_of r.0 frames r.1.now ≡ plain_step capped true level place (capped_of value) Dot frames tokens.now) }
+    ensures { IfOk result (λ r. (frames : List OpenFrame) → state_of r.0 frames r.1.now
+        ≡ plain_step capped true level place (capped_of value) Dot frames tokens.now) }
 {
     let Some((token, rest)) = tokens.split_first() else {
         discard(value);

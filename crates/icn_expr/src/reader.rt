@@ -31,8 +31,10 @@ fn advance<'a>(
     state: State,
     tokens: &'a [Token],
 ) -> Result<Progress<'a>, AllocError>
-    ensures same { IfOk result (λ p. progress_end p (stack_of stack.new) ≡ end_of capped (state_of state (stack_of stack.old) tokens.now)) }
-    ensures less { IfOk result (λ p. IsGoing p (λ next rest. steps_left (state_of next (stack_of stack.new) rest) < steps_left (state_of state (stack_of stack.old) tokens.now))) }
+    ensures same { IfOk result (λ p. progress_end p (stack_of stack.new)
+        ≡ end_of capped (state_of state (stack_of stack.old) tokens.now)) }
+    ensures less { IfOk result (λ p. IsGoing p (λ next rest. steps_left (state_of next
+        (stack_of stack.new) rest) < steps_left (state_of state (stack_of stack.old) tokens.now))) }
 {
     match state {
         State::Finished { value } => Ok(Progress::Found(value, tokens)),
@@ -67,7 +69,8 @@ pub fn expression<'a>(
     level: u32,
     tokens: &'a [Token],
 ) -> Result<Option<(Value, &'a [Token])>, AllocError>
-    ensures { IfOk result (λ found. option_map (λ f. (capped_of f.0, f.1.now)) found ≡ expression_read capped level tokens.now) }
+    ensures { IfOk result (λ found. option_map (λ f. (capped_of f.0, f.1.now)) found
+        ≡ expression_read capped level tokens.now) }
 {
     let mut stack = Stack::new(alloc);
     let mut state = State::Starting { level };

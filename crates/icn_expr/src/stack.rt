@@ -33,7 +33,8 @@ impl Stack {
     /// The newest open form, which is open no more.
     #[tactic(auto, using(crate::proofs::ViewFacts::newest_first))]
     pub fn pop(&mut self) -> Option<Frame>
-        ensures { MatchOption result (stack_of self.old ≡ []) (λ frame. stack_of self.old ≡ frame_of frame ∷ stack_of self.new) }
+        ensures { MatchOption result (stack_of self.old ≡ [])
+            (λ frame. stack_of self.old ≡ frame_of frame ∷ stack_of self.new) }
     {
         match self.frames.pop() {
             Some(frame) => Some(frame),

@@ -237,7 +237,8 @@ impl Value {
         callee: Value,
         arguments: Elements,
     ) -> Result<Value, AllocError>
-        ensures { IfOk result (λ built. capped_of built ≡ capped.call place (capped_of callee) (elements_of arguments)) }
+        ensures { IfOk result
+            (λ built. capped_of built ≡ capped.call place (capped_of callee) (elements_of arguments)) }
     {
         let height = callee.height.max(arguments.height);
         if height >= HIGHEST {
@@ -258,7 +259,8 @@ impl Value {
         callee: Value,
         arguments: Elements,
     ) -> Result<Value, AllocError>
-        ensures { IfOk result (λ built. capped_of built ≡ capped.co_call place (capped_of callee) (elements_of arguments)) }
+        ensures { IfOk result
+            (λ built. capped_of built ≡ capped.co_call place (capped_of callee) (elements_of arguments)) }
     {
         let height = callee.height.max(arguments.height);
         if height >= HIGHEST {
@@ -279,7 +281,8 @@ impl Value {
         subject: Value,
         subscripts: Elements,
     ) -> Result<Value, AllocError>
-        ensures { IfOk result (λ built. capped_of built ≡ capped.subscript place (capped_of subject) (elements_of subscripts)) }
+        ensures { IfOk result
+            (λ built. capped_of built ≡ capped.subscript place (capped_of subject) (elements_of subscripts)) }
     {
         let height = subject.height.max(subscripts.height);
         if height >= HIGHEST {
@@ -302,7 +305,8 @@ impl Value {
         from: Value,
         to: Value,
     ) -> Result<Value, AllocError>
-        ensures { IfOk result (λ built. capped_of built ≡ capped.section place kind (capped_of subject) (capped_of from) (capped_of to)) }
+        ensures { IfOk result (λ built. capped_of built
+            ≡ capped.section place kind (capped_of subject) (capped_of from) (capped_of to)) }
     {
         let height = subject.height.max(from.height.max(to.height));
         if height >= HIGHEST {
@@ -397,7 +401,8 @@ impl Value {
         left: Value,
         right: Value,
     ) -> Result<Value, AllocError>
-        ensures { IfOk result (λ built. capped_of built ≡ capped.binary place operator (capped_of left) (capped_of right)) }
+        ensures { IfOk result
+            (λ built. capped_of built ≡ capped.binary place operator (capped_of left) (capped_of right)) }
     {
         let height = left.height.max(right.height);
         if height >= HIGHEST {
@@ -418,7 +423,8 @@ impl Value {
 
     /// `a to b`. An error is want of memory.
     pub fn to(alloc: Global, place: Place, from: Value, to: Value) -> Result<Value, AllocError>
-        ensures { IfOk result (λ built. capped_of built ≡ capped.to_form place (capped_of from) (capped_of to) None) }
+        ensures { IfOk result
+            (λ built. capped_of built ≡ capped.to_form place (capped_of from) (capped_of to) None) }
     {
         let height = from.height.max(to.height);
         if height >= HIGHEST {
@@ -445,7 +451,8 @@ impl Value {
         to: Value,
         by: Value,
     ) -> Result<Value, AllocError>
-        ensures { IfOk result (λ built. capped_of built ≡ capped.to_form place (capped_of from) (capped_of to) (Some (capped_of by))) }
+        ensures { IfOk result (λ built. capped_of built
+            ≡ capped.to_form place (capped_of from) (capped_of to) (Some (capped_of by))) }
     {
         let height = from.height.max(to.height.max(by.height));
         if height >= HIGHEST {
@@ -472,7 +479,8 @@ impl Value {
         condition: Value,
         then: Value,
     ) -> Result<Value, AllocError>
-        ensures { IfOk result (λ built. capped_of built ≡ capped.if_form place (capped_of condition) (capped_of then) None) }
+        ensures { IfOk result
+            (λ built. capped_of built ≡ capped.if_form place (capped_of condition) (capped_of then) None) }
     {
         let height = condition.height.max(then.height);
         if height >= HIGHEST {
@@ -499,7 +507,8 @@ impl Value {
         then: Value,
         otherwise: Value,
     ) -> Result<Value, AllocError>
-        ensures { IfOk result (λ built. capped_of built ≡ capped.if_form place (capped_of condition) (capped_of then) (Some (capped_of otherwise))) }
+        ensures { IfOk result (λ built. capped_of built
+            ≡ capped.if_form place (capped_of condition) (capped_of then) (Some (capped_of otherwise))) }
     {
         let height = condition.height.max(then.height.max(otherwise.height));
         if height >= HIGHEST {
@@ -526,7 +535,8 @@ impl Value {
         subject: Value,
         clauses: Branches,
     ) -> Result<Value, AllocError>
-        ensures { IfOk result (λ built. capped_of built ≡ capped.case_form place (capped_of subject) (branches_of clauses)) }
+        ensures { IfOk result
+            (λ built. capped_of built ≡ capped.case_form place (capped_of subject) (branches_of clauses)) }
     {
         let height = subject.height.max(clauses.height);
         if height >= HIGHEST {
@@ -547,7 +557,8 @@ impl Value {
         kind: LoopKind,
         control: Value,
     ) -> Result<Value, AllocError>
-        ensures { IfOk result (λ built. capped_of built ≡ capped.loop_form place kind (capped_of control) None) }
+        ensures { IfOk result
+            (λ built. capped_of built ≡ capped.loop_form place kind (capped_of control) None) }
     {
         let height = control.height;
         if height >= HIGHEST {
@@ -573,7 +584,8 @@ impl Value {
         control: Value,
         body: Value,
     ) -> Result<Value, AllocError>
-        ensures { IfOk result (λ built. capped_of built ≡ capped.loop_form place kind (capped_of control) (Some (capped_of body))) }
+        ensures { IfOk result (λ built. capped_of built
+            ≡ capped.loop_form place kind (capped_of control) (Some (capped_of body))) }
     {
         let height = control.height.max(body.height);
         if height >= HIGHEST {
@@ -690,7 +702,8 @@ impl Value {
         value: Value,
         body: Value,
     ) -> Result<Value, AllocError>
-        ensures { IfOk result (λ built. capped_of built ≡ capped.suspend_form place (capped_of value) (Some (capped_of body))) }
+        ensures { IfOk result
+            (λ built. capped_of built ≡ capped.suspend_form place (capped_of value) (Some (capped_of body))) }
     {
         let height = value.height.max(body.height);
         if height >= HIGHEST {
@@ -747,7 +760,8 @@ impl Elements {
     /// One element more. An error is want of memory.
     #[tactic(auto, using(crate::proofs::ViewFacts::all_of_last))]
     pub fn with(mut self, alloc: Global, value: Value) -> Result<Elements, AllocError>
-        ensures { IfOk result (λ all. elements_of all ≡ capped.with_element (elements_of self) (capped_of value)) }
+        ensures { IfOk result
+            (λ all. elements_of all ≡ capped.with_element (elements_of self) (capped_of value)) }
     {
         let height = self.height.max(value.height);
         if height > HIGHEST {
@@ -785,7 +799,8 @@ impl Branches {
         place: Place,
         value: Value,
     ) -> Result<Branches, AllocError>
-        ensures { IfOk result (λ all. branches_of all ≡ capped.with_default (branches_of self) place (capped_of value)) }
+        ensures { IfOk result
+            (λ all. branches_of all ≡ capped.with_default (branches_of self) place (capped_of value)) }
     {
         let height = self.height.max(value.height);
         if height > HIGHEST {
@@ -815,7 +830,8 @@ impl Branches {
         guard: Value,
         value: Value,
     ) -> Result<Branches, AllocError>
-        ensures { IfOk result (λ all. branches_of all ≡ capped.with_guarded (branches_of self) place (capped_of guard) (capped_of value)) }
+        ensures { IfOk result (λ all. branches_of all
+            ≡ capped.with_guarded (branches_of self) place (capped_of guard) (capped_of value)) }
     {
         let height = self.height.max(guard.height.max(value.height));
         if height > HIGHEST {

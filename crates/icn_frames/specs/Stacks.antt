@@ -29,7 +29,11 @@ registers_at height = record { base = height; mark = height; newest = None; scan
 -- a new stack: a base frame with its locals
 abbrev pub begin : ℕ → List Val → ℕ → FlatStack
 begin proc values place =
-    record { cells = put_above values (Base proc (length values) ∷ []); registers = registers_at 1; place = place }
+    record {
+      cells = put_above values (Base proc (length values) ∷ []);
+      registers = registers_at 1;
+      place = place;
+    }
 
 -- the procedure
 
@@ -84,7 +88,8 @@ set_local height value cells cell = cells
 -- the locals above a height, from the lowest on
 abbrev pub set_from : ℕ → List Val → List Cell → List Cell
 set_from height [] cells = cells
-set_from height (value ∷ values) cells = set_from (suc height) values (set_local (suc height) value cells (cell_at (suc height) cells))
+set_from height (value ∷ values) cells =
+    set_from (suc height) values (set_local (suc height) value cells (cell_at (suc height) cells))
 
 -- other locals of the procedure that runs
 abbrev pub set_locals : List Val → FlatStack → FlatStack
@@ -117,7 +122,10 @@ copy_up cells onto = onto
 
 -- a mark's cell on top, which is the innermost mark then
 abbrev pub open_with : Cell → FlatStack → FlatStack
-open_with cell m = record m { cells = cell ∷ m.cells; registers = record m.registers { mark = suc (length m.cells); newest = None } }
+open_with cell m = record m {
+  cells = cell ∷ m.cells;
+  registers = record m.registers { mark = suc (length m.cells); newest = None };
+}
 
 -- the cell of a plain mark, or of a limit mark with its count
 abbrev pub opening : Option ℕ → Option ℕ → Registers → Cell
@@ -149,7 +157,8 @@ abbrev pub label : FlatStack → Option ℕ
 label m = label_in (cell_at m.registers.mark m.cells)
 
 abbrev pub relabel_at : ℕ → FlatStack → Option Cell → Option FlatStack
-relabel_at label m (Some (Mark old changed registers)) = Some (record m { cells = set_cell m.registers.mark (Mark (Some label) true registers) m.cells })
+relabel_at label m (Some (Mark old changed registers)) =
+    Some (record m { cells = set_cell m.registers.mark (Mark (Some label) true registers) m.cells })
 relabel_at label m cell = None
 
 -- another label of the innermost mark, where that is a plain one
@@ -157,7 +166,8 @@ abbrev pub relabel : ℕ → FlatStack → Option FlatStack
 relabel label m = relabel_at label m (cell_at m.registers.mark m.cells)
 
 abbrev pub count_down_at : FlatStack → Option Cell → Option (ℕ × FlatStack)
-count_down_at m (Some (Limit (suc count) registers)) = Some (count, record m { cells = set_cell m.registers.mark (Limit count registers) m.cells })
+count_down_at m (Some (Limit (suc count) registers)) =
+    Some (count, record m { cells = set_cell m.registers.mark (Limit count registers) m.cells })
 count_down_at m cell = None
 
 -- the count of an innermost limit mark, where it is above 0, and what stands with it one lower
@@ -193,15 +203,18 @@ is_same m n = false
 -- from an open scan through older ones to the last before a given one; there are at most so many
 abbrev pub oldest_from : ℕ → List Cell → Option ℕ → Option ℕ → Option ℕ
 oldest_from zero cells until scan = scan
-oldest_from (suc n) cells until scan = elim (is_same (older_scan cells scan) until) as (λ x. Option ℕ) [ true ↦ scan | false ↦ oldest_from n cells until (older_scan cells scan) ]
+oldest_from (suc n) cells until scan = elim (is_same (older_scan cells scan) until) as (λ x. Option ℕ)
+    [ true ↦ scan | false ↦ oldest_from n cells until (older_scan cells scan) ]
 
 -- the oldest scan that is open and was opened after a given one
 abbrev pub oldest : Option ℕ → FlatStack → Option ℕ
-oldest until m = elim (is_same m.registers.scan until) as (λ x. Option ℕ) [ true ↦ None | false ↦ oldest_from (length m.cells) m.cells until m.registers.scan ]
+oldest until m = elim (is_same m.registers.scan until) as (λ x. Option ℕ)
+    [ true ↦ None | false ↦ oldest_from (length m.cells) m.cells until m.registers.scan ]
 
 -- the pair of the scan at a height, and what stands with another one
 abbrev pub with_pair : Pair → ℕ → FlatStack → Option Cell → Option (Pair × FlatStack)
-with_pair pair height m (Some (Suspension (Scan old) registers place)) = Some (old, record m { cells = set_cell height (Suspension (Scan pair) registers place) m.cells })
+with_pair pair height m (Some (Suspension (Scan old) registers place)) =
+    Some (old, record m { cells = set_cell height (Suspension (Scan pair) registers place) m.cells })
 with_pair pair height m cell = None
 
 abbrev pub swap_at : Pair → FlatStack → Option ℕ → Option (Pair × FlatStack)
@@ -220,8 +233,10 @@ swap_oldest pair m = swap_at pair m (oldest None m)
 
 -- from the mark's cell downward
 abbrev pub unmark_from : FlatStack → List Cell → Option (FlatStack × Option Pair)
-unmark_from m (Mark label changed registers ∷ cells) = Some (record m { cells = cells; registers = registers }, pair_at m.cells (oldest registers.scan m))
-unmark_from m (Limit count registers ∷ cells) = Some (record m { cells = cells; registers = registers }, pair_at m.cells (oldest registers.scan m))
+unmark_from m (Mark label changed registers ∷ cells) =
+    Some (record m { cells = cells; registers = registers }, pair_at m.cells (oldest registers.scan m))
+unmark_from m (Limit count registers ∷ cells) =
+    Some (record m { cells = cells; registers = registers }, pair_at m.cells (oldest registers.scan m))
 unmark_from m cells = None
 
 -- drops the innermost mark with all above it; and the pair that the oldest scan saved that was opened in it and is still open
@@ -249,7 +264,11 @@ suspend why m = let height = suc (length m.cells) in record m {
 -- a suspension frame on all that stands, then the operands on top of some lower cells, with the registers of these
 abbrev pub suspend_onto : Why → FlatStack → List Cell → Registers → ℕ → FlatStack
 suspend_onto why m cells registers place =
-    record { cells = copy_up cells (Suspension why m.registers m.place ∷ m.cells); registers = record registers { newest = Some (suc (length m.cells)) }; place = place }
+    record {
+      cells = copy_up cells (Suspension why m.registers m.place ∷ m.cells);
+      registers = record registers { newest = Some (suc (length m.cells)) };
+      place = place;
+    }
 
 -- from the mark's cell downward
 abbrev pub suspend_mark_from : FlatStack → List Cell → Option FlatStack
@@ -263,7 +282,8 @@ suspend_mark m = suspend_mark_from m (cut m.registers.mark m.cells)
 
 -- from the procedure's frame downward
 abbrev pub suspend_proc_from : FlatStack → List Cell → Option FlatStack
-suspend_proc_from m (Call proc locals level registers place ∷ cells) = Some (suspend_onto Proc m cells registers place)
+suspend_proc_from m (Call proc locals level registers place ∷ cells) =
+    Some (suspend_onto Proc m cells registers place)
 suspend_proc_from m cells = None
 
 -- suspends the procedure
@@ -294,7 +314,8 @@ given_to given m = m
 
 -- from the suspension frame downward
 abbrev pub resume_from : List Cell → Option (Why × FlatStack)
-resume_from (Suspension why registers place ∷ cells) = Some (why, record { cells = cells; registers = registers; place = place })
+resume_from (Suspension why registers place ∷ cells) =
+    Some (why, record { cells = cells; registers = registers; place = place })
 resume_from cells = None
 
 -- the newest suspension of the innermost mark comes back
@@ -313,7 +334,8 @@ enter proc values place m = let height = suc (length m.cells) in record {
 
 -- from the procedure's frame downward
 abbrev pub leave_from : List Cell → Option FlatStack
-leave_from (Call proc locals level registers place ∷ cells) = Some (record { cells = cells; registers = registers; place = place })
+leave_from (Call proc locals level registers place ∷ cells) =
+    Some (record { cells = cells; registers = registers; place = place })
 leave_from cells = None
 
 -- back to the caller
@@ -344,7 +366,8 @@ scan_chosen true m = oldest None m
 scan_chosen false m = m.registers.scan
 
 -- the scan's frame at a height had this pair, and now has another
-pub record SwapsAt (height : ℕ) (pair : Pair) (cells : List Cell) (old : Pair) (after : List Cell) : Type 0 where
+pub record SwapsAt (height : ℕ) (pair : Pair) (cells : List Cell) (old : Pair)
+    (after : List Cell) : Type 0 where
   pub registers : Registers
   pub place : ℕ
   pub was : cell_at height cells ≡ Some (Suspension (Scan old) registers place)

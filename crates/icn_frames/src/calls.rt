@@ -30,7 +30,10 @@ impl<K: Stack<Cell> + Drop> Model for Frames<K> {
 
     ghost Value = { SeenStack };
 
-    ghost view = { λ m. record { flat = record { cells = K.cells m.cells; registers = m.registers; place = m.place }; spare = K.spare m.cells } };
+    ghost view = { λ m. record {
+      flat = record { cells = K.cells m.cells; registers = m.registers; place = m.place };
+      spare = K.spare m.cells;
+    } };
 
     ghost invariant = { λ m. Sound (K.cells m.cells) m.registers };
 }
@@ -113,7 +116,8 @@ impl<K: Stack<Cell> + Drop> Frames<K> {
     /// Sets a local of the running procedure, by its place, which must be in range.
     pub fn set_local(&mut self, place: u64, v: Val)
         requires { place < flat.local_count self.old.flat }
-        ensures flat { self.new.flat ≡ flat.set_locals (slice_set (flat.locals self.old.flat) place v) self.old.flat }
+        ensures flat { self.new.flat
+            ≡ flat.set_locals (slice_set (flat.locals self.old.flat) place v) self.old.flat }
         ensures locals { flat.locals self.new.flat ≡ slice_set (flat.locals self.old.flat) place v }
         ensures spare { self.new.spare ≡ self.old.spare }
     {
@@ -318,7 +322,8 @@ impl<K: Stack<Cell> + Drop> Frames<K> {
     /// for `Proc`, and else the innermost one; it must be there.
     pub fn suspend(&mut self, why: Why, given: Option<Item>) -> Result<(), AllocError>
         requires { flat.GoesOn why self.old.flat }
-        ensures ok { OnOk result (flat.given_to given (flat.suspend_by why self.old.flat) ≡ Some self.new.flat) }
+        ensures ok { OnOk result
+            (flat.given_to given (flat.suspend_by why self.old.flat) ≡ Some self.new.flat) }
         ensures err { OnErr result (self.new.flat ≡ self.old.flat) }
         ensures spare { OnErr result (self.old.spare ≤ self.new.spare) }
     {
@@ -416,7 +421,8 @@ impl<K: Stack<Cell> + Drop> Frames<K> {
 
     // Suspends in the innermost mark, and pushes a result if there is one.
     fn suspend_here(&mut self, why: Why, given: Option<Item>) -> Result<(), AllocError>
-        ensures ok { OnOk result (flat.given_to given (Some (flat.suspend why self.old.flat)) ≡ Some self.new.flat) }
+        ensures ok { OnOk result
+            (flat.given_to given (Some (flat.suspend why self.old.flat)) ≡ Some self.new.flat) }
         ensures err { OnErr result (self.new.flat ≡ self.old.flat) }
         ensures spare { OnErr result (self.old.spare ≤ self.new.spare) }
     {
@@ -446,7 +452,8 @@ impl<K: Stack<Cell> + Drop> Frames<K> {
     // Leaves the innermost mark suspended, and pushes a result if there is one.
     fn suspend_mark(&mut self, given: Option<Item>) -> Result<(), AllocError>
         requires { flat.at_base self.old.flat ≡ false }
-        ensures ok { OnOk result (flat.given_to given (flat.suspend_mark self.old.flat) ≡ Some self.new.flat) }
+        ensures ok { OnOk result
+            (flat.given_to given (flat.suspend_mark self.old.flat) ≡ Some self.new.flat) }
         ensures err { OnErr result (self.new.flat ≡ self.old.flat) }
         ensures spare { OnErr result (self.old.spare ≤ self.new.spare) }
     {
@@ -476,7 +483,8 @@ impl<K: Stack<Cell> + Drop> Frames<K> {
     // Suspends the procedure, and pushes a result for the caller if there is one.
     fn suspend_proc(&mut self, given: Option<Item>) -> Result<(), AllocError>
         requires { flat.is_base self.old.flat ≡ false }
-        ensures ok { OnOk result (flat.given_to given (flat.suspend_proc self.old.flat) ≡ Some self.new.flat) }
+        ensures ok { OnOk result
+            (flat.given_to given (flat.suspend_proc self.old.flat) ≡ Some self.new.flat) }
         ensures err { OnErr result (self.new.flat ≡ self.old.flat) }
         ensures spare { OnErr result (self.old.spare ≤ self.new.spare) }
     {

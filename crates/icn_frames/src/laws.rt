@@ -7,6 +7,8 @@ ghost use Rattle.icn_frames.specs.Stacks.{FlatStack, begin, enter, leave, level}
 /// from which it was entered.
 pub fn levels_count_calls()
     ensures begins { (proc : ℕ) (values : List Val) (place : ℕ) → level (begin proc values place) ≡ 1 }
-    ensures enters { (proc : ℕ) (values : List Val) (place : ℕ) (m : FlatStack) → level (enter proc values place m) ≡ suc (level m) }
-    ensures leaves { (proc : ℕ) (values : List Val) (place : ℕ) (m : FlatStack) → leave (enter proc values place m) ≡ Some m }
+    ensures enters { (proc : ℕ) (values : List Val) (place : ℕ) (m : FlatStack)
+        → level (enter proc values place m) ≡ suc (level m) }
+    ensures leaves { (proc : ℕ) (values : List Val) (place : ℕ) (m : FlatStack)
+        → leave (enter proc values place m) ≡ Some m }
 {}

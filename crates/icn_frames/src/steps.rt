@@ -97,7 +97,8 @@ pub fn hang<K: Stack<Cell>>(
     requires order { from ≤ to }
     requires within { to ≤ length (K.cells cells.old) }
     ensures height { IfOk result (λ height. height ≡ length (K.cells cells.old) + 1) }
-    ensures ok { OnOk result (K.cells cells.new ≡ flat.with_given given (with_copy from to (frame ∷ K.cells cells.old))) }
+    ensures ok { OnOk result
+        (K.cells cells.new ≡ flat.with_given given (with_copy from to (frame ∷ K.cells cells.old))) }
     ensures err { OnErr result (K.cells cells.new ≡ K.cells cells.old) }
     ensures spare { OnErr result (K.spare cells.old ≤ K.spare cells.new) }
 {

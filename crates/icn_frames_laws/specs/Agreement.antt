@@ -28,31 +28,46 @@ pub record SameToRead (read : Interpretation) (m : FlatStack) : Type 0 where
 
 -- A call on a stack that is read leaves what the call leaves, read.
 pub record SameToCall (read : Interpretation) (m : FlatStack) : Type 0 where
-  pub set_locals : (values : List Val) → code.set_locals (map read.value values) (stack_read read m) ≡ stack_read read (flat.set_locals values m)
+  pub set_locals : (values : List Val) → code.set_locals (map read.value values) (stack_read read m)
+      ≡ stack_read read (flat.set_locals values m)
   pub go : (place : ℕ) → code.go place (stack_read read m) ≡ stack_read read (flat.go place m)
-  pub push : (item : Item) → code.push (read.item item) (stack_read read m) ≡ stack_read read (flat.push item m)
+  pub push : (item : Item)
+      → code.push (read.item item) (stack_read read m) ≡ stack_read read (flat.push item m)
   pub pop : code.pop (stack_read read m) ≡ option_map (popped_read read) (flat.pop m)
-  pub open_mark : (label : Option ℕ) → code.open_mark label (stack_read read m) ≡ stack_read read (flat.open_either label None m)
-  pub open_limit : (label : Option ℕ) (count : ℕ) → code.open_limit count (stack_read read m) ≡ stack_read read (flat.open_either label (Some count) m)
-  pub relabel : (label : ℕ) → code.relabel label (stack_read read m) ≡ option_map (stack_read read) (flat.relabel label m)
-  pub count_down : IsSome (flat.count_down m) → code.count_down (stack_read read m) ≡ option_map (counted_read read) (flat.count_down m)
+  pub open_mark : (label : Option ℕ)
+      → code.open_mark label (stack_read read m) ≡ stack_read read (flat.open_either label None m)
+  pub open_limit : (label : Option ℕ) (count : ℕ)
+      → code.open_limit count (stack_read read m) ≡ stack_read read (flat.open_either label (Some count) m)
+  pub relabel : (label : ℕ)
+      → code.relabel label (stack_read read m) ≡ option_map (stack_read read) (flat.relabel label m)
+  pub count_down : IsSome (flat.count_down m)
+      → code.count_down (stack_read read m) ≡ option_map (counted_read read) (flat.count_down m)
   pub unmark : code.unmark (stack_read read m) ≡ option_map (unmarked_read read) (flat.unmark m)
-  pub drop_mark : (n : FlatStack) (pair : Option Pair) → flat.unmark m ≡ Some (n, pair) → code.drop_mark (stack_read read m) ≡ drop_by read (flat.label m) (flat.is_relabelled m) n
+  pub drop_mark : (n : FlatStack) (pair : Option Pair) → flat.unmark m ≡ Some (n, pair)
+      → code.drop_mark (stack_read read m) ≡ drop_by read (flat.label m) (flat.is_relabelled m) n
   pub drop_none : flat.unmark m ≡ None → code.drop_mark (stack_read read m) ≡ calls.NoMark
-  pub suspend : (why : Why) → code.suspend (why_read read why) (stack_read read m) ≡ stack_read read (flat.suspend why m)
-  pub suspend_mark : code.suspend_mark (stack_read read m) ≡ option_map (stack_read read) (flat.suspend_mark m)
-  pub suspend_proc : code.suspend_proc (stack_read read m) ≡ option_map (stack_read read) (flat.suspend_proc m)
+  pub suspend : (why : Why)
+      → code.suspend (why_read read why) (stack_read read m) ≡ stack_read read (flat.suspend why m)
+  pub suspend_mark : code.suspend_mark (stack_read read m)
+      ≡ option_map (stack_read read) (flat.suspend_mark m)
+  pub suspend_proc : code.suspend_proc (stack_read read m)
+      ≡ option_map (stack_read read) (flat.suspend_proc m)
   pub resume : code.resume (stack_read read m) ≡ option_map (resumed_read read) (flat.resume m)
-  pub swap_newest : (pair : Pair) → code.swap_newest (read.pair pair) (stack_read read m) ≡ option_map (swapped_read read) (flat.swap_newest pair m)
-  pub swap_oldest : (pair : Pair) → code.swap_oldest (read.pair pair) (stack_read read m) ≡ option_map (swapped_read read) (flat.swap_oldest pair m)
-  pub enter : (proc : ℕ) (values : List Val) → code.enter proc (map read.value values) (stack_read read m) ≡ stack_read read (flat.enter proc values 0 m)
+  pub swap_newest : (pair : Pair) → code.swap_newest (read.pair pair) (stack_read read m)
+      ≡ option_map (swapped_read read) (flat.swap_newest pair m)
+  pub swap_oldest : (pair : Pair) → code.swap_oldest (read.pair pair) (stack_read read m)
+      ≡ option_map (swapped_read read) (flat.swap_oldest pair m)
+  pub enter : (proc : ℕ) (values : List Val) → code.enter proc (map read.value values) (stack_read read m)
+      ≡ stack_read read (flat.enter proc values 0 m)
   pub leave : code.leave (stack_read read m) ≡ option_map (stack_read read) (flat.leave m)
 
 -- A stack that is begun with values that are read is the one that is begun with the values, read.
 abbrev pub SameToBegin : Interpretation → Type 0
-SameToBegin read = (proc : ℕ) (values : List Val) (place : ℕ) (m : code.Frames) → code.begin proc (map read.value values) place m ≡ stack_read read (flat.begin proc values place)
+SameToBegin read = (proc : ℕ) (values : List Val) (place : ℕ) (m : code.Frames)
+    → code.begin proc (map read.value values) place m ≡ stack_read read (flat.begin proc values place)
 
 -- To take operands is to pop them one by one, the last one first.
 abbrev pub TakesByPops : Type 0
 TakesByPops = (n : ℕ) (m : code.Frames) (items : List rows.Item)
-    → code.take_top (suc n) m m.cells items ≡ option_and_then (λ (popped : rows.Item × code.Frames). code.take_top n popped.1 popped.1.cells (popped.0 ∷ items)) (code.pop m)
+    → code.take_top (suc n) m m.cells items ≡ option_and_then (λ (popped : rows.Item × code.Frames).
+    code.take_top n popped.1 popped.1.cells (popped.0 ∷ items)) (code.pop m)

@@ -8,7 +8,8 @@ use Rattle.icn_heap.specs.declared.heap.Heap.{Heap as HeldHeap}
 
 -- the parts that a heap holds
 abbrev pub parts_of : HeldHeap → Parts
-parts_of heap = parts heap.strings heap.lists.items heap.sets.items heap.tables.items heap.records.items heap.coexps.items heap.cells heap.limits
+parts_of heap = parts heap.strings heap.lists.items heap.sets.items heap.tables.items heap.records.items
+    heap.coexps.items heap.cells heap.limits
 
 -- the texts that a heap has, and how many structures
 unfoldable pub extent_of : HeldHeap → Extent
@@ -28,4 +29,13 @@ with_strings sum heap = record heap { strings = sum }
 
 -- the heap of no texts and no structures, but `&main`, which has given nothing
 abbrev pub empty_heap : Bounds → Heap
-empty_heap bounds = record { lists = []; sets = []; tables = []; records = []; coexps = 0 ∷ []; strings = 0; cells = 0; bounds = bounds }
+empty_heap bounds = record {
+  lists = [];
+  sets = [];
+  tables = [];
+  records = [];
+  coexps = 0 ∷ [];
+  strings = 0;
+  cells = 0;
+  bounds = bounds;
+}

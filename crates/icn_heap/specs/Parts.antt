@@ -33,7 +33,8 @@ pub record Parts : Type 0 where
   pub limits : Limits
 
 -- the parts of a heap, by name
-abbrev pub parts : Region → List (Numbered Val) → List (List (Key × Val)) → List Entries → List HeldRecord → List ℕ → ℕ → Limits → Parts
+abbrev pub parts : Region → List (Numbered Val) → List (List (Key × Val)) → List Entries → List HeldRecord
+    → List ℕ → ℕ → Limits → Parts
 parts strings lists sets tables records coexps cells limits = record {
   strings = strings;
   lists = lists;
@@ -119,7 +120,8 @@ entry_vals entry = (entry.key, entry.value)
 
 -- members with one more under its key, unless that key is there
 abbrev pub with_entry : List (Key × Val) → Key → Val → List (Key × Val)
-with_entry members key val = if is_some (value_of key_eq members key) then members else stored key_eq members key val
+with_entry members key val =
+    if is_some (value_of key_eq members key) then members else stored key_eq members key val
 
 -- a table with a pair under a key, and without the pair of a key
 
@@ -173,7 +175,8 @@ pub record AreSound (all : Extent) (parts : Parts) : Type 0 where
 pub record IsCharged (parts : Parts) : Type 0 where
   pub limit : limit_of parts.strings ≡ parts.limits.strings
   pub within : parts.cells ≤ parts.limits.cells
-  pub counted : length parts.lists + length parts.sets + length parts.tables + length parts.records + length parts.coexps ≤ parts.cells + 1
+  pub counted : length parts.lists + length parts.sets + length parts.tables + length parts.records
+      + length parts.coexps ≤ parts.cells + 1
   pub main : 0 < length parts.coexps
 
 -- what each heap keeps
@@ -197,7 +200,8 @@ IsSoundRecord-prop : (all : Extent) (held : HeldRecord) → IsProp (IsSoundRecor
 IsSoundRecord-prop all held = hlevel (IsLive-prop, props)
 
 AreSound-prop : (all : Extent) (parts : Parts) → IsProp (AreSound all parts)
-AreSound-prop all parts = hlevel (IsSoundList-prop, IsSoundMember-prop, IsSoundTable-prop, IsSoundRecord-prop, props)
+AreSound-prop all parts =
+    hlevel (IsSoundList-prop, IsSoundMember-prop, IsSoundTable-prop, IsSoundRecord-prop, props)
 
 IsCharged-prop : (parts : Parts) → IsProp (IsCharged parts)
 IsCharged-prop parts = hlevel props

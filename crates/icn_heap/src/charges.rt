@@ -13,7 +13,9 @@ impl Heap {
     /// and then adds them one by one.
     #[tactic(auto, using(crate::proofs::Charging::charge_fits, crate::proofs::Charging::charge_full), unfolding(crate::specs::Heaps::heap_of))]
     pub fn room_for_cells(&self, cells: u64) -> Result<(), Full>
-        ensures answer { MatchResult result (λ _. charged_cells (heap_of self.now) cells ≡ Ok (with_cells ((heap_of self.now).cells + cells) (heap_of self.now))) (λ full. charged_cells (heap_of self.now) cells ≡ Err full) }
+        ensures answer { MatchResult result (λ _. charged_cells (heap_of self.now) cells
+            ≡ Ok (with_cells ((heap_of self.now).cells + cells) (heap_of self.now)))
+            (λ full. charged_cells (heap_of self.now) cells ≡ Err full) }
         ensures within { OnOk result ((heap_of self.now).cells + cells ≤ (heap_of self.now).bounds.cells) }
     {
         if cells > self.limits.cells - self.cells {
@@ -31,8 +33,11 @@ impl Heap {
     /// and never made.
     #[tactic(auto, unfolding(crate::specs::Heaps::heap_of))]
     pub fn room_for_bytes(&self, bytes: u64) -> Result<(), Full>
-        ensures answer { MatchResult result (λ _. charged_strings (heap_of self.now) bytes ≡ Ok (with_strings ((heap_of self.now).strings + bytes) (heap_of self.now))) (λ full. charged_strings (heap_of self.now) bytes ≡ Err full) }
-        ensures within { OnOk result ((heap_of self.now).strings + bytes ≤ (heap_of self.now).bounds.strings) }
+        ensures answer { MatchResult result (λ _. charged_strings (heap_of self.now) bytes
+            ≡ Ok (with_strings ((heap_of self.now).strings + bytes) (heap_of self.now)))
+            (λ full. charged_strings (heap_of self.now) bytes ≡ Err full) }
+        ensures within { OnOk result
+            ((heap_of self.now).strings + bytes ≤ (heap_of self.now).bounds.strings) }
     {
         let room = self.strings.room();
         if bytes > room {
@@ -57,7 +62,8 @@ impl Heap {
     pub(crate) fn paid(&self, elements: u64) -> Result<u64, Full>
         ensures sum { IfOk result (λ sum. sum ≡ self.now.cells + (1 + elements)) }
         ensures within { IfOk result (λ sum. sum ≤ self.now.limits.cells) }
-        ensures ok { IfOk result (λ sum. charged_cells (heap_of self.now) (1 + elements) ≡ Ok (with_cells sum (heap_of self.now))) }
+        ensures ok { IfOk result (λ sum. charged_cells (heap_of self.now) (1 + elements)
+            ≡ Ok (with_cells sum (heap_of self.now))) }
         ensures full { IfErr result (λ full. charged_cells (heap_of self.now) (1 + elements) ≡ Err full) }
     {
         if elements >= self.limits.cells - self.cells {
@@ -74,7 +80,8 @@ impl Heap {
         ensures more { IfOk result (λ sum. self.now.cells ≤ sum) }
         ensures one { IfOk result (λ sum. sum ≤ self.now.cells + 1) }
         ensures within { IfOk result (λ sum. sum ≤ self.now.limits.cells) }
-        ensures ok { IfOk result (λ sum. charged_unless nothing (heap_of self.now) ≡ Ok (with_cells sum (heap_of self.now))) }
+        ensures ok { IfOk result
+            (λ sum. charged_unless nothing (heap_of self.now) ≡ Ok (with_cells sum (heap_of self.now))) }
         ensures full { IfErr result (λ full. charged_unless nothing (heap_of self.now) ≡ Err full) }
     {
         if nothing {

@@ -16,7 +16,8 @@ impl Heap {
     #[tactic(auto, unfolding(crate::specs::Heaps::extent_of, crate::specs::Heaps::heap_of))]
     pub fn charge_coexp(&mut self, locals: u64) -> Result<(), Full>
         ensures live { OnOk result (IsLive (extent_of self.new) (Coexp (length (heap_of self.old).coexps))) }
-        ensures step { MatchResult result (λ _. made_coexp (heap_of self.old) locals ≡ Ok (heap_of self.new)) (Refuses (made_coexp (heap_of self.old) locals)) }
+        ensures step { MatchResult result (λ _. made_coexp (heap_of self.old) locals ≡ Ok (heap_of self.new))
+            (Refuses (made_coexp (heap_of self.old) locals)) }
         ensures limits { LimitsFirst (made_coexp (heap_of self.old) locals) result }
         ensures kept { Keeps (extent_of self.old) (extent_of self.new) }
         ensures unchanged { OnErr result (heap_of self.new ≡ heap_of self.old) }

@@ -27,7 +27,9 @@ impl Heap {
         requires { All (IsLive (extent_of self.old)) vals.now }
         ensures live { IfOk result (IsLive (extent_of self.new)) }
         ensures value { IfOk result (λ val. value_in (extent_of self.new) val ≡ next_set (heap_of self.old)) }
-        ensures step { MatchResult result (λ _. made_set_of (heap_of self.old) (fold with_member [] (map (value_in (extent_of self.old)) vals.now)) ≡ Ok (heap_of self.new)) (Refuses (made_set_of (heap_of self.old) (fold with_member [] (map (value_in (extent_of self.old)) vals.now)))) }
+        ensures step { MatchResult result (λ _. made_set_of (heap_of self.old) (fold with_member []
+            (map (value_in (extent_of self.old)) vals.now)) ≡ Ok (heap_of self.new)) (Refuses (made_set_of
+            (heap_of self.old) (fold with_member [] (map (value_in (extent_of self.old)) vals.now)))) }
         ensures kept { Keeps (extent_of self.old) (extent_of self.new) }
         ensures unchanged { OnErr result (heap_of self.new ≡ heap_of self.old) }
     {
@@ -45,7 +47,9 @@ impl Heap {
         requires { IsLive (extent_of self.old) (Set set) }
         ensures live { IfOk result (IsLive (extent_of self.new)) }
         ensures value { IfOk result (λ val. value_in (extent_of self.new) val ≡ next_set (heap_of self.old)) }
-        ensures step { MatchResult result (λ _. made_set_of (heap_of self.old) (set_at (heap_of self.old) set) ≡ Ok (heap_of self.new)) (Refuses (made_set_of (heap_of self.old) (set_at (heap_of self.old) set))) }
+        ensures step { MatchResult result
+            (λ _. made_set_of (heap_of self.old) (set_at (heap_of self.old) set) ≡ Ok (heap_of self.new))
+            (Refuses (made_set_of (heap_of self.old) (set_at (heap_of self.old) set))) }
         ensures limits { LimitsFirst (made_set_of (heap_of self.old) (set_at (heap_of self.old) set)) result }
         ensures kept { Keeps (extent_of self.old) (extent_of self.new) }
         ensures unchanged { OnErr result (heap_of self.new ≡ heap_of self.old) }
@@ -65,7 +69,10 @@ impl Heap {
         requires second { IsLive (extent_of self.old) (Set second) }
         ensures live { IfOk result (IsLive (extent_of self.new)) }
         ensures value { IfOk result (λ val. value_in (extent_of self.new) val ≡ next_set (heap_of self.old)) }
-        ensures step { MatchResult result (λ _. made_set_of (heap_of self.old) (set_at (heap_of self.old) first ++ difference (set_at (heap_of self.old) second) (set_at (heap_of self.old) first)) ≡ Ok (heap_of self.new)) (Refuses (made_set_of (heap_of self.old) (set_at (heap_of self.old) first ++ difference (set_at (heap_of self.old) second) (set_at (heap_of self.old) first)))) }
+        ensures step { MatchResult result (λ _. made_set_of (heap_of self.old) (set_at (heap_of self.old)
+            first ++ difference (set_at (heap_of self.old) second) (set_at (heap_of self.old) first))
+            ≡ Ok (heap_of self.new)) (Refuses (made_set_of (heap_of self.old) (set_at (heap_of self.old) first
+            ++ difference (set_at (heap_of self.old) second) (set_at (heap_of self.old) first)))) }
         ensures kept { Keeps (extent_of self.old) (extent_of self.new) }
         ensures unchanged { OnErr result (heap_of self.new ≡ heap_of self.old) }
     {
@@ -84,7 +91,10 @@ impl Heap {
         requires second { IsLive (extent_of self.old) (Set second) }
         ensures live { IfOk result (IsLive (extent_of self.new)) }
         ensures value { IfOk result (λ val. value_in (extent_of self.new) val ≡ next_set (heap_of self.old)) }
-        ensures step { MatchResult result (λ _. made_set_of (heap_of self.old) (difference (set_at (heap_of self.old) first) (set_at (heap_of self.old) second)) ≡ Ok (heap_of self.new)) (Refuses (made_set_of (heap_of self.old) (difference (set_at (heap_of self.old) first) (set_at (heap_of self.old) second)))) }
+        ensures step { MatchResult result (λ _. made_set_of (heap_of self.old)
+            (difference (set_at (heap_of self.old) first) (set_at (heap_of self.old) second))
+            ≡ Ok (heap_of self.new)) (Refuses (made_set_of (heap_of self.old)
+            (difference (set_at (heap_of self.old) first) (set_at (heap_of self.old) second)))) }
         ensures kept { Keeps (extent_of self.old) (extent_of self.new) }
         ensures unchanged { OnErr result (heap_of self.new ≡ heap_of self.old) }
     {
@@ -100,7 +110,10 @@ impl Heap {
         requires second { IsLive (extent_of self.old) (Set second) }
         ensures live { IfOk result (IsLive (extent_of self.new)) }
         ensures value { IfOk result (λ val. value_in (extent_of self.new) val ≡ next_set (heap_of self.old)) }
-        ensures step { MatchResult result (λ _. made_set_of (heap_of self.old) (intersection (set_at (heap_of self.old) first) (set_at (heap_of self.old) second)) ≡ Ok (heap_of self.new)) (Refuses (made_set_of (heap_of self.old) (intersection (set_at (heap_of self.old) first) (set_at (heap_of self.old) second)))) }
+        ensures step { MatchResult result (λ _. made_set_of (heap_of self.old)
+            (intersection (set_at (heap_of self.old) first) (set_at (heap_of self.old) second))
+            ≡ Ok (heap_of self.new)) (Refuses (made_set_of (heap_of self.old)
+            (intersection (set_at (heap_of self.old) first) (set_at (heap_of self.old) second)))) }
         ensures kept { Keeps (extent_of self.old) (extent_of self.new) }
         ensures unchanged { OnErr result (heap_of self.new ≡ heap_of self.old) }
     {
@@ -114,9 +127,13 @@ impl Heap {
     pub fn copy_table(&mut self, table: u32) -> Result<Val, Full>
         requires { IsLive (extent_of self.old) (Table table) }
         ensures live { IfOk result (IsLive (extent_of self.new)) }
-        ensures value { IfOk result (λ val. value_in (extent_of self.new) val ≡ next_table (heap_of self.old)) }
-        ensures step { MatchResult result (λ _. made_table_of (heap_of self.old) (table_at (heap_of self.old) table) ≡ Ok (heap_of self.new)) (Refuses (made_table_of (heap_of self.old) (table_at (heap_of self.old) table))) }
-        ensures limits { LimitsFirst (made_table_of (heap_of self.old) (table_at (heap_of self.old) table)) result }
+        ensures value { IfOk result
+            (λ val. value_in (extent_of self.new) val ≡ next_table (heap_of self.old)) }
+        ensures step { MatchResult result (λ _.
+            made_table_of (heap_of self.old) (table_at (heap_of self.old) table) ≡ Ok (heap_of self.new))
+            (Refuses (made_table_of (heap_of self.old) (table_at (heap_of self.old) table))) }
+        ensures limits { LimitsFirst (made_table_of (heap_of self.old) (table_at (heap_of self.old) table))
+            result }
         ensures kept { Keeps (extent_of self.old) (extent_of self.new) }
         ensures unchanged { OnErr result (heap_of self.new ≡ heap_of self.old) }
     {
@@ -131,7 +148,8 @@ impl Heap {
     // These values as the members of a set.
     fn members_from(&self, vals: &[Val]) -> Result<Members, AllocError>
         requires { All (IsLive (extent_of self.now)) vals.now }
-        ensures members { IfOk result (λ members. set_in members ≡ fold with_member [] (map (value_in (extent_of self.now)) vals.now)) }
+        ensures members { IfOk result
+            (λ members. set_in members ≡ fold with_member [] (map (value_in (extent_of self.now)) vals.now)) }
         ensures sound { IfOk result (All (IsSoundMember (extent_of self.now))) }
     {
         let mut members = Pairs::new(self.alloc);
@@ -157,7 +175,8 @@ impl Heap {
     fn members_standing(&self, set: u32, other: u32, inside: bool) -> Result<Vec<Val>, AllocError>
         requires set { IsLive (extent_of self.now) (Set set) }
         requires other { IsLive (extent_of self.now) (Set other) }
-        ensures members { IfOk result (λ members. map (value_in (extent_of self.now)) members.items ≡ filter (stands inside (set_at (heap_of self.now) other)) (set_at (heap_of self.now) set)) }
+        ensures members { IfOk result (λ members. map (value_in (extent_of self.now)) members.items
+            ≡ filter (stands inside (set_at (heap_of self.now) other)) (set_at (heap_of self.now) set)) }
         ensures live { IfOk result (λ members. All (IsLive (extent_of self.now)) members.items) }
     {
         let all = self.members(set)?;
@@ -173,7 +192,8 @@ impl Heap {
     // A table with the pairs and the default of a table.
     fn entries_like(&self, table: u32) -> Result<Entries, AllocError>
         requires { IsLive (extent_of self.now) (Table table) }
-        ensures table { IfOk result (λ entries. table_in (extent_of self.now) entries ≡ table_at (heap_of self.now) table) }
+        ensures table { IfOk result
+            (λ entries. table_in (extent_of self.now) entries ≡ table_at (heap_of self.now) table) }
         ensures sound { IfOk result (IsSoundTable (extent_of self.now)) }
     {
         keys_differ(self, table);
@@ -187,7 +207,8 @@ impl Heap {
     // These pairs as those of a table.
     fn pairs_from(&self, vals: &[(Val, Val)]) -> Result<Pairs<Key, Entry>, AllocError>
         requires { All (AreLive (extent_of self.now)) vals.now }
-        ensures pairs { IfOk result (λ pairs. map (pair_in (extent_of self.now)) pairs ≡ fold with_stored [] (map (values_in (extent_of self.now)) vals.now)) }
+        ensures pairs { IfOk result (λ pairs. map (pair_in (extent_of self.now)) pairs
+            ≡ fold with_stored [] (map (values_in (extent_of self.now)) vals.now)) }
         ensures sound { IfOk result (All (IsSoundPair (extent_of self.now))) }
     {
         let mut pairs = Pairs::new(self.alloc);

@@ -47,8 +47,10 @@ pub fn add_list(lists: &mut Vec<Deque<Val>>, list: Deque<Val>) -> Result<(), All
 // Adds an item at the right of a list.
 pub fn put_at(lists: &mut Vec<Deque<Val>>, list: u32, val: Val) -> Result<(), AllocError>
     requires there { list < vec_len lists.old }
-    requires numbers_fit { FitsSigned w64 (number_after (slice_index_or lists.old.items list no_vals) +ℤ pos 1) }
-    ensures ok { OnOk result (lists.new.items ≡ slice_set lists.old.items list (with_right (slice_index_or lists.old.items list no_vals) val)) }
+    requires numbers_fit { FitsSigned w64
+        (number_after (slice_index_or lists.old.items list no_vals) +ℤ pos 1) }
+    ensures ok { OnOk result (lists.new.items
+        ≡ slice_set lists.old.items list (with_right (slice_index_or lists.old.items list no_vals) val)) }
     ensures err { OnErr result (lists.new.items ≡ lists.old.items) }
 {
     lists[list as usize].put(val)
@@ -58,7 +60,8 @@ pub fn put_at(lists: &mut Vec<Deque<Val>>, list: u32, val: Val) -> Result<(), Al
 pub fn push_at(lists: &mut Vec<Deque<Val>>, list: u32, val: Val) -> Result<(), AllocError>
     requires there { list < vec_len lists.old }
     requires numbers_fit { FitsSigned w64 ((slice_index_or lists.old.items list no_vals).number -ℤ pos 1) }
-    ensures ok { OnOk result (lists.new.items ≡ slice_set lists.old.items list (with_left (slice_index_or lists.old.items list no_vals) val)) }
+    ensures ok { OnOk result (lists.new.items
+        ≡ slice_set lists.old.items list (with_left (slice_index_or lists.old.items list no_vals) val)) }
     ensures err { OnErr result (lists.new.items ≡ lists.old.items) }
 {
     lists[list as usize].push(val)
@@ -68,7 +71,8 @@ pub fn push_at(lists: &mut Vec<Deque<Val>>, list: u32, val: Val) -> Result<(), A
 pub fn get_at(lists: &mut Vec<Deque<Val>>, list: u32) -> Option<Val>
     requires { list < vec_len lists.old }
     ensures item { result ≡ leftmost (slice_index_or lists.old.items list no_vals) }
-    ensures rest { lists.new.items ≡ slice_set lists.old.items list (without_left (slice_index_or lists.old.items list no_vals)) }
+    ensures rest { lists.new.items
+        ≡ slice_set lists.old.items list (without_left (slice_index_or lists.old.items list no_vals)) }
 {
     lists[list as usize].get()
 }
@@ -77,7 +81,8 @@ pub fn get_at(lists: &mut Vec<Deque<Val>>, list: u32) -> Option<Val>
 pub fn pull_at(lists: &mut Vec<Deque<Val>>, list: u32) -> Option<Val>
     requires { list < vec_len lists.old }
     ensures item { result ≡ rightmost (slice_index_or lists.old.items list no_vals) }
-    ensures rest { lists.new.items ≡ slice_set lists.old.items list (without_right (slice_index_or lists.old.items list no_vals)) }
+    ensures rest { lists.new.items
+        ≡ slice_set lists.old.items list (without_right (slice_index_or lists.old.items list no_vals)) }
 {
     lists[list as usize].pull()
 }
@@ -86,7 +91,8 @@ pub fn pull_at(lists: &mut Vec<Deque<Val>>, list: u32) -> Option<Val>
 pub fn set_at(lists: &mut Vec<Deque<Val>>, list: u32, n: i64, val: Val) -> bool
     requires { list < vec_len lists.old }
     ensures found { result ≡ is_some (item_numbered (slice_index_or lists.old.items list no_vals) n) }
-    ensures items { lists.new.items ≡ slice_set lists.old.items list (with_numbered (slice_index_or lists.old.items list no_vals) n val) }
+    ensures items { lists.new.items
+        ≡ slice_set lists.old.items list (with_numbered (slice_index_or lists.old.items list no_vals) n val) }
 {
     lists[list as usize].set_number(n, val)
 }

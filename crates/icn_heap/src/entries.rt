@@ -31,7 +31,8 @@ pub struct Entries {
 
 // Adds a table without pairs, or leaves all as it was.
 pub fn add_table(alloc: Global, tables: &mut Vec<Entries>, default: Val) -> Result<(), AllocError>
-    ensures ok { OnOk result (tables.new.items ≡ tables.old.items ++ record { default = default; pairs = [] } ∷ []) }
+    ensures ok { OnOk result
+        (tables.new.items ≡ tables.old.items ++ record { default = default; pairs = [] } ∷ []) }
     ensures err { OnErr result (tables.new.items ≡ tables.old.items) }
 {
     tables.push(Entries {
@@ -92,7 +93,8 @@ pub fn entry_stored_at(
     entry: Entry,
 ) -> Result<(), AllocError>
     requires { table < vec_len tables.old }
-    ensures ok { OnOk result (tables.new.items ≡ slice_set tables.old.items table (table_with (slice_index_or tables.old.items table no_entries) key entry)) }
+    ensures ok { OnOk result (tables.new.items ≡ slice_set tables.old.items table
+        (table_with (slice_index_or tables.old.items table no_entries) key entry)) }
     ensures err { OnErr result (tables.new.items ≡ tables.old.items) }
 {
     tables[table as usize].pairs.store(key, entry)?;
@@ -102,7 +104,8 @@ pub fn entry_stored_at(
 // The pair at a place of a table.
 pub fn pair_at(tables: &Vec<Entries>, table: u32, place: u64) -> Option<Entry>
     requires { table < vec_len tables.now }
-    ensures { result ≡ option_map entry_of (slice_get (slice_index_or tables.now.items table no_entries).pairs place) }
+    ensures { result
+        ≡ option_map entry_of (slice_get (slice_index_or tables.now.items table no_entries).pairs place) }
 {
     let (_, entry) = tables[table as usize].pairs.pair_at(place)?;
     Some(entry)
@@ -112,8 +115,10 @@ pub fn pair_at(tables: &Vec<Entries>, table: u32, place: u64) -> Option<Entry>
 #[tactic(auto, using(crate::proofs::KeyTests::same_tests))]
 pub fn entry_removed_at(tables: &mut Vec<Entries>, table: u32, key: &Key) -> bool
     requires { table < vec_len tables.old }
-    ensures found { result ≡ is_some (value_of key_eq (slice_index_or tables.old.items table no_entries).pairs key.now) }
-    ensures pairs { tables.new.items ≡ slice_set tables.old.items table (table_without (slice_index_or tables.old.items table no_entries) key.now) }
+    ensures found { result
+        ≡ is_some (value_of key_eq (slice_index_or tables.old.items table no_entries).pairs key.now) }
+    ensures pairs { tables.new.items ≡ slice_set tables.old.items table
+        (table_without (slice_index_or tables.old.items table no_entries) key.now) }
 {
     tables[table as usize].pairs.remove(key)
 }

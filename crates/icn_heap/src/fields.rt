@@ -92,7 +92,9 @@ pub fn add_record(
 pub fn field_set_at(records: &mut Vec<Fields>, rec: u32, n: u16, val: Val)
     requires there { rec < vec_len records.old }
     requires field { n < length (slice_index_or records.old.items rec no_fields).values }
-    ensures { records.new.items ≡ slice_set records.old.items rec (held_record (slice_index_or records.old.items rec no_fields).kind (slice_set (slice_index_or records.old.items rec no_fields).values n val)) }
+    ensures { records.new.items
+        ≡ slice_set records.old.items rec (held_record (slice_index_or records.old.items rec no_fields).kind
+        (slice_set (slice_index_or records.old.items rec no_fields).values n val)) }
 {
     records[rec as usize].set(n, val);
 }

@@ -24,7 +24,9 @@ pub struct Heap {
     pub(crate) coexps: Vec<u64>,
     pub(crate) cells: u64,
     pub(crate) limits: Limits,
-    ghost sound: { IsSound (parts strings lists.items sets.items tables.items records.items coexps.items cells limits) } by { IsSound-prop (parts strings lists.items sets.items tables.items records.items coexps.items cells limits) },
+    ghost sound: { IsSound (parts strings
+        lists.items sets.items tables.items records.items coexps.items cells limits) } by { IsSound-prop
+            (parts strings lists.items sets.items tables.items records.items coexps.items cells limits) },
 }
 
 impl Heap {

@@ -73,11 +73,15 @@ pub fn few_coexps(heap: &Heap)
 
 /// The number of a structure that is of a heap is below how many of its type the heap has.
 pub fn live_numbers(heap: &Heap)
-    ensures lists { (id : ℕ) → IsLive (extent_of heap.now) (ListVal id) → id < length (heap_of heap.now).lists }
+    ensures lists { (id : ℕ) → IsLive (extent_of heap.now) (ListVal id)
+        → id < length (heap_of heap.now).lists }
     ensures sets { (id : ℕ) → IsLive (extent_of heap.now) (Set id) → id < length (heap_of heap.now).sets }
-    ensures tables { (id : ℕ) → IsLive (extent_of heap.now) (Table id) → id < length (heap_of heap.now).tables }
-    ensures records { (id : ℕ) → IsLive (extent_of heap.now) (Rec id) → id < length (heap_of heap.now).records }
-    ensures coexps { (id : ℕ) → IsLive (extent_of heap.now) (Coexp id) → id < length (heap_of heap.now).coexps }
+    ensures tables { (id : ℕ) → IsLive (extent_of heap.now) (Table id)
+        → id < length (heap_of heap.now).tables }
+    ensures records { (id : ℕ) → IsLive (extent_of heap.now) (Rec id)
+        → id < length (heap_of heap.now).records }
+    ensures coexps { (id : ℕ) → IsLive (extent_of heap.now) (Coexp id)
+        → id < length (heap_of heap.now).coexps }
 {}
 
 /// No member of a set is the same as another.
@@ -100,8 +104,11 @@ pub fn keys_differ(heap: &Heap, table: u32)
 
 /// Two structures that are made one after the other are two values.
 pub fn made_differ()
-    ensures lists { (heap made : DefinedHeap) (items : List Value) → made_list heap items ≡ Ok made → next_list made ≢ next_list heap }
+    ensures lists { (heap made : DefinedHeap) (items : List Value) → made_list heap items ≡ Ok made
+        → next_list made ≢ next_list heap }
     ensures sets { (heap made : DefinedHeap) → made_set heap ≡ Ok made → next_set made ≢ next_set heap }
-    ensures tables { (heap made : DefinedHeap) (default : Value) → made_table heap default ≡ Ok made → next_table made ≢ next_table heap }
-    ensures records { (heap made : DefinedHeap) (kind : ℕ) (fields : List Value) → made_record heap kind fields ≡ Ok made → next_record made ≢ next_record heap }
+    ensures tables { (heap made : DefinedHeap) (default : Value) → made_table heap default ≡ Ok made
+        → next_table made ≢ next_table heap }
+    ensures records { (heap made : DefinedHeap) (kind : ℕ) (fields : List Value)
+        → made_record heap kind fields ≡ Ok made → next_record made ≢ next_record heap }
 {}

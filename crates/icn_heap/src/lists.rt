@@ -23,9 +23,13 @@ impl Heap {
     pub fn make_list(&mut self, n: u64, fill: Val) -> Result<Val, Full>
         requires { IsLive (extent_of self.old) fill }
         ensures live { IfOk result (IsLive (extent_of self.new)) }
-        ensures value { IfOk result (λ val. value_in (extent_of self.new) val ≡ next_list (heap_of self.old)) }
-        ensures step { MatchResult result (λ _. made_list (heap_of self.old) (replicate n (value_in (extent_of self.old) fill)) ≡ Ok (heap_of self.new)) (Refuses (made_list (heap_of self.old) (replicate n (value_in (extent_of self.old) fill)))) }
-        ensures limits { LimitsFirst (made_list (heap_of self.old) (replicate n (value_in (extent_of self.old) fill))) result }
+        ensures value { IfOk result
+            (λ val. value_in (extent_of self.new) val ≡ next_list (heap_of self.old)) }
+        ensures step { MatchResult result (λ _. made_list (heap_of self.old)
+            (replicate n (value_in (extent_of self.old) fill)) ≡ Ok (heap_of self.new))
+            (Refuses (made_list (heap_of self.old) (replicate n (value_in (extent_of self.old) fill)))) }
+        ensures limits { LimitsFirst
+            (made_list (heap_of self.old) (replicate n (value_in (extent_of self.old) fill))) result }
         ensures kept { Keeps (extent_of self.old) (extent_of self.new) }
         ensures unchanged { OnErr result (heap_of self.new ≡ heap_of self.old) }
     {
@@ -42,9 +46,13 @@ impl Heap {
     pub fn list_from(&mut self, items: &[Val]) -> Result<Val, Full>
         requires { All (IsLive (extent_of self.old)) items.now }
         ensures live { IfOk result (IsLive (extent_of self.new)) }
-        ensures value { IfOk result (λ val. value_in (extent_of self.new) val ≡ next_list (heap_of self.old)) }
-        ensures step { MatchResult result (λ _. made_list (heap_of self.old) (map (value_in (extent_of self.old)) items.now) ≡ Ok (heap_of self.new)) (Refuses (made_list (heap_of self.old) (map (value_in (extent_of self.old)) items.now))) }
-        ensures limits { LimitsFirst (made_list (heap_of self.old) (map (value_in (extent_of self.old)) items.now)) result }
+        ensures value { IfOk result
+            (λ val. value_in (extent_of self.new) val ≡ next_list (heap_of self.old)) }
+        ensures step { MatchResult result (λ _. made_list (heap_of self.old)
+            (map (value_in (extent_of self.old)) items.now) ≡ Ok (heap_of self.new))
+            (Refuses (made_list (heap_of self.old) (map (value_in (extent_of self.old)) items.now))) }
+        ensures limits { LimitsFirst
+            (made_list (heap_of self.old) (map (value_in (extent_of self.old)) items.now)) result }
         ensures kept { Keeps (extent_of self.old) (extent_of self.new) }
         ensures unchanged { OnErr result (heap_of self.new ≡ heap_of self.old) }
     {
@@ -61,8 +69,11 @@ impl Heap {
     pub fn put(&mut self, list: u32, val: Val) -> Result<(), Full>
         requires list { IsLive (extent_of self.old) (List list) }
         requires live { IsLive (extent_of self.old) val }
-        ensures step { MatchResult result (λ _. put_on (heap_of self.old) list (value_in (extent_of self.old) val) ≡ Ok (heap_of self.new)) (Refuses (put_on (heap_of self.old) list (value_in (extent_of self.old) val))) }
-        ensures limits { LimitsFirst (put_on (heap_of self.old) list (value_in (extent_of self.old) val)) result }
+        ensures step { MatchResult result
+            (λ _. put_on (heap_of self.old) list (value_in (extent_of self.old) val) ≡ Ok (heap_of self.new))
+            (Refuses (put_on (heap_of self.old) list (value_in (extent_of self.old) val))) }
+        ensures limits { LimitsFirst (put_on (heap_of self.old) list (value_in (extent_of self.old) val))
+            result }
         ensures kept { Keeps (extent_of self.old) (extent_of self.new) }
         ensures unchanged { OnErr result (heap_of self.new ≡ heap_of self.old) }
     {
@@ -77,8 +88,11 @@ impl Heap {
     pub fn push(&mut self, list: u32, val: Val) -> Result<(), Full>
         requires list { IsLive (extent_of self.old) (List list) }
         requires live { IsLive (extent_of self.old) val }
-        ensures step { MatchResult result (λ _. pushed_on (heap_of self.old) list (value_in (extent_of self.old) val) ≡ Ok (heap_of self.new)) (Refuses (pushed_on (heap_of self.old) list (value_in (extent_of self.old) val))) }
-        ensures limits { LimitsFirst (pushed_on (heap_of self.old) list (value_in (extent_of self.old) val)) result }
+        ensures step { MatchResult result (λ _.
+            pushed_on (heap_of self.old) list (value_in (extent_of self.old) val) ≡ Ok (heap_of self.new))
+            (Refuses (pushed_on (heap_of self.old) list (value_in (extent_of self.old) val))) }
+        ensures limits { LimitsFirst (pushed_on (heap_of self.old) list (value_in (extent_of self.old) val))
+            result }
         ensures kept { Keeps (extent_of self.old) (extent_of self.new) }
         ensures unchanged { OnErr result (heap_of self.new ≡ heap_of self.old) }
     {
@@ -92,9 +106,11 @@ impl Heap {
     #[tactic(auto, unfolding(crate::specs::Heaps::extent_of, crate::specs::Heaps::heap_of))]
     pub fn get(&mut self, list: u32) -> Option<Val>
         requires { IsLive (extent_of self.old) (List list) }
-        ensures item { option_map (value_in (extent_of self.new)) result ≡ leftmost (list_at (heap_of self.old) list) }
+        ensures item { option_map (value_in (extent_of self.new)) result
+            ≡ leftmost (list_at (heap_of self.old) list) }
         ensures live { IfSome result (IsLive (extent_of self.new)) }
-        ensures step { heap_of self.new ≡ with_list list (without_left (list_at (heap_of self.old) list)) (heap_of self.old) }
+        ensures step { heap_of self.new
+            ≡ with_list list (without_left (list_at (heap_of self.old) list)) (heap_of self.old) }
         ensures kept { Keeps (extent_of self.old) (extent_of self.new) }
     {
         get_at(&mut self.lists, list)
@@ -104,9 +120,11 @@ impl Heap {
     #[tactic(auto, unfolding(crate::specs::Heaps::extent_of, crate::specs::Heaps::heap_of))]
     pub fn pull(&mut self, list: u32) -> Option<Val>
         requires { IsLive (extent_of self.old) (List list) }
-        ensures item { option_map (value_in (extent_of self.new)) result ≡ rightmost (list_at (heap_of self.old) list) }
+        ensures item { option_map (value_in (extent_of self.new)) result
+            ≡ rightmost (list_at (heap_of self.old) list) }
         ensures live { IfSome result (IsLive (extent_of self.new)) }
-        ensures step { heap_of self.new ≡ with_list list (without_right (list_at (heap_of self.old) list)) (heap_of self.old) }
+        ensures step { heap_of self.new
+            ≡ with_list list (without_right (list_at (heap_of self.old) list)) (heap_of self.old) }
         ensures kept { Keeps (extent_of self.old) (extent_of self.new) }
     {
         pull_at(&mut self.lists, list)
@@ -118,7 +136,8 @@ impl Heap {
         requires list { IsLive (extent_of self.old) (List list) }
         requires live { IsLive (extent_of self.old) val }
         ensures found { result ≡ is_some (item_numbered (list_at (heap_of self.old) list) n) }
-        ensures step { heap_of self.new ≡ with_list list (with_numbered (list_at (heap_of self.old) list) n (value_in (extent_of self.old) val)) (heap_of self.old) }
+        ensures step { heap_of self.new ≡ with_list list (with_numbered (list_at (heap_of self.old) list) n
+            (value_in (extent_of self.old) val)) (heap_of self.old) }
         ensures kept { Keeps (extent_of self.old) (extent_of self.new) }
     {
         set_at(&mut self.lists, list, n, val)
@@ -128,7 +147,8 @@ impl Heap {
     #[tactic(auto, unfolding(crate::specs::Heaps::extent_of, crate::specs::Heaps::heap_of))]
     pub fn item(&self, list: u32, n: i64) -> Option<Val>
         requires { IsLive (extent_of self.now) (List list) }
-        ensures item { option_map (value_in (extent_of self.now)) result ≡ item_numbered (list_at (heap_of self.now) list) n }
+        ensures item { option_map (value_in (extent_of self.now)) result
+            ≡ item_numbered (list_at (heap_of self.now) list) n }
         ensures live { IfSome result (IsLive (extent_of self.now)) }
     {
         list_ref(&self.lists, list).by_number(n)

@@ -61,7 +61,8 @@ pub fn member_stored_at(
     val: Val,
 ) -> Result<(), AllocError>
     requires { set < vec_len sets.old }
-    ensures ok { OnOk result (sets.new.items ≡ slice_set sets.old.items set (stored key_eq (slice_index_or sets.old.items set []) key val)) }
+    ensures ok { OnOk result (sets.new.items
+        ≡ slice_set sets.old.items set (stored key_eq (slice_index_or sets.old.items set []) key val)) }
     ensures err { OnErr result (sets.new.items ≡ sets.old.items) }
 {
     sets[set as usize].store(key, val)?;
@@ -82,7 +83,8 @@ pub fn member_at(sets: &Vec<Members>, set: u32, place: u64) -> Option<Val>
 pub fn member_removed_at(sets: &mut Vec<Members>, set: u32, key: &Key) -> bool
     requires { set < vec_len sets.old }
     ensures found { result ≡ is_some (value_of key_eq (slice_index_or sets.old.items set []) key.now) }
-    ensures members { sets.new.items ≡ slice_set sets.old.items set (without key_eq (slice_index_or sets.old.items set []) key.now) }
+    ensures members { sets.new.items
+        ≡ slice_set sets.old.items set (without key_eq (slice_index_or sets.old.items set []) key.now) }
 {
     sets[set as usize].remove(key)
 }

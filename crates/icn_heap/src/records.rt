@@ -21,9 +21,13 @@ impl Heap {
     pub fn make_rec(&mut self, kind: u16, fields: &[Val]) -> Result<Val, Full>
         requires { All (IsLive (extent_of self.old)) fields.now }
         ensures live { IfOk result (IsLive (extent_of self.new)) }
-        ensures value { IfOk result (λ val. value_in (extent_of self.new) val ≡ next_record (heap_of self.old)) }
-        ensures step { MatchResult result (λ _. made_record (heap_of self.old) kind (map (value_in (extent_of self.old)) fields.now) ≡ Ok (heap_of self.new)) (Refuses (made_record (heap_of self.old) kind (map (value_in (extent_of self.old)) fields.now))) }
-        ensures limits { LimitsFirst (made_record (heap_of self.old) kind (map (value_in (extent_of self.old)) fields.now)) result }
+        ensures value { IfOk result
+            (λ val. value_in (extent_of self.new) val ≡ next_record (heap_of self.old)) }
+        ensures step { MatchResult result (λ _. made_record (heap_of self.old) kind
+            (map (value_in (extent_of self.old)) fields.now) ≡ Ok (heap_of self.new))
+            (Refuses (made_record (heap_of self.old) kind (map (value_in (extent_of self.old)) fields.now))) }
+        ensures limits { LimitsFirst
+            (made_record (heap_of self.old) kind (map (value_in (extent_of self.old)) fields.now)) result }
         ensures kept { Keeps (extent_of self.old) (extent_of self.new) }
         ensures unchanged { OnErr result (heap_of self.new ≡ heap_of self.old) }
     {
@@ -43,7 +47,8 @@ impl Heap {
         requires rec { IsLive (extent_of self.now) (Rec rec) }
         requires there { n < length (record_at (heap_of self.now) rec).fields }
         ensures live { IsLive (extent_of self.now) result }
-        ensures value { value_in (extent_of self.now) result ≡ value_at (record_at (heap_of self.now) rec).fields n }
+        ensures value { value_in (extent_of self.now) result
+            ≡ value_at (record_at (heap_of self.now) rec).fields n }
     {
         record_ref(&self.records, rec).get(n)
     }
@@ -54,7 +59,8 @@ impl Heap {
         requires rec { IsLive (extent_of self.old) (Rec rec) }
         requires there { n < length (record_at (heap_of self.old) rec).fields }
         requires live { IsLive (extent_of self.old) val }
-        ensures step { heap_of self.new ≡ with_field rec n (value_in (extent_of self.old) val) (heap_of self.old) }
+        ensures step { heap_of self.new
+            ≡ with_field rec n (value_in (extent_of self.old) val) (heap_of self.old) }
         ensures kept { Keeps (extent_of self.old) (extent_of self.new) }
     {
         field_set_at(&mut self.records, rec, n, val);

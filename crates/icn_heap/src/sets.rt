@@ -24,7 +24,8 @@ impl Heap {
     pub fn make_set(&mut self) -> Result<Val, Full>
         ensures live { IfOk result (IsLive (extent_of self.new)) }
         ensures value { IfOk result (λ val. value_in (extent_of self.new) val ≡ next_set (heap_of self.old)) }
-        ensures step { MatchResult result (λ _. made_set (heap_of self.old) ≡ Ok (heap_of self.new)) (Refuses (made_set (heap_of self.old))) }
+        ensures step { MatchResult result (λ _. made_set (heap_of self.old) ≡ Ok (heap_of self.new))
+            (Refuses (made_set (heap_of self.old))) }
         ensures limits { LimitsFirst (made_set (heap_of self.old)) result }
         ensures kept { Keeps (extent_of self.old) (extent_of self.new) }
         ensures unchanged { OnErr result (heap_of self.new ≡ heap_of self.old) }
@@ -40,7 +41,8 @@ impl Heap {
     pub fn has(&self, set: u32, val: Val) -> Result<bool, AllocError>
         requires set { IsLive (extent_of self.now) (Set set) }
         requires live { IsLive (extent_of self.now) val }
-        ensures found { IfOk result (λ found. found ≡ has_value (set_at (heap_of self.now) set) (value_in (extent_of self.now) val)) }
+        ensures found { IfOk result
+            (λ found. found ≡ has_value (set_at (heap_of self.now) set) (value_in (extent_of self.now) val)) }
         ensures succeeds { is_text val ≡ false → IsOk result }
     {
         let key = self.key_of(val)?;
@@ -52,8 +54,11 @@ impl Heap {
     pub fn add(&mut self, set: u32, val: Val) -> Result<(), Full>
         requires set { IsLive (extent_of self.old) (Set set) }
         requires live { IsLive (extent_of self.old) val }
-        ensures step { MatchResult result (λ _. added_in (heap_of self.old) set (value_in (extent_of self.old) val) ≡ Ok (heap_of self.new)) (Refuses (added_in (heap_of self.old) set (value_in (extent_of self.old) val))) }
-        ensures limits { is_text val ≡ false → LimitsFirst (added_in (heap_of self.old) set (value_in (extent_of self.old) val)) result }
+        ensures step { MatchResult result
+            (λ _. added_in (heap_of self.old) set (value_in (extent_of self.old) val) ≡ Ok (heap_of self.new))
+            (Refuses (added_in (heap_of self.old) set (value_in (extent_of self.old) val))) }
+        ensures limits { is_text val ≡ false
+            → LimitsFirst (added_in (heap_of self.old) set (value_in (extent_of self.old) val)) result }
         ensures kept { Keeps (extent_of self.old) (extent_of self.new) }
         ensures unchanged { OnErr result (heap_of self.new ≡ heap_of self.old) }
     {
@@ -72,7 +77,8 @@ impl Heap {
     #[tactic(auto, unfolding(crate::specs::Heaps::extent_of))]
     pub fn member_at(&self, set: u32, place: u64) -> Option<Val>
         requires { IsLive (extent_of self.now) (Set set) }
-        ensures member { option_map (value_in (extent_of self.now)) result ≡ slice_get (set_at (heap_of self.now) set) place }
+        ensures member { option_map (value_in (extent_of self.now)) result
+            ≡ slice_get (set_at (heap_of self.now) set) place }
         ensures live { IfSome result (IsLive (extent_of self.now)) }
     {
         member_at(&self.sets, set, place)
@@ -94,7 +100,9 @@ impl Heap {
         requires set { IsLive (extent_of self.old) (Set set) }
         requires formed { IsKey key.now }
         ensures found { result ≡ has_value (set_at (heap_of self.old) set) (key_value key.now) }
-        ensures step { heap_of self.new ≡ with_set set (filter (λ member. not (same (key_value key.now) member)) (set_at (heap_of self.old) set)) (heap_of self.old) }
+        ensures step { heap_of self.new ≡ with_set set
+            (filter (λ member. not (same (key_value key.now) member)) (set_at (heap_of self.old) set))
+            (heap_of self.old) }
         ensures kept { Keeps (extent_of self.old) (extent_of self.new) }
     {
         keys_of_members_differ(&self.sets, set);

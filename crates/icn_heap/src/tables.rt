@@ -26,9 +26,13 @@ impl Heap {
     pub fn make_table(&mut self, default: Val) -> Result<Val, Full>
         requires { IsLive (extent_of self.old) default }
         ensures live { IfOk result (IsLive (extent_of self.new)) }
-        ensures value { IfOk result (λ val. value_in (extent_of self.new) val ≡ next_table (heap_of self.old)) }
-        ensures step { MatchResult result (λ _. made_table (heap_of self.old) (value_in (extent_of self.old) default) ≡ Ok (heap_of self.new)) (Refuses (made_table (heap_of self.old) (value_in (extent_of self.old) default))) }
-        ensures limits { LimitsFirst (made_table (heap_of self.old) (value_in (extent_of self.old) default)) result }
+        ensures value { IfOk result
+            (λ val. value_in (extent_of self.new) val ≡ next_table (heap_of self.old)) }
+        ensures step { MatchResult result (λ _.
+            made_table (heap_of self.old) (value_in (extent_of self.old) default) ≡ Ok (heap_of self.new))
+            (Refuses (made_table (heap_of self.old) (value_in (extent_of self.old) default))) }
+        ensures limits { LimitsFirst (made_table (heap_of self.old) (value_in (extent_of self.old) default))
+            result }
         ensures kept { Keeps (extent_of self.old) (extent_of self.new) }
         ensures unchanged { OnErr result (heap_of self.new ≡ heap_of self.old) }
     {
@@ -45,7 +49,8 @@ impl Heap {
         requires table { IsLive (extent_of self.now) (Table table) }
         requires key { IsLive (extent_of self.now) key }
         ensures live { IfOk result (λ found. IfSome found (IsLive (extent_of self.now))) }
-        ensures value { IfOk result (λ found. option_map (value_in (extent_of self.now)) found ≡ value_at_key (heap_of self.now) table (value_in (extent_of self.now) key)) }
+        ensures value { IfOk result (λ found. option_map (value_in (extent_of self.now)) found
+            ≡ value_at_key (heap_of self.now) table (value_in (extent_of self.now) key)) }
         ensures succeeds { is_text key ≡ false → IsOk result }
     {
         let held = self.key_of(key)?;
@@ -67,7 +72,8 @@ impl Heap {
     #[tactic(auto, unfolding(crate::specs::Heaps::extent_of))]
     pub fn pair_at(&self, table: u32, place: u64) -> Option<(Val, Val)>
         requires { IsLive (extent_of self.now) (Table table) }
-        ensures pair { option_map (values_in (extent_of self.now)) result ≡ slice_get (table_at (heap_of self.now) table).pairs place }
+        ensures pair { option_map (values_in (extent_of self.now)) result
+            ≡ slice_get (table_at (heap_of self.now) table).pairs place }
         ensures live_key { IfSome result (λ pair. IsLive (extent_of self.now) pair.0) }
         ensures live_value { IfSome result (λ pair. IsLive (extent_of self.now) pair.1) }
     {
@@ -81,8 +87,12 @@ impl Heap {
         requires table { IsLive (extent_of self.old) (Table table) }
         requires key { IsLive (extent_of self.old) key }
         requires live { IsLive (extent_of self.old) val }
-        ensures step { MatchResult result (λ _. stored_in (heap_of self.old) table (value_in (extent_of self.old) key) (value_in (extent_of self.old) val) ≡ Ok (heap_of self.new)) (Refuses (stored_in (heap_of self.old) table (value_in (extent_of self.old) key) (value_in (extent_of self.old) val))) }
-        ensures limits { is_text key ≡ false → LimitsFirst (stored_in (heap_of self.old) table (value_in (extent_of self.old) key) (value_in (extent_of self.old) val)) result }
+        ensures step { MatchResult result (λ _. stored_in (heap_of self.old) table
+            (value_in (extent_of self.old) key) (value_in (extent_of self.old) val) ≡ Ok (heap_of self.new))
+            (Refuses (stored_in (heap_of self.old) table (value_in (extent_of self.old) key)
+            (value_in (extent_of self.old) val))) }
+        ensures limits { is_text key ≡ false → LimitsFirst (stored_in (heap_of self.old) table
+            (value_in (extent_of self.old) key) (value_in (extent_of self.old) val)) result }
         ensures kept { Keeps (extent_of self.old) (extent_of self.new) }
         ensures unchanged { OnErr result (heap_of self.new ≡ heap_of self.old) }
     {
@@ -98,8 +108,10 @@ impl Heap {
     pub fn remove(&mut self, from: Val, key: Val) -> Result<bool, AllocError>
         requires from { IsLive (extent_of self.old) from }
         requires key { IsLive (extent_of self.old) key }
-        ensures found { IfOk result (λ found. found ≡ has_key (heap_of self.old) (value_in (extent_of self.old) from) (value_in (extent_of self.old) key)) }
-        ensures step { OnOk result (heap_of self.new ≡ without_key (value_in (extent_of self.old) from) (value_in (extent_of self.old) key) (heap_of self.old)) }
+        ensures found { IfOk result (λ found. found ≡ has_key (heap_of self.old)
+            (value_in (extent_of self.old) from) (value_in (extent_of self.old) key)) }
+        ensures step { OnOk result (heap_of self.new ≡ without_key (value_in (extent_of self.old) from)
+            (value_in (extent_of self.old) key) (heap_of self.old)) }
         ensures succeeds { is_text key ≡ false → IsOk result }
         ensures kept { Keeps (extent_of self.old) (extent_of self.new) }
         ensures unchanged { OnErr result (heap_of self.new ≡ heap_of self.old) }
@@ -118,7 +130,8 @@ impl Heap {
         requires table { IsLive (extent_of self.now) (Table table) }
         requires formed { IsKey key.now }
         ensures live { IfSome result (IsLive (extent_of self.now)) }
-        ensures value { option_map (value_in (extent_of self.now)) result ≡ value_at_key (heap_of self.now) table (key_value key.now) }
+        ensures value { option_map (value_in (extent_of self.now)) result
+            ≡ value_at_key (heap_of self.now) table (key_value key.now) }
     {
         value_found(entry_at(&self.tables, table, key))
     }
@@ -139,7 +152,9 @@ impl Heap {
         requires table { IsLive (extent_of self.old) (Table table) }
         requires formed { IsKey key.now }
         ensures found { result ≡ is_some (value_at_key (heap_of self.old) table (key_value key.now)) }
-        ensures step { heap_of self.new ≡ with_table table (record (table_at (heap_of self.old) table) { pairs = without same (table_at (heap_of self.old) table).pairs (key_value key.now) }) (heap_of self.old) }
+        ensures step { heap_of self.new ≡ with_table table (record (table_at (heap_of self.old)
+            table) { pairs = without same (table_at (heap_of self.old) table).pairs (key_value key.now) })
+            (heap_of self.old) }
         ensures kept { Keeps (extent_of self.old) (extent_of self.new) }
     {
         entry_removed_at(&mut self.tables, table, key)

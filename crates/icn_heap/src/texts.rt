@@ -15,7 +15,8 @@ impl Heap {
     pub fn build(&mut self, bytes: &[u8]) -> Result<Span, Full>
         ensures live { IfOk result (IsText (extent_of self.new)) }
         ensures bytes { IfOk result (λ span. text_in (extent_of self.new) span ≡ bytes.now) }
-        ensures step { MatchResult result (λ _. charged_strings (heap_of self.old) (length bytes.now) ≡ Ok (heap_of self.new)) (Refuses (charged_strings (heap_of self.old) (length bytes.now))) }
+        ensures step { MatchResult result (λ _. charged_strings (heap_of self.old) (length bytes.now)
+            ≡ Ok (heap_of self.new)) (Refuses (charged_strings (heap_of self.old) (length bytes.now))) }
         ensures limits { LimitsFirst (charged_strings (heap_of self.old) (length bytes.now)) result }
         ensures kept { Keeps (extent_of self.old) (extent_of self.new) }
         ensures unchanged { OnErr result (heap_of self.new ≡ heap_of self.old) }
@@ -32,9 +33,14 @@ impl Heap {
         requires first { IsText (extent_of self.old) a }
         requires second { IsText (extent_of self.old) b }
         ensures live { IfOk result (IsText (extent_of self.new)) }
-        ensures bytes { IfOk result (λ span. text_in (extent_of self.new) span ≡ text_in (extent_of self.old) a ++ text_in (extent_of self.old) b) }
-        ensures step { MatchResult result (λ _. charged_strings (heap_of self.old) (length (text_in (extent_of self.old) a ++ text_in (extent_of self.old) b)) ≡ Ok (heap_of self.new)) (Refuses (charged_strings (heap_of self.old) (length (text_in (extent_of self.old) a ++ text_in (extent_of self.old) b)))) }
-        ensures limits { LimitsFirst (charged_strings (heap_of self.old) (length (text_in (extent_of self.old) a ++ text_in (extent_of self.old) b))) result }
+        ensures bytes { IfOk result (λ span. text_in (extent_of self.new) span
+            ≡ text_in (extent_of self.old) a ++ text_in (extent_of self.old) b) }
+        ensures step { MatchResult result (λ _. charged_strings (heap_of self.old)
+            (length (text_in (extent_of self.old) a ++ text_in (extent_of self.old) b))
+            ≡ Ok (heap_of self.new)) (Refuses (charged_strings (heap_of self.old)
+            (length (text_in (extent_of self.old) a ++ text_in (extent_of self.old) b)))) }
+        ensures limits { LimitsFirst (charged_strings (heap_of self.old)
+            (length (text_in (extent_of self.old) a ++ text_in (extent_of self.old) b))) result }
         ensures kept { Keeps (extent_of self.old) (extent_of self.new) }
         ensures unchanged { OnErr result (heap_of self.new ≡ heap_of self.old) }
     {
@@ -65,7 +71,8 @@ impl Heap {
         requires of { IsText (extent_of self.now) span }
         requires within { from + len ≤ length (text_in (extent_of self.now) span) }
         ensures live { IsText (extent_of self.now) result }
-        ensures bytes { text_in (extent_of self.now) result ≡ take len (drop from (text_in (extent_of self.now) span)) }
+        ensures bytes { text_in (extent_of self.now) result
+            ≡ take len (drop from (text_in (extent_of self.now) span)) }
     {
         let whole = as_place(span);
         length_of_bytes(&self.strings, whole);

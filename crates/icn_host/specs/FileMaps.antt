@@ -37,7 +37,8 @@ Follows before after change = IfSome before (λ old. (new : FileMap) × (after �
 
 -- what a broken write of these bytes may leave: nothing, what was there, or a part of the bytes from their start
 abbrev pub IsLeftBehind : Option (List ℕ) → List ℕ → Option (List ℕ) → Type 0
-IsLeftBehind was bytes content = (content ≡ None) ⊎ (content ≡ was) ⊎ ((n : ℕ) × (content ≡ Some (take n bytes)))
+IsLeftBehind was bytes content =
+    (content ≡ None) ⊎ (content ≡ was) ⊎ ((n : ℕ) × (content ≡ Some (take n bytes)))
 
 -- the name holds these bytes now
 pub record Sets (before after : Option FileMap) (name bytes : List ℕ) : Type 0 where
@@ -45,7 +46,8 @@ pub record Sets (before after : Option FileMap) (name bytes : List ℕ) : Type 0
 
 -- the name holds what a broken write of these bytes may leave
 pub record SetsPart (before after : Option FileMap) (name bytes : List ℕ) : Type 0 where
-  pub follows : Follows before after (λ old new. (content : Option (List ℕ)) × IsLeftBehind (old name) bytes content × Changes old new name content)
+  pub follows : Follows before after (λ old new. (content : Option (List ℕ))
+      × IsLeftBehind (old name) bytes content × Changes old new name content)
 
 -- what a map of texts to bytes holds for each name
 abbrev pub file_map : {Y Z : Type 0} → BTreeMap (String Y) (Vec ℕ Z) → FileMap

@@ -42,8 +42,10 @@ impl<R: Read> Ahead<R> {
     }
 
     fn line(&mut self, into: &mut Vec<u8>) -> Result<Line, Fault>
-        ensures ok { IfOk result (TakesLine (ahead_left R.remaining self.old) (ahead_left R.remaining self.new) into.old.items into.new.items) }
-        ensures err { OnErr result (TakesLinePart (ahead_left R.remaining self.old) (ahead_left R.remaining self.new) into.old.items into.new.items
+        ensures ok { IfOk result (TakesLine (ahead_left R.remaining self.old)
+            (ahead_left R.remaining self.new) into.old.items into.new.items) }
+        ensures err { OnErr result (TakesLinePart (ahead_left R.remaining self.old)
+            (ahead_left R.remaining self.new) into.old.items into.new.items
             (IsErrOf result Fault.Failed)) }
         ensures kept { Extends into.old.items into.new.items }
         ensures plain { IfOk result (λ _. ExtendsByLine into.old.items into.new.items) }
@@ -75,8 +77,10 @@ impl<R: Read> Ahead<R> {
     }
 
     fn take(&mut self, n: u64, into: &mut Vec<u8>) -> Result<u64, Fault>
-        ensures ok { IfOk result (TakesFirst (ahead_left R.remaining self.old) (ahead_left R.remaining self.new) into.old.items into.new.items n) }
-        ensures err { OnErr result (TakesFirstPart (ahead_left R.remaining self.old) (ahead_left R.remaining self.new) into.old.items into.new.items n) }
+        ensures ok { IfOk result (TakesFirst (ahead_left R.remaining self.old)
+            (ahead_left R.remaining self.new) into.old.items into.new.items n) }
+        ensures err { OnErr result (TakesFirstPart (ahead_left R.remaining self.old)
+            (ahead_left R.remaining self.new) into.old.items into.new.items n) }
         ensures kept { Extends into.old.items into.new.items }
         ensures counted { IfOk result (λ count. vec_len into.new ≡ vec_len into.old + count) }
         ensures within { vec_len into.new ≤ vec_len into.old + n }
@@ -135,13 +139,16 @@ impl<R: Read> Source for StdSource<R> {
 
     // The source tells nothing, but where the reader tells what it has left, the line is the next one of it.
     fn line(&mut self, into: &mut Vec<u8>) -> Result<Line, Fault>
-        ensures ok { IfOk result (TakesLine (source_left R.remaining self.old) (source_left R.remaining self.new) into.old.items into.new.items) }
-        ensures err { OnErr result (TakesLinePart (source_left R.remaining self.old) (source_left R.remaining self.new) into.old.items into.new.items
+        ensures ok { IfOk result (TakesLine (source_left R.remaining self.old)
+            (source_left R.remaining self.new) into.old.items into.new.items) }
+        ensures err { OnErr result (TakesLinePart (source_left R.remaining self.old)
+            (source_left R.remaining self.new) into.old.items into.new.items
             (IsErrOf result Fault.Failed)) }
         ensures kept { Extends into.old.items into.new.items }
         ensures plain { IfOk result (λ _. ExtendsByLine into.old.items into.new.items) }
         ensures none { IfOk result (λ line. line ≡ Line.End → into.new.items ≡ into.old.items) }
-        ensures cause { CountsOnce (⟦<StdSource<R> as Source>⟧.faults self.old) (⟦<StdSource<R> as Source>⟧.faults self.new) (IsErrOf result Fault.Failed) }
+        ensures cause { CountsOnce (⟦<StdSource<R> as Source>⟧.faults self.old)
+            (⟦<StdSource<R> as Source>⟧.faults self.new) (IsErrOf result Fault.Failed) }
     {
         let result = self.ahead.line(into);
         if result == Err(Fault::Failed) {
@@ -151,12 +158,15 @@ impl<R: Read> Source for StdSource<R> {
     }
 
     fn take(&mut self, n: u64, into: &mut Vec<u8>) -> Result<u64, Fault>
-        ensures ok { IfOk result (TakesFirst (source_left R.remaining self.old) (source_left R.remaining self.new) into.old.items into.new.items n) }
-        ensures err { OnErr result (TakesFirstPart (source_left R.remaining self.old) (source_left R.remaining self.new) into.old.items into.new.items n) }
+        ensures ok { IfOk result (TakesFirst (source_left R.remaining self.old)
+            (source_left R.remaining self.new) into.old.items into.new.items n) }
+        ensures err { OnErr result (TakesFirstPart (source_left R.remaining self.old)
+            (source_left R.remaining self.new) into.old.items into.new.items n) }
         ensures kept { Extends into.old.items into.new.items }
         ensures counted { IfOk result (λ count. vec_len into.new ≡ vec_len into.old + count) }
         ensures within { vec_len into.new ≤ vec_len into.old + n }
-        ensures cause { CountsOnce (⟦<StdSource<R> as Source>⟧.faults self.old) (⟦<StdSource<R> as Source>⟧.faults self.new) (IsErrOf result Fault.Failed) }
+        ensures cause { CountsOnce (⟦<StdSource<R> as Source>⟧.faults self.old)
+            (⟦<StdSource<R> as Source>⟧.faults self.new) (IsErrOf result Fault.Failed) }
     {
         let result = self.ahead.take(n, into);
         if result == Err(Fault::Failed) {

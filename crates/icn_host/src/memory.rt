@@ -57,10 +57,14 @@ impl Sink for MemSink {
     ghost state = { λ s. sink_state (Some s.held.items) s.faults s.wants };
 
     fn put(&mut self, piece: &[u8]) -> Result<(), Fault>
-        ensures ok { OnOk result (Gains (⟦<MemSink as Sink>⟧.state self.old).held (⟦<MemSink as Sink>⟧.state self.new).held piece.now) }
-        ensures err { OnErr result ((⟦<MemSink as Sink>⟧.state self.new).held ≡ (⟦<MemSink as Sink>⟧.state self.old).held) }
-        ensures cause { CountsOnce (⟦<MemSink as Sink>⟧.state self.old).faults (⟦<MemSink as Sink>⟧.state self.new).faults (IsErrOf result Fault.Failed) }
-        ensures want { CountsOnce (⟦<MemSink as Sink>⟧.state self.old).wants (⟦<MemSink as Sink>⟧.state self.new).wants (IsErrOf result Fault.NoMemory) }
+        ensures ok { OnOk result (Gains (⟦<MemSink as Sink>⟧.state self.old).held
+            (⟦<MemSink as Sink>⟧.state self.new).held piece.now) }
+        ensures err { OnErr result
+            ((⟦<MemSink as Sink>⟧.state self.new).held ≡ (⟦<MemSink as Sink>⟧.state self.old).held) }
+        ensures cause { CountsOnce (⟦<MemSink as Sink>⟧.state self.old).faults
+            (⟦<MemSink as Sink>⟧.state self.new).faults (IsErrOf result Fault.Failed) }
+        ensures want { CountsOnce (⟦<MemSink as Sink>⟧.state self.old).wants
+            (⟦<MemSink as Sink>⟧.state self.new).wants (IsErrOf result Fault.NoMemory) }
         ensures fails { IsErrOf result Fault.Failed ↔ FailsNext (sink_plan self.old) }
         ensures plan { sink_plan self.new ≡ later_plan (sink_plan self.old) }
     {
@@ -122,13 +126,16 @@ impl Source for MemSource {
     ghost faults = { λ s. s.faults };
 
     fn line(&mut self, into: &mut Vec<u8>) -> Result<Line, Fault>
-        ensures ok { IfOk result (TakesLine (⟦<MemSource as Source>⟧.left self.old) (⟦<MemSource as Source>⟧.left self.new) into.old.items into.new.items) }
+        ensures ok { IfOk result (TakesLine (⟦<MemSource as Source>⟧.left self.old)
+            (⟦<MemSource as Source>⟧.left self.new) into.old.items into.new.items) }
         ensures kept { Extends into.old.items into.new.items }
         ensures plain { IfOk result (λ _. ExtendsByLine into.old.items into.new.items) }
         ensures none { IfOk result (λ line. line ≡ Line.End → into.new.items ≡ into.old.items) }
-        ensures same_left { OnErr result (⟦<MemSource as Source>⟧.left self.new ≡ ⟦<MemSource as Source>⟧.left self.old) }
+        ensures same_left { OnErr result
+            (⟦<MemSource as Source>⟧.left self.new ≡ ⟦<MemSource as Source>⟧.left self.old) }
         ensures same_into { OnErr result (into.new.items ≡ into.old.items) }
-        ensures cause { CountsOnce (⟦<MemSource as Source>⟧.faults self.old) (⟦<MemSource as Source>⟧.faults self.new) (IsErrOf result Fault.Failed) }
+        ensures cause { CountsOnce (⟦<MemSource as Source>⟧.faults self.old)
+            (⟦<MemSource as Source>⟧.faults self.new) (IsErrOf result Fault.Failed) }
         ensures fails { IsErrOf result Fault.Failed ↔ FailsNext (source_plan self.old) }
         ensures plan { source_plan self.new ≡ later_plan (source_plan self.old) }
     {
@@ -142,13 +149,16 @@ impl Source for MemSource {
     }
 
     fn take(&mut self, n: u64, into: &mut Vec<u8>) -> Result<u64, Fault>
-        ensures ok { IfOk result (TakesFirst (⟦<MemSource as Source>⟧.left self.old) (⟦<MemSource as Source>⟧.left self.new) into.old.items into.new.items n) }
+        ensures ok { IfOk result (TakesFirst (⟦<MemSource as Source>⟧.left self.old)
+            (⟦<MemSource as Source>⟧.left self.new) into.old.items into.new.items n) }
         ensures kept { Extends into.old.items into.new.items }
         ensures counted { IfOk result (λ count. vec_len into.new ≡ vec_len into.old + count) }
         ensures within { vec_len into.new ≤ vec_len into.old + n }
-        ensures same_left { OnErr result (⟦<MemSource as Source>⟧.left self.new ≡ ⟦<MemSource as Source>⟧.left self.old) }
+        ensures same_left { OnErr result
+            (⟦<MemSource as Source>⟧.left self.new ≡ ⟦<MemSource as Source>⟧.left self.old) }
         ensures same_into { OnErr result (into.new.items ≡ into.old.items) }
-        ensures cause { CountsOnce (⟦<MemSource as Source>⟧.faults self.old) (⟦<MemSource as Source>⟧.faults self.new) (IsErrOf result Fault.Failed) }
+        ensures cause { CountsOnce (⟦<MemSource as Source>⟧.faults self.old)
+            (⟦<MemSource as Source>⟧.faults self.new) (IsErrOf result Fault.Failed) }
         ensures fails { IsErrOf result Fault.Failed ↔ FailsNext (source_plan self.old) }
         ensures plan { source_plan self.new ≡ later_plan (source_plan self.old) }
     {
@@ -212,14 +222,18 @@ impl Files for MemFiles {
     ghost absences = { λ s. s.absences };
 
     fn read(&mut self, name: &str, most: u64, into: &mut Vec<u8>) -> Result<(), Look>
-        ensures ok { OnOk result (Reads (⟦<MemFiles as Files>⟧.held self.old) name.now (most + 1) into.old.items into.new.items) }
+        ensures ok { OnOk result
+            (Reads (⟦<MemFiles as Files>⟧.held self.old) name.now (most + 1) into.old.items into.new.items) }
         ensures within { vec_len into.new ≤ vec_len into.old + (most + 1) }
         ensures kept { Extends into.old.items into.new.items }
         ensures err { OnErr result (into.new.items ≡ into.old.items) }
-        ensures absent { IsErrOf result Look.NotThere → NotHeld (⟦<MemFiles as Files>⟧.held self.old) name.now }
+        ensures absent { IsErrOf result Look.NotThere
+            → NotHeld (⟦<MemFiles as Files>⟧.held self.old) name.now }
         ensures same { ⟦<MemFiles as Files>⟧.held self.new ≡ ⟦<MemFiles as Files>⟧.held self.old }
-        ensures cause { CountsOnce (⟦<MemFiles as Files>⟧.faults self.old) (⟦<MemFiles as Files>⟧.faults self.new) (IsErrOf result Look.Failed) }
-        ensures absence { CountsOnce (⟦<MemFiles as Files>⟧.absences self.old) (⟦<MemFiles as Files>⟧.absences self.new) (IsErrOf result Look.NotThere) }
+        ensures cause { CountsOnce (⟦<MemFiles as Files>⟧.faults self.old)
+            (⟦<MemFiles as Files>⟧.faults self.new) (IsErrOf result Look.Failed) }
+        ensures absence { CountsOnce (⟦<MemFiles as Files>⟧.absences self.old)
+            (⟦<MemFiles as Files>⟧.absences self.new) (IsErrOf result Look.NotThere) }
         ensures fails { IsErrOf result Look.Failed ↔ FailsNext (files_plan self.old) }
         ensures plan { files_plan self.new ≡ later_plan (files_plan self.old) }
     {
@@ -235,12 +249,16 @@ impl Files for MemFiles {
     }
 
     fn write(&mut self, name: &str, bytes: &[u8]) -> Result<(), Fault>
-        ensures ok { OnOk result (Sets (⟦<MemFiles as Files>⟧.held self.old) (⟦<MemFiles as Files>⟧.held self.new) name.now bytes.now) }
-        ensures err { OnErr result (SetsPart (⟦<MemFiles as Files>⟧.held self.old) (⟦<MemFiles as Files>⟧.held self.new) name.now bytes.now) }
-        ensures cause { CountsOnce (⟦<MemFiles as Files>⟧.faults self.old) (⟦<MemFiles as Files>⟧.faults self.new) (IsErrOf result Fault.Failed) }
+        ensures ok { OnOk result (Sets (⟦<MemFiles as Files>⟧.held self.old)
+            (⟦<MemFiles as Files>⟧.held self.new) name.now bytes.now) }
+        ensures err { OnErr result (SetsPart (⟦<MemFiles as Files>⟧.held self.old)
+            (⟦<MemFiles as Files>⟧.held self.new) name.now bytes.now) }
+        ensures cause { CountsOnce (⟦<MemFiles as Files>⟧.faults self.old)
+            (⟦<MemFiles as Files>⟧.faults self.new) (IsErrOf result Fault.Failed) }
         ensures absences { ⟦<MemFiles as Files>⟧.absences self.new ≡ ⟦<MemFiles as Files>⟧.absences self.old }
         ensures fails { IsErrOf result Fault.Failed ↔ FailsNext (files_plan self.old) }
-        ensures same { OnErr result (⟦<MemFiles as Files>⟧.held self.new ≡ ⟦<MemFiles as Files>⟧.held self.old) }
+        ensures same { OnErr result
+            (⟦<MemFiles as Files>⟧.held self.new ≡ ⟦<MemFiles as Files>⟧.held self.old) }
         ensures plan { files_plan self.new ≡ later_plan (files_plan self.old) }
     {
         if self.failing.fails_now() {

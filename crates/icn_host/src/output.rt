@@ -44,10 +44,14 @@ impl<W: Write> Sink for StdSink<W> {
 
     // The sink tells nothing, but where the writer tells what it holds, it holds the piece.
     fn put(&mut self, piece: &[u8]) -> Result<(), Fault>
-        ensures ok { OnOk result (Gains (W.contents (writer_of self.old)) (W.contents (writer_of self.new)) piece.now) }
-        ensures err { OnErr result (GainsPart (W.contents (writer_of self.old)) (W.contents (writer_of self.new)) piece.now) }
-        ensures cause { CountsOnce (⟦<StdSink<W> as Sink>⟧.state self.old).faults (⟦<StdSink<W> as Sink>⟧.state self.new).faults (IsErrOf result Fault.Failed) }
-        ensures want { CountsOnce (⟦<StdSink<W> as Sink>⟧.state self.old).wants (⟦<StdSink<W> as Sink>⟧.state self.new).wants (IsErrOf result Fault.NoMemory) }
+        ensures ok { OnOk result
+            (Gains (W.contents (writer_of self.old)) (W.contents (writer_of self.new)) piece.now) }
+        ensures err { OnErr result
+            (GainsPart (W.contents (writer_of self.old)) (W.contents (writer_of self.new)) piece.now) }
+        ensures cause { CountsOnce (⟦<StdSink<W> as Sink>⟧.state self.old).faults
+            (⟦<StdSink<W> as Sink>⟧.state self.new).faults (IsErrOf result Fault.Failed) }
+        ensures want { CountsOnce (⟦<StdSink<W> as Sink>⟧.state self.old).wants
+            (⟦<StdSink<W> as Sink>⟧.state self.new).wants (IsErrOf result Fault.NoMemory) }
     {
         let result = write_whole(&mut self.writer, piece);
         if result == Err(Fault::Failed) {

@@ -14,8 +14,10 @@ use crate::traits::Sink;
 pub fn put_line<E: Sink>(line: &[u8], err: &mut E) -> Result<(), Fault>
     ensures ok { OnOk result (PutsAll (E.state err.old) (E.state err.new) line.now) }
     ensures err { IfErr result (λ fault. StopsBy fault (E.state err.old) (E.state err.new) line.now) }
-    ensures cause { CountsOnce (E.state err.old).faults (E.state err.new).faults (IsErrOf result Fault.Failed) }
-    ensures want { CountsOnce (E.state err.old).wants (E.state err.new).wants (IsErrOf result Fault.NoMemory) }
+    ensures cause { CountsOnce (E.state err.old).faults (E.state err.new).faults
+        (IsErrOf result Fault.Failed) }
+    ensures want { CountsOnce (E.state err.old).wants (E.state err.new).wants
+        (IsErrOf result Fault.NoMemory) }
 {
     if line.is_empty() {
         return Ok(());

@@ -25,7 +25,8 @@ pub fn fault_of(error: &io::Error) -> Fault
 // Fills a part of the buffer from its start: none of it at the end of the input.
 pub fn read_some<R: Read>(reader: &mut R, buffer: &mut [u8]) -> Result<usize, Fault>
     ensures within { IfOk result (λ n. n ≤ length buffer.new) }
-    ensures taken { IfOk result (λ n. Consumes (R.remaining reader.old) (R.remaining reader.new) (take n buffer.new)) }
+    ensures taken { IfOk result
+        (λ n. Consumes (R.remaining reader.old) (R.remaining reader.new) (take n buffer.new)) }
     ensures end { IfOk result (λ n. n ≡ 0 → 0 < length buffer.old → IsAtEnd (R.remaining reader.new)) }
     ensures same { OnErr result (Keeps (R.remaining reader.old) (R.remaining reader.new)) }
 {
@@ -42,7 +43,8 @@ pub fn read_some<R: Read>(reader: &mut R, buffer: &mut [u8]) -> Result<usize, Fa
 // Writes a part of the piece from its start, at least a byte.
 fn write_some<W: Write>(writer: &mut W, piece: &[u8]) -> Result<usize, Fault>
     ensures within { IfOk result (λ n. (0 < n) × (n ≤ length piece.now)) }
-    ensures gains { IfOk result (λ n. Gains (W.contents writer.old) (W.contents writer.new) (take n piece.now)) }
+    ensures gains { IfOk result
+        (λ n. Gains (W.contents writer.old) (W.contents writer.new) (take n piece.now)) }
     ensures same { OnErr result (Keeps (W.contents writer.old) (W.contents writer.new)) }
 {
     for _ in 0..=RETRIES {

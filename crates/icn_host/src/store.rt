@@ -11,7 +11,8 @@ pub type Store = BTreeMap<String, Vec<u8>>;
 
 // Appends the first `most + 1` bytes of a file, or all of it.
 pub fn look(files: &Store, name: &str, most: u64, into: &mut Vec<u8>) -> Result<(), Look>
-    ensures ok { OnOk result (Reads (Some (file_map files.now)) name.now (most + 1) into.old.items into.new.items) }
+    ensures ok { OnOk result
+        (Reads (Some (file_map files.now)) name.now (most + 1) into.old.items into.new.items) }
     ensures err { OnErr result (into.new.items ≡ into.old.items) }
     ensures absent { IsErrOf result Look.NotThere → NotHeld (Some (file_map files.now)) name.now }
     ensures failed { result ≢ Err Look.Failed }
@@ -23,8 +24,10 @@ pub fn look(files: &Store, name: &str, most: u64, into: &mut Vec<u8>) -> Result<
 
 // Sets the content of a file.
 pub fn set(alloc: Global, files: &mut Store, name: &str, bytes: &[u8]) -> Result<(), Fault>
-    ensures ok { OnOk result (Sets (Some (file_map files.old)) (Some (file_map files.new)) name.now bytes.now) }
-    ensures err { OnErr result (SetsPart (Some (file_map files.old)) (Some (file_map files.new)) name.now bytes.now) }
+    ensures ok { OnOk result
+        (Sets (Some (file_map files.old)) (Some (file_map files.new)) name.now bytes.now) }
+    ensures err { OnErr result
+        (SetsPart (Some (file_map files.old)) (Some (file_map files.new)) name.now bytes.now) }
     ensures same { OnErr result (file_map files.new ≡ file_map files.old) }
     ensures failed { result ≢ Err Fault.Failed }
 {

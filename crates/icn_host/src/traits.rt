@@ -19,7 +19,8 @@ pub trait Source {
     /// Appends the bytes before the next newline, and takes that newline too.
     fn line(&mut self, into: &mut Vec<u8>) -> Result<Line, Fault>
         ensures ok { IfOk result (TakesLine (left self.old) (left self.new) into.old.items into.new.items) }
-        ensures err { OnErr result (TakesLinePart (left self.old) (left self.new) into.old.items into.new.items
+        ensures err { OnErr result
+            (TakesLinePart (left self.old) (left self.new) into.old.items into.new.items
             (IsErrOf result Fault.Failed)) }
 
         // Whatever comes of the call, the buffer begins with what it had. A line has no newline in it, whether or not the
@@ -31,8 +32,10 @@ pub trait Source {
 
     /// Appends and takes the first `n` bytes, or all that are left, and answers how many.
     fn take(&mut self, n: u64, into: &mut Vec<u8>) -> Result<u64, Fault>
-        ensures ok { IfOk result (TakesFirst (left self.old) (left self.new) into.old.items into.new.items n) }
-        ensures err { OnErr result (TakesFirstPart (left self.old) (left self.new) into.old.items into.new.items n) }
+        ensures ok { IfOk result
+            (TakesFirst (left self.old) (left self.new) into.old.items into.new.items n) }
+        ensures err { OnErr result
+            (TakesFirstPart (left self.old) (left self.new) into.old.items into.new.items n) }
 
         // Whatever comes of the call, the buffer begins with what it had, and at most so many bytes came to it.
         ensures kept { Extends into.old.items into.new.items }
@@ -51,8 +54,10 @@ pub trait Sink {
     fn put(&mut self, piece: &[u8]) -> Result<(), Fault>
         ensures ok { OnOk result (Gains (state self.old).held (state self.new).held piece.now) }
         ensures err { OnErr result (GainsPart (state self.old).held (state self.new).held piece.now) }
-        ensures cause { CountsOnce (state self.old).faults (state self.new).faults (IsErrOf result Fault.Failed) }
-        ensures want { CountsOnce (state self.old).wants (state self.new).wants (IsErrOf result Fault.NoMemory) };
+        ensures cause { CountsOnce (state self.old).faults (state self.new).faults
+            (IsErrOf result Fault.Failed) }
+        ensures want { CountsOnce (state self.old).wants (state self.new).wants
+            (IsErrOf result Fault.NoMemory) };
 }
 
 /// Files by their names.
@@ -70,7 +75,8 @@ pub trait Files {
     /// longer than `most`. After an `Err` a part of them was appended.
     fn read(&mut self, name: &str, most: u64, into: &mut Vec<u8>) -> Result<(), Look>
         ensures ok { OnOk result (Reads (held self.old) name.now (most + 1) into.old.items into.new.items) }
-        ensures err { OnErr result (ReadsPart (held self.old) name.now (most + 1) into.old.items into.new.items) }
+        ensures err { OnErr result
+            (ReadsPart (held self.old) name.now (most + 1) into.old.items into.new.items) }
 
         // Whatever comes of the call, the buffer begins with what it had, and at most so many bytes came to it.
         ensures kept { Extends into.old.items into.new.items }

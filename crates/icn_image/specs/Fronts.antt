@@ -19,17 +19,55 @@ pub record FrontTables : Type 0 where
 
 -- the tables in front of the procedures, as plain lists
 abbrev pub tables_in : Front → FrontTables
-tables_in front = record { strings = front.strings.items; csets = front.csets.items; integers = front.integers.items; fields = front.fields.items; records = records_of front.records.items; globals = front.globals.items }
+tables_in front = record {
+  strings = front.strings.items;
+  csets = front.csets.items;
+  integers = front.integers.items;
+  fields = front.fields.items;
+  records = records_of front.records.items;
+  globals = front.globals.items;
+}
 
 abbrev pub with_procs : FrontTables → List Proc → Tables
-with_procs front procs = record { strings = front.strings; csets = front.csets; integers = front.integers; fields = front.fields; records = front.records; globals = front.globals; procs = procs }
+with_procs front procs = record {
+  strings = front.strings;
+  csets = front.csets;
+  integers = front.integers;
+  fields = front.fields;
+  records = front.records;
+  globals = front.globals;
+  procs = procs;
+}
 
 abbrev pub head_of : Proc → Head
-head_of proc = record { name = proc.name; parameters = proc.parameters; collects = proc.collects; locals = proc.locals; statics = proc.statics; instrs = length proc.instrs }
+head_of proc = record {
+  name = proc.name;
+  parameters = proc.parameters;
+  collects = proc.collects;
+  locals = proc.locals;
+  statics = proc.statics;
+  instrs = length proc.instrs;
+}
 
 abbrev pub with_instrs : Head → List Instr → Proc
-with_instrs head instrs = record { name = head.name; parameters = head.parameters; collects = head.collects; locals = head.locals; statics = head.statics; instrs = instrs }
+with_instrs head instrs = record {
+  name = head.name;
+  parameters = head.parameters;
+  collects = head.collects;
+  locals = head.locals;
+  statics = head.statics;
+  instrs = instrs;
+}
 
 -- what an instruction of a procedure may name
 abbrev pub scope_of : FrontTables → Head → Scope
-scope_of front head = record { integers = length front.integers; strings = length front.strings; csets = length front.csets; globals = length front.globals; fields = length front.fields; variables = head.parameters + head.locals; statics = head.statics; labels = head.instrs }
+scope_of front head = record {
+  integers = length front.integers;
+  strings = length front.strings;
+  csets = length front.csets;
+  globals = length front.globals;
+  fields = length front.fields;
+  variables = head.parameters + head.locals;
+  statics = head.statics;
+  labels = head.instrs;
+}

@@ -80,8 +80,10 @@ operand_of n =
 -- operation
 abbrev pub instrs : ℕ → List Instr
 instrs k =
-    Pnull ∷ Int k ∷ Str k ∷ Cset k ∷ Local k ∷ Static k ∷ Global k ∷ Pop ∷ Dup ∷ Llist k ∷ Field k ∷ Invoke k ∷ Appl ∷ Mark k ∷ Mark0 ∷ Unmark
-    ∷ Eret ∷ Esusp ∷ Limit ∷ Lsusp ∷ Efail ∷ Chfail k ∷ Goto k ∷ Loop k ∷ Bscan ∷ Escan ∷ Ccase ∷ Init k ∷ Psusp ∷ Pret ∷ Pfail ∷ Create k
+    Pnull ∷ Int k ∷ Str k ∷ Cset k ∷ Local k ∷ Static k ∷ Global k ∷ Pop ∷ Dup ∷ Llist k ∷ Field k ∷ Invoke k
+    ∷ Appl ∷ Mark k ∷ Mark0 ∷ Unmark
+    ∷ Eret ∷ Esusp ∷ Limit ∷ Lsusp ∷ Efail ∷ Chfail k ∷ Goto k ∷ Loop k ∷ Bscan ∷ Escan ∷ Ccase ∷ Init k
+    ∷ Psusp ∷ Pret ∷ Pfail ∷ Create k
     ∷ Coact ∷ Coret ∷ Cofail ∷ []
 
 -- the instruction of a number and an operand

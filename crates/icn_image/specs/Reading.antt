@@ -108,7 +108,17 @@ front_at width bytes = do
   fields ← table_at width (place_at width (length strings.0)) integers.1
   records ← table_at width (record_at width (length strings.0) (length fields.0)) fields.1
   globals ← globals_at width strings.0 (length records.0) records.1
-  Ok (record { strings = strings.0; csets = csets.0; integers = integers.0; fields = fields.0; records = records.0; globals = globals.0 }, globals.1)
+  Ok (
+    record {
+      strings = strings.0;
+      csets = csets.0;
+      integers = integers.0;
+      fields = fields.0;
+      records = records.0;
+      globals = globals.0;
+    },
+    globals.1,
+  )
 
 -- ---- procedures
 
@@ -116,7 +126,8 @@ front_at width bytes = do
 unfoldable pub collects_at : ℕ → Reader Bool
 collects_at parameters bytes = do
   flag ← byte_at bytes
-  if flag.0 == 0 then Ok (false, flag.1) else (if (flag.0 == 1) && nat_lt 0 parameters then Ok (true, flag.1) else Err I3)
+  if flag.0 == 0 then Ok (false, flag.1)
+      else (if (flag.0 == 1) && nat_lt 0 parameters then Ok (true, flag.1) else Err I3)
 
 -- the other locals, with the parameters at most 65535
 unfoldable pub locals_at : Width → ℕ → Reader ℕ
@@ -133,7 +144,17 @@ head_at width strings bytes = do
   locals ← locals_at width parameters.0 collects.1
   statics ← number_at width locals.1
   instrs ← number_at w32 statics.1
-  Ok (record { name = name.0; parameters = parameters.0; collects = collects.0; locals = locals.0; statics = statics.0; instrs = instrs.0 }, instrs.1)
+  Ok (
+    record {
+      name = name.0;
+      parameters = parameters.0;
+      collects = collects.0;
+      locals = locals.0;
+      statics = statics.0;
+      instrs = instrs.0;
+    },
+    instrs.1,
+  )
 
 -- the number of a global's procedure is judged where their count is known
 abbrev pub has_proc : ℕ → Start → Bool
@@ -147,7 +168,8 @@ have_procs procs globals = list_all (λ global. has_proc procs global.start) glo
 unfoldable pub heads_at : Width → FrontTables → Reader (List Head)
 heads_at width front bytes = do
   count ← number_at width bytes
-  if have_procs count.0 front.globals then times (head_at width (length front.strings)) count.0 count.1 else Err I4
+  if have_procs count.0 front.globals then times (head_at width (length front.strings)) count.0 count.1
+      else Err I4
 
 -- ---- instructions
 

@@ -53,7 +53,8 @@ flag true = 1
 
 abbrev pub head : Width → Head → List ℕ
 head width proc =
-    to_le_bytes width proc.name ++ (to_le_bytes width proc.parameters ++ (flag proc.collects ∷ (to_le_bytes width proc.locals ++ (to_le_bytes width proc.statics ++ to_le_bytes w32 proc.instrs))))
+    to_le_bytes width proc.name ++ (to_le_bytes width proc.parameters ++ (flag proc.collects
+    ∷ (to_le_bytes width proc.locals ++ (to_le_bytes width proc.statics ++ to_le_bytes w32 proc.instrs))))
 
 abbrev pub operand : Width → Option Operand → ℕ → List ℕ
 operand width (Some Number) value = to_le_bytes width value
@@ -62,7 +63,8 @@ operand width _ value = []
 
 -- its number, and the operand behind it
 abbrev pub instruction : Width → Instr → List ℕ
-instruction width instr = instr_number instr ∷ operand width (operand_of (instr_number instr)) (operand_value instr)
+instruction width instr =
+    instr_number instr ∷ operand width (operand_of (instr_number instr)) (operand_value instr)
 
 abbrev pub body : Width → Proc → List ℕ
 body width proc = flat_map (instruction width) proc.instrs
@@ -70,7 +72,8 @@ body width proc = flat_map (instruction width) proc.instrs
 -- the tables in front of the procedures
 abbrev pub front : Width → FrontTables → List ℕ
 front width tables =
-    table width (string width) tables.strings ++ (table width cset tables.csets ++ (table width integer tables.integers ++ (table width (to_le_bytes width) tables.fields
+    table width (string width) tables.strings ++ (table width cset tables.csets
+    ++ (table width integer tables.integers ++ (table width (to_le_bytes width) tables.fields
     ++ (table width (record_type width) tables.records ++ table width (global width) tables.globals))))
 
 -- the heads of all procedures, and behind them the instructions
@@ -78,7 +81,14 @@ abbrev pub procs : Width → List Proc → List ℕ
 procs width all = table width (head width) (map head_of all) ++ flat_map (body width) all
 
 abbrev pub front_of : Tables → FrontTables
-front_of tables = record { strings = tables.strings; csets = tables.csets; integers = tables.integers; fields = tables.fields; records = tables.records; globals = tables.globals }
+front_of tables = record {
+  strings = tables.strings;
+  csets = tables.csets;
+  integers = tables.integers;
+  fields = tables.fields;
+  records = tables.records;
+  globals = tables.globals;
+}
 
 -- the image of a code, with numbers of 16 bits
 unfoldable pub image_of : Tables → List ℕ

@@ -50,7 +50,8 @@ fn new_name_at<'a, 'b>(
     bytes: &'b [u8],
 ) -> Result<(u32, &'b [u8]), ImageFault>
     ensures gives { Gives (λ x. (x.0, x.1.now)) result (new_name_at w16 strings.now (has met.old) bytes.now) }
-    ensures has { IfOk result (λ x. has met.new ≡ with_name (has met.old) (slice_index_or strings.now x.0 [])) }
+    ensures has { IfOk result
+        (λ x. has met.new ≡ with_name (has met.old) (slice_index_or strings.now x.0 [])) }
 {
     let (name, rest) = place_at(strings.len(), bytes)?;
     if met.meet(strings[name as usize].as_slice())? {
@@ -67,7 +68,8 @@ fn global_at<'a, 'b>(
     met: &mut NameSet<'a>,
     bytes: &'b [u8],
 ) -> Result<(icn_code::Global, &'b [u8]), ImageFault>
-    ensures gives { Gives (λ x. (x.0, x.1.now)) result (global_at w16 strings.now records (has met.old) bytes.now) }
+    ensures gives { Gives (λ x. (x.0, x.1.now)) result
+        (global_at w16 strings.now records (has met.old) bytes.now) }
     ensures has { IfOk result (λ x. has met.new ≡ with_name (has met.old) (name_of strings.now x.0)) }
 {
     let (name, rest) = new_name_at(strings, met, bytes)?;
@@ -82,7 +84,8 @@ fn so_many_globals<'b>(
     count: u32,
     bytes: &'b [u8],
 ) -> Result<(Vec<icn_code::Global>, &'b [u8]), ImageFault>
-    ensures { Gives (λ x. (x.0.items, x.1.now)) result (globals_from w16 strings.now records none_met count bytes.now) }
+    ensures { Gives (λ x. (x.0.items, x.1.now)) result
+        (globals_from w16 strings.now records none_met count bytes.now) }
 {
     let mut met = NameSet::new(alloc);
     let mut globals = Vec::new(alloc);

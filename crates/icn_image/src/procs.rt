@@ -135,7 +135,8 @@ pub fn procs_at<'b>(
     heads: &[Head],
     bytes: &'b [u8],
 ) -> Result<(Vec<Procedure>, &'b [u8]), ImageFault>
-    ensures { Gives (λ x. (procs_of x.0.items, x.1.now)) result (procs_at w16 (tables_in front.now) heads.now bytes.now) }
+    ensures { Gives (λ x. (procs_of x.0.items, x.1.now)) result
+        (procs_at w16 (tables_in front.now) heads.now bytes.now) }
 {
     let mut procs = Vec::new(alloc);
     let mut rest = bytes;

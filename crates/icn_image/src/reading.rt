@@ -27,7 +27,8 @@ fn behind_head(bytes: &[u8]) -> Result<&[u8], ImageFault>
 
 #[tactic(auto, unfolding(crate::specs::Reading::tables_at))]
 fn tables_at(alloc: Global, bytes: &[u8]) -> Result<((Front, Vec<Procedure>), &[u8]), ImageFault>
-    ensures { Gives (λ x. (with_procs (tables_in x.0.0) (procs_of x.0.1.items), x.1.now)) result (tables_at w16 bytes.now) }
+    ensures { Gives (λ x. (with_procs (tables_in x.0.0) (procs_of x.0.1.items), x.1.now)) result
+        (tables_at w16 bytes.now) }
 {
     let (front, rest) = front_at(alloc, bytes)?;
     let (heads, rest) = heads_at(alloc, &front, rest)?;

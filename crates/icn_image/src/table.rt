@@ -166,7 +166,8 @@ fn so_many_records(
     count: u32,
     bytes: &[u8],
 ) -> Result<(Vec<Record>, &[u8]), ImageFault>
-    ensures { Gives (λ x. (records_of x.0.items, x.1.now)) result (times (record_at w16 strings fields) count bytes.now) }
+    ensures { Gives (λ x. (records_of x.0.items, x.1.now)) result
+        (times (record_at w16 strings fields) count bytes.now) }
 {
     let mut records = Vec::new(alloc);
     let mut rest = bytes;
@@ -186,7 +187,8 @@ pub fn records_at(
     fields: usize,
     bytes: &[u8],
 ) -> Result<(Vec<Record>, &[u8]), ImageFault>
-    ensures { Gives (λ x. (records_of x.0.items, x.1.now)) result (table_at w16 (record_at w16 strings fields) bytes.now) }
+    ensures { Gives (λ x. (records_of x.0.items, x.1.now)) result
+        (table_at w16 (record_at w16 strings fields) bytes.now) }
 {
     let (count, rest) = number_at(bytes)?;
     so_many_records(alloc, strings, fields, count, rest)

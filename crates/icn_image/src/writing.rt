@@ -74,7 +74,8 @@ fn put_places(out: &mut Vec<u8>, places: &[u32]) -> Result<(), AllocError>
 }
 
 fn put_records(out: &mut Vec<u8>, records: &[Record]) -> Result<(), AllocError>
-    ensures { OnOk result (out.new.items ≡ out.old.items ++ table w16 (record_type w16) (records_of records.now)) }
+    ensures { OnOk result
+        (out.new.items ≡ out.old.items ++ table w16 (record_type w16) (records_of records.now)) }
 {
     put_number(out, records.len())?;
     for kind in records {
@@ -125,7 +126,8 @@ fn put_head(out: &mut Vec<u8>, proc: &Procedure) -> Result<(), AllocError>
 }
 
 fn put_heads(out: &mut Vec<u8>, procs: &[Procedure]) -> Result<(), AllocError>
-    ensures { OnOk result (out.new.items ≡ out.old.items ++ table w16 (head w16) (map head_of (procs_of procs.now))) }
+    ensures { OnOk result
+        (out.new.items ≡ out.old.items ++ table w16 (head w16) (map head_of (procs_of procs.now))) }
 {
     put_number(out, procs.len())?;
     for proc in procs {

@@ -17,16 +17,19 @@ use Rattle.icn_control.specs.declared.machine.Stage.{Stage}
 
 -- The instruction lacks nothing on this stack, with some store.
 abbrev pub LacksNothing : Tables → Instr → FlatStack → Type 0
-LacksNothing tables instr m = (all : Extent) × ((st : Store Frames) × (instruction_state all tables instr m st ≢ stuck))
+LacksNothing tables instr m =
+    (all : Extent) × ((st : Store Frames) × (instruction_state all tables instr m st ≢ stuck))
 
 -- The same in a world.
 abbrev pub LacksNothingIn : Tables → Instr → World → FlatStack → Type 0
-LacksNothingIn tables instr w m = (st : Store Frames) × ((st.world ≡ world_of w) × (instruction_state (extent_of w.heap) tables instr m st ≢ stuck))
+LacksNothingIn tables instr w m = (st : Store Frames)
+    × ((st.world ≡ world_of w) × (instruction_state (extent_of w.heap) tables instr m st ≢ stuck))
 
 -- The instruction, done on a stack in a world, stands at a stage with another stack in another world, or halts there.
 abbrev pub ComesIn : Tables → Instr → World → FlatStack → World → FlatStack → Result Stage Halt → Type 0
 ComesIn tables instr w m v n result = (st : Store Frames) → st.world ≡ world_of w
-    → MatchResult result (StandsWith (instruction_state (extent_of w.heap) tables instr m st) st v n) (HaltsWith (instruction_state (extent_of w.heap) tables instr m st) st v)
+    → MatchResult result (StandsWith (instruction_state (extent_of w.heap) tables instr m st) st v n)
+    (HaltsWith (instruction_state (extent_of w.heap) tables instr m st) st v)
 
 -- It is no want of memory.
 abbrev pub HasMemory : Result Stage Halt → Type 0

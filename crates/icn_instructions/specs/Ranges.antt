@@ -22,7 +22,8 @@ pub record FitTables (tables : Tables) (some_globals some_statics notes : ℕ) :
 
 -- A store has the globals and statics of the tables, and notes of each procedure whether it did its `initial`.
 abbrev pub HasVariables : {K : Type 0} → Tables → Store K → Type 0
-HasVariables tables st = FitTables tables (length st.world.globals) (length st.world.statics) (length st.begun)
+HasVariables tables st =
+    FitTables tables (length st.world.globals) (length st.world.statics) (length st.begun)
 
 -- The globals and statics of the tables may be named.
 pub record MayName (tables : Tables) (reach : Reach) : Type 0 where

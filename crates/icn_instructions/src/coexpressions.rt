@@ -28,7 +28,8 @@ pub fn do_with_coexpressions<K: Stack<Cell> + Drop>(
     requires runs { IsSome m.old.stacks.table.running }
     requires sound { IsSound (tables_of code.now) m.old }
     requires goes_on { (outside : Outside) × (does (tables_of code.now) outside instr m.old ≢ stuck) }
-    ensures step { (outside : Outside) → ComesTo (tables_of code.now) outside (does (tables_of code.now) outside instr m.old) m.new result }
+    ensures step { (outside : Outside)
+        → ComesTo (tables_of code.now) outside (does (tables_of code.now) outside instr m.old) m.new result }
     ensures sound { OnOk result (IsSound (tables_of code.now) m.new) }
     ensures halt { IfErr result (IsLiveHalt (world_reach m.new)) }
     ensures stack { IfOk result (HasStack m.new) }

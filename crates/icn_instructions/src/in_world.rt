@@ -30,7 +30,8 @@ pub fn do_in_world<K: Stack<Cell> + Drop>(
     requires group { group_of instr ≡ Groups.World }
     requires goes_on { LacksNothingIn (tables_of code.now) instr world.old frames.old.flat }
     requires live { IsLiveStack (tables_of code.now) (reach_of world.old []) frames.old.flat }
-    ensures step { ComesIn (tables_of code.now) instr world.old frames.old.flat world.new frames.new.flat result }
+    ensures step { ComesIn (tables_of code.now) instr world.old frames.old.flat world.new frames.new.flat
+        result }
     ensures live { OnOk result (IsLiveStack (tables_of code.now) (reach_of world.new []) frames.new.flat) }
     ensures halt { IfErr result (IsLiveHalt (reach_of world.new [])) }
     ensures kept { KeepsItems (reach_of world.old []) (reach_of world.new []) }

@@ -41,8 +41,10 @@ pub fn do_instruction<K: Stack<Cell> + Drop>(
     requires goes_on { (outside : Outside) × (does (tables_of code.now) outside instr m.old ≢ stuck) }
     requires in_range { IsInRange (tables_of code.now) (flat.proc (stack_of m.old)) instr }
     requires case_mark { HasCaseMark instr (stack_seen m.old) }
-    requires variables { (outside : Outside) × HasVariables (tables_of code.now) (store_seen (tables_of code.now) outside m.old) }
-    ensures step { (outside : Outside) → ComesTo (tables_of code.now) outside (does (tables_of code.now) outside instr m.old) m.new result }
+    requires variables { (outside : Outside)
+        × HasVariables (tables_of code.now) (store_seen (tables_of code.now) outside m.old) }
+    ensures step { (outside : Outside)
+        → ComesTo (tables_of code.now) outside (does (tables_of code.now) outside instr m.old) m.new result }
     ensures sound { OnOk result (IsSound (tables_of code.now) m.new) }
     ensures halt { IfErr result (IsLiveHalt (world_reach m.new)) }
     ensures stack { IfOk result (HasStack m.new) }

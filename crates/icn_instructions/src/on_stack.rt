@@ -31,9 +31,12 @@ pub fn do_on_stack<K: Stack<Cell> + Drop>(
     requires goes_on { LacksNothing (tables_of code.now) instr frames.old.flat }
     requires in_range { IsInRange (tables_of code.now) (flat.proc frames.old.flat) instr }
     requires case_mark { (all : Extent) × HasCaseMark instr (stack_in all frames.old.flat) }
-    requires live { (reach : Reach) × (MayName (tables_of code.now) reach × IsLiveStack (tables_of code.now) reach frames.old.flat) }
+    requires live { (reach : Reach)
+        × (MayName (tables_of code.now) reach × IsLiveStack (tables_of code.now) reach frames.old.flat) }
     ensures step { OnOk result (GoesOnIn (tables_of code.now) instr frames.old.flat frames.new.flat) }
-    ensures live { OnOk result ((reach : Reach) → MayName (tables_of code.now) reach → IsLiveStack (tables_of code.now) reach frames.old.flat → IsLiveStack (tables_of code.now) reach frames.new.flat) }
+    ensures live { OnOk result ((reach : Reach)
+        → MayName (tables_of code.now) reach → IsLiveStack (tables_of code.now) reach frames.old.flat
+        → IsLiveStack (tables_of code.now) reach frames.new.flat) }
     ensures no_memory { takes_no_memory instr ≡ true → IsOk result }
 {
     match instr {

@@ -44,10 +44,14 @@ pub record KeepsBoth (before after : Outputs) : Type 0 where
 -- why a put was broken off: one of the outputs failed, once; or one of them wanted memory, once; or there was none for
 -- what is to be put
 pub data BrokenBy (before after : Outputs) : Fault → Type 0 where
-  output_failed : FailsOnce before.output after.output → KeepsCounts before.errors after.errors → BrokenBy before after Failed
-  errors_failed : KeepsCounts before.output after.output → FailsOnce before.errors after.errors → BrokenBy before after Failed
-  output_wanted : WantsOnce before.output after.output → KeepsCounts before.errors after.errors → BrokenBy before after NoMemory
-  errors_wanted : KeepsCounts before.output after.output → WantsOnce before.errors after.errors → BrokenBy before after NoMemory
+  output_failed : FailsOnce before.output after.output → KeepsCounts before.errors after.errors
+      → BrokenBy before after Failed
+  errors_failed : KeepsCounts before.output after.output → FailsOnce before.errors after.errors
+      → BrokenBy before after Failed
+  output_wanted : WantsOnce before.output after.output → KeepsCounts before.errors after.errors
+      → BrokenBy before after NoMemory
+  errors_wanted : KeepsCounts before.output after.output → WantsOnce before.errors after.errors
+      → BrokenBy before after NoMemory
   uncounted : KeepsBoth before after → BrokenBy before after NoMemory
 
 -- a text was put on a file
@@ -86,12 +90,15 @@ pub record GainedPart (before after : Outputs) (was now : Outside) : Type 0 wher
 pub record Advances (before after : WaitingText) (done : Outside → Outside) : Type 0 where
   pub reached : Outside → Outside
   pub gained : (was : Outside) → GainsOutputs before.outputs after.outputs was (reached was)
-  pub same : (was : Outside) → put_on after.file after.text (reached was) ≡ done (put_on before.file before.text was)
+  pub same : (was : Outside)
+      → put_on after.file after.text (reached was) ≡ done (put_on before.file before.text was)
   pub counts : KeepsBoth before.outputs after.outputs
 
 -- As this was to be done it was broken off.
-pub record Stops (before : WaitingText) (after : Outputs) (done : Outside → Outside) (fault : Fault) : Type 0 where
-  pub gained : (was : Outside) → GainedPart before.outputs after was (done (put_on before.file before.text was))
+pub record Stops (before : WaitingText) (after : Outputs) (done : Outside → Outside)
+    (fault : Fault) : Type 0 where
+  pub gained : (was : Outside)
+      → GainedPart before.outputs after was (done (put_on before.file before.text was))
   pub cause : BrokenBy before.outputs after fault
 
 -- the file that is selected behind a piece

@@ -16,7 +16,8 @@ use icn_vars::{Halt, Outcome};
 /// `exit(i)`: the program ends with the status `i` modulo 256, or 0. The error is 101.
 pub fn exit(heap: &Heap, vals: &[Val]) -> Result<Outcome, Halt>
     requires { All (IsLive (extent_of heap.now)) vals.now }
-    ensures row { (setting : Setting) → ComesToAnswer (extent_of heap.now) (rows.exit_row (map (value_in (extent_of heap.now)) vals.now)) setting setting result }
+    ensures row { (setting : Setting) → ComesToAnswer (extent_of heap.now)
+        (rows.exit_row (map (value_in (extent_of heap.now)) vals.now)) setting setting result }
     ensures live { (reach : Reach) → reach.extent ≡ extent_of heap.now → IsLiveAnswer reach result }
 {
     let n = integer_arg(heap, 0, vals, 0)?;

@@ -18,7 +18,8 @@ pub fn push_members(cset: &Cset, buffer: &mut Vec<u8>) -> Result<(), AllocError>
 
 // Appends a byte where it is a member.
 fn push_member(cset: &Cset, byte: u8, buffer: &mut Vec<u8>) -> Result<(), AllocError>
-    ensures { OnOk result (buffer.new.items ≡ buffer.old.items ++ (if has cset.now byte then byte ∷ [] else [])) }
+    ensures { OnOk result (buffer.new.items ≡ buffer.old.items ++ (if has cset.now byte then byte ∷ []
+        else [])) }
 {
     if cset.has(byte) {
         buffer.push(byte)?;

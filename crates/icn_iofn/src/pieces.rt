@@ -15,7 +15,8 @@ use icn_vars::Stop;
 /// Whether each argument may stand in `write`. The errors are 109 about one that is neither a text nor a file nor null, and 213
 /// about the input, whichever comes first.
 pub fn check_pieces(vals: &[Val]) -> Result<(), Stop>
-    ensures found { (all : Extent) (setting : Setting) → Found all (pieces (map (value_in all) vals.now)) setting setting (λ done. pieces_in (map (value_in all) vals.now)) result }
+    ensures found { (all : Extent) (setting : Setting) → Found all (pieces (map (value_in all) vals.now))
+        setting setting (λ done. pieces_in (map (value_in all) vals.now)) result }
     ensures stops { (all : Extent) → All (IsLive all) vals.now → IfErr result (IsLiveStop all) }
 {
     let mut rest = vals;
@@ -28,7 +29,8 @@ pub fn check_pieces(vals: &[Val]) -> Result<(), Stop>
 
 // Whether an argument may stand in `write`.
 fn check_piece(val: Val) -> Result<(), Stop>
-    ensures found { (all : Extent) (setting : Setting) → Found all (one_piece (value_in all val)) setting setting (λ done. piece_in (value_in all val)) result }
+    ensures found { (all : Extent) (setting : Setting) → Found all
+        (one_piece (value_in all val)) setting setting (λ done. piece_in (value_in all val)) result }
     ensures stops { (all : Extent) → IsLive all val → IfErr result (IsLiveStop all) }
 {
     match val {

@@ -33,12 +33,18 @@ pub fn put_line<O: Sink, E: Sink>(
     err: &mut E,
 ) -> Result<(), Fault>
     requires { All (IsLive (extent_of heap.now)) vals.now }
-    ensures ok { OnOk result ((was : Outside) → GainsOutputs (outputs (O.state out.old) (E.state err.old)) (outputs (O.state out.new) (E.state err.new)) was
-        (line_put (if ends then newline else []) true (pieces_in (map (value_in (extent_of heap.now)) vals.now)) (keys.file_of file) was)) }
-    ensures counts { OnOk result (KeepsBoth (outputs (O.state out.old) (E.state err.old)) (outputs (O.state out.new) (E.state err.new))) }
-    ensures err { OnErr result ((was : Outside) → GainedPart (outputs (O.state out.old) (E.state err.old)) (outputs (O.state out.new) (E.state err.new)) was
-        (line_put (if ends then newline else []) true (pieces_in (map (value_in (extent_of heap.now)) vals.now)) (keys.file_of file) was)) }
-    ensures cause { IfErr result (BrokenBy (outputs (O.state out.old) (E.state err.old)) (outputs (O.state out.new) (E.state err.new))) }
+    ensures ok { OnOk result ((was : Outside) → GainsOutputs (outputs (O.state out.old) (E.state err.old))
+        (outputs (O.state out.new) (E.state err.new)) was
+        (line_put (if ends then newline else []) true
+        (pieces_in (map (value_in (extent_of heap.now)) vals.now)) (keys.file_of file) was)) }
+    ensures counts { OnOk result (KeepsBoth (outputs (O.state out.old) (E.state err.old))
+        (outputs (O.state out.new) (E.state err.new))) }
+    ensures err { OnErr result ((was : Outside) → GainedPart (outputs (O.state out.old) (E.state err.old))
+        (outputs (O.state out.new) (E.state err.new)) was
+        (line_put (if ends then newline else []) true
+        (pieces_in (map (value_in (extent_of heap.now)) vals.now)) (keys.file_of file) was)) }
+    ensures cause { IfErr result (BrokenBy (outputs (O.state out.old) (E.state err.old))
+        (outputs (O.state out.new) (E.state err.new))) }
 {
     buffer.clear();
     let mut selected = file;
@@ -72,11 +78,17 @@ fn put_piece<O: Sink, E: Sink>(
     err: &mut E,
 ) -> Result<File, Fault>
     requires { IsLive (extent_of heap.now) val }
-    ensures ok { IfOk result (λ now. Advances (waiting_text (keys.file_of file) buffer.old.items (outputs (O.state out.old) (E.state err.old))) (waiting_text (keys.file_of now) buffer.new.items (outputs (O.state out.new) (E.state err.new)))
-        (put_on (keys.file_of file) (text_of_piece newline (not ends) (piece_in (value_in (extent_of heap.now) val))))) }
-    ensures file { IfOk result (λ now. keys.file_of now ≡ file_after (keys.file_of file) (piece_in (value_in (extent_of heap.now) val))) }
-    ensures err { IfErr result (Stops (waiting_text (keys.file_of file) buffer.old.items (outputs (O.state out.old) (E.state err.old))) (outputs (O.state out.new) (E.state err.new))
-        (put_on (keys.file_of file) (text_of_piece newline (not ends) (piece_in (value_in (extent_of heap.now) val))))) }
+    ensures ok { IfOk result (λ now. Advances (waiting_text (keys.file_of file) buffer.old.items
+        (outputs (O.state out.old) (E.state err.old)))
+        (waiting_text (keys.file_of now) buffer.new.items (outputs (O.state out.new) (E.state err.new)))
+        (put_on (keys.file_of file)
+        (text_of_piece newline (not ends) (piece_in (value_in (extent_of heap.now) val))))) }
+    ensures file { IfOk result (λ now. keys.file_of now
+        ≡ file_after (keys.file_of file) (piece_in (value_in (extent_of heap.now) val))) }
+    ensures err { IfErr result (Stops (waiting_text (keys.file_of file) buffer.old.items
+        (outputs (O.state out.old) (E.state err.old))) (outputs (O.state out.new) (E.state err.new))
+        (put_on (keys.file_of file)
+        (text_of_piece newline (not ends) (piece_in (value_in (extent_of heap.now) val))))) }
 {
     match val {
         Val::Std(other) => select(other, ends, file, buffer, out, err),
@@ -96,10 +108,13 @@ fn select<O: Sink, E: Sink>(
     out: &mut O,
     err: &mut E,
 ) -> Result<File, Fault>
-    ensures ok { IfOk result (λ now. Advances (waiting_text (keys.file_of file) buffer.old.items (outputs (O.state out.old) (E.state err.old))) (waiting_text (keys.file_of now) buffer.new.items (outputs (O.state out.new) (E.state err.new)))
+    ensures ok { IfOk result (λ now. Advances (waiting_text (keys.file_of file) buffer.old.items
+        (outputs (O.state out.old) (E.state err.old)))
+        (waiting_text (keys.file_of now) buffer.new.items (outputs (O.state out.new) (E.state err.new)))
         (put_on (keys.file_of file) (if ends then newline else []))) }
     ensures file { IfOk result (λ now. now ≡ other) }
-    ensures err { IfErr result (Stops (waiting_text (keys.file_of file) buffer.old.items (outputs (O.state out.old) (E.state err.old))) (outputs (O.state out.new) (E.state err.new))
+    ensures err { IfErr result (Stops (waiting_text (keys.file_of file) buffer.old.items
+        (outputs (O.state out.old) (E.state err.old))) (outputs (O.state out.new) (E.state err.new))
         (put_on (keys.file_of file) (if ends then newline else []))) }
 {
     end_line(ends, buffer)?;
@@ -129,8 +144,10 @@ fn end_line(ends: bool, buffer: &mut Vec<u8>) -> Result<(), AllocError>
 
 // Puts a text on a file, if it is not empty. Nothing is put on the input.
 fn flush<O: Sink, E: Sink>(file: File, text: &[u8], out: &mut O, err: &mut E) -> Result<(), Fault>
-    ensures ok { OnOk result (PutsOn (keys.file_of file) text.now (outputs (O.state out.old) (E.state err.old)) (outputs (O.state out.new) (E.state err.new))) }
-    ensures err { IfErr result (PutsPartOn (keys.file_of file) text.now (outputs (O.state out.old) (E.state err.old)) (outputs (O.state out.new) (E.state err.new))) }
+    ensures ok { OnOk result (PutsOn (keys.file_of file) text.now
+        (outputs (O.state out.old) (E.state err.old)) (outputs (O.state out.new) (E.state err.new))) }
+    ensures err { IfErr result (PutsPartOn (keys.file_of file) text.now
+        (outputs (O.state out.old) (E.state err.old)) (outputs (O.state out.new) (E.state err.new))) }
 {
     if text.is_empty() {
         return Ok(());
@@ -145,7 +162,8 @@ fn flush<O: Sink, E: Sink>(file: File, text: &[u8], out: &mut O, err: &mut E) ->
 // Appends the text of a value that has one, and nothing for null.
 fn push_text(heap: &Heap, val: Val, buffer: &mut Vec<u8>) -> Result<(), AllocError>
     requires { IsLive (extent_of heap.now) val }
-    ensures { OnOk result (buffer.new.items ≡ buffer.old.items ++ the_text (value_in (extent_of heap.now) val)) }
+    ensures { OnOk result
+        (buffer.new.items ≡ buffer.old.items ++ the_text (value_in (extent_of heap.now) val)) }
 {
     match val {
         Val::Integer(n) => buffer.extend_from_slice(decimal(n).as_bytes()),

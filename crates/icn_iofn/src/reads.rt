@@ -30,7 +30,11 @@ pub fn read<L: Locals, I: Source>(
 ) -> Result<Outcome, Halt>
     requires locals { All (IsLive (extent_of w.old.heap)) (L.items l.now) }
     requires live { All (IsLive (extent_of w.old.heap)) vals.now }
-    ensures { (output errors : SinkState) → Applies (rows.read_row (map (value_in (extent_of w.old.heap)) vals.now)) (call_state w.old (L.items l.now) (call_streams (I.left input.old) (I.faults input.old) output errors)) (call_state w.new (L.items l.now) (call_streams (I.left input.new) (I.faults input.new) output errors)) result }
+    ensures { (output errors : SinkState)
+        → Applies (rows.read_row (map (value_in (extent_of w.old.heap)) vals.now)) (call_state w.old
+        (L.items l.now) (call_streams (I.left input.old) (I.faults input.old) output errors))
+        (call_state w.new (L.items l.now)
+        (call_streams (I.left input.new) (I.faults input.new) output errors)) result }
 {
     let file = file_arg(vals)?;
     read_from(Ask::Line, file, arg(vals, 0), w, l, buffer, input)
@@ -47,7 +51,11 @@ pub fn reads<L: Locals, I: Source>(
 ) -> Result<Outcome, Halt>
     requires locals { All (IsLive (extent_of w.old.heap)) (L.items l.now) }
     requires live { All (IsLive (extent_of w.old.heap)) vals.now }
-    ensures { (output errors : SinkState) → Applies (rows.reads_row (map (value_in (extent_of w.old.heap)) vals.now)) (call_state w.old (L.items l.now) (call_streams (I.left input.old) (I.faults input.old) output errors)) (call_state w.new (L.items l.now) (call_streams (I.left input.new) (I.faults input.new) output errors)) result }
+    ensures { (output errors : SinkState)
+        → Applies (rows.reads_row (map (value_in (extent_of w.old.heap)) vals.now)) (call_state w.old
+        (L.items l.now) (call_streams (I.left input.old) (I.faults input.old) output errors))
+        (call_state w.new (L.items l.now)
+        (call_streams (I.left input.new) (I.faults input.new) output errors)) result }
 {
     let file = file_arg(vals)?;
     let count = count_arg(&w.heap, vals)?;
@@ -66,7 +74,11 @@ fn read_from<L: Locals, I: Source>(
 ) -> Result<Outcome, Halt>
     requires locals { All (IsLive (extent_of w.old.heap)) (L.items l.now) }
     requires live { IsLive (extent_of w.old.heap) named }
-    ensures { (output errors : SinkState) → Applies (read_from (asked_in ask) (keys.file_of file) (value_in (extent_of w.old.heap) named)) (call_state w.old (L.items l.now) (call_streams (I.left input.old) (I.faults input.old) output errors)) (call_state w.new (L.items l.now) (call_streams (I.left input.new) (I.faults input.new) output errors)) result }
+    ensures { (output errors : SinkState)
+        → Applies (read_from (asked_in ask) (keys.file_of file) (value_in (extent_of w.old.heap) named))
+        (call_state w.old (L.items l.now)
+        (call_streams (I.left input.old) (I.faults input.old) output errors)) (call_state w.new
+        (L.items l.now) (call_streams (I.left input.new) (I.faults input.new) output errors)) result }
 {
     if file != File::Input {
         return Err(Halt::Error(212, Some(named)));
@@ -83,7 +95,10 @@ fn read_input<L: Locals, I: Source>(
     input: &mut I,
 ) -> Result<Outcome, Halt>
     requires { All (IsLive (extent_of w.old.heap)) (L.items l.now) }
-    ensures { (output errors : SinkState) → Applies (reads_from (asked_in ask)) (call_state w.old (L.items l.now) (call_streams (I.left input.old) (I.faults input.old) output errors)) (call_state w.new (L.items l.now) (call_streams (I.left input.new) (I.faults input.new) output errors)) result }
+    ensures { (output errors : SinkState) → Applies (reads_from (asked_in ask)) (call_state w.old
+        (L.items l.now) (call_streams (I.left input.old) (I.faults input.old) output errors))
+        (call_state w.new (L.items l.now)
+        (call_streams (I.left input.new) (I.faults input.new) output errors)) result }
 {
     match read_text(ask, w, l, buffer, input)? {
         Some(text) => Ok(Outcome::Gives(Item::Val(Val::Text(text)))),

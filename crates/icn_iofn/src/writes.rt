@@ -29,7 +29,11 @@ pub fn write<L: Locals, O: Sink, E: Sink>(
 ) -> Result<Outcome, Halt>
     requires locals { All (IsLive (extent_of w.now.heap)) (L.items l.now) }
     requires live { All (IsLive (extent_of w.now.heap)) vals.now }
-    ensures { (left : Option (List ℕ)) (faults : ℕ) → Applies (write_by ends (map (value_in (extent_of w.now.heap)) vals.now)) (call_state w.now (L.items l.now) (call_streams left faults (O.state out.old) (E.state err.old))) (call_state w.now (L.items l.now) (call_streams left faults (O.state out.new) (E.state err.new))) result }
+    ensures { (left : Option (List ℕ)) (faults : ℕ)
+        → Applies (write_by ends (map (value_in (extent_of w.now.heap)) vals.now))
+        (call_state w.now (L.items l.now) (call_streams left faults (O.state out.old) (E.state err.old)))
+        (call_state w.now (L.items l.now) (call_streams left faults (O.state out.new) (E.state err.new)))
+        result }
 {
     check_pieces(vals)?;
     match put_line(&w.heap, vals, ends, File::Output, buffer, out, err) {
@@ -51,7 +55,11 @@ pub fn stop<L: Locals, O: Sink, E: Sink>(
 ) -> Result<Outcome, Halt>
     requires locals { All (IsLive (extent_of w.now.heap)) (L.items l.now) }
     requires live { All (IsLive (extent_of w.now.heap)) vals.now }
-    ensures { (left : Option (List ℕ)) (faults : ℕ) → Applies (rows.stop_row (map (value_in (extent_of w.now.heap)) vals.now)) (call_state w.now (L.items l.now) (call_streams left faults (O.state out.old) (E.state err.old))) (call_state w.now (L.items l.now) (call_streams left faults (O.state out.new) (E.state err.new))) result }
+    ensures { (left : Option (List ℕ)) (faults : ℕ)
+        → Applies (rows.stop_row (map (value_in (extent_of w.now.heap)) vals.now))
+        (call_state w.now (L.items l.now) (call_streams left faults (O.state out.old) (E.state err.old)))
+        (call_state w.now (L.items l.now) (call_streams left faults (O.state out.new) (E.state err.new)))
+        result }
 {
     check_pieces(vals)?;
     match put_line(&w.heap, vals, true, File::Errout, buffer, out, err) {

@@ -7,7 +7,13 @@ use Rattle.icn_lex.specs.declared.literals.Opening.{Opening}
 
 -- the literal with this opening and these bytes so far
 abbrev pub literal_of : Opening → List ℕ → Literal
-literal_of opening bytes = record { quote = opening.quote; bytes = bytes; line = opening.line; file = opening.file; is_first = opening.is_first }
+literal_of opening bytes = record {
+  quote = opening.quote;
+  bytes = bytes;
+  line = opening.line;
+  file = opening.file;
+  is_first = opening.is_first;
+}
 
 abbrev pub Later : Type 0
 Later = Option Literal → Scan
@@ -18,7 +24,8 @@ scan_inside line literal bytes later = bytes_from later line (Inside literal) ze
 
 -- behind a backslash
 abbrev pub scan_escape : SourceLine → Literal → List ℕ → Later → Scan
-scan_escape line literal bytes later = escape_then line literal bytes (λ byte count. bytes_from later line (Inside (with_byte literal byte)) count bytes)
+scan_escape line literal bytes later = escape_then line literal bytes
+    (λ byte count. bytes_from later line (Inside (with_byte literal byte)) count bytes)
 
 abbrev pub scan_text : SourceLine → Bool → List ℕ → Later → Scan
 scan_text line is_first bytes later = bytes_from later line (Between is_first) zero bytes

@@ -30,7 +30,8 @@ outcome_of (Err NoMemory) = None
 abbrev pub FirstIs : SourceLine → Result (Kind × ℕ) LexFault → Result (Kind × ℕ) Rule → Type 0
 FirstIs line (Ok first) found = found ≡ Ok first
 FirstIs line (Err NoMemory) found = Unit {0}
-FirstIs line (Err (BrokenFault rule file number)) found = (found ≡ Err rule) × (file ≡ line.file) × (number ≡ line.number)
+FirstIs line (Err (BrokenFault rule file number)) found =
+    (found ≡ Err rule) × (file ≡ line.file) × (number ≡ line.number)
 
 -- a fault is the one that stands here
 abbrev pub FaultIs : LexFault → Scan → Type 0
@@ -39,9 +40,11 @@ FaultIs (BrokenFault rule file line) here = here ≡ Broken rule line file
 
 -- a step inside a literal leads from the one place to the other, whatever lines follow
 abbrev pub StepIs : SourceLine → Result Step LexFault → Literal → (Later → Scan) → Type 0
-StepIs line (Ok (Closed behind)) literal here = (later : Later) → here later ≡ closed_then literal (bytes_from later line (Between false) zero behind.now)
+StepIs line (Ok (Closed behind)) literal here =
+    (later : Later) → here later ≡ closed_then literal (bytes_from later line (Between false) zero behind.now)
 StepIs line (Ok Continued) literal here = (later : Later) → here later ≡ later (Some literal)
-StepIs line (Ok (More behind)) literal here = (later : Later) → here later ≡ bytes_from later line (InsideLiteral literal) zero behind.now
+StepIs line (Ok (More behind)) literal here =
+    (later : Later) → here later ≡ bytes_from later line (InsideLiteral literal) zero behind.now
 StepIs line (Err fault) literal here = (later : Later) → FaultIs fault (here later)
 
 abbrev pub IsNoLonger : Result Step LexFault → List ℕ → Type 0
@@ -52,13 +55,15 @@ IsNoLonger (Err fault) text = Unit {0}
 
 -- a part of a literal up to its closing quote, or up to the end of a line that continues it; or the rule it breaks
 abbrev pub PartIs : SourceLine → Result Part LexFault → Literal → (Later → Scan) → Type 0
-PartIs line (Ok (ClosedPart behind)) literal here = (later : Later) → here later ≡ closed_then literal (bytes_from later line (Between false) zero behind.now)
+PartIs line (Ok (ClosedPart behind)) literal here =
+    (later : Later) → here later ≡ closed_then literal (bytes_from later line (Between false) zero behind.now)
 PartIs line (Ok ContinuedPart) literal here = (later : Later) → here later ≡ later (Some literal)
 PartIs line (Err fault) literal here = (later : Later) → FaultIs fault (here later)
 
 -- the token of a closed literal, which may be too long
 abbrev pub ClosesAs : Result Token LexFault → Literal → Type 0
-ClosesAs (Ok token) literal = (later : Scan) → closed_then literal later ≡ before (record { token = token; is_first = literal.is_first }) later
+ClosesAs (Ok token) literal = (later : Scan)
+    → closed_then literal later ≡ before (record { token = token; is_first = literal.is_first }) later
 ClosesAs (Err fault) literal = (later : Scan) → FaultIs fault (closed_then literal later)
 
 abbrev pub all_before : List Piece → Scan → Scan
@@ -76,19 +81,22 @@ literal_read literal = literal_of literal.opening literal.bytes.items
 
 -- what was added leads from the one place to the other, whatever lines follow
 abbrev pub NextAt : SourceLine → Later → Scan → List Token → Result Next LexFault → Type 0
-NextAt line later all found (Ok (Behind rest)) = Reads all found (bytes_from later line (Between false) zero rest.now)
+NextAt line later all found (Ok (Behind rest)) =
+    Reads all found (bytes_from later line (Between false) zero rest.now)
 NextAt line later all found (Ok (Inside literal)) = Reads all found (later (Some (literal_read literal)))
 NextAt line later all found (Err fault) = FaultIs fault all
 
 abbrev pub NextIs : SourceLine → List Token → List Token → (Later → Scan) → Result Next LexFault → Type 0
-NextIs line old new here result = (later : Later) (all : Scan) → Reads all old (here later) → NextAt line later all new result
+NextIs line old new here result =
+    (later : Later) (all : Scan) → Reads all old (here later) → NextAt line later all new result
 
 abbrev pub LineAt : Later → Scan → List Token → Result (Option LiteralRead) LexFault → Type 0
 LineAt later all found (Ok begun) = Reads all found (later (option_map literal_read begun))
 LineAt later all found (Err fault) = FaultIs fault all
 
 abbrev pub LineIs : List Token → List Token → (Later → Scan) → Result (Option LiteralRead) LexFault → Type 0
-LineIs old new here result = (later : Later) (all : Scan) → Reads all old (here later) → LineAt later all new result
+LineIs old new here result =
+    (later : Later) (all : Scan) → Reads all old (here later) → LineAt later all new result
 
 abbrev pub ShortensTo : Result Next LexFault → List ℕ → Type 0
 ShortensTo (Ok (Behind rest)) text = length rest.now < length text

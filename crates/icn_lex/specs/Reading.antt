@@ -17,7 +17,8 @@ use Rattle.icn_tree.specs.Spellings.{lookup_text, words_of, marks_of}
 -- the first spelling that the bytes start with: what it stands for, and how many bytes it has
 abbrev pub first_match : {A : Type 0} → List (List ℕ × A) → List ℕ → Option (A × ℕ)
 first_match [] bytes = None
-first_match (row ∷ rows) bytes = if starts_with nat_eq bytes row.0 then Some (row.1, length row.0) else first_match rows bytes
+first_match (row ∷ rows) bytes =
+    if starts_with nat_eq bytes row.0 then Some (row.1, length row.0) else first_match rows bytes
 
 -- a number that is not too large
 abbrev pub within_limit : ℕ → Option ℕ
@@ -46,12 +47,14 @@ with_length count sense = if nat_le count 65535 then with_count count sense else
 abbrev pub number_read_by : List ℕ → ℕ → List ℕ → Result (Kind × ℕ) Rule
 number_read_by digits count [] = with_length count (bounded_by (value_in 10 digits))
 number_read_by digits count (mark ∷ rest) =
-    if is_radix_mark mark then (let written = prefix_len is_alphanumeric rest in with_length (count + 1 + written) (integer (number_in 10 digits) (take written rest)))
+    if is_radix_mark mark then (let written = prefix_len is_alphanumeric rest in
+    with_length (count + 1 + written) (integer (number_in 10 digits) (take written rest)))
     else (if is_real_mark mark then Err L6 else with_length count (bounded_by (value_in 10 digits)))
 
 -- the kind of the number that stands first, with its length in bytes; or the rule that it breaks
 abbrev pub number_read : List ℕ → Result (Kind × ℕ) Rule
-number_read bytes = let count = prefix_len is_digit bytes in number_read_by (take count bytes) count (drop count bytes)
+number_read bytes =
+    let count = prefix_len is_digit bytes in number_read_by (take count bytes) count (drop count bytes)
 
 abbrev pub dot_read : List ℕ → Result (Kind × ℕ) Rule
 dot_read [] = Ok (Operator Dot, 1)
@@ -59,14 +62,17 @@ dot_read (b ∷ rest) = if is_digit b then Err L6 else Ok (Operator Dot, 1)
 
 -- the token that bytes begin with, where that is no word or identifier
 abbrev pub bare_read : ℕ → List ℕ → List ℕ → Result (Kind × ℕ) Rule
-bare_read first bytes rest = if is_digit first then number_read bytes else (if first == 46 then dot_read rest else ok_or (first_match (marks_of first) bytes) L1)
+bare_read first bytes rest = if is_digit first then number_read bytes
+    else (if first == 46 then dot_read rest else ok_or (first_match (marks_of first) bytes) L1)
 
 -- the word or identifier that a name is, by its first byte
 abbrev pub name_by : ℕ → List ℕ → Kind
-name_by first name = unwrap_or (option_map (λ word. Word word) (lookup_text (words_of first) name)) (Identifier name)
+name_by first name =
+    unwrap_or (option_map (λ word. Word word) (lookup_text (words_of first) name)) (Identifier name)
 
 abbrev pub name_read : ℕ → List ℕ → Result (Kind × ℕ) Rule
-name_read first rest = let count = prefix_len continues_identifier rest + 1 in if nat_le count 65535 then Ok (name_by first (take count (first ∷ rest)), count) else Err L7
+name_read first rest = let count = prefix_len continues_identifier rest + 1 in
+    if nat_le count 65535 then Ok (name_by first (take count (first ∷ rest)), count) else Err L7
 
 -- the kind of the token that stands first, with its length in bytes; or the rule that it breaks
 abbrev pub first_read : List ℕ → Result (Kind × ℕ) Rule

@@ -64,7 +64,8 @@ pub fn read_part<'a>(
     line: &SourceLine,
     text: &'a [u8],
 ) -> Result<Part<'a>, LexFault>
-    ensures exact { PartIs line.now result (literal_of opening bytes.new.items) (scan_inside line.now (literal_of opening bytes.old.items) text.now) }
+    ensures exact { PartIs line.now result (literal_of opening bytes.new.items)
+        (scan_inside line.now (literal_of opening bytes.old.items) text.now) }
     ensures within { IsNoLongerPart result text.now }
 {
     let mut rest = text;
@@ -86,7 +87,8 @@ fn read_step<'a>(
     first: u8,
     others: &'a [u8],
 ) -> Result<Step<'a>, LexFault>
-    ensures exact { StepIs line.now result (literal_of opening bytes.new.items) (scan_inside line.now (literal_of opening bytes.old.items) (first ∷ others.now)) }
+    ensures exact { StepIs line.now result (literal_of opening bytes.new.items)
+        (scan_inside line.now (literal_of opening bytes.old.items) (first ∷ others.now)) }
     ensures within { IsNoLonger result others.now }
 {
     if first == opening.quote {
@@ -121,7 +123,8 @@ fn escape_step<'a>(
     line: &SourceLine,
     text: &'a [u8],
 ) -> Result<Step<'a>, LexFault>
-    ensures exact { StepIs line.now result (literal_of opening bytes.new.items) (scan_escape line.now (literal_of opening bytes.old.items) text.now) }
+    ensures exact { StepIs line.now result (literal_of opening bytes.new.items)
+        (scan_escape line.now (literal_of opening bytes.old.items) text.now) }
     ensures within { IsNoLonger result text.now }
 {
     if text.is_empty() {

@@ -18,7 +18,8 @@ use std::alloc::Global;
 /// error is the first fault from the front on, with its rule, file and line, or want of memory.
 pub fn tokens(alloc: Global, lines: &Lines) -> Result<Vec<Token>, LexFault>
     // Want of memory, or exactly what the lines spell: their tokens, or the first fault.
-    ensures exact { (result ≡ Err LexFault.NoMemory) ⊎ (outcome_of result ≡ Some (tokens_of lines.now.lines.items)) }
+    ensures exact { (result ≡ Err LexFault.NoMemory)
+        ⊎ (outcome_of result ≡ Some (tokens_of lines.now.lines.items)) }
 {
     let mut tokens = Vec::new(alloc);
     let mut begun = None;
@@ -39,7 +40,8 @@ fn line_tokens(
     begun: Option<Literal>,
     tokens: &mut Vec<Token>,
 ) -> Result<Option<Literal>, LexFault>
-    ensures { LineIs tokens.old.items tokens.new.items (scan_line line.now (option_map literal_read begun)) result }
+    ensures { LineIs tokens.old.items tokens.new.items
+        (scan_line line.now (option_map literal_read begun)) result }
 {
     let text = line.bytes.as_slice();
     match begun {
@@ -105,7 +107,8 @@ fn add_token<'a>(
     requires begins { bytes.now ≡ first ∷ others.now }
     requires no_space { is_space first ≡ false }
     requires no_comment { begins_comment first ≡ false }
-    ensures exact { NextIs line.now tokens.old.items tokens.new.items (scan_text line.now is_first bytes.now) result }
+    ensures exact { NextIs line.now tokens.old.items tokens.new.items
+        (scan_text line.now is_first bytes.now) result }
     ensures shorter { ShortensTo result bytes.now }
 {
     if is_quote(first) {
@@ -134,7 +137,8 @@ fn bare_token<'a>(
     tokens: &mut Vec<Token>,
 ) -> Result<Next<'a>, LexFault>
     requires { begins_bare bytes.now ≡ true }
-    ensures exact { NextIs line.now tokens.old.items tokens.new.items (scan_text line.now is_first bytes.now) result }
+    ensures exact { NextIs line.now tokens.old.items tokens.new.items
+        (scan_text line.now is_first bytes.now) result }
     ensures shorter { ShortensTo result bytes.now }
 {
     let (kind, count) = first_token(alloc, line, bytes)?;
@@ -155,7 +159,8 @@ fn rest_of_literal<'a>(
     text: &'a [u8],
     tokens: &mut Vec<Token>,
 ) -> Result<Next<'a>, LexFault>
-    ensures exact { NextIs line.now tokens.old.items tokens.new.items (scan_inside line.now (literal_read literal) text.now) result }
+    ensures exact { NextIs line.now tokens.old.items tokens.new.items
+        (scan_inside line.now (literal_read literal) text.now) result }
     ensures no_longer { IsNoLongerNext result text.now }
 {
     let Literal { opening, mut bytes } = literal;

@@ -9,7 +9,8 @@ use std::alloc::AllocError;
 // Adds a token, behind the semicolon that the end of a line before it stands for. Whether it is the first token on its line
 // is told.
 pub fn push(tokens: &mut Vec<Token>, is_first: bool, token: Token) -> Result<(), AllocError>
-    ensures { OnOk result (tokens.new.items ≡ tokens.old.items ++ with_piece tokens.old.items (record { token = token; is_first = is_first }) ++ token ∷ []) }
+    ensures { OnOk result (tokens.new.items ≡ tokens.old.items
+        ++ with_piece tokens.old.items (record { token = token; is_first = is_first }) ++ token ∷ []) }
 {
     let end = statement_end(tokens, is_first, &token);
     if let Some((line, file)) = end {
@@ -22,7 +23,8 @@ pub fn push(tokens: &mut Vec<Token>, is_first: bool, token: Token) -> Result<(),
 
 // The place of the last token, where a semicolon stands between it and this one.
 fn statement_end(tokens: &[Token], is_first: bool, token: &Token) -> Option<(u32, u32)>
-    ensures { with_piece tokens.now (record { token = token.now; is_first = is_first }) ≡ semicolon_of result }
+    ensures { with_piece tokens.now (record { token = token.now; is_first = is_first })
+        ≡ semicolon_of result }
 {
     match tokens.last() {
         Some(last) if is_first && is_ender(&last.kind) && is_beginner(&token.kind) => {

@@ -27,7 +27,8 @@ fault_line NoMemory = codes "no memory\n"
 abbrev pub line_of : List ℕ → List ℕ → Answer → List ℕ
 line_of usage name Wrote = []
 line_of usage name (Ran ending) = []
-line_of usage name (Refused file line rule) = file ++ codes ":" ++ decimal line ++ codes ": " ++ rule_text rule ++ codes "\n"
+line_of usage name (Refused file line rule) =
+    file ++ codes ":" ++ decimal line ++ codes ": " ++ rule_text rule ++ codes "\n"
 line_of usage name (Command kind) = usage
 line_of usage name (Missing other) = other ++ codes ": not there\n"
 line_of usage name (BadUcode other rule) = other ++ codes ": bad ucode, " ++ rule_code rule ++ codes "\n"

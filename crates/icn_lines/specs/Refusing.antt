@@ -24,8 +24,11 @@ PutsOwn (BadImage rule) before after = after ≡ before
 
 -- the line was put, and the answer stands; or a fault was answered before; or the line made it one
 pub data Refuses (usage name : List ℕ) (answer : Answer) (before after : SinkState) : Answer → Type 0 where
-  put : (IsFault answer → ⊥) → PutsAll before after (line_of usage name answer) → Refuses usage name answer before after answer
+  put : (IsFault answer → ⊥) → PutsAll before after (line_of usage name answer)
+      → Refuses usage name answer before after answer
   own : IsFault answer → PutsOwn answer before after → Refuses usage name answer before after answer
-  write_fault : (IsFault answer → ⊥) → BreaksOff before after (line_of usage name answer) → Refuses usage name answer before after WriteFault
-  want : (IsFault answer → ⊥) → (between : SinkState) → LeadsBy Faults.NoMemory before between (line_of usage name answer) → PutsOwn NoMemory between after
+  write_fault : (IsFault answer → ⊥) → BreaksOff before after (line_of usage name answer)
+      → Refuses usage name answer before after WriteFault
+  want : (IsFault answer → ⊥) → (between : SinkState)
+      → LeadsBy Faults.NoMemory before between (line_of usage name answer) → PutsOwn NoMemory between after
       → Refuses usage name answer before after NoMemory

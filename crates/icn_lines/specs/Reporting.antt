@@ -21,11 +21,16 @@ ReportStands left ending before after = IfSome left (λ _. PutsReport (ending_se
 abbrev pub LineStands : List ℕ → List ℕ → Option (List ℕ) → Answer → SinkState → SinkState → Type 0
 LineStands usage name left Wrote before after = Gains before.held after.held (line_of usage name Wrote)
 LineStands usage name left (Ran ending) before after = ReportStands left ending before after
-LineStands usage name left (Refused file line rule) before after = Gains before.held after.held (line_of usage name (Refused file line rule))
-LineStands usage name left (Command kind) before after = Gains before.held after.held (line_of usage name (Command kind))
-LineStands usage name left (Missing other) before after = Gains before.held after.held (line_of usage name (Missing other))
-LineStands usage name left (BadUcode other rule) before after = Gains before.held after.held (line_of usage name (BadUcode other rule))
-LineStands usage name left (BadImage rule) before after = Gains before.held after.held (line_of usage name (BadImage rule))
+LineStands usage name left (Refused file line rule) before after =
+    Gains before.held after.held (line_of usage name (Refused file line rule))
+LineStands usage name left (Command kind) before after =
+    Gains before.held after.held (line_of usage name (Command kind))
+LineStands usage name left (Missing other) before after =
+    Gains before.held after.held (line_of usage name (Missing other))
+LineStands usage name left (BadUcode other rule) before after =
+    Gains before.held after.held (line_of usage name (BadUcode other rule))
+LineStands usage name left (BadImage rule) before after =
+    Gains before.held after.held (line_of usage name (BadImage rule))
 LineStands usage name left FileFault before after = ⊥
 LineStands usage name left ReadFault before after = ⊥
 LineStands usage name left WriteFault before after = ⊥
@@ -44,9 +49,14 @@ pub record PutsSome (before after : SinkState) : Type 0 where
 
 -- The answer's line; or, of a fault, some first part of the line of an answer that no program ran for, or what a run put, and then the fault's own
 -- line, as far as the error output took it.
-pub data Reports (usage name : List ℕ) (left : Option (List ℕ)) (before after : SinkState) (answer : Answer) : Type 0 where
-  put : (IsFault answer → ⊥) → LineStands usage name left answer before after → Reports usage name left before after answer
-  own : IsFault answer → (other : Answer) → (IsFault other → ⊥) → (between : SinkState) → Leads before between (line_of usage name other)
+pub data Reports (usage name : List ℕ) (left : Option (List ℕ)) (before after : SinkState)
+    (answer : Answer) : Type 0 where
+  put : (IsFault answer → ⊥) → LineStands usage name left answer before after
+      → Reports usage name left before after answer
+  own : IsFault answer → (other : Answer) → (IsFault other → ⊥) → (between : SinkState)
+      → Leads before between (line_of usage name other)
       → Puts between after (fault_line answer) → Reports usage name left before after answer
-  broke : (fault : RunFault) → answer ≡ of_run fault → (between : SinkState) → CountsFault fault before between
-      → IfSome left (λ _. PutsSome before between) → Puts between after (fault_line answer) → Reports usage name left before after answer
+  broke : (fault : RunFault) → answer ≡ of_run fault → (between : SinkState)
+      → CountsFault fault before between
+      → IfSome left (λ _. PutsSome before between) → Puts between after (fault_line answer)
+      → Reports usage name left before after answer

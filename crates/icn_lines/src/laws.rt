@@ -6,5 +6,6 @@ ghost use Rattle.icn_lines.specs.Falling.{HaveBits, NoneFalls};
 
 /// Where the counts have 64 bits, none falls in a call that ends at its first fault.
 pub fn counts_stay()
-    ensures { (answer : Answer) (before after : CallStreams) → HaveBits before → RunEndsAtFirst answer before after → NoneFalls before after }
+    ensures { (answer : Answer) (before after : CallStreams) → HaveBits before
+        → RunEndsAtFirst answer before after → NoneFalls before after }
 {}

@@ -60,8 +60,10 @@ fn named_line<E: Sink>(
     answer: &Answer,
     err: &mut E,
 ) -> Result<(), Fault>
-    ensures ok { OnOk result (PutsAll (E.state err.old) (E.state err.new) (line_of usage.now name.now answer.now)) }
-    ensures err { IfErr result (λ fault. LeadsBy fault (E.state err.old) (E.state err.new) (line_of usage.now name.now answer.now)) }
+    ensures ok { OnOk result
+        (PutsAll (E.state err.old) (E.state err.new) (line_of usage.now name.now answer.now)) }
+    ensures err { IfErr result
+        (λ fault. LeadsBy fault (E.state err.old) (E.state err.new) (line_of usage.now name.now answer.now)) }
     ensures faults { (E.state err.old).faults ≤ (E.state err.new).faults }
     ensures wants { (E.state err.old).wants ≤ (E.state err.new).wants }
 {

@@ -19,7 +19,8 @@ is_joinable_instr names _ = true
 -- its names are such, and the last parameter collects only where there is one
 abbrev pub is_joinable_proc : Proc → Bool
 is_joinable_proc proc =
-    is_name proc.name && (not proc.collects || nat_lt 0 (params_in proc.names)) && list_all is_name (entry_names proc.names)
+    is_name proc.name && (not proc.collects || nat_lt 0 (params_in proc.names))
+    && list_all is_name (entry_names proc.names)
     && list_all (λ instr. is_joinable_instr (length proc.names) instr) proc.instrs
 
 -- each name of the declaration is one that linked code can have

@@ -63,7 +63,8 @@ abbrev pub variables : List (List ℕ) → ℕ → ℕ → List UnitName → Lis
 variables globals locals statics [] = []
 variables globals locals statics (entry ∷ entries) =
     variable_instr (variable_of globals entry) locals statics (text_place globals entry.name)
-    ∷ variables globals (locals_behind (variable_of globals entry) locals) (statics_behind (variable_of globals entry) statics) entries
+    ∷ variables globals (locals_behind (variable_of globals entry) locals)
+    (statics_behind (variable_of globals entry) statics) entries
 
 -- how many locals and statics there are among names
 abbrev pub is_local : Variable → Bool
@@ -125,7 +126,8 @@ entry_of tables proc locals statics instrs = record {
 -- a procedure of linked code
 abbrev pub proc_entry : AllMentions → Proc → ProcEntry
 proc_entry tables proc =
-    entry_of tables proc (locals_in tables.globals proc.names) (statics_in tables.globals proc.names) (resolve (scope_of tables proc) proc.instrs)
+    entry_of tables proc (locals_in tables.globals proc.names) (statics_in tables.globals proc.names)
+    (resolve (scope_of tables proc) proc.instrs)
 
 -- Records and globals
 
@@ -154,7 +156,8 @@ start_by None None false None = Starts.Null
 -- where a name stands first
 abbrev pub place_of : List (List ℕ) → List ℕ → Option ℕ
 place_of [] name = None
-place_of (other ∷ names) name = if bytes_eq name other then Some zero else option_map suc (place_of names name)
+place_of (other ∷ names) name =
+    if bytes_eq name other then Some zero else option_map suc (place_of names name)
 
 -- where procedures and records have these numbers by their names
 abbrev pub global_with : AllMentions → (List ℕ → Option ℕ) → (List ℕ → Option ℕ) → List ℕ → GlobalEntry

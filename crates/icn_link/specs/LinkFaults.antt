@@ -41,7 +41,8 @@ missing_fault unit name = K2 unit name
 abbrev pub missing_from : List (List ℕ) → ℕ → List UnitRead → Option LinkFault
 missing_from names place [] = None
 missing_from names place (unit ∷ units) =
-    option_or (option_map (missing_fault place) (missing_in names unit.decls)) (missing_from names (suc place) units)
+    option_or (option_map (missing_fault place) (missing_in names unit.decls))
+    (missing_from names (suc place) units)
 
 -- the names of the units
 abbrev pub unit_names : List UnitRead → List (List ℕ)
@@ -132,7 +133,8 @@ record_sizes decls = flat_map field_counts decls
 
 -- how many entries each table has
 abbrev pub table_sizes : AllMentions → List Decl → List Proc → List ℕ
-table_sizes tables decls procs = length tables.strings ∷ length tables.sets ∷ length tables.integers ∷ length tables.fields
+table_sizes tables decls procs =
+    length tables.strings ∷ length tables.sets ∷ length tables.integers ∷ length tables.fields
     ∷ length (record_sizes decls) ∷ length tables.globals ∷ length procs ∷ []
 
 -- how many parameters and other locals each procedure has

@@ -178,7 +178,8 @@ fields decls procs = with_texts [] (flat_map fields_in decls ++ mentioned_by fie
 
 -- the strings: the names of fields, records, globals and procedures, and then the literals
 abbrev pub string_mentions : List Decl → List Proc → List (List ℕ)
-string_mentions decls procs = fields decls procs ++ (record_names decls ++ (globals decls procs ++ (proc_names procs
+string_mentions decls procs =
+    fields decls procs ++ (record_names decls ++ (globals decls procs ++ (proc_names procs
     ++ mentioned_by text_in procs)))
 
 -- all texts that are mentioned, each once

@@ -66,7 +66,8 @@ address_in labels label = unwrap_or (get nat_eq labels.places label) labels.end
 
 -- the same, where these instructions are still to come
 abbrev pub address_from : Labels → ℕ → List UnitInstr → ℕ
-address_from labels label rest = unwrap_or (get nat_eq labels.places label) (labels.end + label_address label rest)
+address_from labels label rest =
+    unwrap_or (get nat_eq labels.places label) (labels.end + label_address label rest)
 
 -- Each place in a table has 16 bits.
 pub record AreFew (tables : AllMentions) : Type 0 where

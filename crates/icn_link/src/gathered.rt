@@ -38,7 +38,8 @@ pub fn gather<'a>(
     decls: &[&'a UnitDecl],
     procs: &[&'a ProcCode],
 ) -> Result<Gathered<'a>, AllocError>
-    ensures { IfOk result (λ tables. gathered_seen tables ≡ all_mentions (decls_seen decls.now) (procs_seen procs.now)) }
+    ensures { IfOk result
+        (λ tables. gathered_seen tables ≡ all_mentions (decls_seen decls.now) (procs_seen procs.now)) }
 {
     let declared = declared(alloc, decls)?;
     let globals = globals(alloc, decls, procs)?;
@@ -69,7 +70,8 @@ fn declared<'a>(alloc: Global, decls: &[&'a UnitDecl]) -> Result<IndexSet<&'a [u
 }
 
 fn enter_global<'a>(names: &mut IndexSet<&'a [u8]>, decl: &'a UnitDecl) -> Result<(), AllocError>
-    ensures { OnOk result ((rest : List Decl) → with_texts (texts_seen names.new.keys) (flat_map global_in rest)
+    ensures { OnOk result ((rest : List Decl)
+        → with_texts (texts_seen names.new.keys) (flat_map global_in rest)
         ≡ with_texts (texts_seen names.old.keys) (flat_map global_in (decl_seen decl.now ∷ rest))) }
 {
     match decl {
@@ -85,7 +87,8 @@ fn globals<'a>(
     decls: &[&'a UnitDecl],
     procs: &[&'a ProcCode],
 ) -> Result<IndexSet<&'a [u8]>, AllocError>
-    ensures { IfOk result (λ names. texts_seen names.keys ≡ globals (decls_seen decls.now) (procs_seen procs.now)) }
+    ensures { IfOk result
+        (λ names. texts_seen names.keys ≡ globals (decls_seen decls.now) (procs_seen procs.now)) }
 {
     let mut names = declared(alloc, decls)?;
     for proc in procs {
@@ -98,7 +101,8 @@ fn enter_functions<'a>(
     names: &mut IndexSet<&'a [u8]>,
     entries: &'a [UnitName],
 ) -> Result<(), AllocError>
-    ensures { OnOk result (texts_seen names.new.keys ≡ with_texts (texts_seen names.old.keys) (flat_map function_in entries.now)) }
+    ensures { OnOk result (texts_seen names.new.keys
+        ≡ with_texts (texts_seen names.old.keys) (flat_map function_in entries.now)) }
 {
     for entry in entries {
         enter_function(names, entry)?;
@@ -107,7 +111,8 @@ fn enter_functions<'a>(
 }
 
 fn enter_function<'a>(names: &mut IndexSet<&'a [u8]>, entry: &'a UnitName) -> Result<(), AllocError>
-    ensures { OnOk result ((rest : List UnitName) → with_texts (texts_seen names.new.keys) (flat_map function_in rest)
+    ensures { OnOk result ((rest : List UnitName)
+        → with_texts (texts_seen names.new.keys) (flat_map function_in rest)
         ≡ with_texts (texts_seen names.old.keys) (flat_map function_in (entry.now ∷ rest))) }
 {
     match entry.kind {
@@ -119,7 +124,8 @@ fn enter_function<'a>(names: &mut IndexSet<&'a [u8]>, entry: &'a UnitName) -> Re
 }
 
 fn enter_undeclared<'a>(names: &mut IndexSet<&'a [u8]>, name: &'a [u8]) -> Result<(), AllocError>
-    ensures { OnOk result (texts_seen names.new.keys ≡ with_texts (texts_seen names.old.keys) (if is_some (function_named name.now) then name.now ∷ [] else [])) }
+    ensures { OnOk result (texts_seen names.new.keys ≡ with_texts (texts_seen names.old.keys)
+        (if is_some (function_named name.now) then name.now ∷ [] else [])) }
 {
     match function_named(name) {
         Some(_) => enter(names, name),
@@ -141,7 +147,8 @@ fn fields<'a>(
     decls: &[&'a UnitDecl],
     procs: &[&'a ProcCode],
 ) -> Result<IndexSet<&'a [u8]>, AllocError>
-    ensures { IfOk result (λ names. texts_seen names.keys ≡ fields (decls_seen decls.now) (procs_seen procs.now)) }
+    ensures { IfOk result
+        (λ names. texts_seen names.keys ≡ fields (decls_seen decls.now) (procs_seen procs.now)) }
 {
     let mut names = IndexSet::new(alloc);
     enter_record_fields(&mut names, decls)?;
@@ -155,7 +162,8 @@ fn enter_record_fields<'a>(
     names: &mut IndexSet<&'a [u8]>,
     decls: &[&'a UnitDecl],
 ) -> Result<(), AllocError>
-    ensures { OnOk result (texts_seen names.new.keys ≡ with_texts (texts_seen names.old.keys) (flat_map fields_in (decls_seen decls.now))) }
+    ensures { OnOk result (texts_seen names.new.keys
+        ≡ with_texts (texts_seen names.old.keys) (flat_map fields_in (decls_seen decls.now))) }
 {
     for decl in decls {
         enter_fields(names, decl)?;
@@ -164,7 +172,8 @@ fn enter_record_fields<'a>(
 }
 
 fn enter_fields<'a>(names: &mut IndexSet<&'a [u8]>, decl: &'a UnitDecl) -> Result<(), AllocError>
-    ensures { OnOk result (texts_seen names.new.keys ≡ with_texts (texts_seen names.old.keys) (fields_in (decl_seen decl.now))) }
+    ensures { OnOk result (texts_seen names.new.keys
+        ≡ with_texts (texts_seen names.old.keys) (fields_in (decl_seen decl.now))) }
 {
     match decl {
         UnitDecl::Record(_, fields) => enter_all(names, fields),
@@ -187,7 +196,8 @@ fn enter_fields_used<'a>(
     names: &mut IndexSet<&'a [u8]>,
     instrs: &'a [UnitInstr],
 ) -> Result<(), AllocError>
-    ensures { OnOk result (texts_seen names.new.keys ≡ with_texts (texts_seen names.old.keys) (flat_map (λ instr. field_in (mention_of instr)) instrs.now)) }
+    ensures { OnOk result (texts_seen names.new.keys ≡ with_texts (texts_seen names.old.keys)
+        (flat_map (λ instr. field_in (mention_of instr)) instrs.now)) }
 {
     for instr in instrs {
         enter_field_used(names, instr)?;
@@ -199,7 +209,8 @@ fn enter_field_used<'a>(
     names: &mut IndexSet<&'a [u8]>,
     instr: &'a UnitInstr,
 ) -> Result<(), AllocError>
-    ensures { OnOk result (texts_seen names.new.keys ≡ with_texts (texts_seen names.old.keys) (field_in (mention_of instr.now))) }
+    ensures { OnOk result (texts_seen names.new.keys
+        ≡ with_texts (texts_seen names.old.keys) (field_in (mention_of instr.now))) }
 {
     match mention_of(instr) {
         Mention::Field(name) => enter(names, name),
@@ -220,8 +231,10 @@ fn strings<'a>(
     decls: &[&'a UnitDecl],
     procs: &[&'a ProcCode],
 ) -> Result<IndexSet<&'a [u8]>, AllocError>
-    ensures { IfOk result (λ texts. texts_seen texts.keys ≡ with_texts [] (texts_seen fields.now.keys ++ (record_names (decls_seen decls.now)
-        ++ (texts_seen globals.now.keys ++ (proc_names (procs_seen procs.now) ++ mentioned_by text_in (procs_seen procs.now)))))) }
+    ensures { IfOk result (λ texts. texts_seen texts.keys
+        ≡ with_texts [] (texts_seen fields.now.keys ++ (record_names (decls_seen decls.now)
+        ++ (texts_seen globals.now.keys
+        ++ (proc_names (procs_seen procs.now) ++ mentioned_by text_in (procs_seen procs.now)))))) }
 {
     let mut texts = IndexSet::new(alloc);
     enter_names(&mut texts, fields.as_slice())?;
@@ -233,7 +246,8 @@ fn strings<'a>(
 }
 
 fn enter_names<'a>(texts: &mut IndexSet<&'a [u8]>, names: &[&'a [u8]]) -> Result<(), AllocError>
-    ensures { OnOk result (texts_seen texts.new.keys ≡ with_texts (texts_seen texts.old.keys) (texts_seen names.now)) }
+    ensures { OnOk result
+        (texts_seen texts.new.keys ≡ with_texts (texts_seen texts.old.keys) (texts_seen names.now)) }
 {
     for name in names {
         enter(texts, name)?;
@@ -245,7 +259,8 @@ fn enter_record_names<'a>(
     texts: &mut IndexSet<&'a [u8]>,
     decls: &[&'a UnitDecl],
 ) -> Result<(), AllocError>
-    ensures { OnOk result (texts_seen texts.new.keys ≡ with_texts (texts_seen texts.old.keys) (record_names (decls_seen decls.now))) }
+    ensures { OnOk result (texts_seen texts.new.keys
+        ≡ with_texts (texts_seen texts.old.keys) (record_names (decls_seen decls.now))) }
 {
     for decl in decls {
         enter_record_name(texts, decl)?;
@@ -257,7 +272,8 @@ fn enter_record_name<'a>(
     texts: &mut IndexSet<&'a [u8]>,
     decl: &'a UnitDecl,
 ) -> Result<(), AllocError>
-    ensures { OnOk result ((rest : List Decl) → with_texts (texts_seen texts.new.keys) (flat_map record_name_in rest)
+    ensures { OnOk result ((rest : List Decl)
+        → with_texts (texts_seen texts.new.keys) (flat_map record_name_in rest)
         ≡ with_texts (texts_seen texts.old.keys) (flat_map record_name_in (decl_seen decl.now ∷ rest))) }
 {
     match decl {
@@ -272,7 +288,8 @@ fn enter_proc_names<'a>(
     texts: &mut IndexSet<&'a [u8]>,
     procs: &[&'a ProcCode],
 ) -> Result<(), AllocError>
-    ensures { OnOk result (texts_seen texts.new.keys ≡ with_texts (texts_seen texts.old.keys) (proc_names (procs_seen procs.now))) }
+    ensures { OnOk result (texts_seen texts.new.keys
+        ≡ with_texts (texts_seen texts.old.keys) (proc_names (procs_seen procs.now))) }
 {
     for proc in procs {
         enter(texts, proc.name.as_slice())?;
@@ -284,7 +301,8 @@ fn enter_literals<'a>(
     texts: &mut IndexSet<&'a [u8]>,
     procs: &[&'a ProcCode],
 ) -> Result<(), AllocError>
-    ensures { OnOk result (texts_seen texts.new.keys ≡ with_texts (texts_seen texts.old.keys) (mentioned_by text_in (procs_seen procs.now))) }
+    ensures { OnOk result (texts_seen texts.new.keys
+        ≡ with_texts (texts_seen texts.old.keys) (mentioned_by text_in (procs_seen procs.now))) }
 {
     for proc in procs {
         enter_texts_used(texts, &proc.instrs)?;
@@ -296,7 +314,8 @@ fn enter_texts_used<'a>(
     texts: &mut IndexSet<&'a [u8]>,
     instrs: &'a [UnitInstr],
 ) -> Result<(), AllocError>
-    ensures { OnOk result (texts_seen texts.new.keys ≡ with_texts (texts_seen texts.old.keys) (flat_map (λ instr. text_in (mention_of instr)) instrs.now)) }
+    ensures { OnOk result (texts_seen texts.new.keys ≡ with_texts (texts_seen texts.old.keys)
+        (flat_map (λ instr. text_in (mention_of instr)) instrs.now)) }
 {
     for instr in instrs {
         enter_text_used(texts, instr)?;
@@ -308,7 +327,8 @@ fn enter_text_used<'a>(
     texts: &mut IndexSet<&'a [u8]>,
     instr: &'a UnitInstr,
 ) -> Result<(), AllocError>
-    ensures { OnOk result (texts_seen texts.new.keys ≡ with_texts (texts_seen texts.old.keys) (text_in (mention_of instr.now))) }
+    ensures { OnOk result (texts_seen texts.new.keys
+        ≡ with_texts (texts_seen texts.old.keys) (text_in (mention_of instr.now))) }
 {
     match mention_of(instr) {
         Mention::Text(text) => enter(texts, text),
@@ -336,7 +356,8 @@ fn enter_sets_used<'a>(
     found: &mut IndexSet<&'a [u8]>,
     instrs: &'a [UnitInstr],
 ) -> Result<(), AllocError>
-    ensures { OnOk result (texts_seen found.new.keys ≡ with_texts (texts_seen found.old.keys) (flat_map (λ instr. set_in (mention_of instr)) instrs.now)) }
+    ensures { OnOk result (texts_seen found.new.keys
+        ≡ with_texts (texts_seen found.old.keys) (flat_map (λ instr. set_in (mention_of instr)) instrs.now)) }
 {
     for instr in instrs {
         enter_set_used(found, instr)?;
@@ -348,7 +369,8 @@ fn enter_set_used<'a>(
     found: &mut IndexSet<&'a [u8]>,
     instr: &'a UnitInstr,
 ) -> Result<(), AllocError>
-    ensures { OnOk result (texts_seen found.new.keys ≡ with_texts (texts_seen found.old.keys) (set_in (mention_of instr.now))) }
+    ensures { OnOk result
+        (texts_seen found.new.keys ≡ with_texts (texts_seen found.old.keys) (set_in (mention_of instr.now))) }
 {
     match mention_of(instr) {
         Mention::Set(members) => enter(found, members),
@@ -371,7 +393,8 @@ fn integers(alloc: Global, procs: &[&ProcCode]) -> Result<IndexSet<i64>, AllocEr
 }
 
 fn enter_integers_used(found: &mut IndexSet<i64>, instrs: &[UnitInstr]) -> Result<(), AllocError>
-    ensures { OnOk result (found.new.keys ≡ with_integers found.old.keys (flat_map (λ instr. integer_in (mention_of instr)) instrs.now)) }
+    ensures { OnOk result (found.new.keys
+        ≡ with_integers found.old.keys (flat_map (λ instr. integer_in (mention_of instr)) instrs.now)) }
 {
     for instr in instrs {
         enter_integer_used(found, instr)?;
@@ -380,7 +403,8 @@ fn enter_integers_used(found: &mut IndexSet<i64>, instrs: &[UnitInstr]) -> Resul
 }
 
 fn enter_integer_used(found: &mut IndexSet<i64>, instr: &UnitInstr) -> Result<(), AllocError>
-    ensures { OnOk result (found.new.keys ≡ with_integers found.old.keys (integer_in (mention_of instr.now))) }
+    ensures { OnOk result
+        (found.new.keys ≡ with_integers found.old.keys (integer_in (mention_of instr.now))) }
 {
     match mention_of(instr) {
         Mention::Integer(n) => enter_integer(found, n),

@@ -18,6 +18,7 @@ pub fn units_are_joinable()
 pub fn joined_keeps_rules()
     ensures joinable { (units : List UnitRead) → list_all is_joinable units ≡ true → first_fault units ≡ None
         → keeps_rules (joined units) ≡ true }
-    ensures kept { (units : List UnitRead) → list_all (λ unit. keeps_unit_rules unit.procs unit.decls) units ≡ true
+    ensures kept { (units : List UnitRead)
+        → list_all (λ unit. keeps_unit_rules unit.procs unit.decls) units ≡ true
         → first_fault units ≡ None → keeps_rules (joined units) ≡ true }
 {}

@@ -66,7 +66,8 @@ pub fn link(alloc: Global, units: &[Unit]) -> Result<Code, LinkFault>
 fn join(alloc: Global, decls: &[&UnitDecl], procs: &[&ProcCode]) -> Result<Code, LinkFault>
     requires decls { list_all is_joinable_decl (decls_seen decls.now) ≡ true }
     requires procs { list_all is_joinable_proc (procs_seen procs.now) ≡ true }
-    ensures joined { IfOk result (λ code. tables_of code ≡ joined_of (decls_seen decls.now) (procs_seen procs.now)) }
+    ensures joined { IfOk result
+        (λ code. tables_of code ≡ joined_of (decls_seen decls.now) (procs_seen procs.now)) }
     ensures fits { OnOk result (too_large_of (decls_seen decls.now) (procs_seen procs.now) ≡ None) }
     ensures fault { IfErr result (IsFault (too_large_of (decls_seen decls.now) (procs_seen procs.now))) }
 {
@@ -86,7 +87,8 @@ fn join_with(
     requires decls { list_all is_joinable_decl (decls_seen decls.now) ≡ true }
     requires procs { list_all is_joinable_proc (procs_seen procs.now) ≡ true }
     requires instrs { over 16777216 (sum_by size_of (procs_seen procs.now) ∷ []) ≡ None }
-    ensures joined { IfOk result (λ code. tables_of code ≡ joined_of (decls_seen decls.now) (procs_seen procs.now)) }
+    ensures joined { IfOk result
+        (λ code. tables_of code ≡ joined_of (decls_seen decls.now) (procs_seen procs.now)) }
     ensures fits { OnOk result (too_large_of (decls_seen decls.now) (procs_seen procs.now) ≡ None) }
     ensures fault { IfErr result (IsFault (too_large_of (decls_seen decls.now) (procs_seen procs.now))) }
 {
@@ -118,7 +120,8 @@ fn code_of(
 ) -> Result<Code, LinkFault>
     requires tables { gathered_seen tables.now ≡ all_mentions (decls_seen decls.now) (procs_seen procs.now) }
     requires joinable { Joinable (decls_seen decls.now) (procs_seen procs.now) }
-    ensures joined { IfOk result (λ code. tables_of code ≡ joined_of (decls_seen decls.now) (procs_seen procs.now)) }
+    ensures joined { IfOk result
+        (λ code. tables_of code ≡ joined_of (decls_seen decls.now) (procs_seen procs.now)) }
     ensures fault { IfErr result (λ fault. fault ≡ NoMemory) }
 {
     let strings = copies(alloc, tables.strings.as_slice())?;
@@ -180,7 +183,8 @@ fn put_bit(bits: &mut [u8; 32], byte: u8)
 // Where texts stand in a table.
 fn places(alloc: Global, table: &IndexSet<&[u8]>, texts: &[&[u8]]) -> Result<Vec<u32>, AllocError>
     requires few { length (texts_seen table.now.keys) ≤ 65535 }
-    ensures { IfOk result (λ places. places.items ≡ map (text_place (texts_seen table.now.keys)) (texts_seen texts.now)) }
+    ensures { IfOk result
+        (λ places. places.items ≡ map (text_place (texts_seen table.now.keys)) (texts_seen texts.now)) }
 {
     let mut places = Vec::new(alloc);
     for text in texts {
@@ -197,7 +201,8 @@ fn records(
     decls: &[&UnitDecl],
 ) -> Result<Vec<Record>, AllocError>
     requires few { AreFew (gathered_seen tables.now) }
-    ensures { IfOk result (λ records. records_of records.items ≡ flat_map (records_in (gathered_seen tables.now)) (decls_seen decls.now)) }
+    ensures { IfOk result (λ records. records_of records.items
+        ≡ flat_map (records_in (gathered_seen tables.now)) (decls_seen decls.now)) }
 {
     let mut records = Vec::new(alloc);
     for decl in decls {
@@ -213,7 +218,8 @@ fn put_record(
     decl: &UnitDecl,
 ) -> Result<(), AllocError>
     requires few { AreFew (gathered_seen tables.now) }
-    ensures { OnOk result (records_of records.new.items ≡ records_of records.old.items ++ records_in (gathered_seen tables.now) (decl_seen decl.now)) }
+    ensures { OnOk result (records_of records.new.items ≡ records_of records.old.items
+        ++ records_in (gathered_seen tables.now) (decl_seen decl.now)) }
 {
     match decl {
         UnitDecl::Record(name, fields) => {
@@ -233,7 +239,8 @@ fn record_with(
     fields: &[Bytes],
 ) -> Result<Record, AllocError>
     requires few { AreFew (gathered_seen tables.now) }
-    ensures { IfOk result (λ kind. record_of kind ≡ record_entry (gathered_seen tables.now) name.now fields.now) }
+    ensures { IfOk result
+        (λ kind. record_of kind ≡ record_entry (gathered_seen tables.now) name.now fields.now) }
 {
     let places = field_places(alloc, &tables.fields, fields)?;
     Ok(Record {
@@ -266,7 +273,8 @@ fn globals(
     procs: &[&ProcCode],
 ) -> Result<Vec<Variable>, AllocError>
     requires few { AreFew (gathered_seen tables.now) }
-    ensures { IfOk result (λ globals. globals.items ≡ map (global_entry (gathered_seen tables.now) (proc_names (procs_seen procs.now)) (record_names (decls_seen decls.now))) (gathered_seen tables.now).globals) }
+    ensures { IfOk result (λ globals. globals.items ≡ map (global_entry (gathered_seen tables.now) (proc_names
+        (procs_seen procs.now)) (record_names (decls_seen decls.now))) (gathered_seen tables.now).globals) }
 {
     let proc_places = first_places(alloc, &names_of_procs(alloc, procs)?)?;
     let record_places = first_places(alloc, &names_of_records(alloc, decls)?)?;
@@ -281,7 +289,8 @@ fn globals_with(
     records: &IndexMap<&[u8], u32>,
 ) -> Result<Vec<Variable>, AllocError>
     requires few { AreFew (gathered_seen tables.now) }
-    ensures { IfOk result (λ globals. globals.items ≡ map (global_with (gathered_seen tables.now) (places_in procs.now) (places_in records.now)) (gathered_seen tables.now).globals) }
+    ensures { IfOk result (λ globals. globals.items ≡ map (global_with (gathered_seen tables.now)
+        (places_in procs.now) (places_in records.now)) (gathered_seen tables.now).globals) }
 {
     let mut globals = Vec::new(alloc);
     let names = tables.globals.as_slice();
@@ -298,7 +307,8 @@ fn global(
     name: &[u8],
 ) -> Variable
     requires few { AreFew (gathered_seen tables.now) }
-    ensures { result ≡ global_with (gathered_seen tables.now) (places_in procs.now) (places_in records.now) name.now }
+    ensures { result
+        ≡ global_with (gathered_seen tables.now) (places_in procs.now) (places_in records.now) name.now }
 {
     Variable {
         name: text_place(&tables.strings, name),
@@ -327,7 +337,8 @@ fn names_of_records<'a>(alloc: Global, decls: &[&'a UnitDecl]) -> Result<Vec<&'a
 }
 
 fn put_record_name<'a>(names: &mut Vec<&'a [u8]>, decl: &'a UnitDecl) -> Result<(), AllocError>
-    ensures { OnOk result (texts_seen names.new.items ≡ texts_seen names.old.items ++ record_name_in (decl_seen decl.now)) }
+    ensures { OnOk result
+        (texts_seen names.new.items ≡ texts_seen names.old.items ++ record_name_in (decl_seen decl.now)) }
 {
     match decl {
         UnitDecl::Record(name, _) => {
@@ -345,7 +356,8 @@ fn first_places<'a>(
     alloc: Global,
     names: &[&'a [u8]],
 ) -> Result<IndexMap<&'a [u8], u32>, AllocError>
-    ensures { IfOk result (λ places. (name : List ℕ) → places_in places name ≡ place_of (texts_seen names.now) name) }
+    ensures { IfOk result
+        (λ places. (name : List ℕ) → places_in places name ≡ place_of (texts_seen names.now) name) }
 {
     let mut places = IndexMap::new(alloc);
     let mut place = 0;
@@ -391,7 +403,8 @@ fn start(
 }
 
 fn undeclared_start(declared: &IndexSet<&[u8]>, name: &[u8]) -> Start
-    ensures { result ≡ start_by None None (is_among (texts_seen declared.now.keys) name.now) (function_named name.now) }
+    ensures { result
+        ≡ start_by None None (is_among (texts_seen declared.now.keys) name.now) (function_named name.now) }
 {
     if declared.contains(name) {
         return Start::Null;
@@ -410,9 +423,12 @@ fn entries(
     procs: &[&ProcCode],
 ) -> Result<Vec<Procedure>, LinkFault>
     requires few { AreFew (gathered_seen tables.now) }
-    requires locals { list_all (λ proc. nat_le (locals_in (gathered_seen tables.now).globals proc.names) 65535) (procs_seen procs.now) ≡ true }
-    requires statics { list_all (λ proc. nat_le (statics_in (gathered_seen tables.now).globals proc.names) 65535) (procs_seen procs.now) ≡ true }
-    ensures entries { IfOk result (λ entries. procs_of entries.items ≡ map (proc_entry (gathered_seen tables.now)) (procs_seen procs.now)) }
+    requires locals { list_all (λ proc. nat_le (locals_in (gathered_seen tables.now).globals proc.names)
+        65535) (procs_seen procs.now) ≡ true }
+    requires statics { list_all (λ proc. nat_le (statics_in (gathered_seen tables.now).globals proc.names)
+        65535) (procs_seen procs.now) ≡ true }
+    ensures entries { IfOk result (λ entries. procs_of entries.items
+        ≡ map (proc_entry (gathered_seen tables.now)) (procs_seen procs.now)) }
     ensures fault { IfErr result (λ fault. fault ≡ NoMemory) }
 {
     let mut entries = Vec::new(alloc);
@@ -431,7 +447,8 @@ fn put_entry(
     requires few { AreFew (gathered_seen tables.now) }
     requires locals { locals_in (gathered_seen tables.now).globals proc.now.names.items ≤ 65535 }
     requires statics { statics_in (gathered_seen tables.now).globals proc.now.names.items ≤ 65535 }
-    ensures entry { OnOk result (procs_of entries.new.items ≡ procs_of entries.old.items ++ proc_entry (gathered_seen tables.now) (proc_seen proc.now) ∷ []) }
+    ensures entry { OnOk result (procs_of entries.new.items ≡ procs_of entries.old.items
+        ++ proc_entry (gathered_seen tables.now) (proc_seen proc.now) ∷ []) }
     ensures fault { IfErr result (λ fault. fault ≡ NoMemory) }
 {
     let entry = entry(alloc, tables, proc)?;
@@ -443,7 +460,8 @@ fn entry(alloc: Global, tables: &Gathered<'_>, proc: &ProcCode) -> Result<Proced
     requires few { AreFew (gathered_seen tables.now) }
     requires locals { locals_in (gathered_seen tables.now).globals proc.now.names.items ≤ 65535 }
     requires statics { statics_in (gathered_seen tables.now).globals proc.now.names.items ≤ 65535 }
-    ensures entry { IfOk result (λ entry. proc_of entry ≡ proc_entry (gathered_seen tables.now) (proc_seen proc.now)) }
+    ensures entry { IfOk result
+        (λ entry. proc_of entry ≡ proc_entry (gathered_seen tables.now) (proc_seen proc.now)) }
     ensures fault { IfErr result (λ fault. fault ≡ NoMemory) }
 {
     let names = variables(alloc, &tables.globals, &proc.names)?;
@@ -464,7 +482,8 @@ fn entry_with(
 ) -> Procedure
     requires few { AreFew (gathered_seen tables.now) }
     requires params { params_in proc.now.names.items ≤ locals }
-    ensures { proc_of result ≡ entry_of (gathered_seen tables.now) (proc_seen proc.now) locals statics instrs.items }
+    ensures { proc_of result
+        ≡ entry_of (gathered_seen tables.now) (proc_seen proc.now) locals statics instrs.items }
 {
     let parameters = params_in(&proc.names) as u32;
     Procedure {

@@ -19,7 +19,8 @@ pub fn procs_of<'a>(alloc: Global, units: &'a [Unit]) -> Result<Vec<&'a ProcCode
 }
 
 fn put_procs<'a>(procs: &mut Vec<&'a ProcCode>, more: &'a [ProcCode]) -> Result<(), AllocError>
-    ensures { OnOk result (procs_seen procs.new.items ≡ procs_seen procs.old.items ++ map proc_seen more.now) }
+    ensures { OnOk result
+        (procs_seen procs.new.items ≡ procs_seen procs.old.items ++ map proc_seen more.now) }
 {
     for proc in more {
         procs.push(proc)?;
@@ -39,7 +40,8 @@ pub fn decls_of<'a>(alloc: Global, units: &'a [Unit]) -> Result<Vec<&'a UnitDecl
 }
 
 fn put_decls<'a>(decls: &mut Vec<&'a UnitDecl>, more: &'a [UnitDecl]) -> Result<(), AllocError>
-    ensures { OnOk result (decls_seen decls.new.items ≡ decls_seen decls.old.items ++ map decl_seen more.now) }
+    ensures { OnOk result
+        (decls_seen decls.new.items ≡ decls_seen decls.old.items ++ map decl_seen more.now) }
 {
     for decl in more {
         decls.push(decl)?;

@@ -27,7 +27,8 @@ pub fn check_links(alloc: Global, units: &[Unit]) -> Result<(), LinkFault>
 
 // The base names of units.
 fn names_of<'a>(alloc: Global, units: &'a [Unit]) -> Result<IndexSet<&'a [u8]>, AllocError>
-    ensures { IfOk result (λ names. texts_seen names.keys ≡ with_texts [] (unit_names (units_seen units.now))) }
+    ensures { IfOk result
+        (λ names. texts_seen names.keys ≡ with_texts [] (unit_names (units_seen units.now))) }
 {
     let mut names = IndexSet::new(alloc);
     for unit in units {
@@ -39,7 +40,8 @@ fn names_of<'a>(alloc: Global, units: &'a [Unit]) -> Result<IndexSet<&'a [u8]>, 
 // Refuses units that link one of another name than these.
 fn check_all(alloc: Global, names: &IndexSet<&[u8]>, units: &[Unit]) -> Result<(), LinkFault>
     ensures none { OnOk result (missing_from (texts_seen names.now.keys) 0 (units_seen units.now) ≡ None) }
-    ensures fault { IfErr result (IsFault (missing_from (texts_seen names.now.keys) 0 (units_seen units.now))) }
+    ensures fault { IfErr result
+        (IsFault (missing_from (texts_seen names.now.keys) 0 (units_seen units.now))) }
 {
     let mut place = 0;
     for unit in units {
@@ -57,7 +59,8 @@ fn check_unit(
     decls: &[UnitDecl],
 ) -> Result<(), LinkFault>
     ensures none { OnOk result (missing_in (texts_seen names.now.keys) (map decl_seen decls.now) ≡ None) }
-    ensures fault { IfErr result (IsFault (option_map (missing_fault place) (missing_in (texts_seen names.now.keys) (map decl_seen decls.now)))) }
+    ensures fault { IfErr result (IsFault (option_map (missing_fault place)
+        (missing_in (texts_seen names.now.keys) (map decl_seen decls.now)))) }
 {
     for decl in decls {
         check_decl(alloc, names, place, decl)?;
@@ -72,7 +75,8 @@ fn check_decl(
     decl: &UnitDecl,
 ) -> Result<(), LinkFault>
     ensures none { OnOk result (missing_by (texts_seen names.now.keys) (decl_seen decl.now) ≡ None) }
-    ensures fault { IfErr result (IsFault (option_map (missing_fault place) (missing_by (texts_seen names.now.keys) (decl_seen decl.now)))) }
+    ensures fault { IfErr result (IsFault (option_map (missing_fault place)
+        (missing_by (texts_seen names.now.keys) (decl_seen decl.now)))) }
 {
     match decl {
         UnitDecl::Link(text) => {

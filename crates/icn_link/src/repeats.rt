@@ -32,7 +32,8 @@ pub fn check_owners(alloc: Global, units: &[Unit]) -> Result<(), LinkFault>
 
 // The procedures and records of units.
 fn owners_of<'a>(alloc: Global, units: &'a [Unit]) -> Result<Vec<Owner<'a>>, LinkFault>
-    ensures owners { IfOk result (λ owners. map owner_seen owners.items ≡ owners_from 0 (units_seen units.now)) }
+    ensures owners { IfOk result
+        (λ owners. map owner_seen owners.items ≡ owners_from 0 (units_seen units.now)) }
     ensures fault { IfErr result (λ fault. fault ≡ NoMemory) }
 {
     let mut owners = Vec::new(alloc);
@@ -50,7 +51,8 @@ fn put_owners<'a>(
     unit: u64,
     decls: &'a [UnitDecl],
 ) -> Result<(), LinkFault>
-    ensures owners { OnOk result (map owner_seen owners.new.items ≡ map owner_seen owners.old.items ++ owners_in unit 0 (map decl_seen decls.now)) }
+    ensures owners { OnOk result (map owner_seen owners.new.items ≡ map owner_seen owners.old.items
+        ++ owners_in unit 0 (map decl_seen decls.now)) }
     ensures fault { IfErr result (λ fault. fault ≡ NoMemory) }
 {
     let mut decl_place = 0;
@@ -73,7 +75,8 @@ fn put_owner<'a>(
     place: DeclPlace,
     decl: &'a UnitDecl,
 ) -> Result<(), AllocError>
-    ensures { OnOk result (map owner_seen owners.new.items ≡ map owner_seen owners.old.items ++ owner_in place.unit place.decl (decl_seen decl.now)) }
+    ensures { OnOk result (map owner_seen owners.new.items ≡ map owner_seen owners.old.items
+        ++ owner_in place.unit place.decl (decl_seen decl.now)) }
 {
     match decl {
         UnitDecl::Proc(name) => {

@@ -19,7 +19,8 @@ pub fn resolved(
     instrs: &[UnitInstr],
 ) -> Result<Vec<Instr>, AllocError>
     requires few { AreFew (gathered_seen tables.now) }
-    ensures { IfOk result (λ code. code.items ≡ resolve (scope_with (gathered_seen tables.now) variables.now (address_in labels.now)) instrs.now) }
+    ensures { IfOk result (λ code. code.items
+        ≡ resolve (scope_with (gathered_seen tables.now) variables.now (address_in labels.now)) instrs.now) }
 {
     let mut code = Vec::new(alloc);
     for instr in instrs {
@@ -48,7 +49,8 @@ fn instr_in(
     instr: &UnitInstr,
 ) -> Option<Instr>
     requires few { AreFew (gathered_seen tables.now) }
-    ensures { result ≡ instr_in (scope_with (gathered_seen tables.now) variables.now (address_in labels.now)) instr.now }
+    ensures { result
+        ≡ instr_in (scope_with (gathered_seen tables.now) variables.now (address_in labels.now)) instr.now }
 {
     match instr {
         UnitInstr::Pnull => Some(Instr::Pnull),

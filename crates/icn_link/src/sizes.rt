@@ -72,8 +72,10 @@ pub fn check_tables(
     decls: &[&UnitDecl],
     procs: &[&ProcCode],
 ) -> Result<(), LinkFault>
-    ensures none { OnOk result (over 65535 (table_sizes (gathered_seen tables.now) (decls_seen decls.now) (procs_seen procs.now)) ≡ None) }
-    ensures fault { IfErr result (IsFault (over 65535 (table_sizes (gathered_seen tables.now) (decls_seen decls.now) (procs_seen procs.now)))) }
+    ensures none { OnOk result (over 65535
+        (table_sizes (gathered_seen tables.now) (decls_seen decls.now) (procs_seen procs.now)) ≡ None) }
+    ensures fault { IfErr result (IsFault (over 65535
+        (table_sizes (gathered_seen tables.now) (decls_seen decls.now) (procs_seen procs.now)))) }
 {
     let records = records_in(decls)?;
     let counts = [
@@ -124,8 +126,10 @@ pub fn check_operands(procs: &[&ProcCode]) -> Result<(), LinkFault>
 }
 
 fn check_operands_in(instrs: &[UnitInstr]) -> Result<(), LinkFault>
-    ensures none { OnOk result ((rest : List ℕ) → over 65535 (flat_map (λ instr. operands_in (mention_of instr)) instrs.now ++ rest) ≡ over 65535 rest) }
-    ensures fault { IfErr result (λ fault. (rest : List ℕ) → over 65535 (flat_map (λ instr. operands_in (mention_of instr)) instrs.now ++ rest) ≡ Some fault) }
+    ensures none { OnOk result ((rest : List ℕ) → over 65535
+        (flat_map (λ instr. operands_in (mention_of instr)) instrs.now ++ rest) ≡ over 65535 rest) }
+    ensures fault { IfErr result (λ fault. (rest : List ℕ)
+        → over 65535 (flat_map (λ instr. operands_in (mention_of instr)) instrs.now ++ rest) ≡ Some fault) }
 {
     for instr in instrs {
         check_operands_of(instr)?;
@@ -134,8 +138,10 @@ fn check_operands_in(instrs: &[UnitInstr]) -> Result<(), LinkFault>
 }
 
 fn check_operands_of(instr: &UnitInstr) -> Result<(), LinkFault>
-    ensures none { OnOk result ((rest : List ℕ) → over 65535 (operands_in (mention_of instr.now) ++ rest) ≡ over 65535 rest) }
-    ensures fault { IfErr result (λ fault. (rest : List ℕ) → over 65535 (operands_in (mention_of instr.now) ++ rest) ≡ Some fault) }
+    ensures none { OnOk result ((rest : List ℕ)
+        → over 65535 (operands_in (mention_of instr.now) ++ rest) ≡ over 65535 rest) }
+    ensures fault { IfErr result
+        (λ fault. (rest : List ℕ) → over 65535 (operands_in (mention_of instr.now) ++ rest) ≡ Some fault) }
 {
     match mention_of(instr) {
         Mention::Operands(count) => check_count(u64::from(count), MOST_ENTRIES),
@@ -159,8 +165,10 @@ pub fn check_records(decls: &[&UnitDecl]) -> Result<(), LinkFault>
 }
 
 fn check_record(decl: &UnitDecl) -> Result<(), LinkFault>
-    ensures none { OnOk result ((rest : List ℕ) → over 65535 (field_counts (decl_seen decl.now) ++ rest) ≡ over 65535 rest) }
-    ensures fault { IfErr result (λ fault. (rest : List ℕ) → over 65535 (field_counts (decl_seen decl.now) ++ rest) ≡ Some fault) }
+    ensures none { OnOk result ((rest : List ℕ)
+        → over 65535 (field_counts (decl_seen decl.now) ++ rest) ≡ over 65535 rest) }
+    ensures fault { IfErr result
+        (λ fault. (rest : List ℕ) → over 65535 (field_counts (decl_seen decl.now) ++ rest) ≡ Some fault) }
 {
     match decl {
         UnitDecl::Record(_, fields) => check_count(fields.len() as u64, MOST_ENTRIES),
@@ -172,8 +180,10 @@ fn check_record(decl: &UnitDecl) -> Result<(), LinkFault>
 
 /// Refuses a procedure of too many parameters and other locals.
 pub fn check_locals(globals: &IndexSet<&[u8]>, procs: &[&ProcCode]) -> Result<(), LinkFault>
-    ensures none { OnOk result (over 65535 (local_counts (texts_seen globals.now.keys) (procs_seen procs.now)) ≡ None) }
-    ensures fault { IfErr result (IsFault (over 65535 (local_counts (texts_seen globals.now.keys) (procs_seen procs.now)))) }
+    ensures none { OnOk result
+        (over 65535 (local_counts (texts_seen globals.now.keys) (procs_seen procs.now)) ≡ None) }
+    ensures fault { IfErr result
+        (IsFault (over 65535 (local_counts (texts_seen globals.now.keys) (procs_seen procs.now)))) }
 {
     for proc in procs {
         let count = locals_in(globals, &proc.names)?;
@@ -184,8 +194,10 @@ pub fn check_locals(globals: &IndexSet<&[u8]>, procs: &[&ProcCode]) -> Result<()
 
 /// Refuses a procedure of too many statics.
 pub fn check_statics(globals: &IndexSet<&[u8]>, procs: &[&ProcCode]) -> Result<(), LinkFault>
-    ensures none { OnOk result (over 65535 (static_counts (texts_seen globals.now.keys) (procs_seen procs.now)) ≡ None) }
-    ensures fault { IfErr result (IsFault (over 65535 (static_counts (texts_seen globals.now.keys) (procs_seen procs.now)))) }
+    ensures none { OnOk result
+        (over 65535 (static_counts (texts_seen globals.now.keys) (procs_seen procs.now)) ≡ None) }
+    ensures fault { IfErr result
+        (IsFault (over 65535 (static_counts (texts_seen globals.now.keys) (procs_seen procs.now)))) }
 {
     for proc in procs {
         let count = statics_in(globals, &proc.names)?;

@@ -68,7 +68,8 @@ fn put_variable(
     requires few { length (texts_seen globals.now.keys) ≤ 65535 }
     ensures { OnOk result ((rest : List UnitName) →
         instrs.new.items ++ variables (texts_seen globals.now.keys) locals.new statics.new rest
-        ≡ instrs.old.items ++ variables (texts_seen globals.now.keys) locals.old statics.old (entry.now ∷ rest)) }
+        ≡ instrs.old.items
+        ++ variables (texts_seen globals.now.keys) locals.old statics.old (entry.now ∷ rest)) }
 {
     match variable_of(globals, entry) {
         Variable::Local => {

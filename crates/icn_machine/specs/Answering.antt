@@ -17,14 +17,16 @@ outside_in was (over ending outside) = outside
 outside_in was stuck = was
 
 -- What was answered is so with an outside that the input and the outputs tell.
-pub record Tells {A : Type 0} (Comes : Outside → Result A Halt → Type 0) (was : Outside) (before after : CallStreams) (result : Result A Halt) : Type 0 where
+pub record Tells {A : Type 0} (Comes : Outside → Result A Halt → Type 0) (was : Outside)
+    (before after : CallStreams) (result : Result A Halt) : Type 0 where
   pub now : Outside
   pub follows : Follows before after was now
   pub is : Comes now result
 
 -- A step that leads to this state reads once, and was broken off in that reading or behind it: some first part of what it reads was taken, and nothing
 -- was put.
-pub record BreaksReading (state : State Frames Frames) (was : Outside) (before after : CallStreams) : Type 0 where
+pub record BreaksReading (state : State Frames Frames) (was : Outside)
+    (before after : CallStreams) : Type 0 where
   pub asked : Request
   pub made : (outside_in was state).readings ≡ (with_reading asked was).readings
   pub left : LosesPart was.left (asked_of asked was.left) after.left
@@ -32,7 +34,8 @@ pub record BreaksReading (state : State Frames Frames) (was : Outside) (before a
   pub errors : after.errors ≡ before.errors
 
 -- It was broken off as it put: each output has gained some first part of what the step puts there, and the input is as it was.
-pub record BreaksPutting (state : State Frames Frames) (was : Outside) (before after : CallStreams) : Type 0 where
+pub record BreaksPutting (state : State Frames Frames) (was : Outside)
+    (before after : CallStreams) : Type 0 where
   pub left : after.left ≡ before.left
   pub output : PutsPart before.output after.output was.output (outside_in was state).output
   pub errors : PutsPart before.errors after.errors was.errors (outside_in was state).errors
@@ -45,10 +48,13 @@ pub data BreaksOff (state : State Frames Frames) (was : Outside) (before after :
   behind : Follows before after was (outside_in was state) → BreaksOff state was before after
 
 -- What was answered of a step that leads to this state, where the outside before it is one that the input tells.
-abbrev pub AnswersStep : {A : Type 0} → (Outside → Result A Halt → Type 0) → State Frames Frames → Outside → CallStreams → CallStreams → Result A Halt → Type 0
+abbrev pub AnswersStep : {A : Type 0} → (Outside → Result A Halt → Type 0) → State Frames Frames → Outside
+    → CallStreams → CallStreams → Result A Halt → Type 0
 AnswersStep Comes state was before after (Ok a) = Tells Comes was before after (Ok a)
-AnswersStep Comes state was before after (Err (Halts.Error number offending)) = Tells Comes was before after (Err (Halts.Error number offending))
-AnswersStep Comes state was before after (Err (Halts.Ends status)) = Tells Comes was before after (Err (Halts.Ends status))
+AnswersStep Comes state was before after (Err (Halts.Error number offending)) =
+    Tells Comes was before after (Err (Halts.Error number offending))
+AnswersStep Comes state was before after (Err (Halts.Ends status)) =
+    Tells Comes was before after (Err (Halts.Ends status))
 AnswersStep Comes state was before after (Err Halts.ReadFault) = BreaksReading state was before after
 AnswersStep Comes state was before after (Err Halts.WriteFault) = BreaksPutting state was before after
 AnswersStep Comes state was before after (Err Halts.NoMemory) = BreaksOff state was before after
@@ -68,9 +74,12 @@ with_left left handed = record handed { left = Some left }
 
 -- What a call says of a step, by the state to which the step leads from each outside: over the outside that the input tells, if it does; and in any case
 -- over some input, that has these bytes and leaves those.
-pub record Performs {A : Type 0} (leads : Outside → State Frames Frames) (Comes : Outside → Outside → Result A Halt → Type 0) (before after : CallStreams) (result : Result A Halt) : Type 0 where
-  pub answers : (was : Outside) → before.left ≡ Some was.left → AnswersStep (Comes was) (leads was) was before after result
+pub record Performs {A : Type 0} (leads : Outside → State Frames Frames) (Comes : Outside → Outside
+    → Result A Halt → Type 0) (before after : CallStreams) (result : Result A Halt) : Type 0 where
+  pub answers : (was : Outside) → before.left ≡ Some was.left
+      → AnswersStep (Comes was) (leads was) was before after result
   pub had : List ℕ
   pub has : List ℕ
-  pub meant : (was : Outside) → was.left ≡ had → AnswersStep (Comes was) (leads was) was (with_left had before) (with_left has after) result
+  pub meant : (was : Outside) → was.left ≡ had
+      → AnswersStep (Comes was) (leads was) was (with_left had before) (with_left has after) result
   pub caused : IsCause result before after

@@ -22,5 +22,7 @@ StandsAs state m st Stages.AtBound = ⊥
 
 -- What is given is pushed, over what is kept, which is suspended; the stack is one on which the row has set the locals.
 abbrev pub GivesOutcome : Outcome → FlatStack → FlatStack → Stage → Type 0
-GivesOutcome outcome m n stage = (all : Extent) (old : Frames) (seen : Setting) (st : Store Frames) → set_locals seen.locals old ≡ stack_in all m
-    → StandsAs (code.outcome flat (outcome_in all outcome seen) old st) (stack_in all n) (with_at seen st) stage
+GivesOutcome outcome m n stage = (all : Extent) (old : Frames) (seen : Setting) (st : Store Frames)
+    → set_locals seen.locals old ≡ stack_in all m
+    → StandsAs (code.outcome flat (outcome_in all outcome seen) old st) (stack_in all n)
+    (with_at seen st) stage

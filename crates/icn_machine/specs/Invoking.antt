@@ -20,12 +20,17 @@ use Rattle.icn_machine.specs.Answering.{Performs}
 use Rattle.icn_machine.specs.Performing.{StandsOver, over_outside}
 
 -- What comes of a store with these names is performed on a stack in a world.
-abbrev pub PerformsEvent : Names → (Store Frames → State Frames Frames) → World → CallStreams → World → FlatStack → CallStreams → Result Stage Halt → Type 0
-PerformsEvent names event w before v n after result = (st : Store Frames) → st.world ≡ world_of w → st.names ≡ names
-    → Performs (λ was. event (over_outside was st)) (λ was now answer. StandsOver (event (over_outside was st)) st v n now answer) before after result
+abbrev pub PerformsEvent : Names → (Store Frames → State Frames Frames) → World → CallStreams → World
+    → FlatStack → CallStreams → Result Stage Halt → Type 0
+PerformsEvent names event w before v n after result =
+    (st : Store Frames) → st.world ≡ world_of w → st.names ≡ names
+    → Performs (λ was. event (over_outside was st))
+    (λ was now answer. StandsOver (event (over_outside was st)) st v n now answer) before after result
 
 -- The elements of a value are these items, or why it has none: what it is called with is called with them.
 abbrev pub FindsElements : {A : Type 0} → World → Val → List HeldItem → Result A Halt → Type 0
-FindsElements w from items result = (tables : Tables) (callee : Value) (m : Frames) (st : Store Frames) → st.world ≡ world_of w
-    → MatchResult result (λ _. elements_called flat tables callee (value_in (extent_of w.heap) from) m st ≡ invoke_value flat tables callee (map (item_in (extent_of w.heap)) items) m st)
+FindsElements w from items result =
+    (tables : Tables) (callee : Value) (m : Frames) (st : Store Frames) → st.world ≡ world_of w
+    → MatchResult result (λ _. elements_called flat tables callee (value_in (extent_of w.heap) from) m st
+    ≡ invoke_value flat tables callee (map (item_in (extent_of w.heap)) items) m st)
     (HaltsWith (elements_called flat tables callee (value_in (extent_of w.heap) from) m st) st w)

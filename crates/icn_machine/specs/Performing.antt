@@ -30,28 +30,36 @@ over_outside outside st = record st { outside = outside }
 
 -- what a row comes to on a stack in a world, over this outside
 abbrev pub row_on : Row → World → FlatStack → Store Frames → Outside → State Frames Frames
-row_on row w m st was = let at = over_outside was st in outcome flat (row (here flat (stack_in (extent_of w.heap) m) at)) (stack_in (extent_of w.heap) m) at
+row_on row w m st was = let at = over_outside was st in
+    outcome flat (row (here flat (stack_in (extent_of w.heap) m) at)) (stack_in (extent_of w.heap) m) at
 
 -- where a stack and a world stand after it; or the run is over
-abbrev pub StandsOver : State Frames Frames → Store Frames → World → FlatStack → Outside → Result Stage Halt → Type 0
+abbrev pub StandsOver : State Frames Frames → Store Frames → World → FlatStack → Outside → Result Stage Halt
+    → Type 0
 StandsOver state st w m now (Ok stage) = StandsWith state (over_outside now st) w m stage
 StandsOver state st w m now (Err (Halts.Error number offending)) =
-    state ≡ errs number (option_map (value_in (extent_of w.heap)) offending) (with_world (world_of w) (over_outside now st))
+    state ≡ errs number (option_map (value_in (extent_of w.heap)) offending)
+    (with_world (world_of w) (over_outside now st))
 StandsOver state st w m now (Err (Halts.Ends status)) = state ≡ over (Exit status) now
 StandsOver state st w m now (Err Halts.ReadFault) = ⊥
 StandsOver state st w m now (Err Halts.WriteFault) = ⊥
 StandsOver state st w m now (Err Halts.NoMemory) = ⊤
 
 -- A row is performed on a stack in a world: what it gives is pushed, and what it keeps is suspended.
-abbrev pub PerformsRow : Row → World → FlatStack → CallStreams → World → FlatStack → CallStreams → Result Stage Halt → Type 0
+abbrev pub PerformsRow : Row → World → FlatStack → CallStreams → World → FlatStack → CallStreams
+    → Result Stage Halt → Type 0
 PerformsRow row w m before v n after result = (st : Store Frames) → st.world ≡ world_of w
-    → Performs (row_on row w m st) (λ was now answer. StandsOver (row_on row w m st was) st v n now answer) before after result
+    → Performs (row_on row w m st)
+    (λ was now answer. StandsOver (row_on row w m st was) st v n now answer) before after result
 
 -- A machine performs an instruction, or what is due on it.
-abbrev pub PerformsOn : {K : Type 0} → Tables → (Outside → State Frames Frames) → Machine K → CallStreams → CallStreams → Result Stage Halt → Type 0
-PerformsOn tables leads m before after result = Performs leads (λ was now answer. ComesTo tables now (leads was) m answer) before after result
+abbrev pub PerformsOn : {K : Type 0} → Tables → (Outside → State Frames Frames) → Machine K → CallStreams
+    → CallStreams → Result Stage Halt → Type 0
+PerformsOn tables leads m before after result =
+    Performs leads (λ was now answer. ComesTo tables now (leads was) m answer) before after result
 
 -- what stands on a stack and in a world names only what has a name, where something is answered but a fault or want of memory
 abbrev pub LeavesNamed : Names → World → FlatStack → Result Stage Halt → Type 0
-LeavesNamed names w m (Ok stage) = StackNamed names (stack_in (extent_of w.heap) m) × WorldNamed names (world_of w)
+LeavesNamed names w m (Ok stage) =
+    StackNamed names (stack_in (extent_of w.heap) m) × WorldNamed names (world_of w)
 LeavesNamed names w m (Err halt) = ⊤

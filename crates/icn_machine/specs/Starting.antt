@@ -29,13 +29,16 @@ use Rattle.icn_control.specs.declared.machine.Machine.{Machine}
 
 -- what a run with these words and limits is begun with, over this outside
 abbrev pub launch_with : {Y : Type 0} → List (String Y) → Limits → Outside → Launch
-launch_with words limits outside = record { words = map string_bytes words; bounds = limits_of limits; outside = outside }
+launch_with words limits outside =
+    record { words = map string_bytes words; bounds = limits_of limits; outside = outside }
 
 -- The machine stands for the state with which the run of a code starts; or the run is over by an error that is about no value. Of want of memory this
 -- says nothing.
 abbrev pub StartsAs : {K : Type 0} → Tables → Launch → Result (Machine K) Halt → Type 0
-StartsAs tables launch (Ok m) = start tables launch ≡ running (stack_seen m) (store_seen tables launch.outside m)
-StartsAs tables launch (Err (Halts.Error number None)) = start tables launch ≡ errs number None (first_store tables launch)
+StartsAs tables launch (Ok m) =
+    start tables launch ≡ running (stack_seen m) (store_seen tables launch.outside m)
+StartsAs tables launch (Err (Halts.Error number None)) =
+    start tables launch ≡ errs number None (first_store tables launch)
 StartsAs tables launch (Err (Halts.Error number (Some offending))) = ⊥
 StartsAs tables launch (Err (Halts.Ends status)) = ⊥
 StartsAs tables launch (Err Halts.ReadFault) = ⊥
@@ -45,20 +48,24 @@ StartsAs tables launch (Err Halts.NoMemory) = ⊤
 -- The bytes of words are charged to a heap; or they are more than its limit.
 abbrev pub ChargesWords : {A : Type 0} → Heap → List (List ℕ) → Heap → Result A Stop → Type 0
 ChargesWords before words after (Ok a) =
-    (nat_le (before.strings + sum_by length words) before.bounds.strings ≡ true) × (after ≡ record before { strings = before.strings + sum_by length words })
+    (nat_le (before.strings + sum_by length words) before.bounds.strings ≡ true)
+    × (after ≡ record before { strings = before.strings + sum_by length words })
 ChargesWords before words after (Err (Stops.Error number offending)) =
-    (nat_le (before.strings + sum_by length words) before.bounds.strings ≡ false) × ((number ≡ 306) × (offending ≡ None))
+    (nat_le (before.strings + sum_by length words) before.bounds.strings ≡ false)
+    × ((number ≡ 306) × (offending ≡ None))
 ChargesWords before words after (Err Stops.NoMemory) = ⊤
 
 -- the world before `main` is called, where the bytes of the words are charged
 abbrev pub world_charged : Tables → Bounds → List (List ℕ) → World
 world_charged tables bounds words =
-    record (first_world bounds (first_globals tables) (static_count tables)) { heap = record (first_heap bounds) { strings = 0 + sum_by length words } }
+    record (first_world bounds (first_globals tables) (static_count tables))
+    { heap = record (first_heap bounds) { strings = 0 + sum_by length words } }
 
 -- whether the words have no more bytes than the limit
 abbrev pub WordsFit : {A : Type 0} → Bounds → List (List ℕ) → Result A Stop → Type 0
 WordsFit bounds words (Ok a) = nat_le (0 + sum_by length words) bounds.strings ≡ true
-WordsFit bounds words (Err (Stops.Error number offending)) = (nat_le (0 + sum_by length words) bounds.strings ≡ false) × (number ≡ 306)
+WordsFit bounds words (Err (Stops.Error number offending)) =
+    (nat_le (0 + sum_by length words) bounds.strings ≡ false) × (number ≡ 306)
 WordsFit bounds words (Err Stops.NoMemory) = ⊤
 
 -- an error without the value that it is about
@@ -72,13 +79,18 @@ bare = held.begin 0 [] 0
 
 -- what comes of the list of the words
 abbrev pub begun_with : ℕ → Proc → Value → Frames → Store Frames → State Frames Frames
-begun_with main entry list m st = begun_if flat (nat_le 1 st.world.heap.bounds.levels) main entry (list ∷ []) m st
+begun_with main entry list m st =
+    begun_if flat (nat_le 1 st.world.heap.bounds.levels) main entry (list ∷ []) m st
 
 -- The list of values is made, and the procedure is begun with what it makes its parameters, and nulls for its other locals; or an error without a
 -- value.
-abbrev pub BeginsWith : {A : Type 0} → Proc → HeldWorld → List Val → HeldWorld → List Val → Result A Stop → Type 0
+abbrev pub BeginsWith : {A : Type 0} → Proc → HeldWorld → List Val → HeldWorld → List Val → Result A Stop
+    → Type 0
 BeginsWith entry w vals v locals (Ok a) = (main : ℕ) (st : Store Frames) → st.world ≡ world_of w
-    → made_in (list_row (map (value_in (extent_of w.heap)) vals)) w bare st (begun_with main entry) ≡ running (stack_in (extent_of v.heap) (held.begin main locals 0)) (with_world (world_of v) st)
-BeginsWith entry w vals v locals (Err (Stops.Error number offending)) = (main : ℕ) (st : Store Frames) → st.world ≡ world_of w
-    → made_in (list_row (map (value_in (extent_of w.heap)) vals)) w bare st (begun_with main entry) ≡ errs number None st
+    → made_in (list_row (map (value_in (extent_of w.heap)) vals)) w bare st (begun_with main entry)
+    ≡ running (stack_in (extent_of v.heap) (held.begin main locals 0)) (with_world (world_of v) st)
+BeginsWith entry w vals v locals (Err (Stops.Error number offending)) =
+    (main : ℕ) (st : Store Frames) → st.world ≡ world_of w
+    → made_in (list_row (map (value_in (extent_of w.heap)) vals)) w bare st (begun_with main entry)
+    ≡ errs number None st
 BeginsWith entry w vals v locals (Err Stops.NoMemory) = ⊤

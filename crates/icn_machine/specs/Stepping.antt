@@ -39,7 +39,8 @@ FindsVariables tables stuck = ⊤
 
 -- where a case is due, a mark of its own is open
 abbrev pub FindsMark : Tables → State Frames Frames → Type 0
-FindsMark tables (running m st) = (instr : Instr) → instruction_at flat tables m ≡ Some instr → HasCaseMark instr (flat.go (suc (flat.place m)) m)
+FindsMark tables (running m st) = (instr : Instr) → instruction_at flat tables m ≡ Some instr
+    → HasCaseMark instr (flat.go (suc (flat.place m)) m)
 FindsMark tables (failing m st) = ⊤
 FindsMark tables (hopping m st) = ⊤
 FindsMark tables (over ending outside) = ⊤
@@ -85,13 +86,15 @@ outside_at stuck = outside_of []
 abbrev pub IsAt : {K : Type 0} → Tables → Outside → State Frames Frames → Machine K → Stage → Type 0
 IsAt tables outside state m Stages.Runs = state ≡ running (stack_seen m) (store_seen tables outside m)
 IsAt tables outside state m Stages.Fails = state ≡ failing (stack_seen m) (store_seen tables outside m)
-IsAt tables outside state m Stages.HopDue = (old : Frames) × (state ≡ hopping old (store_seen tables outside m))
+IsAt tables outside state m Stages.HopDue =
+    (old : Frames) × (state ≡ hopping old (store_seen tables outside m))
 IsAt tables outside state m Stages.Over = ⊥
 IsAt tables outside state m Stages.AtBound = ⊥
 
 -- all this holds of a state for which a machine stands
 abbrev pub KeepsState : {K : Type 0} → Tables → Machine K → Stage → Type 0
-KeepsState tables m stage = (outside : Outside) × ((state : State Frames Frames) × (IsAt tables outside state m stage × IsKept tables state))
+KeepsState tables m stage = (outside : Outside)
+    × ((state : State Frames Frames) × (IsAt tables outside state m stage × IsKept tables state))
 
 -- where the run goes on
 abbrev pub IsKeptAt : {K : Type 0} → Tables → Machine K → Stage → Type 0
@@ -110,23 +113,28 @@ pub record IsReady {K : Type 0} (tables : Tables) (m : Machine K) (stage : Stage
 -- What some steps come to
 
 -- So many steps are done whole, and what was handed follows them; then what was answered is so of one step more.
-pub record Leads {K : Type 0} (tables : Tables) (state : State Frames Frames) (was : Outside) (before : CallStreams) (n : Machine K) (after : CallStreams) (result : Result Stage Halt) : Type 0 where
+pub record Leads {K : Type 0} (tables : Tables) (state : State Frames Frames) (was : Outside)
+    (before : CallStreams) (n : Machine K) (after : CallStreams) (result : Result Stage Halt) : Type 0 where
   pub count : ℕ
   pub between : CallStreams
   pub follows : Follows before between was (outside_at (steps flat tables count state))
-  pub last : AnswersStep (λ now answer. ComesTo tables now (steps flat tables (suc count) state) n answer) (steps flat tables (suc count) state) (outside_at (steps flat tables count state)) between after result
+  pub last : AnswersStep (λ now answer. ComesTo tables now (steps flat tables (suc count) state) n answer)
+      (steps flat tables (suc count) state) (outside_at (steps flat tables count state)) between after result
 
 -- where a machine stands, or how the run is over; of a fault and of want of memory nothing is said
-abbrev pub StandsBy : {K : Type 0} → Tables → Outside → State Frames Frames → Machine K → Result Stage Halt → Type 0
+abbrev pub StandsBy : {K : Type 0} → Tables → Outside → State Frames Frames → Machine K → Result Stage Halt
+    → Type 0
 StandsBy tables outside state n (Ok stage) = StandsAt tables outside state n stage
-StandsBy tables outside state n (Err (Halts.Error number offending)) = HaltsAt tables outside state n (Halts.Error number offending)
+StandsBy tables outside state n (Err (Halts.Error number offending)) =
+    HaltsAt tables outside state n (Halts.Error number offending)
 StandsBy tables outside state n (Err (Halts.Ends status)) = HaltsAt tables outside state n (Halts.Ends status)
 StandsBy tables outside state n (Err Halts.ReadFault) = ⊤
 StandsBy tables outside state n (Err Halts.WriteFault) = ⊤
 StandsBy tables outside state n (Err Halts.NoMemory) = ⊤
 
 -- Steps lead there, one at least, each over some outside.
-pub record LeadsOver {K : Type 0} (tables : Tables) (state : State Frames Frames) (n : Machine K) (result : Result Stage Halt) : Type 0 where
+pub record LeadsOver {K : Type 0} (tables : Tables) (state : State Frames Frames) (n : Machine K)
+    (result : Result Stage Halt) : Type 0 where
   pub first : Outside
   pub later : List Outside
   pub now : Outside
@@ -140,8 +148,10 @@ pub record InputFails (before after : CallStreams) : Type 0 where
 
 -- one of the outputs has failed, once, and nothing else
 pub data OutputFails (before after : CallStreams) : Type 0 where
-  output_fails : after.faults ≡ before.faults → FailsOnce before.output after.output → KeepsCounts before.errors after.errors → OutputFails before after
-  errors_fail : after.faults ≡ before.faults → KeepsCounts before.output after.output → FailsOnce before.errors after.errors → OutputFails before after
+  output_fails : after.faults ≡ before.faults → FailsOnce before.output after.output
+      → KeepsCounts before.errors after.errors → OutputFails before after
+  errors_fail : after.faults ≡ before.faults → KeepsCounts before.output after.output
+      → FailsOnce before.errors after.errors → OutputFails before after
 
 -- A fault is answered where that object has failed for the first time; where it is not, nothing has failed.
 abbrev pub IsFirstFault : {A : Type 0} → Result A Halt → CallStreams → CallStreams → Type 0
@@ -153,10 +163,13 @@ IsFirstFault (Err Halts.WriteFault) before after = OutputFails before after
 IsFirstFault (Err Halts.NoMemory) before after = WantsMemory before after
 
 -- From where a machine stands, steps lead to what was answered: over the outside that the input tells, if it does, and over some input in any case.
-pub record Advances {K : Type 0} (tables : Tables) (m : Machine K) (stage : Stage) (before : CallStreams) (n : Machine K) (after : CallStreams) (result : Result Stage Halt) : Type 0 where
-  pub answers : (was : Outside) (state : State Frames Frames) → IsAt tables was state m stage → before.left ≡ Some was.left
+pub record Advances {K : Type 0} (tables : Tables) (m : Machine K) (stage : Stage) (before : CallStreams)
+    (n : Machine K) (after : CallStreams) (result : Result Stage Halt) : Type 0 where
+  pub answers : (was : Outside) (state : State Frames Frames) → IsAt tables was state m stage
+      → before.left ≡ Some was.left
       → Leads tables state was before n after result
-  pub meant : (was : Outside) (state : State Frames Frames) → IsAt tables was state m stage → LeadsOver tables state n result
+  pub meant : (was : Outside) (state : State Frames Frames) → IsAt tables was state m stage
+      → LeadsOver tables state n result
   pub caused : IsFirstFault result before after
 
 -- An instruction is being done: the place is that of the next one, nothing lacks, and all that holds of the state of the run is so still.
@@ -203,7 +216,8 @@ EndsWhole (Err Halts.WriteFault) = ⊤
 EndsWhole (Err Halts.NoMemory) = ⊥
 
 -- No step was done, or some steps lead to what was answered.
-pub data GoesOn {K : Type 0} (tables : Tables) (m : Machine K) (stage : Stage) (before : CallStreams) (n : Machine K) (after : CallStreams) (result : Result Stage Halt) : Type 0 where
+pub data GoesOn {K : Type 0} (tables : Tables) (m : Machine K) (stage : Stage) (before : CallStreams)
+    (n : Machine K) (after : CallStreams) (result : Result Stage Halt) : Type 0 where
   stays : n ≡ m → after ≡ before → result ≡ Ok stage → GoesOn tables m stage before n after result
   advances : Advances tables m stage before n after result → GoesOn tables m stage before n after result
 
@@ -216,7 +230,8 @@ pub record IsTurn {K : Type 0} (m n : Machine K) : Type 0 where
 
 -- where the code goes on failing, a turn was made or fewer cells stand
 abbrev pub FailsFurther : {K : Type 0} → Machine K → Machine K → Stage → Type 0
-FailsFurther m n Stages.Fails = IsTurn m n ⊎ ((n.turns ≡ m.turns) × (length (stack_seen n).cells < length (stack_seen m).cells))
+FailsFurther m n Stages.Fails =
+    IsTurn m n ⊎ ((n.turns ≡ m.turns) × (length (stack_seen n).cells < length (stack_seen m).cells))
 FailsFurther m n Stages.HopDue = IsTurn m n
 FailsFurther m n Stages.Runs = ⊤
 FailsFurther m n Stages.Over = ⊤

@@ -35,8 +35,10 @@ fn put_values(items: &mut Vec<Item>, vals: &[Val]) -> Result<(), AllocError>
 pub fn elements_of(world: &World, from: Val, items: &mut Vec<Item>) -> Result<(), Halt>
     requires { IsLive (extent_of world.now.heap) from }
     ensures elements { FindsElements world.now from items.new.items result }
-    ensures live { OnOk result ((reach : Reach) → reach.extent ≡ extent_of world.now.heap → All (IsLiveItem reach) items.new.items) }
-    ensures named { (names : Names) → HeapNamed names (heap_of world.now.heap) → OnOk result (All (ItemNamed names) (map (item_in (extent_of world.now.heap)) items.new.items)) }
+    ensures live { OnOk result ((reach : Reach) → reach.extent ≡ extent_of world.now.heap
+        → All (IsLiveItem reach) items.new.items) }
+    ensures named { (names : Names) → HeapNamed names (heap_of world.now.heap)
+        → OnOk result (All (ItemNamed names) (map (item_in (extent_of world.now.heap)) items.new.items)) }
     ensures few { OnOk result (length items.new.items < 2 ^ 63) }
     ensures halt { IfErr result (IsLiveHalt (reach_of world.now [])) }
 {
@@ -59,8 +61,10 @@ pub fn elements_of(world: &World, from: Val, items: &mut Vec<Item>) -> Result<()
 fn list_items(world: &World, list: u32, items: &mut Vec<Item>) -> Result<(), Halt>
     requires { IsLive (extent_of world.now.heap) (Vals.List list) }
     ensures elements { FindsElements world.now (Vals.List list) items.new.items result }
-    ensures live { OnOk result ((reach : Reach) → reach.extent ≡ extent_of world.now.heap → All (IsLiveItem reach) items.new.items) }
-    ensures named { (names : Names) → HeapNamed names (heap_of world.now.heap) → OnOk result (All (ItemNamed names) (map (item_in (extent_of world.now.heap)) items.new.items)) }
+    ensures live { OnOk result ((reach : Reach) → reach.extent ≡ extent_of world.now.heap
+        → All (IsLiveItem reach) items.new.items) }
+    ensures named { (names : Names) → HeapNamed names (heap_of world.now.heap)
+        → OnOk result (All (ItemNamed names) (map (item_in (extent_of world.now.heap)) items.new.items)) }
     ensures few { OnOk result (length items.new.items < 2 ^ 63) }
     ensures halt { IfErr result (λ halt. halt ≡ Halts.NoMemory) }
 {
@@ -77,8 +81,10 @@ fn list_items(world: &World, list: u32, items: &mut Vec<Item>) -> Result<(), Hal
 fn record_items(world: &World, rec: u32, items: &mut Vec<Item>) -> Result<(), Halt>
     requires { IsLive (extent_of world.now.heap) (Vals.Rec rec) }
     ensures elements { FindsElements world.now (Vals.Rec rec) items.new.items result }
-    ensures live { OnOk result ((reach : Reach) → reach.extent ≡ extent_of world.now.heap → All (IsLiveItem reach) items.new.items) }
-    ensures named { (names : Names) → HeapNamed names (heap_of world.now.heap) → OnOk result (All (ItemNamed names) (map (item_in (extent_of world.now.heap)) items.new.items)) }
+    ensures live { OnOk result ((reach : Reach) → reach.extent ≡ extent_of world.now.heap
+        → All (IsLiveItem reach) items.new.items) }
+    ensures named { (names : Names) → HeapNamed names (heap_of world.now.heap)
+        → OnOk result (All (ItemNamed names) (map (item_in (extent_of world.now.heap)) items.new.items)) }
     ensures few { OnOk result (length items.new.items < 2 ^ 63) }
     ensures halt { IfErr result (λ halt. halt ≡ Halts.NoMemory) }
 {

@@ -26,9 +26,14 @@ fn fail_next<K: Stack<Cell> + Drop, N: Names, I: Source, O: Sink, E: Sink>(
     out: &mut O,
     err: &mut E,
 ) -> Result<Stage, Halt>
-    requires ready { (tables : Tables) × ((all_names tables ≡ N.known names.now) × IsReady tables m.old Stages.Fails) }
-    ensures steps { (tables : Tables) → all_names tables ≡ N.known names.now → IsReady tables m.old Stages.Fails → Advances tables m.old Stages.Fails (call_streams (I.left input.old) (I.faults input.old) (O.state out.old) (E.state err.old)) m.new (call_streams (I.left input.new) (I.faults input.new) (O.state out.new) (E.state err.new)) result }
-    ensures ready { (tables : Tables) → all_names tables ≡ N.known names.now → IsReady tables m.old Stages.Fails → IfOk result (IsReady tables m.new) }
+    requires ready { (tables : Tables)
+        × ((all_names tables ≡ N.known names.now) × IsReady tables m.old Stages.Fails) }
+    ensures steps { (tables : Tables) → all_names tables ≡ N.known names.now
+        → IsReady tables m.old Stages.Fails → Advances tables m.old Stages.Fails
+        (call_streams (I.left input.old) (I.faults input.old) (O.state out.old) (E.state err.old)) m.new
+        (call_streams (I.left input.new) (I.faults input.new) (O.state out.new) (E.state err.new)) result }
+    ensures ready { (tables : Tables) → all_names tables ≡ N.known names.now
+        → IsReady tables m.old Stages.Fails → IfOk result (IsReady tables m.new) }
     ensures further { IfOk result (FailsFurther m.old m.new) }
     ensures halt { IfErr result (IsLiveHalt (world_reach m.new)) }
     ensures limits { m.new.limits ≡ m.old.limits }
@@ -80,9 +85,14 @@ fn fail_to_turn<K: Stack<Cell> + Drop, N: Names, I: Source, O: Sink, E: Sink>(
     out: &mut O,
     err: &mut E,
 ) -> Result<Stage, Halt>
-    requires ready { (tables : Tables) × ((all_names tables ≡ N.known names.now) × IsReady tables m.old Stages.Fails) }
-    ensures steps { (tables : Tables) → all_names tables ≡ N.known names.now → IsReady tables m.old Stages.Fails → GoesOn tables m.old Stages.Fails (call_streams (I.left input.old) (I.faults input.old) (O.state out.old) (E.state err.old)) m.new (call_streams (I.left input.new) (I.faults input.new) (O.state out.new) (E.state err.new)) result }
-    ensures ready { (tables : Tables) → all_names tables ≡ N.known names.now → IsReady tables m.old Stages.Fails → IfOk result (IsReady tables m.new) }
+    requires ready { (tables : Tables)
+        × ((all_names tables ≡ N.known names.now) × IsReady tables m.old Stages.Fails) }
+    ensures steps { (tables : Tables) → all_names tables ≡ N.known names.now
+        → IsReady tables m.old Stages.Fails → GoesOn tables m.old Stages.Fails
+        (call_streams (I.left input.old) (I.faults input.old) (O.state out.old) (E.state err.old)) m.new
+        (call_streams (I.left input.new) (I.faults input.new) (O.state out.new) (E.state err.new)) result }
+    ensures ready { (tables : Tables) → all_names tables ≡ N.known names.now
+        → IsReady tables m.old Stages.Fails → IfOk result (IsReady tables m.new) }
     ensures turn { IfOk result (MakesTurn m.old m.new) }
     ensures halt { IfErr result (IsLiveHalt (world_reach m.new)) }
     ensures limits { m.new.limits ≡ m.old.limits }
@@ -98,7 +108,8 @@ fn fail_to_turn<K: Stack<Cell> + Drop, N: Names, I: Source, O: Sink, E: Sink>(
 // A hop that is due, as a turn.
 fn hop_next<K: Stack<Cell> + Drop>(m: &mut Machine<K>) -> Stage
     requires ready { (tables : Tables) × IsReady tables m.old Stages.HopDue }
-    ensures steps { (tables : Tables) (h : CallStreams) → IsReady tables m.old Stages.HopDue → Advances tables m.old Stages.HopDue h m.new h (Ok result) }
+    ensures steps { (tables : Tables) (h : CallStreams) → IsReady tables m.old Stages.HopDue
+        → Advances tables m.old Stages.HopDue h m.new h (Ok result) }
     ensures ready { (tables : Tables) → IsReady tables m.old Stages.HopDue → IsReady tables m.new result }
     ensures turn { MakesTurn m.old m.new result }
     ensures limits { m.new.limits ≡ m.old.limits }
@@ -118,9 +129,14 @@ fn fail_turn<K: Stack<Cell> + Drop, N: Names, I: Source, O: Sink, E: Sink>(
     out: &mut O,
     err: &mut E,
 ) -> Result<Stage, Halt>
-    requires ready { (tables : Tables) × ((all_names tables ≡ N.known names.now) × IsReady tables m.old stage) }
-    ensures steps { (tables : Tables) → all_names tables ≡ N.known names.now → IsReady tables m.old stage → GoesOn tables m.old stage (call_streams (I.left input.old) (I.faults input.old) (O.state out.old) (E.state err.old)) m.new (call_streams (I.left input.new) (I.faults input.new) (O.state out.new) (E.state err.new)) result }
-    ensures ready { (tables : Tables) → all_names tables ≡ N.known names.now → IsReady tables m.old stage → IfOk result (IsReady tables m.new) }
+    requires ready { (tables : Tables)
+        × ((all_names tables ≡ N.known names.now) × IsReady tables m.old stage) }
+    ensures steps { (tables : Tables) → all_names tables ≡ N.known names.now → IsReady tables m.old stage
+        → GoesOn tables m.old stage
+        (call_streams (I.left input.old) (I.faults input.old) (O.state out.old) (E.state err.old)) m.new
+        (call_streams (I.left input.new) (I.faults input.new) (O.state out.new) (E.state err.new)) result }
+    ensures ready { (tables : Tables) → all_names tables ≡ N.known names.now → IsReady tables m.old stage
+        → IfOk result (IsReady tables m.new) }
     ensures turn { IfOk result (MakesTurn m.old m.new) }
     ensures halt { IfErr result (IsLiveHalt (world_reach m.new)) }
     ensures limits { m.new.limits ≡ m.old.limits }
@@ -149,9 +165,14 @@ pub fn fail_through<K: Stack<Cell> + Drop, N: Names, I: Source, O: Sink, E: Sink
     out: &mut O,
     err: &mut E,
 ) -> Result<Stage, Halt>
-    requires ready { (tables : Tables) × ((all_names tables ≡ N.known names.now) × IsReady tables m.old from) }
-    ensures steps { (tables : Tables) → all_names tables ≡ N.known names.now → IsReady tables m.old from → GoesOn tables m.old from (call_streams (I.left input.old) (I.faults input.old) (O.state out.old) (E.state err.old)) m.new (call_streams (I.left input.new) (I.faults input.new) (O.state out.new) (E.state err.new)) result }
-    ensures ready { (tables : Tables) → all_names tables ≡ N.known names.now → IsReady tables m.old from → IfOk result (IsReady tables m.new) }
+    requires ready { (tables : Tables)
+        × ((all_names tables ≡ N.known names.now) × IsReady tables m.old from) }
+    ensures steps { (tables : Tables) → all_names tables ≡ N.known names.now → IsReady tables m.old from
+        → GoesOn tables m.old from
+        (call_streams (I.left input.old) (I.faults input.old) (O.state out.old) (E.state err.old)) m.new
+        (call_streams (I.left input.new) (I.faults input.new) (O.state out.new) (E.state err.new)) result }
+    ensures ready { (tables : Tables) → all_names tables ≡ N.known names.now → IsReady tables m.old from
+        → IfOk result (IsReady tables m.new) }
     ensures fails_no_more { IfOk result (λ stage. is_failing stage ≡ false) }
     ensures halt { IfErr result (IsLiveHalt (world_reach m.new)) }
     ensures limits { m.new.limits ≡ m.old.limits }

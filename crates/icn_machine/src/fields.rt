@@ -31,7 +31,8 @@ pub fn field<K: Stack<Cell> + Drop>(
     requires operand { IsSome (flat.pop (stack_of m.old)) }
     requires sound { (tables : Tables) × IsSound tables m.old }
     requires sizes { FitSizes (field_count (tables_of code.now)) (heap_of m.old.world.heap) }
-    ensures step { (outside : Outside) → ComesTo (tables_of code.now) outside (does (tables_of code.now) outside (Instrs.Field field) m.old) m.new result }
+    ensures step { (outside : Outside) → ComesTo (tables_of code.now) outside
+        (does (tables_of code.now) outside (Instrs.Field field) m.old) m.new result }
     ensures sound { (tables : Tables) → IsSound tables m.old → OnOk result (IsSound tables m.new) }
     ensures halt { IfErr result (IsLiveHalt (world_reach m.new)) }
     ensures limits { m.new.limits ≡ m.old.limits }

@@ -24,8 +24,12 @@ pub fn give_outcome<K: Stack<Cell> + Drop>(
     outcome: Outcome,
 ) -> Result<Stage, AllocError>
     ensures gives { IfOk result (λ stage. GivesOutcome outcome frames.old.flat frames.new.flat stage) }
-    ensures live { (tables : Tables) (reach : Reach) → IsLiveStack tables reach frames.old.flat → IsLiveOutcome (with_locals (flat.local_count frames.old.flat) reach) outcome → OnOk result (IsLiveStack tables reach frames.new.flat) }
-    ensures named { (names : Names) (all : Extent) (seen : Setting) → StackNamed names (stack_in all frames.old.flat) → OutcomeNamed names (outcome_in all outcome seen) → OnOk result (StackNamed names (stack_in all frames.new.flat)) }
+    ensures live { (tables : Tables) (reach : Reach) → IsLiveStack tables reach frames.old.flat
+        → IsLiveOutcome (with_locals (flat.local_count frames.old.flat) reach) outcome
+        → OnOk result (IsLiveStack tables reach frames.new.flat) }
+    ensures named { (names : Names) (all : Extent) (seen : Setting)
+        → StackNamed names (stack_in all frames.old.flat) → OutcomeNamed names (outcome_in all outcome seen)
+        → OnOk result (StackNamed names (stack_in all frames.new.flat)) }
 {
     match outcome {
         Outcome::Fails => Ok(Stage::Fails),

@@ -65,18 +65,28 @@ pub fn call_value<K: Stack<Cell> + Drop, N: Names, I: Source, O: Sink, E: Sink>(
     requires bounds { (heap_of world.old.heap).bounds ≡ limits_of limits.now }
     requires stack { (tables : Tables) × IsLiveStack tables (reach_of world.old []) frames.old.flat }
     requires callee { IsLive (extent_of world.old.heap) callee }
-    requires items { All (IsLiveItem (with_locals (flat.local_count frames.old.flat) (reach_of world.old []))) items.now }
-    requires stack_named { StackNamed (N.known names.now) (stack_in (extent_of world.old.heap) frames.old.flat) }
+    requires items { All (IsLiveItem (with_locals (flat.local_count frames.old.flat) (reach_of world.old [])))
+        items.now }
+    requires stack_named { StackNamed (N.known names.now)
+        (stack_in (extent_of world.old.heap) frames.old.flat) }
     requires world_named { WorldNamed (N.known names.now) (world_of world.old) }
-    requires items_named { All (ItemNamed (N.known names.now)) (map (item_in (extent_of world.old.heap)) items.now) }
-    ensures step { PerformsEvent (all_names (tables_of code.now)) (λ st. invoke_value calls (tables_of code.now) (value_in (extent_of world.old.heap) callee) (map (item_in (extent_of world.old.heap)) items.now) (stack_in (extent_of world.old.heap) frames.old.flat) st) world.old (call_streams (I.left input.old) (I.faults input.old) (O.state out.old) (E.state err.old)) world.new frames.new.flat (call_streams (I.left input.new) (I.faults input.new) (O.state out.new) (E.state err.new)) result }
-    ensures live { IsLiveStack (tables_of code.now) (reach_of world.old []) frames.old.flat → OnOk result (IsLiveStack (tables_of code.now) (reach_of world.new []) frames.new.flat) }
+    requires items_named { All (ItemNamed (N.known names.now))
+        (map (item_in (extent_of world.old.heap)) items.now) }
+    ensures step { PerformsEvent (all_names (tables_of code.now))
+        (λ st. invoke_value calls (tables_of code.now)
+        (value_in (extent_of world.old.heap) callee) (map (item_in (extent_of world.old.heap)) items.now)
+        (stack_in (extent_of world.old.heap) frames.old.flat) st) world.old (call_streams (I.left input.old)
+        (I.faults input.old) (O.state out.old) (E.state err.old)) world.new frames.new.flat
+        (call_streams (I.left input.new) (I.faults input.new) (O.state out.new) (E.state err.new)) result }
+    ensures live { IsLiveStack (tables_of code.now) (reach_of world.old []) frames.old.flat
+        → OnOk result (IsLiveStack (tables_of code.now) (reach_of world.new []) frames.new.flat) }
     ensures halt { IfErr result (IsLiveHalt (reach_of world.new [])) }
     ensures kept { KeepsItems (reach_of world.old []) (reach_of world.new []) }
     ensures counts { OnOk result (KeepsCounts world.old world.new) }
     ensures going { IfOk result IsGoing }
     ensures named { LeavesNamed (N.known names.now) world.new frames.new.flat result }
-    ensures sized { FitSizes (field_count (tables_of code.now)) (heap_of world.old.heap) → OnOk result (FitSizes (field_count (tables_of code.now)) (heap_of world.new.heap)) }
+    ensures sized { FitSizes (field_count (tables_of code.now)) (heap_of world.old.heap)
+        → OnOk result (FitSizes (field_count (tables_of code.now)) (heap_of world.new.heap)) }
 {
     steps_keep_names();
     steps_keep_sizes();
@@ -115,18 +125,27 @@ fn call_first<K: Stack<Cell> + Drop, N: Names, I: Source, O: Sink, E: Sink>(
     requires few { length items.now < 2 ^ 63 }
     requires bounds { (heap_of world.old.heap).bounds ≡ limits_of limits.now }
     requires stack { (tables : Tables) × IsLiveStack tables (reach_of world.old []) frames.old.flat }
-    requires items { All (IsLiveItem (with_locals (flat.local_count frames.old.flat) (reach_of world.old []))) items.now }
-    requires stack_named { StackNamed (N.known names.now) (stack_in (extent_of world.old.heap) frames.old.flat) }
+    requires items { All (IsLiveItem (with_locals (flat.local_count frames.old.flat) (reach_of world.old [])))
+        items.now }
+    requires stack_named { StackNamed (N.known names.now)
+        (stack_in (extent_of world.old.heap) frames.old.flat) }
     requires world_named { WorldNamed (N.known names.now) (world_of world.old) }
-    requires items_named { All (ItemNamed (N.known names.now)) (map (item_in (extent_of world.old.heap)) items.now) }
-    ensures step { PerformsEvent (all_names (tables_of code.now)) (λ st. invoked_with calls (tables_of code.now) (map (item_in (extent_of world.old.heap)) items.now) (stack_in (extent_of world.old.heap) frames.old.flat) st) world.old (call_streams (I.left input.old) (I.faults input.old) (O.state out.old) (E.state err.old)) world.new frames.new.flat (call_streams (I.left input.new) (I.faults input.new) (O.state out.new) (E.state err.new)) result }
-    ensures live { IsLiveStack (tables_of code.now) (reach_of world.old []) frames.old.flat → OnOk result (IsLiveStack (tables_of code.now) (reach_of world.new []) frames.new.flat) }
+    requires items_named { All (ItemNamed (N.known names.now))
+        (map (item_in (extent_of world.old.heap)) items.now) }
+    ensures step { PerformsEvent (all_names (tables_of code.now))
+        (λ st. invoked_with calls (tables_of code.now) (map (item_in (extent_of world.old.heap)) items.now)
+        (stack_in (extent_of world.old.heap) frames.old.flat) st) world.old (call_streams (I.left input.old)
+        (I.faults input.old) (O.state out.old) (E.state err.old)) world.new frames.new.flat
+        (call_streams (I.left input.new) (I.faults input.new) (O.state out.new) (E.state err.new)) result }
+    ensures live { IsLiveStack (tables_of code.now) (reach_of world.old []) frames.old.flat
+        → OnOk result (IsLiveStack (tables_of code.now) (reach_of world.new []) frames.new.flat) }
     ensures halt { IfErr result (IsLiveHalt (reach_of world.new [])) }
     ensures kept { KeepsItems (reach_of world.old []) (reach_of world.new []) }
     ensures counts { OnOk result (KeepsCounts world.old world.new) }
     ensures going { IfOk result IsGoing }
     ensures named { LeavesNamed (N.known names.now) world.new frames.new.flat result }
-    ensures sized { FitSizes (field_count (tables_of code.now)) (heap_of world.old.heap) → OnOk result (FitSizes (field_count (tables_of code.now)) (heap_of world.new.heap)) }
+    ensures sized { FitSizes (field_count (tables_of code.now)) (heap_of world.old.heap)
+        → OnOk result (FitSizes (field_count (tables_of code.now)) (heap_of world.new.heap)) }
 {
     let Some((first, others)) = items.split_first() else {
         unreachable!()
@@ -161,14 +180,20 @@ pub fn invoke<K: Stack<Cell> + Drop, N: Names, I: Source, O: Sink, E: Sink>(
     requires sound { (tables : Tables) × IsSound tables m.old }
     requires stack_named { StackNamed (N.known names.now) (stack_seen m.old) }
     requires world_named { WorldNamed (N.known names.now) (world_of m.old.world) }
-    ensures step { PerformsOn (tables_of code.now) (λ outside. does (tables_of code.now) outside (Instrs.Invoke count) m.old) m.new (call_streams (I.left input.old) (I.faults input.old) (O.state out.old) (E.state err.old)) (call_streams (I.left input.new) (I.faults input.new) (O.state out.new) (E.state err.new)) result }
+    ensures step { PerformsOn (tables_of code.now)
+        (λ outside. does (tables_of code.now) outside (Instrs.Invoke count) m.old) m.new
+        (call_streams (I.left input.old) (I.faults input.old) (O.state out.old) (E.state err.old))
+        (call_streams (I.left input.new) (I.faults input.new) (O.state out.new) (E.state err.new)) result }
     ensures sound { IsSound (tables_of code.now) m.old → OnOk result (IsSound (tables_of code.now) m.new) }
     ensures halt { IfErr result (IsLiveHalt (world_reach m.new)) }
     ensures limits { m.new.limits ≡ m.old.limits }
     ensures stack { IfOk result (HasStack m.new) }
     ensures named { LeavesNamed (N.known names.now) m.new.world (stack_of m.new) result }
-    ensures store_named { (outside : Outside) → StoreNamed (N.known names.now) (store_seen (tables_of code.now) outside m.old) → OnOk result (StoreNamed (N.known names.now) (store_seen (tables_of code.now) outside m.new)) }
-    ensures sized { FitSizes (field_count (tables_of code.now)) (heap_of m.old.world.heap) → OnOk result (FitSizes (field_count (tables_of code.now)) (heap_of m.new.world.heap)) }
+    ensures store_named { (outside : Outside)
+        → StoreNamed (N.known names.now) (store_seen (tables_of code.now) outside m.old)
+        → OnOk result (StoreNamed (N.known names.now) (store_seen (tables_of code.now) outside m.new)) }
+    ensures sized { FitSizes (field_count (tables_of code.now)) (heap_of m.old.world.heap)
+        → OnOk result (FitSizes (field_count (tables_of code.now)) (heap_of m.new.world.heap)) }
 {
     let Ok(()) = take_operands(m.stacks.frames(), items, count as usize + 1) else {
         return Err(Halt::NoMemory);
@@ -212,18 +237,27 @@ fn call_with_elements<K: Stack<Cell> + Drop, N: Names, I: Source, O: Sink, E: Si
     requires known { N.known names.now ≡ all_names (tables_of code.now) }
     requires bounds { (heap_of world.old.heap).bounds ≡ limits_of limits.now }
     requires stack { (tables : Tables) × IsLiveStack tables (reach_of world.old []) frames.old.flat }
-    requires callee { IsLiveItem (with_locals (flat.local_count frames.old.flat) (reach_of world.old [])) callee }
+    requires callee { IsLiveItem (with_locals (flat.local_count frames.old.flat) (reach_of world.old []))
+        callee }
     requires from { IsLiveItem (with_locals (flat.local_count frames.old.flat) (reach_of world.old [])) from }
-    requires stack_named { StackNamed (N.known names.now) (stack_in (extent_of world.old.heap) frames.old.flat) }
+    requires stack_named { StackNamed (N.known names.now)
+        (stack_in (extent_of world.old.heap) frames.old.flat) }
     requires world_named { WorldNamed (N.known names.now) (world_of world.old) }
-    ensures step { PerformsEvent (all_names (tables_of code.now)) (λ st. applied_to_elements calls (tables_of code.now) (item_in (extent_of world.old.heap) callee ∷ item_in (extent_of world.old.heap) from ∷ []) (stack_in (extent_of world.old.heap) frames.old.flat) st) world.old (call_streams (I.left input.old) (I.faults input.old) (O.state out.old) (E.state err.old)) world.new frames.new.flat (call_streams (I.left input.new) (I.faults input.new) (O.state out.new) (E.state err.new)) result }
-    ensures live { IsLiveStack (tables_of code.now) (reach_of world.old []) frames.old.flat → OnOk result (IsLiveStack (tables_of code.now) (reach_of world.new []) frames.new.flat) }
+    ensures step { PerformsEvent (all_names (tables_of code.now)) (λ st. applied_to_elements calls
+        (tables_of code.now) (item_in (extent_of world.old.heap) callee ∷ item_in (extent_of world.old.heap)
+        from ∷ []) (stack_in (extent_of world.old.heap) frames.old.flat) st) world.old
+        (call_streams (I.left input.old) (I.faults input.old) (O.state out.old) (E.state err.old))
+        world.new frames.new.flat
+        (call_streams (I.left input.new) (I.faults input.new) (O.state out.new) (E.state err.new)) result }
+    ensures live { IsLiveStack (tables_of code.now) (reach_of world.old []) frames.old.flat
+        → OnOk result (IsLiveStack (tables_of code.now) (reach_of world.new []) frames.new.flat) }
     ensures halt { IfErr result (IsLiveHalt (reach_of world.new [])) }
     ensures kept { KeepsItems (reach_of world.old []) (reach_of world.new []) }
     ensures counts { OnOk result (KeepsCounts world.old world.new) }
     ensures going { IfOk result IsGoing }
     ensures named { LeavesNamed (N.known names.now) world.new frames.new.flat result }
-    ensures sized { FitSizes (field_count (tables_of code.now)) (heap_of world.old.heap) → OnOk result (FitSizes (field_count (tables_of code.now)) (heap_of world.new.heap)) }
+    ensures sized { FitSizes (field_count (tables_of code.now)) (heap_of world.old.heap)
+        → OnOk result (FitSizes (field_count (tables_of code.now)) (heap_of world.new.heap)) }
 {
     let callee = value_of(frames, world, callee)?;
     let from = value_of(frames, world, from)?;
@@ -257,14 +291,20 @@ pub fn appl<K: Stack<Cell> + Drop, N: Names, I: Source, O: Sink, E: Sink>(
     requires sound { (tables : Tables) × IsSound tables m.old }
     requires stack_named { StackNamed (N.known names.now) (stack_seen m.old) }
     requires world_named { WorldNamed (N.known names.now) (world_of m.old.world) }
-    ensures step { PerformsOn (tables_of code.now) (λ outside. does (tables_of code.now) outside Instrs.Appl m.old) m.new (call_streams (I.left input.old) (I.faults input.old) (O.state out.old) (E.state err.old)) (call_streams (I.left input.new) (I.faults input.new) (O.state out.new) (E.state err.new)) result }
+    ensures step { PerformsOn (tables_of code.now)
+        (λ outside. does (tables_of code.now) outside Instrs.Appl m.old) m.new
+        (call_streams (I.left input.old) (I.faults input.old) (O.state out.old) (E.state err.old))
+        (call_streams (I.left input.new) (I.faults input.new) (O.state out.new) (E.state err.new)) result }
     ensures sound { IsSound (tables_of code.now) m.old → OnOk result (IsSound (tables_of code.now) m.new) }
     ensures halt { IfErr result (IsLiveHalt (world_reach m.new)) }
     ensures limits { m.new.limits ≡ m.old.limits }
     ensures stack { IfOk result (HasStack m.new) }
     ensures named { LeavesNamed (N.known names.now) m.new.world (stack_of m.new) result }
-    ensures store_named { (outside : Outside) → StoreNamed (N.known names.now) (store_seen (tables_of code.now) outside m.old) → OnOk result (StoreNamed (N.known names.now) (store_seen (tables_of code.now) outside m.new)) }
-    ensures sized { FitSizes (field_count (tables_of code.now)) (heap_of m.old.world.heap) → OnOk result (FitSizes (field_count (tables_of code.now)) (heap_of m.new.world.heap)) }
+    ensures store_named { (outside : Outside)
+        → StoreNamed (N.known names.now) (store_seen (tables_of code.now) outside m.old)
+        → OnOk result (StoreNamed (N.known names.now) (store_seen (tables_of code.now) outside m.new)) }
+    ensures sized { FitSizes (field_count (tables_of code.now)) (heap_of m.old.world.heap)
+        → OnOk result (FitSizes (field_count (tables_of code.now)) (heap_of m.new.world.heap)) }
 {
     let two = take_two(m.stacks.frames());
     if m.turns >= m.limits.turns {

@@ -49,7 +49,10 @@ pub fn operate<K: Stack<Cell> + Drop, N: Names, I: Source, O: Sink, E: Sink>(
     requires sound { (tables : Tables) × IsSound tables m.old }
     requires stack_named { StackNamed (N.known names.now) (stack_seen m.old) }
     requires world_named { WorldNamed (N.known names.now) (world_of m.old.world) }
-    ensures step { (tables : Tables) → all_names tables ≡ N.known names.now → PerformsOn tables (λ outside. does tables outside (Instrs.Op op) m.old) m.new (call_streams (I.left input.old) (I.faults input.old) (O.state out.old) (E.state err.old)) (call_streams (I.left input.new) (I.faults input.new) (O.state out.new) (E.state err.new)) result }
+    ensures step { (tables : Tables) → all_names tables ≡ N.known names.now
+        → PerformsOn tables (λ outside. does tables outside (Instrs.Op op) m.old) m.new
+        (call_streams (I.left input.old) (I.faults input.old) (O.state out.old) (E.state err.old))
+        (call_streams (I.left input.new) (I.faults input.new) (O.state out.new) (E.state err.new)) result }
     ensures sound { (tables : Tables) → IsSound tables m.old → OnOk result (IsSound tables m.new) }
     ensures halt { IfErr result (IsLiveHalt (world_reach m.new)) }
     ensures limits { m.new.limits ≡ m.old.limits }
@@ -87,12 +90,16 @@ pub fn resume<K: Stack<Cell> + Drop, N: Names, I: Source, O: Sink, E: Sink>(
     err: &mut E,
 ) -> Result<Stage, Halt>
     requires runs { IsSome m.old.stacks.table.running }
-    requires rest { IsLiveResidual (with_locals (flat.local_count (stack_of m.old)) (world_reach m.old)) rest }
+    requires rest { IsLiveResidual (with_locals (flat.local_count (stack_of m.old)) (world_reach m.old))
+        rest }
     requires sound { (tables : Tables) × IsSound tables m.old }
     requires stack_named { StackNamed (N.known names.now) (stack_seen m.old) }
     requires world_named { WorldNamed (N.known names.now) (world_of m.old.world) }
     requires rest_named { ResidualNamed (N.known names.now) (residual_in (extent m.old) rest) }
-    ensures step { (tables : Tables) → PerformsOn tables (λ outside. resume_by calls tables (Operation (residual_in (extent m.old) rest)) (stack_seen m.old) (store_seen tables outside m.old)) m.new (call_streams (I.left input.old) (I.faults input.old) (O.state out.old) (E.state err.old)) (call_streams (I.left input.new) (I.faults input.new) (O.state out.new) (E.state err.new)) result }
+    ensures step { (tables : Tables) → PerformsOn tables (λ outside. resume_by calls tables
+        (Operation (residual_in (extent m.old) rest)) (stack_seen m.old) (store_seen tables outside m.old))
+        m.new (call_streams (I.left input.old) (I.faults input.old) (O.state out.old) (E.state err.old))
+        (call_streams (I.left input.new) (I.faults input.new) (O.state out.new) (E.state err.new)) result }
     ensures sound { (tables : Tables) → IsSound tables m.old → OnOk result (IsSound tables m.new) }
     ensures halt { IfErr result (IsLiveHalt (world_reach m.new)) }
     ensures limits { m.new.limits ≡ m.old.limits }

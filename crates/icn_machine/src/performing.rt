@@ -53,12 +53,20 @@ pub fn perform<K: Stack<Cell> + Drop, N: Names, I: Source, O: Sink, E: Sink>(
 ) -> Result<Stage, Halt>
     requires applicable { IsApplicable what (length items.now) }
     requires stack { (tables : Tables) × IsLiveStack tables (reach_of world.old []) frames.old.flat }
-    requires items { All (IsLiveItem (with_locals (flat.local_count frames.old.flat) (reach_of world.old []))) items.now }
-    requires stack_named { StackNamed (N.known names.now) (stack_in (extent_of world.old.heap) frames.old.flat) }
+    requires items { All (IsLiveItem (with_locals (flat.local_count frames.old.flat) (reach_of world.old [])))
+        items.now }
+    requires stack_named { StackNamed (N.known names.now)
+        (stack_in (extent_of world.old.heap) frames.old.flat) }
     requires world_named { WorldNamed (N.known names.now) (world_of world.old) }
-    requires items_named { All (ItemNamed (N.known names.now)) (map (item_in (extent_of world.old.heap)) items.now) }
-    ensures row { PerformsRow (step_rows.apply (N.known names.now) (applied_of what) (map (item_in (extent_of world.old.heap)) items.now)) world.old frames.old.flat (call_streams (I.left input.old) (I.faults input.old) (O.state out.old) (E.state err.old)) world.new frames.new.flat (call_streams (I.left input.new) (I.faults input.new) (O.state out.new) (E.state err.new)) result }
-    ensures live { (tables : Tables) → IsLiveStack tables (reach_of world.old []) frames.old.flat → OnOk result (IsLiveStack tables (reach_of world.new []) frames.new.flat) }
+    requires items_named { All (ItemNamed (N.known names.now))
+        (map (item_in (extent_of world.old.heap)) items.now) }
+    ensures row { PerformsRow (step_rows.apply (N.known names.now) (applied_of what)
+        (map (item_in (extent_of world.old.heap)) items.now)) world.old frames.old.flat
+        (call_streams (I.left input.old) (I.faults input.old) (O.state out.old) (E.state err.old))
+        world.new frames.new.flat
+        (call_streams (I.left input.new) (I.faults input.new) (O.state out.new) (E.state err.new)) result }
+    ensures live { (tables : Tables) → IsLiveStack tables (reach_of world.old []) frames.old.flat
+        → OnOk result (IsLiveStack tables (reach_of world.new []) frames.new.flat) }
     ensures halt { IfErr result (IsLiveHalt (reach_of world.new [])) }
     ensures kept { KeepsItems (reach_of world.old []) (reach_of world.new []) }
     ensures counts { OnOk result (KeepsCounts world.old world.new) }
@@ -87,11 +95,19 @@ fn perform_in<K: Stack<Cell> + Drop, N: Names, I: Source, O: Sink, E: Sink>(
 ) -> Result<Outcome, Halt>
     requires applicable { IsApplicable what (length items.now) }
     requires stack { (tables : Tables) × IsLiveStack tables (reach_of world.old []) frames.old.flat }
-    requires items { All (IsLiveItem (with_locals (flat.local_count frames.old.flat) (reach_of world.old []))) items.now }
-    requires stack_named { StackNamed (N.known names.now) (stack_in (extent_of world.old.heap) frames.old.flat) }
+    requires items { All (IsLiveItem (with_locals (flat.local_count frames.old.flat) (reach_of world.old [])))
+        items.now }
+    requires stack_named { StackNamed (N.known names.now)
+        (stack_in (extent_of world.old.heap) frames.old.flat) }
     requires world_named { WorldNamed (N.known names.now) (world_of world.old) }
-    requires items_named { All (ItemNamed (N.known names.now)) (map (item_in (extent_of world.old.heap)) items.now) }
-    ensures applies { Applies (step_rows.apply (N.known names.now) (applied_of what) (map (item_in (extent_of world.old.heap)) items.now)) (call_state world.old (flat.locals frames.old.flat) (call_streams (I.left input.old) (I.faults input.old) (O.state out.old) (E.state err.old))) (call_state world.new (flat.locals frames.new.flat) (call_streams (I.left input.new) (I.faults input.new) (O.state out.new) (E.state err.new))) result }
+    requires items_named { All (ItemNamed (N.known names.now))
+        (map (item_in (extent_of world.old.heap)) items.now) }
+    ensures applies { Applies (step_rows.apply (N.known names.now)
+        (applied_of what) (map (item_in (extent_of world.old.heap)) items.now))
+        (call_state world.old (flat.locals frames.old.flat)
+        (call_streams (I.left input.old) (I.faults input.old) (O.state out.old) (E.state err.old)))
+        (call_state world.new (flat.locals frames.new.flat)
+        (call_streams (I.left input.new) (I.faults input.new) (O.state out.new) (E.state err.new))) result }
     ensures named { AnswerNamed (N.known names.now) world.new (flat.locals frames.new.flat) result }
     ensures sized { AnswerKeepsSizes world.old world.new result }
     ensures stack { flat.set_locals (flat.locals frames.new.flat) frames.old.flat ≡ frames.new.flat }
@@ -118,12 +134,20 @@ fn perform_lent<'a, K: Stack<Cell> + Drop, B: Earlier, N: Names, I: Source, O: S
     requires earlier { B.stack ≡ frames.old.flat }
     requires applicable { IsApplicable what (length items.now) }
     requires stack { (tables : Tables) × IsLiveStack tables (reach_of world.old []) frames.old.flat }
-    requires items { All (IsLiveItem (with_locals (flat.local_count frames.old.flat) (reach_of world.old []))) items.now }
-    requires stack_named { StackNamed (N.known names.now) (stack_in (extent_of world.old.heap) frames.old.flat) }
+    requires items { All (IsLiveItem (with_locals (flat.local_count frames.old.flat) (reach_of world.old [])))
+        items.now }
+    requires stack_named { StackNamed (N.known names.now)
+        (stack_in (extent_of world.old.heap) frames.old.flat) }
     requires world_named { WorldNamed (N.known names.now) (world_of world.old) }
-    requires items_named { All (ItemNamed (N.known names.now)) (map (item_in (extent_of world.old.heap)) items.now) }
+    requires items_named { All (ItemNamed (N.known names.now))
+        (map (item_in (extent_of world.old.heap)) items.now) }
     ensures same_reference { result.1.ghost_name ≡ frames.entry.ghost_name }
-    ensures applies { Applies (step_rows.apply (N.known names.now) (applied_of what) (map (item_in (extent_of world.old.heap)) items.now)) (call_state world.old (flat.locals frames.old.flat) (call_streams (I.left input.old) (I.faults input.old) (O.state out.old) (E.state err.old))) (call_state world.new (flat.locals result.1.now.flat) (call_streams (I.left input.new) (I.faults input.new) (O.state out.new) (E.state err.new))) result.0 }
+    ensures applies { Applies (step_rows.apply (N.known names.now)
+        (applied_of what) (map (item_in (extent_of world.old.heap)) items.now))
+        (call_state world.old (flat.locals frames.old.flat)
+        (call_streams (I.left input.old) (I.faults input.old) (O.state out.old) (E.state err.old)))
+        (call_state world.new (flat.locals result.1.now.flat)
+        (call_streams (I.left input.new) (I.faults input.new) (O.state out.new) (E.state err.new))) result.0 }
     ensures named { AnswerNamed (N.known names.now) world.new (flat.locals result.1.now.flat) result.0 }
     ensures sized { AnswerKeepsSizes world.old world.new result.0 }
     ensures stack { flat.set_locals (flat.locals result.1.now.flat) frames.old.flat ≡ result.1.now.flat }
@@ -149,12 +173,18 @@ pub fn perform_again<K: Stack<Cell> + Drop, N: Names, I: Source, O: Sink, E: Sin
     err: &mut E,
 ) -> Result<Stage, Halt>
     requires stack { (tables : Tables) × IsLiveStack tables (reach_of world.old []) frames.old.flat }
-    requires rest { IsLiveResidual (with_locals (flat.local_count frames.old.flat) (reach_of world.old [])) rest }
-    requires stack_named { StackNamed (N.known names.now) (stack_in (extent_of world.old.heap) frames.old.flat) }
+    requires rest { IsLiveResidual (with_locals (flat.local_count frames.old.flat) (reach_of world.old []))
+        rest }
+    requires stack_named { StackNamed (N.known names.now)
+        (stack_in (extent_of world.old.heap) frames.old.flat) }
     requires world_named { WorldNamed (N.known names.now) (world_of world.old) }
     requires rest_named { ResidualNamed (N.known names.now) (residual_in (extent_of world.old.heap) rest) }
-    ensures row { PerformsRow (rows.again (residual_in (extent_of world.old.heap) rest)) world.old frames.old.flat (call_streams (I.left input.old) (I.faults input.old) (O.state out.old) (E.state err.old)) world.new frames.new.flat (call_streams (I.left input.new) (I.faults input.new) (O.state out.new) (E.state err.new)) result }
-    ensures live { (tables : Tables) → IsLiveStack tables (reach_of world.old []) frames.old.flat → OnOk result (IsLiveStack tables (reach_of world.new []) frames.new.flat) }
+    ensures row { PerformsRow (rows.again (residual_in (extent_of world.old.heap) rest))
+        world.old frames.old.flat (call_streams (I.left input.old)
+        (I.faults input.old) (O.state out.old) (E.state err.old)) world.new frames.new.flat
+        (call_streams (I.left input.new) (I.faults input.new) (O.state out.new) (E.state err.new)) result }
+    ensures live { (tables : Tables) → IsLiveStack tables (reach_of world.old []) frames.old.flat
+        → OnOk result (IsLiveStack tables (reach_of world.new []) frames.new.flat) }
     ensures halt { IfErr result (IsLiveHalt (reach_of world.new [])) }
     ensures kept { KeepsItems (reach_of world.old []) (reach_of world.new []) }
     ensures counts { OnOk result (KeepsCounts world.old world.new) }
@@ -181,11 +211,17 @@ fn again_in<K: Stack<Cell> + Drop, N: Names, I: Source, O: Sink, E: Sink>(
     err: &mut E,
 ) -> Result<Outcome, Halt>
     requires stack { (tables : Tables) × IsLiveStack tables (reach_of world.old []) frames.old.flat }
-    requires rest { IsLiveResidual (with_locals (flat.local_count frames.old.flat) (reach_of world.old [])) rest }
-    requires stack_named { StackNamed (N.known names.now) (stack_in (extent_of world.old.heap) frames.old.flat) }
+    requires rest { IsLiveResidual (with_locals (flat.local_count frames.old.flat) (reach_of world.old []))
+        rest }
+    requires stack_named { StackNamed (N.known names.now)
+        (stack_in (extent_of world.old.heap) frames.old.flat) }
     requires world_named { WorldNamed (N.known names.now) (world_of world.old) }
     requires rest_named { ResidualNamed (N.known names.now) (residual_in (extent_of world.old.heap) rest) }
-    ensures applies { Applies (rows.again (residual_in (extent_of world.old.heap) rest)) (call_state world.old (flat.locals frames.old.flat) (call_streams (I.left input.old) (I.faults input.old) (O.state out.old) (E.state err.old))) (call_state world.new (flat.locals frames.new.flat) (call_streams (I.left input.new) (I.faults input.new) (O.state out.new) (E.state err.new))) result }
+    ensures applies { Applies (rows.again (residual_in (extent_of world.old.heap) rest))
+        (call_state world.old (flat.locals frames.old.flat)
+        (call_streams (I.left input.old) (I.faults input.old) (O.state out.old) (E.state err.old)))
+        (call_state world.new (flat.locals frames.new.flat)
+        (call_streams (I.left input.new) (I.faults input.new) (O.state out.new) (E.state err.new))) result }
     ensures named { AnswerNamed (N.known names.now) world.new (flat.locals frames.new.flat) result }
     ensures sized { AnswerKeepsSizes world.old world.new result }
     ensures stack { flat.set_locals (flat.locals frames.new.flat) frames.old.flat ≡ frames.new.flat }
@@ -210,12 +246,18 @@ fn again_lent<'a, K: Stack<Cell> + Drop, B: Earlier, N: Names, I: Source, O: Sin
     requires lent { frames.ghost_name ≡ B.loan }
     requires earlier { B.stack ≡ frames.old.flat }
     requires stack { (tables : Tables) × IsLiveStack tables (reach_of world.old []) frames.old.flat }
-    requires rest { IsLiveResidual (with_locals (flat.local_count frames.old.flat) (reach_of world.old [])) rest }
-    requires stack_named { StackNamed (N.known names.now) (stack_in (extent_of world.old.heap) frames.old.flat) }
+    requires rest { IsLiveResidual (with_locals (flat.local_count frames.old.flat) (reach_of world.old []))
+        rest }
+    requires stack_named { StackNamed (N.known names.now)
+        (stack_in (extent_of world.old.heap) frames.old.flat) }
     requires world_named { WorldNamed (N.known names.now) (world_of world.old) }
     requires rest_named { ResidualNamed (N.known names.now) (residual_in (extent_of world.old.heap) rest) }
     ensures same_reference { result.1.ghost_name ≡ frames.entry.ghost_name }
-    ensures applies { Applies (rows.again (residual_in (extent_of world.old.heap) rest)) (call_state world.old (flat.locals frames.old.flat) (call_streams (I.left input.old) (I.faults input.old) (O.state out.old) (E.state err.old))) (call_state world.new (flat.locals result.1.now.flat) (call_streams (I.left input.new) (I.faults input.new) (O.state out.new) (E.state err.new))) result.0 }
+    ensures applies { Applies (rows.again (residual_in (extent_of world.old.heap) rest))
+        (call_state world.old (flat.locals frames.old.flat)
+        (call_streams (I.left input.old) (I.faults input.old) (O.state out.old) (E.state err.old)))
+        (call_state world.new (flat.locals result.1.now.flat)
+        (call_streams (I.left input.new) (I.faults input.new) (O.state out.new) (E.state err.new))) result.0 }
     ensures named { AnswerNamed (N.known names.now) world.new (flat.locals result.1.now.flat) result.0 }
     ensures sized { AnswerKeepsSizes world.old world.new result.0 }
     ensures stack { flat.set_locals (flat.locals result.1.now.flat) frames.old.flat ≡ result.1.now.flat }

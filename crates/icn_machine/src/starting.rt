@@ -43,7 +43,9 @@ fn main_of(code: &Code) -> Option<u32>
 
 // The global `main`.
 fn main_global(code: &Code) -> Option<&Variable>
-    ensures { option_copied result ≡ find (λ global. bytes_eq (name_of (tables_of code.now).strings global) (codes "main")) (tables_of code.now).globals }
+    ensures { option_copied result
+        ≡ find (λ global. bytes_eq (name_of (tables_of code.now).strings global) (codes "main"))
+        (tables_of code.now).globals }
 {
     code.globals.iter().find(|global| is_main(code, global))
 }
@@ -91,7 +93,8 @@ fn record_count(code: &Code) -> usize
 
 // The value that a global begins with.
 fn start_value(code: &Code, start: Start) -> Val
-    requires { is_start (length (tables_of code.now).records) (length (tables_of code.now).procs) start ≡ true }
+    requires { is_start (length (tables_of code.now).records) (length (tables_of code.now).procs) start
+        ≡ true }
     ensures value { (all : Extent) → value_in all result ≡ start_value (tables_of code.now) start }
     ensures live { (all : Extent) → IsLive all result }
 {
@@ -117,7 +120,8 @@ fn add(vals: &mut Vec<Val>, val: Val) -> Result<(), AllocError>
 
 // The values that the globals begin with. The error is want of memory.
 fn first_globals(code: &Code, alloc: Global) -> Result<Vec<Val>, AllocError>
-    ensures values { IfOk result (λ vals. (all : Extent) → map (value_in all) vals.items ≡ first_globals (tables_of code.now)) }
+    ensures values { IfOk result
+        (λ vals. (all : Extent) → map (value_in all) vals.items ≡ first_globals (tables_of code.now)) }
     ensures live { IfOk result (λ vals. (all : Extent) → All (IsLive all) vals.items) }
 {
     let mut vals = Vec::new(alloc);
@@ -131,7 +135,8 @@ fn first_globals(code: &Code, alloc: Global) -> Result<Vec<Val>, AllocError>
 
 // As many nulls as the procedures have statics. The error is want of memory.
 fn first_statics(code: &Code, alloc: Global) -> Result<Vec<Val>, AllocError>
-    ensures { IfOk result (λ vals. vals.items ≡ replicate (sum_by statics_of (tables_of code.now).procs) Vals.Null) }
+    ensures { IfOk result
+        (λ vals. vals.items ≡ replicate (sum_by statics_of (tables_of code.now).procs) Vals.Null) }
 {
     let mut vals = Vec::new(alloc);
     let mut rest = code.procs.as_slice();
@@ -157,7 +162,8 @@ fn none_begun(count: usize, alloc: Global) -> Result<Vec<bool>, AllocError>
 fn word_values(heap: &mut Heap, alloc: Global, words: &[String]) -> Result<Vec<Val>, Stop>
     requires { (heap_of heap.old).strings ≡ 0 }
     ensures live { IfOk result (λ vals. All (IsLive (extent_of heap.new)) vals.items) }
-    ensures values { IfOk result (λ vals. map (value_in (extent_of heap.new)) vals.items ≡ text_values (map string_bytes words.now)) }
+    ensures values { IfOk result
+        (λ vals. map (value_in (extent_of heap.new)) vals.items ≡ text_values (map string_bytes words.now)) }
     ensures step { ChargesWords (heap_of heap.old) (map string_bytes words.now) (heap_of heap.new) result }
 {
     let mut vals = Vec::new(alloc);
@@ -177,9 +183,11 @@ fn world_with_words(
     words: &[String],
     limits: Limits,
 ) -> Result<(World, Vec<Val>), Stop>
-    ensures world { IfOk result (λ pair. world_of pair.0 ≡ world_charged (tables_of code.now) (limits_of limits) (map string_bytes words.now)) }
+    ensures world { IfOk result (λ pair. world_of pair.0
+        ≡ world_charged (tables_of code.now) (limits_of limits) (map string_bytes words.now)) }
     ensures live { IfOk result (λ pair. All (IsLive (extent_of pair.0.heap)) pair.1.items) }
-    ensures values { IfOk result (λ pair. map (value_in (extent_of pair.0.heap)) pair.1.items ≡ text_values (map string_bytes words.now)) }
+    ensures values { IfOk result (λ pair. map (value_in (extent_of pair.0.heap)) pair.1.items
+        ≡ text_values (map string_bytes words.now)) }
     ensures step { WordsFit (limits_of limits) (map string_bytes words.now) result }
 {
     let mut heap = Heap::new(alloc, limits)?;
@@ -212,7 +220,8 @@ pub fn start<K: Stack<Cell> + Drop>(
     words: &[String],
     limits: Limits,
 ) -> Result<Machine<K>, Halt>
-    ensures step { (outside : Outside) → StartsAs (tables_of code.now) (launch_with words.now limits outside) result }
+    ensures step { (outside : Outside)
+        → StartsAs (tables_of code.now) (launch_with words.now limits outside) result }
     ensures sound { IfOk result (IsSound (tables_of code.now)) }
     ensures limits { IfOk result (λ m. m.limits ≡ limits) }
     ensures stack { IfOk result (λ m. IsSome m.stacks.table.running) }
@@ -283,7 +292,8 @@ fn start_main<K: Stack<Cell> + Drop>(
 ) -> Result<Machine<K>, Halt>
     requires found { main_of (tables_of code.now) ≡ Some main }
     requires there { slice_get (tables_of code.now).procs main ≡ Some (proc_of proc.now) }
-    ensures step { (outside : Outside) → StartsAs (tables_of code.now) (launch_with words.now limits outside) result }
+    ensures step { (outside : Outside)
+        → StartsAs (tables_of code.now) (launch_with words.now limits outside) result }
     ensures sound { IfOk result (IsSound (tables_of code.now)) }
     ensures limits { IfOk result (λ m. m.limits ≡ limits) }
     ensures stack { IfOk result (λ m. IsSome m.stacks.table.running) }
@@ -307,11 +317,15 @@ fn start_in<K: Stack<Cell> + Drop>(
 ) -> Result<Machine<K>, Halt>
     requires found { main_of (tables_of code.now) ≡ Some main }
     requires there { slice_get (tables_of code.now).procs main ≡ Some (proc_of proc.now) }
-    requires world { world_of world ≡ world_charged (tables_of code.now) (limits_of limits) (map string_bytes words.now) }
+    requires world { world_of world
+        ≡ world_charged (tables_of code.now) (limits_of limits) (map string_bytes words.now) }
     requires live { All (IsLive (extent_of world.heap)) vals.items }
-    requires values { map (value_in (extent_of world.heap)) vals.items ≡ text_values (map string_bytes words.now) }
-    requires paid { nat_le (0 + sum_by length (map string_bytes words.now)) (limits_of limits).strings ≡ true }
-    ensures step { (outside : Outside) → StartsAs (tables_of code.now) (launch_with words.now limits outside) result }
+    requires values { map (value_in (extent_of world.heap)) vals.items
+        ≡ text_values (map string_bytes words.now) }
+    requires paid { nat_le (0 + sum_by length (map string_bytes words.now)) (limits_of limits).strings
+        ≡ true }
+    ensures step { (outside : Outside)
+        → StartsAs (tables_of code.now) (launch_with words.now limits outside) result }
     ensures sound { IfOk result (IsSound (tables_of code.now)) }
     ensures limits { IfOk result (λ m. m.limits ≡ limits) }
     ensures stack { IfOk result (λ m. IsSome m.stacks.table.running) }

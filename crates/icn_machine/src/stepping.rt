@@ -64,8 +64,10 @@ fn instrs_at(code: &Code, proc: u32) -> &[Instr]
 
 // The instruction that is due, and the next one is gone to.
 fn take_instr<K: Stack<Cell> + Drop>(frames: &mut Frames<K>, code: &Code) -> Instr
-    requires there { frames.old.flat.place < length (instrs_of (tables_of code.now) (flat.proc frames.old.flat)) }
-    ensures instr { slice_get (instrs_of (tables_of code.now) (flat.proc frames.old.flat)) frames.old.flat.place ≡ Some result }
+    requires there { frames.old.flat.place
+        < length (instrs_of (tables_of code.now) (flat.proc frames.old.flat)) }
+    ensures instr { slice_get (instrs_of (tables_of code.now) (flat.proc frames.old.flat))
+        frames.old.flat.place ≡ Some result }
     ensures flat { frames.new.flat ≡ flat.go (suc frames.old.flat.place) frames.old.flat }
 {
     let instrs = instrs_at(code, frames.proc());
@@ -79,7 +81,8 @@ fn take_instr<K: Stack<Cell> + Drop>(frames: &mut Frames<K>, code: &Code) -> Ins
 fn next_instr<K: Stack<Cell> + Drop>(m: &mut Machine<K>, code: &Code) -> Instr
     requires ready { IsReady (tables_of code.now) m.old Stages.Runs }
     ensures instr { instruction_at calls (tables_of code.now) (stack_seen m.old) ≡ Some result }
-    ensures step { (outside : Outside) → step calls (tables_of code.now) (running (stack_seen m.old) (store_seen (tables_of code.now) outside m.old)) ≡ does (tables_of code.now) outside result m.new }
+    ensures step { (outside : Outside) → step calls (tables_of code.now) (running (stack_seen m.old)
+        (store_seen (tables_of code.now) outside m.old)) ≡ does (tables_of code.now) outside result m.new }
     ensures doing { IsDoing (tables_of code.now) m.new result }
     ensures limits { m.new.limits ≡ m.old.limits }
 {
@@ -114,7 +117,9 @@ fn do_applied<K: Stack<Cell> + Drop, N: Names, I: Source, O: Sink, E: Sink>(
     requires applied { is_applied instr ≡ true }
     requires known { N.known names.now ≡ all_names (tables_of code.now) }
     requires doing { IsDoing (tables_of code.now) m.old instr }
-    ensures step { PerformsOn (tables_of code.now) (λ outside. does (tables_of code.now) outside instr m.old) m.new (call_streams (I.left input.old) (I.faults input.old) (O.state out.old) (E.state err.old)) (call_streams (I.left input.new) (I.faults input.new) (O.state out.new) (E.state err.new)) result }
+    ensures step { PerformsOn (tables_of code.now) (λ outside. does (tables_of code.now) outside instr m.old)
+        m.new (call_streams (I.left input.old) (I.faults input.old) (O.state out.old) (E.state err.old))
+        (call_streams (I.left input.new) (I.faults input.new) (O.state out.new) (E.state err.new)) result }
     ensures ready { IfOk result (IsReady (tables_of code.now) m.new) }
     ensures halt { IfErr result (IsLiveHalt (world_reach m.new)) }
     ensures limits { m.new.limits ≡ m.old.limits }
@@ -142,7 +147,8 @@ fn do_plain<K: Stack<Cell> + Drop>(
 ) -> Result<Stage, Halt>
     requires applied { is_applied instr ≡ false }
     requires doing { IsDoing (tables_of code.now) m.old instr }
-    ensures step { (outside : Outside) → ComesTo (tables_of code.now) outside (does (tables_of code.now) outside instr m.old) m.new result }
+    ensures step { (outside : Outside)
+        → ComesTo (tables_of code.now) outside (does (tables_of code.now) outside instr m.old) m.new result }
     ensures ready { IfOk result (IsReady (tables_of code.now) m.new) }
     ensures whole { is_whole instr ≡ true → EndsWhole result }
     ensures halt { IfErr result (IsLiveHalt (world_reach m.new)) }
@@ -165,9 +171,13 @@ fn do_next<K: Stack<Cell> + Drop, N: Names, I: Source, O: Sink, E: Sink>(
 ) -> Result<Stage, Halt>
     requires known { N.known names.now ≡ all_names (tables_of code.now) }
     requires ready { IsReady (tables_of code.now) m.old Stages.Runs }
-    ensures steps { Advances (tables_of code.now) m.old Stages.Runs (call_streams (I.left input.old) (I.faults input.old) (O.state out.old) (E.state err.old)) m.new (call_streams (I.left input.new) (I.faults input.new) (O.state out.new) (E.state err.new)) result }
+    ensures steps { Advances (tables_of code.now) m.old Stages.Runs
+        (call_streams (I.left input.old) (I.faults input.old) (O.state out.old) (E.state err.old)) m.new
+        (call_streams (I.left input.new) (I.faults input.new) (O.state out.new) (E.state err.new)) result }
     ensures ready { IfOk result (IsReady (tables_of code.now) m.new) }
-    ensures whole { (instr : InstrSeen) → instruction_at calls (tables_of code.now) (stack_seen m.old) ≡ Some instr → is_whole instr ≡ true → EndsWhole result }
+    ensures whole { (instr : InstrSeen)
+        → instruction_at calls (tables_of code.now) (stack_seen m.old) ≡ Some instr → is_whole instr ≡ true
+        → EndsWhole result }
     ensures halt { IfErr result (IsLiveHalt (world_reach m.new)) }
     ensures limits { m.new.limits ≡ m.old.limits }
 {
@@ -205,7 +215,10 @@ fn fail_to_next<K: Stack<Cell> + Drop, N: Names, I: Source, O: Sink, E: Sink>(
 ) -> Result<Stepped, Halt>
     requires known { N.known names.now ≡ all_names (tables_of code.now) }
     requires ready { IsReady (tables_of code.now) m.old from }
-    ensures steps { GoesOn (tables_of code.now) m.old from (call_streams (I.left input.old) (I.faults input.old) (O.state out.old) (E.state err.old)) m.new (call_streams (I.left input.new) (I.faults input.new) (O.state out.new) (E.state err.new)) (stage_result result) }
+    ensures steps { GoesOn (tables_of code.now) m.old from
+        (call_streams (I.left input.old) (I.faults input.old) (O.state out.old) (E.state err.old)) m.new
+        (call_streams (I.left input.new) (I.faults input.new) (O.state out.new) (E.state err.new))
+        (stage_result result) }
     ensures ready { IfOk result (λ stepped. IsReady (tables_of code.now) m.new (stage_of stepped)) }
     ensures halt { IfErr result (IsLiveHalt (world_reach m.new)) }
     ensures limits { m.new.limits ≡ m.old.limits }
@@ -226,9 +239,14 @@ fn step_named<K: Stack<Cell> + Drop, N: Names, I: Source, O: Sink, E: Sink>(
 ) -> Result<Stepped, Halt>
     requires known { N.known names.now ≡ all_names (tables_of code.now) }
     requires ready { IsReady (tables_of code.now) m.old Stages.Runs }
-    ensures steps { Advances (tables_of code.now) m.old Stages.Runs (call_streams (I.left input.old) (I.faults input.old) (O.state out.old) (E.state err.old)) m.new (call_streams (I.left input.new) (I.faults input.new) (O.state out.new) (E.state err.new)) (stage_result result) }
+    ensures steps { Advances (tables_of code.now) m.old Stages.Runs
+        (call_streams (I.left input.old) (I.faults input.old) (O.state out.old) (E.state err.old)) m.new
+        (call_streams (I.left input.new) (I.faults input.new) (O.state out.new) (E.state err.new))
+        (stage_result result) }
     ensures ready { IfOk result (λ stepped. IsReady (tables_of code.now) m.new (stage_of stepped)) }
-    ensures no_memory { (instr : InstrSeen) → instruction_at calls (tables_of code.now) (stack_seen m.old) ≡ Some instr → is_whole instr ≡ true → result ≢ Err NoMemory }
+    ensures no_memory { (instr : InstrSeen)
+        → instruction_at calls (tables_of code.now) (stack_seen m.old) ≡ Some instr → is_whole instr ≡ true
+        → result ≢ Err NoMemory }
     ensures halt { IfErr result (IsLiveHalt (world_reach m.new)) }
     ensures limits { m.new.limits ≡ m.old.limits }
 {
@@ -256,9 +274,14 @@ pub fn step<K: Stack<Cell> + Drop, I: Source, O: Sink, E: Sink>(
     err: &mut E,
 ) -> Result<Stepped, Halt>
     requires ready { IsReady (tables_of code.now.code) m.old Stages.Runs }
-    ensures steps { Advances (tables_of code.now.code) m.old Stages.Runs (call_streams (I.left input.old) (I.faults input.old) (O.state out.old) (E.state err.old)) m.new (call_streams (I.left input.new) (I.faults input.new) (O.state out.new) (E.state err.new)) (stage_result result) }
+    ensures steps { Advances (tables_of code.now.code) m.old Stages.Runs
+        (call_streams (I.left input.old) (I.faults input.old) (O.state out.old) (E.state err.old)) m.new
+        (call_streams (I.left input.new) (I.faults input.new) (O.state out.new) (E.state err.new))
+        (stage_result result) }
     ensures ready { IfOk result (λ stepped. IsReady (tables_of code.now.code) m.new (stage_of stepped)) }
-    ensures no_memory { (instr : InstrSeen) → instruction_at calls (tables_of code.now.code) (stack_seen m.old) ≡ Some instr → is_whole instr ≡ true → result ≢ Err NoMemory }
+    ensures no_memory { (instr : InstrSeen)
+        → instruction_at calls (tables_of code.now.code) (stack_seen m.old) ≡ Some instr
+        → is_whole instr ≡ true → result ≢ Err NoMemory }
     ensures halt { IfErr result (IsLiveHalt (world_reach m.new)) }
     ensures limits { m.new.limits ≡ m.old.limits }
 {

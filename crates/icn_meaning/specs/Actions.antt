@@ -29,7 +29,8 @@ abbrev pub try : Value → Clauses → MaybeTree → Surroundings → Works → 
 try v NoClauses default s k r st = otherwise default s k r st
 try v (MoreClauses (Default place e) cases) default s k r st = try v cases default s k r st
 try v (MoreClauses (Guarded place c b) cases) default s k r st =
-    eval c s (Args (Operating Equivalent) (Val v ∷ []) NoTrees s and_then Cut r (Go b s k) and_then Nothing) (Do (Try v cases default s k) or_else r) st
+    eval c s (Args (Operating Equivalent) (Val v ∷ []) NoTrees s and_then Cut r (Go b s k) and_then Nothing)
+    (Do (Try v cases default s k) or_else r) st
 
 -- an action is done
 abbrev pub act : Action → Choices → Store → State

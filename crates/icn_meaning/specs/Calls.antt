@@ -22,7 +22,8 @@ fit_count (suc n) (v ∷ vs) = v ∷ fit_count n vs
 
 -- Where `initial` is due it is the first expression of the body.
 abbrev pub begun_if : Bool → ℕ → Initial → Trees → Surroundings → Choices → Store → State
-begun_if false n (Initially place e) body s r st = rest (More e body) s r (record st { begun = slice_set st.begun n true })
+begun_if false n (Initially place e) body s r st =
+    rest (More e body) s r (record st { begun = slice_set st.begun n true })
 begun_if done n _ body s r st = rest body s r st
 
 -- a procedure begins, with its `initial` where that was not done
@@ -32,13 +33,18 @@ begin n routine s r st = begun_if (slice_index_or st.begun n true) n routine.ini
 -- the body, with these parameters, in a new activation
 abbrev pub enter : ℕ → Routine → List Value → ℕ → Works → Choices → Store → State
 enter n routine parameters level k r st =
-    begin n routine (InCall (record { activation = length st.activations; procedure = n; level = level }) k r) r
-    (record st { activations = st.activations ++ (parameters ++ replicate (length routine.locals - routine.parameters) Null) ∷ [] })
+    begin n routine
+    (InCall (record { activation = length st.activations; procedure = n; level = level }) k r) r
+    (record st {
+      activations = st.activations
+          ++ (parameters ++ replicate (length routine.locals - routine.parameters) Null) ∷ [];
+    })
 
 -- A last parameter that collects gets a list of the arguments that are left. It is made in the caller's activation, a.
 abbrev pub collect : Bool → ℕ → Routine → List Value → ℕ → ℕ → Works → Choices → Store → State
 collect false n routine vs level a k r st = enter n routine (fit_count routine.parameters vs) level k r st
-collect true n routine vs level a k r st = let plain = routine.parameters - 1 in with_made (list_row (drop plain vs) (setting_in a st)) a r st (λ list st.
+collect true n routine vs level a k r st = let plain = routine.parameters - 1 in
+    with_made (list_row (drop plain vs) (setting_in a st)) a r st (λ list st.
     enter n routine (fit_count plain vs ++ list ∷ []) level k r st)
 
 -- a procedure is called, unless that is too deep
@@ -48,17 +54,23 @@ call_if false n routine vs level a k r st = errs 301 None r st
 
 -- a procedure is called with these values, at this level, from this activation
 abbrev pub call : ℕ → Routine → List Value → ℕ → ℕ → Works → Choices → Store → State
-call n routine vs level a k r st = call_if (nat_le level st.world.heap.bounds.levels) n routine vs level a k r st
+call n routine vs level a k r st =
+    call_if (nat_le level st.world.heap.bounds.levels) n routine vs level a k r st
 
 -- a constructor makes a record of its fields
 abbrev pub construct : ℕ → Kind → List Value → ℕ → Works → Choices → Store → State
-construct number kind vs a k r st = with_made (record_row number (fit_count (length kind.fields) vs) (setting_in a st)) a r st (λ v st. succeed (Val v) k r st)
+construct number kind vs a k r st =
+    with_made (record_row number (fit_count (length kind.fields) vs) (setting_in a st)) a r st
+    (λ v st. succeed (Val v) k r st)
 
 -- what a number stands for is called: a procedure, a record constructor or a function
 abbrev pub invoke_callee : Callee → ℕ → List Item → Surroundings → Works → Choices → Store → State
-invoke_callee (IsRoutine routine) n xs s k r st = values xs (activation_of s) r st (λ vs. call n routine vs (suc (frame_of s).level) (activation_of s) k r st)
-invoke_callee (IsKind number kind) n xs s k r st = values xs (activation_of s) r st (λ vs. construct number kind vs (activation_of s) k r st)
-invoke_callee (IsFunction f) n xs s k r st = answer (apply st.names (Function f) xs (setting_in (activation_of s) st)) (activation_of s) k r st
+invoke_callee (IsRoutine routine) n xs s k r st = values xs (activation_of s) r st
+    (λ vs. call n routine vs (suc (frame_of s).level) (activation_of s) k r st)
+invoke_callee (IsKind number kind) n xs s k r st =
+    values xs (activation_of s) r st (λ vs. construct number kind vs (activation_of s) k r st)
+invoke_callee (IsFunction f) n xs s k r st =
+    answer (apply st.names (Function f) xs (setting_in (activation_of s) st)) (activation_of s) k r st
 invoke_callee IsNothing n xs s k r st = errs 106 (Some (Procedure n)) r st
 
 -- the argument that was selected is the result, or it fails
@@ -89,7 +101,8 @@ items (v ∷ vs) = Val v ∷ items vs
 -- `p ! L`
 abbrev pub apply_to_list : Program → Value → Value → Surroundings → Works → Choices → Store → State
 apply_to_list program p (AList l) s k r st = invoke program p (items (list_at st.world.heap l).items) s k r st
-apply_to_list program p (ARecord n) s k r st = invoke program p (items (record_at st.world.heap n).fields) s k r st
+apply_to_list program p (ARecord n) s k r st =
+    invoke program p (items (record_at st.world.heap n).fields) s k r st
 apply_to_list program p v s k r st = errs 126 (Some v) r st
 
 -- the variable of a field; a record without that field is error 207
@@ -104,7 +117,8 @@ fields_in None = []
 
 -- `x.name`
 abbrev pub take_field : Program → List ℕ → Value → Works → Choices → Store → State
-take_field program name (ARecord x) k r st = field_at (place_of name (fields_in (slice_get program.kinds (record_at st.world.heap x).kind))) x k r st
+take_field program name (ARecord x) k r st =
+    field_at (place_of name (fields_in (slice_get program.kinds (record_at st.world.heap x).kind))) x k r st
 take_field program name v k r st = errs 107 (Some v) r st
 
 -- `[ ]`
@@ -113,19 +127,26 @@ make_list vs a k r st = with_made (list_row vs (setting_in a st)) a r st (λ v s
 
 -- What is applied, to these items, in its turn. No form has fewer operands than it is applied to.
 abbrev pub apply_form : Program → Form → List Item → Surroundings → Works → Choices → Store → State
-apply_form program (Operating Refresh) (x ∷ xs) s k r st = value x (activation_of s) r st (λ v. refresh v (activation_of s) k r st)
-apply_form program (Operating o) xs s k r st = answer (apply st.names (Operation o) xs (setting_in (activation_of s) st)) (activation_of s) k r st
+apply_form program (Operating Refresh) (x ∷ xs) s k r st =
+    value x (activation_of s) r st (λ v. refresh v (activation_of s) k r st)
+apply_form program (Operating o) xs s k r st =
+    answer (apply st.names (Operation o) xs (setting_in (activation_of s) st)) (activation_of s) k r st
 apply_form program Calling [] s k r st = lost
-apply_form program Calling (x ∷ xs) s k r st = value x (activation_of s) r st (λ v. invoke program v xs s k r st)
+apply_form program Calling (x ∷ xs) s k r st =
+    value x (activation_of s) r st (λ v. invoke program v xs s k r st)
 apply_form program Spreading [] s k r st = lost
 apply_form program Spreading (x ∷ []) s k r st = lost
-apply_form program Spreading (x ∷ y ∷ xs) s k r st = value x (activation_of s) r st (λ p. value y (activation_of s) r st (λ v. apply_to_list program p v s k r st))
-apply_form program Collecting xs s k r st = values xs (activation_of s) r st (λ vs. make_list vs (activation_of s) k r st)
+apply_form program Spreading (x ∷ y ∷ xs) s k r st = value x (activation_of s) r st
+    (λ p. value y (activation_of s) r st (λ v. apply_to_list program p v s k r st))
+apply_form program Collecting xs s k r st =
+    values xs (activation_of s) r st (λ vs. make_list vs (activation_of s) k r st)
 apply_form program (Taking name) [] s k r st = lost
-apply_form program (Taking name) (x ∷ xs) s k r st = value x (activation_of s) r st (λ v. take_field program name v k r st)
+apply_form program (Taking name) (x ∷ xs) s k r st =
+    value x (activation_of s) r st (λ v. take_field program name v k r st)
 apply_form program Activating [] s k r st = lost
 apply_form program Activating (x ∷ []) s k r st = lost
-apply_form program Activating (x ∷ y ∷ xs) s k r st = value x (activation_of s) r st (λ v. value y (activation_of s) r st (λ c. activate v c k r st))
+apply_form program Activating (x ∷ y ∷ xs) s k r st =
+    value x (activation_of s) r st (λ v. value y (activation_of s) r st (λ c. activate v c k r st))
 
 -- the next operand; or, where none is left, what is applied is applied to the items, which stand with the newest first
 abbrev pub operands : Program → Form → List Item → Trees → Surroundings → Works → Choices → Store → State

@@ -8,7 +8,8 @@ use Rattle.icn_meaning.specs.Turns.{turn, errs, locals_of, setting_in, with_made
 
 -- the co-expression of this number; where there is none, an exhausted one
 abbrev pub coexpression_of : ℕ → Store → Coexpression
-coexpression_of c st = slice_index_or st.coexpressions c (record { status = Exhausted; activator = zero; body = Empty; procedure = zero; values = [] })
+coexpression_of c st = slice_index_or st.coexpressions c
+    (record { status = Exhausted; activator = zero; body = Empty; procedure = zero; values = [] })
 
 -- whether a co-expression has begun, is active, waits or is exhausted
 abbrev pub status_of : ℕ → Store → Status
@@ -24,11 +25,13 @@ with_coexpression c co st = record st { coexpressions = slice_set st.coexpressio
 
 -- the co-expression has another status
 abbrev pub with_status : ℕ → Status → Store → Store
-with_status c status st = let co = coexpression_of c st in with_coexpression c (record co { status = status }) st
+with_status c status st =
+    let co = coexpression_of c st in with_coexpression c (record co { status = status }) st
 
 -- the co-expression has another activator
 abbrev pub with_activator : ℕ → ℕ → Store → Store
-with_activator c activator st = let co = coexpression_of c st in with_coexpression c (record co { activator = activator }) st
+with_activator c activator st =
+    let co = coexpression_of c st in with_coexpression c (record co { activator = activator }) st
 
 -- this one becomes the active one
 abbrev pub make_active : ℕ → Store → Store
@@ -37,20 +40,27 @@ make_active c st = with_status c Active (record st { active = c })
 -- one more result of a co-expression is counted
 abbrev pub count_result : ℕ → Store → Store
 count_result c st = let counts = st.world.heap.coexps in
-    record st { world = record st.world { heap = record st.world.heap { coexps = slice_set counts c (suc (slice_index_or counts c zero)) } } }
+    record st {
+      world = record st.world {
+        heap = record st.world.heap { coexps = slice_set counts c (suc (slice_index_or counts c zero)) };
+      };
+    }
 
 -- one more co-expression, which has not begun
 abbrev pub with_fresh : Tree → ℕ → List Value → Store → Store
-with_fresh e procedure locals st = let co : Coexpression = record { status = Fresh; activator = zero; body = e; procedure = procedure; values = locals } in
+with_fresh e procedure locals st = let co : Coexpression =
+    record { status = Fresh; activator = zero; body = e; procedure = procedure; values = locals } in
     record st { coexpressions = st.coexpressions ++ co ∷ [] }
 
 -- a fresh one is made in an activation: its expression, the procedure that it stands in, and the values of the locals
 abbrev pub fresh : Tree → ℕ → List Value → ℕ → Works → Choices → Store → State
-fresh e procedure locals a k r st = with_made (coexpression_row (length locals) (setting_in a st)) a r st (λ v st. succeed (Val v) k r (with_fresh e procedure locals st))
+fresh e procedure locals a k r st = with_made (coexpression_row (length locals) (setting_in a st)) a r st
+    (λ v st. succeed (Val v) k r (with_fresh e procedure locals st))
 
 -- `create e`, with the present values of the locals
 abbrev pub create : Tree → Surroundings → Works → Choices → Store → State
-create e s k r st = turn st (λ st. fresh e (frame_of s).procedure (locals_of (activation_of s) st) (activation_of s) k r st)
+create e s k r st =
+    turn st (λ st. fresh e (frame_of s).procedure (locals_of (activation_of s) st) (activation_of s) k r st)
 
 -- a new co-expression, made as this one was
 abbrev pub refreshed_from : Option Coexpression → ℕ → Works → Choices → Store → State
@@ -66,8 +76,10 @@ refresh v a k r st = errs 118 (Some v) r st
 -- a fresh one begins in an activation of its own, where so many activations were made
 abbrev pub begins : Coexpression → ℕ → Store → State
 begins co a st = eval co.body
-    (InCall (record { activation = a; procedure = co.procedure; level = 1 }) (Result a and_then Nothing) (Exhaust or_else NoChoice))
-    (Result a and_then Nothing) (Exhaust or_else NoChoice) (record st { activations = st.activations ++ co.values ∷ [] })
+    (InCall (record { activation = a; procedure = co.procedure; level = 1 }) (Result a and_then Nothing)
+    (Exhaust or_else NoChoice))
+    (Result a and_then Nothing) (Exhaust or_else NoChoice)
+    (record st { activations = st.activations ++ co.values ∷ [] })
 
 -- one that was in this status is entered with a value
 abbrev pub entered_in : Status → ℕ → Value → Store → State
@@ -110,7 +122,8 @@ activate v other k r st = errs 118 (Some other) r st
 
 -- the active one gives a result to its activator
 abbrev pub gives : Value → Choices → Store → State
-gives v r st = enter_coexp (activator_of st.active st) v (count_result st.active (with_status st.active (AfterResult r) st))
+gives v r st = enter_coexp (activator_of st.active st) v
+    (count_result st.active (with_status st.active (AfterResult r) st))
 
 -- the expression of a co-expression has a result, which goes to its activator
 abbrev pub result : Item → ℕ → Choices → Store → State

@@ -31,7 +31,8 @@ literal (CsetLiteral members) = Chars members
 -- the keyword of this name, if it is among these
 abbrev pub keyword_among : List ℕ → List KeywordName → Option KeywordName
 keyword_among name [] = None
-keyword_among name (keyword ∷ others) = if bytes_eq name (keyword_name keyword) then Some keyword else keyword_among name others
+keyword_among name (keyword ∷ others) =
+    if bytes_eq name (keyword_name keyword) then Some keyword else keyword_among name others
 
 -- a value is the result
 abbrev pub give_value : Value → Works → Choices → Store → State
@@ -39,7 +40,8 @@ give_value v k r st = succeed (Val v) k r st
 
 -- what keywords tell of the run: the level, the active co-expression and its activator
 abbrev pub standing_of : Surroundings → Store → Standing
-standing_of s st = record { level = (frame_of s).level; current = st.active; source = activator_of st.active st }
+standing_of s st =
+    record { level = (frame_of s).level; current = st.active; source = activator_of st.active st }
 
 -- the item is the result, or it fails
 abbrev pub item_or_failure : Option Item → Works → Choices → Store → State
@@ -57,19 +59,23 @@ compound place NoTrees s k r st = give_value Null k r st
 compound place (More e NoTrees) s k r st = eval e s k r st
 compound place (More Empty (More e es)) s k r st = compound place (More e es) s k r st
 compound place (More d (More e es)) s k r st =
-    eval d s (Cut r (Go (Compound place (More e es)) s k) and_then Nothing) (Do (Go (Compound place (More e es)) s k) or_else r) st
+    eval d s (Cut r (Go (Compound place (More e es)) s k) and_then Nothing)
+    (Do (Go (Compound place (More e es)) s k) or_else r) st
 
 -- `(e1, e2, ..)`: the first and then the rest
 abbrev pub conjunction : Place → Trees → Surroundings → Works → Choices → Store → State
 conjunction place NoTrees s k r st = give_value Null k r st
 conjunction place (More e NoTrees) s k r st = eval e s k r st
-conjunction place (More d (More e es)) s k r st = eval d s (Then (Parentheses place (More e es)) s and_then k) r st
+conjunction place (More d (More e es)) s k r st =
+    eval d s (Then (Parentheses place (More e es)) s and_then k) r st
 
 -- `x[i, j]` is `x[i][j]`
 abbrev pub subscripts : Program → Place → Tree → Trees → Surroundings → Works → Choices → Store → State
 subscripts program place x NoTrees s k r st = eval x s k r st
-subscripts program place x (More i NoTrees) s k r st = operands program (Operating SubscriptOp) [] (More x (More i NoTrees)) s k r st
-subscripts program place x (More i (More j js)) s k r st = subscripts program place (Subscript place x (More i NoTrees)) (More j js) s k r st
+subscripts program place x (More i NoTrees) s k r st =
+    operands program (Operating SubscriptOp) [] (More x (More i NoTrees)) s k r st
+subscripts program place x (More i (More j js)) s k r st =
+    subscripts program place (Subscript place x (More i NoTrees)) (More j js) s k r st
 
 -- a co-expression of each expression
 abbrev pub creations : Place → Trees → Trees
@@ -88,7 +94,8 @@ otherwise (Present b) s k r = Do (Go b s k) or_else r
 
 -- `|e`, with the flag that tells whether a round gave a result
 abbrev pub repeat_alternation : Tree → Surroundings → ℕ → Works → Choices → Store → State
-repeat_alternation e s flag k r st = eval e s (Raise flag and_then k) (Again e s flag k or_else r) (record st { flags = st.flags ++ false ∷ [] })
+repeat_alternation e s flag k r st = eval e s (Raise flag and_then k) (Again e s flag k or_else r)
+    (record st { flags = st.flags ++ false ∷ [] })
 
 -- the surroundings in a loop whose next pass is also what `next` does
 abbrev pub inside : Tree → Surroundings → Works → Choices → Surroundings
@@ -96,8 +103,10 @@ inside loop s k r = InLoop s k r (Pass loop s k) r
 
 -- the three loops with a control expression
 abbrev pub loops : LoopKind → Tree → Tree → MaybeTree → Surroundings → Works → Choices → Store → State
-loops Loops.While loop c b s k r st = eval c (inside loop s k r) (Cut r (Body b (inside loop s k r) (Pass loop s k)) and_then Nothing) r st
-loops Loops.Until loop c b s k r st = eval c (inside loop s k r) (Cut r Fails and_then Nothing) (Do (Body b (inside loop s k r) (Pass loop s k)) or_else r) st
+loops Loops.While loop c b s k r st =
+    eval c (inside loop s k r) (Cut r (Body b (inside loop s k r) (Pass loop s k)) and_then Nothing) r st
+loops Loops.Until loop c b s k r st = eval c (inside loop s k r) (Cut r Fails and_then Nothing)
+    (Do (Body b (inside loop s k r) (Pass loop s k)) or_else r) st
 loops Loops.Every loop e b s k r st = eval e (InLoop s k r Fails r) (Each b s k r and_then Nothing) r st
 
 -- an operator before its operand
@@ -114,31 +123,40 @@ between program Bar a b s k r st = eval a s k (Do (Go b s k) or_else r) st
 between program Backslash a b s k r st = eval b s (Limit a s and_then k) r st
 between program At a b s k r st = operands program Activating [] (More a (More b NoTrees)) s k r st
 between program Bang a b s k r st = operands program Spreading [] (More a (More b NoTrees)) s k r st
-between program o a b s k r st = operands program (Operating (infix_op o)) [] (More a (More b NoTrees)) s k r st
+between program o a b s k r st =
+    operands program (Operating (infix_op o)) [] (More a (More b NoTrees)) s k r st
 
 -- what the evaluation of an expression goes on as
 abbrev pub on_eval : Program → Tree → Surroundings → Works → Choices → Store → State
 on_eval program Empty s k r st = give_value Null k r st
 on_eval program (Constant place value) s k r st = give_value (literal value) k r st
-on_eval program (Identifier name) s k r st = succeed (Var (Whole (meaning_of program (frame_of s).procedure name.text))) k r st
+on_eval program (Identifier name) s k r st =
+    succeed (Var (Whole (meaning_of program (frame_of s).procedure name.text))) k r st
 on_eval program (Keyword place name) s k r st = keyword (keyword_among name.text keywords) s k r st
 on_eval program (Parentheses place es) s k r st = conjunction place es s k r st
 on_eval program (Listing place es) s k r st = operands program Collecting [] (elements_of es) s k r st
 on_eval program (Compound place es) s k r st = compound place es s k r st
 on_eval program (Call place f es) s k r st = operands program Calling [] (More f (elements_of es)) s k r st
-on_eval program (CoCall place f es) s k r st = operands program Calling [] (More f (More (Listing place (creations place (elements_of es))) NoTrees)) s k r st
+on_eval program (CoCall place f es) s k r st = operands program Calling []
+    (More f (More (Listing place (creations place (elements_of es))) NoTrees)) s k r st
 on_eval program (Subscript place x is) s k r st = subscripts program place x is s k r st
-on_eval program (Section place kind x i j) s k r st = operands program (Operating (section_op kind)) [] (More x (More i (More j NoTrees))) s k r st
-on_eval program (Field place x name) s k r st = operands program (Taking name.text) [] (More x NoTrees) s k r st
+on_eval program (Section place kind x i j) s k r st =
+    operands program (Operating (section_op kind)) [] (More x (More i (More j NoTrees))) s k r st
+on_eval program (Field place x name) s k r st =
+    operands program (Taking name.text) [] (More x NoTrees) s k r st
 on_eval program (Prefix place o e) s k r st = before program o e s k r st
-on_eval program (Not place e) s k r st = eval e s (Cut r Fails and_then Nothing) (Do (Give Null k) or_else r) st
+on_eval program (Not place e) s k r st =
+    eval e s (Cut r Fails and_then Nothing) (Do (Give Null k) or_else r) st
 on_eval program (Binary place (Plain o) a b) s k r st = between program o a b s k r st
 on_eval program (Binary place (Augmented o) x y) s k r st = eval x s (Update o y s and_then k) r st
-on_eval program (To place i j by) s k r st = operands program (Operating ToBy) [] (More i (More j (More (step_of place by) NoTrees))) s k r st
-on_eval program (If place c a b) s k r st = eval c s (Cut r (Go a s k) and_then Nothing) (otherwise b s k r) st
+on_eval program (To place i j by) s k r st =
+    operands program (Operating ToBy) [] (More i (More j (More (step_of place by) NoTrees))) s k r st
+on_eval program (If place c a b) s k r st =
+    eval c s (Cut r (Go a s k) and_then Nothing) (otherwise b s k r) st
 on_eval program (Case place e cases) s k r st = eval e s (Select cases s k r and_then Nothing) r st
 on_eval program (Loop place kind e b) s k r st = loops kind (Loop place kind e b) e b s k r st
-on_eval program (Repeat place b) s k r st = act (Body (Present b) (inside (Repeat place b) s k r) (Pass (Repeat place b) s k)) r st
+on_eval program (Repeat place b) s k r st =
+    act (Body (Present b) (inside (Repeat place b) s k r) (Pass (Repeat place b) s k)) r st
 on_eval program (Create place e) s k r st = create e s k r st
 on_eval program (Next place) s k r st = next s st
 on_eval program (Fail place) s k r st = off s st

@@ -10,7 +10,8 @@ use Rattle.icn_meaning.specs.Coexpressions.{exhaust}
 
 -- another round of `|e`, where its flag is up
 abbrev pub again_if : Bool → Tree → Surroundings → ℕ → Works → Choices → Store → State
-again_if true e s flag k r st = turn st (λ st. eval e s (Raise flag and_then k) (Again e s flag k or_else r) (record st { flags = slice_set st.flags flag false }))
+again_if true e s flag k r st = turn st (λ st. eval e s (Raise flag and_then k) (Again e s flag k or_else r)
+    (record st { flags = slice_set st.flags flag false }))
 again_if false e s flag k r st = fail r st
 
 -- a suspended procedure goes on

@@ -35,7 +35,8 @@ first_store program launch = record {
   flags = [];
   limits = [];
   saved = [];
-  coexpressions = record { status = Active; activator = zero; body = Empty; procedure = zero; values = [] } ∷ [];
+  coexpressions = record { status = Active; activator = zero; body = Empty; procedure = zero; values = [] }
+      ∷ [];
   active = zero;
   turns = zero;
   names = names_of program;
@@ -43,7 +44,8 @@ first_store program launch = record {
 
 -- `main` is called with that list; there is no activation yet
 abbrev pub main_called : ℕ → Routine → List (List ℕ) → Store → State
-main_called n routine words st = with_made (words_row words (setting_in zero st)) zero NoChoice st (λ list st. call n routine (list ∷ []) 1 zero Nothing NoChoice st)
+main_called n routine words st = with_made (words_row words (setting_in zero st)) zero NoChoice st
+    (λ list st. call n routine (list ∷ []) 1 zero Nothing NoChoice st)
 
 -- `main` is called; a program without it is error 117
 abbrev pub main_in : Option Routine → ℕ → List (List ℕ) → Store → State
@@ -57,7 +59,8 @@ main_at program None words st = errs 117 None NoChoice st
 
 -- where the evaluation starts: a program without a procedure `main` is error 117
 abbrev pub start : Program → Launch → State
-start program launch = main_at program (place_of (codes "main") (routine_names program.routines)) launch.words (first_store program launch)
+start program launch = main_at program (place_of (codes "main") (routine_names program.routines)) launch.words
+    (first_store program launch)
 
 -- what is seen of an evaluation that is over
 abbrev pub observed : State → Option Observed

@@ -60,7 +60,8 @@ with_name false name names = names
 -- each name once, where it stands first, behind these
 abbrev pub with_more_names : List (List ℕ) → List (List ℕ) → List (List ℕ)
 with_more_names known [] = known
-with_more_names known (name ∷ names) = with_more_names (known ++ with_name (not (has_name name known)) name []) names
+with_more_names known (name ∷ names) =
+    with_more_names (known ++ with_name (not (has_name name known)) name []) names
 
 -- the names that are not among some names, and those that pass a test
 abbrev pub without_names : List (List ℕ) → List (List ℕ) → List (List ℕ)
@@ -117,7 +118,8 @@ abbrev mutual
   pub names_in_guarded : Clauses → List (List ℕ)
   names_in_guarded NoClauses = []
   names_in_guarded (MoreClauses (Default place value) cases) = names_in_guarded cases
-  names_in_guarded (MoreClauses (Guarded place guard value) cases) = names_in guard ++ names_in value ++ names_in_guarded cases
+  names_in_guarded (MoreClauses (Guarded place guard value) cases) =
+      names_in guard ++ names_in value ++ names_in_guarded cases
 
   -- the names in the default of a `case`
   pub names_in_default : Clauses → List (List ℕ)
@@ -159,7 +161,8 @@ own_names procedure = texts procedure.parameters ++ locals_among procedure.local
 
 -- the names in a procedure that it does not declare, each once
 abbrev pub undeclared_names : ProcedureTree → List (List ℕ)
-undeclared_names procedure = with_more_names [] (without_names (own_names procedure ++ statics_among procedure.locals) (names_in_initial procedure.initial ++ names_in_all procedure.body))
+undeclared_names procedure = with_more_names [] (without_names (own_names procedure
+    ++ statics_among procedure.locals) (names_in_initial procedure.initial ++ names_in_all procedure.body))
 
 -- the declarations of all files, as one
 abbrev pub joined_declarations : List (List Declaration) → List Declaration
@@ -184,13 +187,15 @@ procedures_of (_ ∷ others) = procedures_of others
 -- the kinds of record among the declarations
 abbrev pub kinds_of : List Declaration → List Kind
 kinds_of [] = []
-kinds_of (Record place name fields ∷ others) = record { name = name.text; fields = texts fields } ∷ kinds_of others
+kinds_of (Record place name fields ∷ others) =
+    record { name = name.text; fields = texts fields } ∷ kinds_of others
 kinds_of (_ ∷ others) = kinds_of others
 
 -- the function of this name, if it is among these
 abbrev pub function_among : List ℕ → List Func → Option Func
 function_among name [] = None
-function_among name (function ∷ others) = if bytes_eq name (func_name function) then Some function else function_among name others
+function_among name (function ∷ others) =
+    if bytes_eq name (func_name function) then Some function else function_among name others
 
 -- the function of a name
 abbrev pub function_named : List ℕ → Option Func
@@ -213,7 +218,8 @@ used_names (procedure ∷ others) = undeclared_names procedure ++ used_names oth
 -- the names of the globals: what a file declares global, procedure or record, and then the functions that are used without a declaration
 abbrev pub globals_of : List Declaration → List (List ℕ)
 globals_of declarations = let declared = with_more_names [] (global_names declarations) in
-    declared ++ without_names declared (with_more_names [] (only names_function (used_names (procedures_of declarations))))
+    declared ++ without_names declared
+    (with_more_names [] (only names_function (used_names (procedures_of declarations))))
 
 -- a procedure, where these are the globals and so many statics were numbered before
 abbrev pub routine_of : List (List ℕ) → ℕ → ProcedureTree → Routine
@@ -232,7 +238,8 @@ routine_of globals first procedure = record {
 abbrev pub routines_of : List (List ℕ) → ℕ → List ProcedureTree → List Routine
 routines_of globals first [] = []
 routines_of globals first (procedure ∷ others) =
-    routine_of globals first procedure ∷ routines_of globals (first + length (statics_among procedure.locals)) others
+    routine_of globals first procedure
+    ∷ routines_of globals (first + length (statics_among procedure.locals)) others
 
 -- how many statics all procedures have
 abbrev pub statics_in : List Routine → ℕ
@@ -255,28 +262,33 @@ abbrev pub start_by : ℕ → ℕ → Option ℕ → Option ℕ → Bool → Opt
 start_by procedures records (Some n) kind declared function = Procedure n
 start_by procedures records None (Some n) declared function = Procedure (procedures + n)
 start_by procedures records None None true function = Null
-start_by procedures records None None false (Some function) = Procedure (procedures + records + pred (func_number function))
+start_by procedures records None None false (Some function) =
+    Procedure (procedures + records + pred (func_number function))
 start_by procedures records None None false None = Null
 
 -- the value that a global of this name begins with
 abbrev pub start_of : List (List ℕ) → List (List ℕ) → List (List ℕ) → List ℕ → Value
 start_of procedures records declared name =
-    start_by (length procedures) (length records) (place_of name procedures) (place_of name records) (has_name name declared) (function_named name)
+    start_by (length procedures) (length records) (place_of name procedures) (place_of name records)
+    (has_name name declared) (function_named name)
 
 -- the values that globals begin with
 abbrev pub starts_of : List (List ℕ) → List (List ℕ) → List (List ℕ) → List (List ℕ) → List Value
 starts_of procedures records declared [] = []
-starts_of procedures records declared (name ∷ names) = start_of procedures records declared name ∷ starts_of procedures records declared names
+starts_of procedures records declared (name ∷ names) =
+    start_of procedures records declared name ∷ starts_of procedures records declared names
 
 -- the program of these declarations
 abbrev pub program_of : List Declaration → Program
-program_of declarations = let globals = globals_of declarations in let routines = routines_of globals zero (procedures_of declarations) in record {
-  routines = routines;
-  kinds = kinds_of declarations;
-  globals = globals;
-  starts = starts_of (routine_names routines) (kind_names (kinds_of declarations)) (global_names declarations) globals;
-  statics = statics_in routines;
-}
+program_of declarations = let globals = globals_of declarations in
+    let routines = routines_of globals zero (procedures_of declarations) in record {
+      routines = routines;
+      kinds = kinds_of declarations;
+      globals = globals;
+      starts = starts_of (routine_names routines) (kind_names (kinds_of declarations))
+          (global_names declarations) globals;
+      statics = statics_in routines;
+    }
 
 -- the program of several files, each the list of its declarations
 abbrev pub program : List (List Declaration) → Program
@@ -296,7 +308,8 @@ pub data Callee : Type 0 where
 -- the function of this number, counted behind procedures and kinds of record
 abbrev pub function_numbered : ℕ → List Func → Callee
 function_numbered n [] = IsNothing
-function_numbered n (function ∷ others) = if func_number function == suc n then IsFunction function else function_numbered n others
+function_numbered n (function ∷ others) =
+    if func_number function == suc n then IsFunction function else function_numbered n others
 
 -- a constructor by its place, or else a function, behind so many procedures and constructors
 abbrev pub kind_or_function : ℕ → ℕ → List Kind → Callee
@@ -324,7 +337,8 @@ meant_by first None None None = Local zero
 -- what a name means in a procedure
 abbrev pub meaning_in : List (List ℕ) → List ℕ → Option Routine → Root
 meaning_in globals name None = Local zero
-meaning_in globals name (Some routine) = meant_by routine.first_static (place_of name routine.locals) (place_of name routine.statics) (place_of name globals)
+meaning_in globals name (Some routine) = meant_by routine.first_static (place_of name routine.locals)
+    (place_of name routine.statics) (place_of name globals)
 
 -- the variable that a name means in the procedure of this number
 abbrev pub meaning_of : Program → ℕ → List ℕ → Root

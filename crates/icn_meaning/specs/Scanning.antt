@@ -20,7 +20,8 @@ new_cell st = length st.saved
 
 -- the present pair is saved in a new cell, and the text is scanned from its start on
 abbrev pub enter_scan : List ℕ → Store → Store
-enter_scan text st = with_pair (record { subject = text; position = 1 }) (record st { saved = st.saved ++ pair_now st ∷ [] })
+enter_scan text st =
+    with_pair (record { subject = text; position = 1 }) (record st { saved = st.saved ++ pair_now st ∷ [] })
 
 -- the pair of the cell becomes the present one
 abbrev pub restore_pair : ℕ → Store → Store

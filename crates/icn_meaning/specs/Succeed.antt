@@ -23,7 +23,8 @@ raise_flag flag st = record st { flags = slice_set st.flags flag true }
 -- a limit: so many results are allowed, in a new count
 abbrev pub limit : Option ℤ → Value → Tree → Surroundings → Works → Choices → Store → State
 limit (Some (pos zero)) v e s k r st = fail r st
-limit (Some (pos (suc n))) v e s k r st = eval e s (Count (length st.limits) r and_then k) r (record st { limits = st.limits ++ suc n ∷ [] })
+limit (Some (pos (suc n))) v e s k r st =
+    eval e s (Count (length st.limits) r and_then k) r (record st { limits = st.limits ++ suc n ∷ [] })
 limit (Some (negsuc n)) v e s k r st = errs 205 (Some v) r st
 limit None v e s k r st = errs 101 (Some v) r st
 
@@ -38,23 +39,30 @@ count_by (suc n) x k r0 r st = succeed x k r st
 
 -- a result of a limited expression is counted
 abbrev pub count_down : ℕ → Item → Works → Choices → Choices → Store → State
-count_down c x k r0 r st = count_by (remaining c st) x k r0 r (record st { limits = slice_set st.limits c (remaining c st) })
+count_down c x k r0 r st =
+    count_by (remaining c st) x k r0 r (record st { limits = slice_set st.limits c (remaining c st) })
 
 -- a scan of this text, which saves the pair in the cell p
 abbrev pub scan_in : ℕ → Value → Tree → Surroundings → Works → Choices → Store → State
-scan_in p (Text text) e s k r st = eval e (InScan p s) (Leave p and_then k) (Restore p or_else r) (enter_scan text st)
+scan_in p (Text text) e s k r st =
+    eval e (InScan p s) (Leave p and_then k) (Restore p or_else r) (enter_scan text st)
 scan_in p v e s k r st = fail r st
 
 -- a scan begins with the text of a value
 abbrev pub scan : Item → Tree → Surroundings → Works → Choices → Store → State
-scan x e s k r st = value x (activation_of s) r st (λ v. with_made (text_row v (setting_in (activation_of s) st)) (activation_of s) r st (λ text st. scan_in (new_cell st) text e s k r st))
+scan x e s k r st =
+    value x (activation_of s) r st (λ v. with_made (text_row v (setting_in (activation_of s) st))
+    (activation_of s) r st (λ text st. scan_in (new_cell st) text e s k r st))
 
 -- `x op:= y`, with x there
 abbrev pub update : Operator → Item → Tree → Surroundings → Works → Choices → Store → State
 update Ampersand x y s k r st = eval y s (Args (Operating Assign) (x ∷ []) NoTrees s and_then k) r st
-update Question x y s k r st = succeed x (Scan y s and_then Args (Operating Assign) (x ∷ []) NoTrees s and_then k) r st
-update At x y s k r st = eval y s (Args Activating (x ∷ []) NoTrees s and_then Args (Operating Assign) (x ∷ []) NoTrees s and_then k) r st
-update o x y s k r st = eval y s (Args (Operating (infix_op o)) (x ∷ []) NoTrees s and_then Args (Operating Assign) (x ∷ []) NoTrees s and_then k) r st
+update Question x y s k r st =
+    succeed x (Scan y s and_then Args (Operating Assign) (x ∷ []) NoTrees s and_then k) r st
+update At x y s k r st = eval y s
+    (Args Activating (x ∷ []) NoTrees s and_then Args (Operating Assign) (x ∷ []) NoTrees s and_then k) r st
+update o x y s k r st = eval y s (Args (Operating (infix_op o)) (x ∷ []) NoTrees s
+    and_then Args (Operating Assign) (x ∷ []) NoTrees s and_then k) r st
 
 -- a result of the control expression of `every`, around which are s, k and r0
 abbrev pub each : MaybeTree → Surroundings → Works → Choices → Choices → Store → State
@@ -74,13 +82,15 @@ on_succeed program x (Args form xs es s and_then k) r st = operands program form
 on_succeed program x (Then e s and_then k) r st = eval e s k r st
 on_succeed program x (Cut r0 a and_then k) r st = act a r0 st
 on_succeed program x (Raise flag and_then k) r st = succeed x k r (raise_flag flag st)
-on_succeed program x (Limit e s and_then k) r st = value x (activation_of s) r st (λ v. limit (integer_of v) v e s k r st)
+on_succeed program x (Limit e s and_then k) r st =
+    value x (activation_of s) r st (λ v. limit (integer_of v) v e s k r st)
 on_succeed program x (Count c r0 and_then k) r st = count_down c x k r0 r st
 on_succeed program x (Scan e s and_then k) r st = scan x e s k r st
 on_succeed program x (Leave p and_then k) r st = succeed x k (Reenter p or_else r) (exchange_pairs p st)
 on_succeed program x (Update o y s and_then k) r st = update o x y s k r st
 on_succeed program x (Each b s k0 r0 and_then k) r st = each b s k0 r0 r st
-on_succeed program x (Select cases s k0 r0 and_then k) r st = value x (activation_of s) r st (λ v. act (Try v cases (default_of cases) s k0) r0 st)
+on_succeed program x (Select cases s k0 r0 and_then k) r st =
+    value x (activation_of s) r st (λ v. act (Try v cases (default_of cases) s k0) r0 st)
 on_succeed program x (Returning s and_then k) r st = return x s r st
 on_succeed program x (Suspending b s and_then k) r st = suspend x b s r st
 on_succeed program x (Result a and_then k) r st = result x a r st

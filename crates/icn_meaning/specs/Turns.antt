@@ -35,7 +35,11 @@ setting_in a st = record { world = st.world; locals = locals_of a st; outside = 
 
 -- the store after it
 abbrev pub after : ℕ → Setting → Store → Store
-after a setting st = record st { world = setting.world; outside = setting.outside; activations = slice_set st.activations a setting.locals }
+after a setting st = record st {
+  world = setting.world;
+  outside = setting.outside;
+  activations = slice_set st.activations a setting.locals;
+}
 
 -- what an operation answers in an activation goes on as this
 abbrev pub answer : Outcome → ℕ → Works → Choices → Store → State
@@ -69,5 +73,6 @@ values (x ∷ xs) a r st go = value x a r st (λ v. values xs a r st (λ vs. go 
 -- what leaves an activation: a local of it, or a substring of one, is dereferenced; another variable stays one
 abbrev pub outgoing : Item → ℕ → Choices → Store → (Item → State) → State
 outgoing (Var (Whole (Local n))) a r st go = value (Var (Whole (Local n))) a r st (λ v. go (Val v))
-outgoing (Var (Part (Local n) place size)) a r st go = value (Var (Part (Local n) place size)) a r st (λ v. go (Val v))
+outgoing (Var (Part (Local n) place size)) a r st go =
+    value (Var (Part (Local n) place size)) a r st (λ v. go (Val v))
 outgoing x a r st go = go x

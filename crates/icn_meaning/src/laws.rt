@@ -6,5 +6,6 @@ ghost use Rattle.icn_meaning.specs.Program.{Program};
 
 /// A program has, with its words, its limits and the outside before it, at most one observation.
 pub fn one_observation()
-    ensures { (program : Program) (launch : Launch) (a b : Observed) → Means program launch a → Means program launch b → a ≡ b }
+    ensures { (program : Program) (launch : Launch) (a b : Observed) → Means program launch a
+        → Means program launch b → a ≡ b }
 {}

@@ -19,7 +19,8 @@ use Rattle.icn_named.specs.Named.{ItemNamed, OptionNamed, ResidualNamed, Setting
 abbrev pub OutcomeNamed : Names → Outcome → Type 0
 OutcomeNamed names (Fails seen) = SettingNamed names seen
 OutcomeNamed names (Gives item seen) = ItemNamed names item × SettingNamed names seen
-OutcomeNamed names (Suspends item rest seen) = ItemNamed names item × (ResidualNamed names rest × SettingNamed names seen)
+OutcomeNamed names (Suspends item rest seen) =
+    ItemNamed names item × (ResidualNamed names rest × SettingNamed names seen)
 OutcomeNamed names (Error number offending seen) = OptionNamed names offending × SettingNamed names seen
 OutcomeNamed names (Ends status seen) = SettingNamed names seen
 

@@ -61,7 +61,8 @@ abbrev pub TableNamed : Names → Table → Type 0
 TableNamed names table = ValueNamed names table.default × All (PairNamed names) table.pairs
 
 abbrev pub RecordNamed : Names → Record → Type 0
-RecordNamed names structure = (structure.kind < length names.records) × All (ValueNamed names) structure.fields
+RecordNamed names structure =
+    (structure.kind < length names.records) × All (ValueNamed names) structure.fields
 
 -- the values in all structures of a heap name what has a name, and the kind of each record has one
 pub record HeapNamed (names : Names) (heap : Heap) : Type 0 where

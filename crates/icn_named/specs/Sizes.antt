@@ -15,7 +15,8 @@ use Rattle.icn_named.specs.Keeping.{IsThere}
 
 -- each record has as many fields as its kind has
 pub record FitSizes (sizes : ℕ → ℕ) (heap : Heap) : Type 0 where
-  pub fit : (id : ℕ) (structure : Record) → slice_get heap.records id ≡ Some structure → length structure.fields ≡ sizes structure.kind
+  pub fit : (id : ℕ) (structure : Record) → slice_get heap.records id ≡ Some structure
+      → length structure.fields ≡ sizes structure.kind
 
 -- the kind of a record, where it is there
 abbrev pub kind_at : Heap → ℕ → Option ℕ

@@ -45,7 +45,11 @@ pub fn first<L: Locals, I: Source>(
     requires arity { length args.now ≡ arity op }
     requires locals { All (IsLive (extent_of w.old.heap)) (L.items l.old) }
     requires args { All (IsLiveItem (reach_of w.old (L.items l.old))) args.now }
-    ensures { (output errors : SinkState) → Applies (operation_row op (map (item_in (extent_of w.old.heap)) args.now)) (call_state w.old (L.items l.old) (call_streams (I.left input.old) (I.faults input.old) output errors)) (call_state w.new (L.items l.new) (call_streams (I.left input.new) (I.faults input.new) output errors)) result }
+    ensures { (output errors : SinkState)
+        → Applies (operation_row op (map (item_in (extent_of w.old.heap)) args.now)) (call_state w.old
+        (L.items l.old) (call_streams (I.left input.old) (I.faults input.old) output errors))
+        (call_state w.new (L.items l.new)
+        (call_streams (I.left input.new) (I.faults input.new) output errors)) result }
 {
     if wants_values(op) {
         return apply_to_values(op, args, w, l);
@@ -69,7 +73,10 @@ pub fn again<L: Locals, I: Source>(
     requires operation { is_of_operations rest ≡ true }
     requires locals { All (IsLive (extent_of w.old.heap)) (L.items l.old) }
     requires rest { IsLiveResidual (reach_of w.old (L.items l.old)) rest }
-    ensures { (output errors : SinkState) → Applies (again (residual_in (extent_of w.old.heap) rest)) (call_state w.old (L.items l.old) (call_streams (I.left input.old) (I.faults input.old) output errors)) (call_state w.new (L.items l.new) (call_streams (I.left input.new) (I.faults input.new) output errors)) result }
+    ensures { (output errors : SinkState)
+        → Applies (again (residual_in (extent_of w.old.heap) rest)) (call_state w.old (L.items l.old)
+        (call_streams (I.left input.old) (I.faults input.old) output errors)) (call_state w.new
+        (L.items l.new) (call_streams (I.left input.new) (I.faults input.new) output errors)) result }
 {
     match rest {
         Residual::InputLines => lines_again(w, l, buffer, input),
@@ -90,7 +97,11 @@ fn apply_to_one<L: Locals, I: Source>(
     requires arity { arity op ≡ 1 }
     requires locals { All (IsLive (extent_of w.old.heap)) (L.items l.old) }
     requires first { IsLiveItem (reach_of w.old (L.items l.old)) x }
-    ensures { (output errors : SinkState) → Applies (operation_on op (item_in (extent_of w.old.heap) x) (ValItem Null) (ValItem Null)) (call_state w.old (L.items l.old) (call_streams (I.left input.old) (I.faults input.old) output errors)) (call_state w.new (L.items l.new) (call_streams (I.left input.new) (I.faults input.new) output errors)) result }
+    ensures { (output errors : SinkState)
+        → Applies (operation_on op (item_in (extent_of w.old.heap) x) (ValItem Null) (ValItem Null))
+        (call_state w.old (L.items l.old)
+        (call_streams (I.left input.old) (I.faults input.old) output errors)) (call_state w.new
+        (L.items l.new) (call_streams (I.left input.new) (I.faults input.new) output errors)) result }
 {
     match op {
         Op::Elements => elements_row(w, l, x, buffer, input),
@@ -113,7 +124,8 @@ fn apply_to_two<L: Locals>(
     requires locals { All (IsLive (extent_of w.old.heap)) (L.items l.old) }
     requires first { IsLiveItem (reach_of w.old (L.items l.old)) x }
     requires second { IsLiveItem (reach_of w.old (L.items l.old)) y }
-    ensures row { Answers w.old (L.items l.old) w.new (L.items l.new) (operation_on op (item_in (extent_of w.old.heap) x) (item_in (extent_of w.old.heap) y) (ValItem Null)) result }
+    ensures row { Answers w.old (L.items l.old) w.new (L.items l.new) (operation_on op
+        (item_in (extent_of w.old.heap) x) (item_in (extent_of w.old.heap) y) (ValItem Null)) result }
     ensures live { IsLiveAnswer (reach_of w.new (L.items l.new)) result }
     ensures locals { All (IsLive (extent_of w.new.heap)) (L.items l.new) }
     ensures kept { KeepsItems (reach_of w.old (L.items l.old)) (reach_of w.new (L.items l.new)) }
@@ -143,7 +155,9 @@ fn apply_to_three<L: Locals>(
     requires first { IsLiveItem (reach_of w.old (L.items l.now)) x }
     requires second { IsLiveItem (reach_of w.old (L.items l.now)) y }
     requires third { IsLiveItem (reach_of w.old (L.items l.now)) z }
-    ensures row { Answers w.old (L.items l.now) w.new (L.items l.now) (operation_on op (item_in (extent_of w.old.heap) x) (item_in (extent_of w.old.heap) y) (item_in (extent_of w.old.heap) z)) result }
+    ensures row { Answers w.old (L.items l.now) w.new (L.items l.now)
+        (operation_on op (item_in (extent_of w.old.heap) x) (item_in (extent_of w.old.heap) y)
+        (item_in (extent_of w.old.heap) z)) result }
     ensures live { IsLiveAnswer (reach_of w.new (L.items l.now)) result }
     ensures locals { All (IsLive (extent_of w.new.heap)) (L.items l.now) }
     ensures kept { KeepsItems (reach_of w.old (L.items l.now)) (reach_of w.new (L.items l.now)) }

@@ -21,7 +21,8 @@ use icn_vars::{Halt, Locals, Outcome, World, deref};
 
 // The integer that was computed, or the error of its operation.
 fn given(found: Result<i64, Arith>) -> Result<Outcome, Halt>
-    ensures row { (all : Extent) (setting : Setting) → ComesToAnswer all (gives_computed found) setting setting result }
+    ensures row { (all : Extent) (setting : Setting)
+        → ComesToAnswer all (gives_computed found) setting setting result }
     ensures live { (reach : Reach) → IsLiveAnswer reach result }
 {
     let n = computed(found)?;
@@ -32,7 +33,8 @@ fn given(found: Result<i64, Arith>) -> Result<Outcome, Halt>
 pub fn number_row<L: Locals>(w: &World, l: &L, x: Item) -> Result<Outcome, Halt>
     requires locals { All (IsLive (extent_of w.now.heap)) (L.items l.now) }
     requires first { IsLiveItem (reach_of w.now (L.items l.now)) x }
-    ensures row { Answers w.now (L.items l.now) w.now (L.items l.now) (number_row (item_in (extent_of w.now.heap) x)) result }
+    ensures row { Answers w.now (L.items l.now) w.now (L.items l.now)
+        (number_row (item_in (extent_of w.now.heap) x)) result }
     ensures live { IsLiveAnswer (reach_of w.now (L.items l.now)) result }
 {
     let val = deref(w, l, x)?;
@@ -44,7 +46,8 @@ pub fn number_row<L: Locals>(w: &World, l: &L, x: Item) -> Result<Outcome, Halt>
 pub fn negate_row<L: Locals>(w: &World, l: &L, x: Item) -> Result<Outcome, Halt>
     requires locals { All (IsLive (extent_of w.now.heap)) (L.items l.now) }
     requires first { IsLiveItem (reach_of w.now (L.items l.now)) x }
-    ensures row { Answers w.now (L.items l.now) w.now (L.items l.now) (negate_row (item_in (extent_of w.now.heap) x)) result }
+    ensures row { Answers w.now (L.items l.now) w.now (L.items l.now)
+        (negate_row (item_in (extent_of w.now.heap) x)) result }
     ensures live { IsLiveAnswer (reach_of w.now (L.items l.now)) result }
 {
     let val = deref(w, l, x)?;
@@ -57,7 +60,8 @@ pub fn add_row<L: Locals>(w: &World, l: &L, x: Item, y: Item) -> Result<Outcome,
     requires locals { All (IsLive (extent_of w.now.heap)) (L.items l.now) }
     requires first { IsLiveItem (reach_of w.now (L.items l.now)) x }
     requires second { IsLiveItem (reach_of w.now (L.items l.now)) y }
-    ensures row { Answers w.now (L.items l.now) w.now (L.items l.now) (add_row (item_in (extent_of w.now.heap) x) (item_in (extent_of w.now.heap) y)) result }
+    ensures row { Answers w.now (L.items l.now) w.now (L.items l.now)
+        (add_row (item_in (extent_of w.now.heap) x) (item_in (extent_of w.now.heap) y)) result }
     ensures live { IsLiveAnswer (reach_of w.now (L.items l.now)) result }
 {
     let (m, n) = two_numbers(w, l, x, y)?;
@@ -69,7 +73,8 @@ pub fn subtract_row<L: Locals>(w: &World, l: &L, x: Item, y: Item) -> Result<Out
     requires locals { All (IsLive (extent_of w.now.heap)) (L.items l.now) }
     requires first { IsLiveItem (reach_of w.now (L.items l.now)) x }
     requires second { IsLiveItem (reach_of w.now (L.items l.now)) y }
-    ensures row { Answers w.now (L.items l.now) w.now (L.items l.now) (subtract_row (item_in (extent_of w.now.heap) x) (item_in (extent_of w.now.heap) y)) result }
+    ensures row { Answers w.now (L.items l.now) w.now (L.items l.now)
+        (subtract_row (item_in (extent_of w.now.heap) x) (item_in (extent_of w.now.heap) y)) result }
     ensures live { IsLiveAnswer (reach_of w.now (L.items l.now)) result }
 {
     let (m, n) = two_numbers(w, l, x, y)?;
@@ -81,7 +86,8 @@ pub fn multiply_row<L: Locals>(w: &World, l: &L, x: Item, y: Item) -> Result<Out
     requires locals { All (IsLive (extent_of w.now.heap)) (L.items l.now) }
     requires first { IsLiveItem (reach_of w.now (L.items l.now)) x }
     requires second { IsLiveItem (reach_of w.now (L.items l.now)) y }
-    ensures row { Answers w.now (L.items l.now) w.now (L.items l.now) (multiply_row (item_in (extent_of w.now.heap) x) (item_in (extent_of w.now.heap) y)) result }
+    ensures row { Answers w.now (L.items l.now) w.now (L.items l.now)
+        (multiply_row (item_in (extent_of w.now.heap) x) (item_in (extent_of w.now.heap) y)) result }
     ensures live { IsLiveAnswer (reach_of w.now (L.items l.now)) result }
 {
     let (m, n) = two_numbers(w, l, x, y)?;
@@ -93,7 +99,8 @@ pub fn divide_row<L: Locals>(w: &World, l: &L, x: Item, y: Item) -> Result<Outco
     requires locals { All (IsLive (extent_of w.now.heap)) (L.items l.now) }
     requires first { IsLiveItem (reach_of w.now (L.items l.now)) x }
     requires second { IsLiveItem (reach_of w.now (L.items l.now)) y }
-    ensures row { Answers w.now (L.items l.now) w.now (L.items l.now) (divide_row (item_in (extent_of w.now.heap) x) (item_in (extent_of w.now.heap) y)) result }
+    ensures row { Answers w.now (L.items l.now) w.now (L.items l.now)
+        (divide_row (item_in (extent_of w.now.heap) x) (item_in (extent_of w.now.heap) y)) result }
     ensures live { IsLiveAnswer (reach_of w.now (L.items l.now)) result }
 {
     let (m, n) = two_numbers(w, l, x, y)?;
@@ -105,7 +112,8 @@ pub fn remainder_row<L: Locals>(w: &World, l: &L, x: Item, y: Item) -> Result<Ou
     requires locals { All (IsLive (extent_of w.now.heap)) (L.items l.now) }
     requires first { IsLiveItem (reach_of w.now (L.items l.now)) x }
     requires second { IsLiveItem (reach_of w.now (L.items l.now)) y }
-    ensures row { Answers w.now (L.items l.now) w.now (L.items l.now) (remainder_row (item_in (extent_of w.now.heap) x) (item_in (extent_of w.now.heap) y)) result }
+    ensures row { Answers w.now (L.items l.now) w.now (L.items l.now)
+        (remainder_row (item_in (extent_of w.now.heap) x) (item_in (extent_of w.now.heap) y)) result }
     ensures live { IsLiveAnswer (reach_of w.now (L.items l.now)) result }
 {
     let (m, n) = two_numbers(w, l, x, y)?;
@@ -117,7 +125,8 @@ pub fn power_row<L: Locals>(w: &World, l: &L, x: Item, y: Item) -> Result<Outcom
     requires locals { All (IsLive (extent_of w.now.heap)) (L.items l.now) }
     requires first { IsLiveItem (reach_of w.now (L.items l.now)) x }
     requires second { IsLiveItem (reach_of w.now (L.items l.now)) y }
-    ensures row { Answers w.now (L.items l.now) w.now (L.items l.now) (power_row (item_in (extent_of w.now.heap) x) (item_in (extent_of w.now.heap) y)) result }
+    ensures row { Answers w.now (L.items l.now) w.now (L.items l.now)
+        (power_row (item_in (extent_of w.now.heap) x) (item_in (extent_of w.now.heap) y)) result }
     ensures live { IsLiveAnswer (reach_of w.now (L.items l.now)) result }
 {
     let (m, n) = two_numbers(w, l, x, y)?;

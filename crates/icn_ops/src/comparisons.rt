@@ -19,7 +19,8 @@ use icn_vars::{Halt, Locals, Outcome, World};
 
 // A value where a test is met; it fails elsewhere.
 fn value_if(test: bool, val: Val) -> Outcome
-    ensures row { (all : Extent) (setting : Setting) → passing test (gives_value (value_in all val)) setting ≡ outcome_in all result setting }
+    ensures row { (all : Extent) (setting : Setting)
+        → passing test (gives_value (value_in all val)) setting ≡ outcome_in all result setting }
     ensures live { (reach : Reach) → IsLive reach.extent val → IsLiveOutcome reach result }
 {
     if test {
@@ -34,7 +35,8 @@ pub fn less_row<L: Locals>(w: &World, l: &L, x: Item, y: Item) -> Result<Outcome
     requires locals { All (IsLive (extent_of w.now.heap)) (L.items l.now) }
     requires first { IsLiveItem (reach_of w.now (L.items l.now)) x }
     requires second { IsLiveItem (reach_of w.now (L.items l.now)) y }
-    ensures row { Answers w.now (L.items l.now) w.now (L.items l.now) (less_row (item_in (extent_of w.now.heap) x) (item_in (extent_of w.now.heap) y)) result }
+    ensures row { Answers w.now (L.items l.now) w.now (L.items l.now)
+        (less_row (item_in (extent_of w.now.heap) x) (item_in (extent_of w.now.heap) y)) result }
     ensures live { IsLiveAnswer (reach_of w.now (L.items l.now)) result }
 {
     let (order, n) = compared_numbers(w, l, x, y)?;
@@ -46,7 +48,8 @@ pub fn less_or_equal_row<L: Locals>(w: &World, l: &L, x: Item, y: Item) -> Resul
     requires locals { All (IsLive (extent_of w.now.heap)) (L.items l.now) }
     requires first { IsLiveItem (reach_of w.now (L.items l.now)) x }
     requires second { IsLiveItem (reach_of w.now (L.items l.now)) y }
-    ensures row { Answers w.now (L.items l.now) w.now (L.items l.now) (less_or_equal_row (item_in (extent_of w.now.heap) x) (item_in (extent_of w.now.heap) y)) result }
+    ensures row { Answers w.now (L.items l.now) w.now (L.items l.now)
+        (less_or_equal_row (item_in (extent_of w.now.heap) x) (item_in (extent_of w.now.heap) y)) result }
     ensures live { IsLiveAnswer (reach_of w.now (L.items l.now)) result }
 {
     let (order, n) = compared_numbers(w, l, x, y)?;
@@ -58,7 +61,8 @@ pub fn equal_row<L: Locals>(w: &World, l: &L, x: Item, y: Item) -> Result<Outcom
     requires locals { All (IsLive (extent_of w.now.heap)) (L.items l.now) }
     requires first { IsLiveItem (reach_of w.now (L.items l.now)) x }
     requires second { IsLiveItem (reach_of w.now (L.items l.now)) y }
-    ensures row { Answers w.now (L.items l.now) w.now (L.items l.now) (equal_row (item_in (extent_of w.now.heap) x) (item_in (extent_of w.now.heap) y)) result }
+    ensures row { Answers w.now (L.items l.now) w.now (L.items l.now)
+        (equal_row (item_in (extent_of w.now.heap) x) (item_in (extent_of w.now.heap) y)) result }
     ensures live { IsLiveAnswer (reach_of w.now (L.items l.now)) result }
 {
     let (order, n) = compared_numbers(w, l, x, y)?;
@@ -70,7 +74,8 @@ pub fn greater_or_equal_row<L: Locals>(w: &World, l: &L, x: Item, y: Item) -> Re
     requires locals { All (IsLive (extent_of w.now.heap)) (L.items l.now) }
     requires first { IsLiveItem (reach_of w.now (L.items l.now)) x }
     requires second { IsLiveItem (reach_of w.now (L.items l.now)) y }
-    ensures row { Answers w.now (L.items l.now) w.now (L.items l.now) (greater_or_equal_row (item_in (extent_of w.now.heap) x) (item_in (extent_of w.now.heap) y)) result }
+    ensures row { Answers w.now (L.items l.now) w.now (L.items l.now)
+        (greater_or_equal_row (item_in (extent_of w.now.heap) x) (item_in (extent_of w.now.heap) y)) result }
     ensures live { IsLiveAnswer (reach_of w.now (L.items l.now)) result }
 {
     let (order, n) = compared_numbers(w, l, x, y)?;
@@ -82,7 +87,8 @@ pub fn greater_row<L: Locals>(w: &World, l: &L, x: Item, y: Item) -> Result<Outc
     requires locals { All (IsLive (extent_of w.now.heap)) (L.items l.now) }
     requires first { IsLiveItem (reach_of w.now (L.items l.now)) x }
     requires second { IsLiveItem (reach_of w.now (L.items l.now)) y }
-    ensures row { Answers w.now (L.items l.now) w.now (L.items l.now) (greater_row (item_in (extent_of w.now.heap) x) (item_in (extent_of w.now.heap) y)) result }
+    ensures row { Answers w.now (L.items l.now) w.now (L.items l.now)
+        (greater_row (item_in (extent_of w.now.heap) x) (item_in (extent_of w.now.heap) y)) result }
     ensures live { IsLiveAnswer (reach_of w.now (L.items l.now)) result }
 {
     let (order, n) = compared_numbers(w, l, x, y)?;
@@ -94,7 +100,8 @@ pub fn not_equal_row<L: Locals>(w: &World, l: &L, x: Item, y: Item) -> Result<Ou
     requires locals { All (IsLive (extent_of w.now.heap)) (L.items l.now) }
     requires first { IsLiveItem (reach_of w.now (L.items l.now)) x }
     requires second { IsLiveItem (reach_of w.now (L.items l.now)) y }
-    ensures row { Answers w.now (L.items l.now) w.now (L.items l.now) (not_equal_row (item_in (extent_of w.now.heap) x) (item_in (extent_of w.now.heap) y)) result }
+    ensures row { Answers w.now (L.items l.now) w.now (L.items l.now)
+        (not_equal_row (item_in (extent_of w.now.heap) x) (item_in (extent_of w.now.heap) y)) result }
     ensures live { IsLiveAnswer (reach_of w.now (L.items l.now)) result }
 {
     let (order, n) = compared_numbers(w, l, x, y)?;
@@ -111,7 +118,8 @@ pub fn lexically_less_row<L: Locals>(
     requires locals { All (IsLive (extent_of w.old.heap)) (L.items l.now) }
     requires first { IsLiveItem (reach_of w.old (L.items l.now)) x }
     requires second { IsLiveItem (reach_of w.old (L.items l.now)) y }
-    ensures row { Answers w.old (L.items l.now) w.new (L.items l.now) (lexically_less_row (item_in (extent_of w.old.heap) x) (item_in (extent_of w.old.heap) y)) result }
+    ensures row { Answers w.old (L.items l.now) w.new (L.items l.now)
+        (lexically_less_row (item_in (extent_of w.old.heap) x) (item_in (extent_of w.old.heap) y)) result }
     ensures live { IsLiveAnswer (reach_of w.new (L.items l.now)) result }
     ensures locals { All (IsLive (extent_of w.new.heap)) (L.items l.now) }
     ensures kept { KeepsItems (reach_of w.old (L.items l.now)) (reach_of w.new (L.items l.now)) }
@@ -130,7 +138,9 @@ pub fn lexically_less_or_equal_row<L: Locals>(
     requires locals { All (IsLive (extent_of w.old.heap)) (L.items l.now) }
     requires first { IsLiveItem (reach_of w.old (L.items l.now)) x }
     requires second { IsLiveItem (reach_of w.old (L.items l.now)) y }
-    ensures row { Answers w.old (L.items l.now) w.new (L.items l.now) (lexically_less_or_equal_row (item_in (extent_of w.old.heap) x) (item_in (extent_of w.old.heap) y)) result }
+    ensures row { Answers w.old (L.items l.now) w.new (L.items l.now)
+        (lexically_less_or_equal_row (item_in (extent_of w.old.heap) x) (item_in (extent_of w.old.heap) y))
+        result }
     ensures live { IsLiveAnswer (reach_of w.new (L.items l.now)) result }
     ensures locals { All (IsLive (extent_of w.new.heap)) (L.items l.now) }
     ensures kept { KeepsItems (reach_of w.old (L.items l.now)) (reach_of w.new (L.items l.now)) }
@@ -149,7 +159,8 @@ pub fn lexically_equal_row<L: Locals>(
     requires locals { All (IsLive (extent_of w.old.heap)) (L.items l.now) }
     requires first { IsLiveItem (reach_of w.old (L.items l.now)) x }
     requires second { IsLiveItem (reach_of w.old (L.items l.now)) y }
-    ensures row { Answers w.old (L.items l.now) w.new (L.items l.now) (lexically_equal_row (item_in (extent_of w.old.heap) x) (item_in (extent_of w.old.heap) y)) result }
+    ensures row { Answers w.old (L.items l.now) w.new (L.items l.now)
+        (lexically_equal_row (item_in (extent_of w.old.heap) x) (item_in (extent_of w.old.heap) y)) result }
     ensures live { IsLiveAnswer (reach_of w.new (L.items l.now)) result }
     ensures locals { All (IsLive (extent_of w.new.heap)) (L.items l.now) }
     ensures kept { KeepsItems (reach_of w.old (L.items l.now)) (reach_of w.new (L.items l.now)) }
@@ -168,7 +179,9 @@ pub fn lexically_greater_or_equal_row<L: Locals>(
     requires locals { All (IsLive (extent_of w.old.heap)) (L.items l.now) }
     requires first { IsLiveItem (reach_of w.old (L.items l.now)) x }
     requires second { IsLiveItem (reach_of w.old (L.items l.now)) y }
-    ensures row { Answers w.old (L.items l.now) w.new (L.items l.now) (lexically_greater_or_equal_row (item_in (extent_of w.old.heap) x) (item_in (extent_of w.old.heap) y)) result }
+    ensures row { Answers w.old (L.items l.now) w.new (L.items l.now)
+        (lexically_greater_or_equal_row (item_in (extent_of w.old.heap) x) (item_in (extent_of w.old.heap) y))
+        result }
     ensures live { IsLiveAnswer (reach_of w.new (L.items l.now)) result }
     ensures locals { All (IsLive (extent_of w.new.heap)) (L.items l.now) }
     ensures kept { KeepsItems (reach_of w.old (L.items l.now)) (reach_of w.new (L.items l.now)) }
@@ -187,7 +200,8 @@ pub fn lexically_greater_row<L: Locals>(
     requires locals { All (IsLive (extent_of w.old.heap)) (L.items l.now) }
     requires first { IsLiveItem (reach_of w.old (L.items l.now)) x }
     requires second { IsLiveItem (reach_of w.old (L.items l.now)) y }
-    ensures row { Answers w.old (L.items l.now) w.new (L.items l.now) (lexically_greater_row (item_in (extent_of w.old.heap) x) (item_in (extent_of w.old.heap) y)) result }
+    ensures row { Answers w.old (L.items l.now) w.new (L.items l.now)
+        (lexically_greater_row (item_in (extent_of w.old.heap) x) (item_in (extent_of w.old.heap) y)) result }
     ensures live { IsLiveAnswer (reach_of w.new (L.items l.now)) result }
     ensures locals { All (IsLive (extent_of w.new.heap)) (L.items l.now) }
     ensures kept { KeepsItems (reach_of w.old (L.items l.now)) (reach_of w.new (L.items l.now)) }
@@ -206,7 +220,9 @@ pub fn lexically_not_equal_row<L: Locals>(
     requires locals { All (IsLive (extent_of w.old.heap)) (L.items l.now) }
     requires first { IsLiveItem (reach_of w.old (L.items l.now)) x }
     requires second { IsLiveItem (reach_of w.old (L.items l.now)) y }
-    ensures row { Answers w.old (L.items l.now) w.new (L.items l.now) (lexically_not_equal_row (item_in (extent_of w.old.heap) x) (item_in (extent_of w.old.heap) y)) result }
+    ensures row { Answers w.old (L.items l.now) w.new (L.items l.now)
+        (lexically_not_equal_row (item_in (extent_of w.old.heap) x) (item_in (extent_of w.old.heap) y))
+        result }
     ensures live { IsLiveAnswer (reach_of w.new (L.items l.now)) result }
     ensures locals { All (IsLive (extent_of w.new.heap)) (L.items l.now) }
     ensures kept { KeepsItems (reach_of w.old (L.items l.now)) (reach_of w.new (L.items l.now)) }
@@ -220,7 +236,8 @@ pub fn equivalent_row<L: Locals>(w: &World, l: &L, x: Item, y: Item) -> Result<O
     requires locals { All (IsLive (extent_of w.now.heap)) (L.items l.now) }
     requires first { IsLiveItem (reach_of w.now (L.items l.now)) x }
     requires second { IsLiveItem (reach_of w.now (L.items l.now)) y }
-    ensures row { Answers w.now (L.items l.now) w.now (L.items l.now) (equivalent_row (item_in (extent_of w.now.heap) x) (item_in (extent_of w.now.heap) y)) result }
+    ensures row { Answers w.now (L.items l.now) w.now (L.items l.now)
+        (equivalent_row (item_in (extent_of w.now.heap) x) (item_in (extent_of w.now.heap) y)) result }
     ensures live { IsLiveAnswer (reach_of w.now (L.items l.now)) result }
 {
     let (a, b) = two_values(w, l, x, y)?;
@@ -232,7 +249,8 @@ pub fn not_equivalent_row<L: Locals>(w: &World, l: &L, x: Item, y: Item) -> Resu
     requires locals { All (IsLive (extent_of w.now.heap)) (L.items l.now) }
     requires first { IsLiveItem (reach_of w.now (L.items l.now)) x }
     requires second { IsLiveItem (reach_of w.now (L.items l.now)) y }
-    ensures row { Answers w.now (L.items l.now) w.now (L.items l.now) (not_equivalent_row (item_in (extent_of w.now.heap) x) (item_in (extent_of w.now.heap) y)) result }
+    ensures row { Answers w.now (L.items l.now) w.now (L.items l.now)
+        (not_equivalent_row (item_in (extent_of w.now.heap) x) (item_in (extent_of w.now.heap) y)) result }
     ensures live { IsLiveAnswer (reach_of w.now (L.items l.now)) result }
 {
     let (a, b) = two_values(w, l, x, y)?;

@@ -22,7 +22,9 @@ pub fn to_by_row<L: Locals>(w: &World, l: &L, x: Item, y: Item, z: Item) -> Resu
     requires first { IsLiveItem (reach_of w.now (L.items l.now)) x }
     requires second { IsLiveItem (reach_of w.now (L.items l.now)) y }
     requires third { IsLiveItem (reach_of w.now (L.items l.now)) z }
-    ensures row { Answers w.now (L.items l.now) w.now (L.items l.now) (to_by_row (item_in (extent_of w.now.heap) x) (item_in (extent_of w.now.heap) y) (item_in (extent_of w.now.heap) z)) result }
+    ensures row { Answers w.now (L.items l.now) w.now (L.items l.now)
+        (to_by_row (item_in (extent_of w.now.heap) x) (item_in (extent_of w.now.heap) y)
+        (item_in (extent_of w.now.heap) z)) result }
     ensures live { IsLiveAnswer (reach_of w.now (L.items l.now)) result }
 {
     let (given, last, step) = three_integers(w, l, x, y, z)?;
@@ -34,7 +36,8 @@ pub fn to_by_row<L: Locals>(w: &World, l: &L, x: Item, y: Item, z: Item) -> Resu
 
 /// The count goes on by its step, where 64 bits hold the next integer and it has not passed the end.
 pub fn counting_again(given: i64, last: i64, step: i64) -> Outcome
-    ensures row { (all : Extent) (setting : Setting) → counting_again given last step setting ≡ outcome_in all result setting }
+    ensures row { (all : Extent) (setting : Setting)
+        → counting_again given last step setting ≡ outcome_in all result setting }
     ensures live { (reach : Reach) → IsLiveOutcome reach result }
 {
     count_from(last, step, add(given, step).ok())
@@ -42,7 +45,8 @@ pub fn counting_again(given: i64, last: i64, step: i64) -> Outcome
 
 // The next integer of a count, if there is one that has not passed the end.
 fn count_from(last: i64, step: i64, next: Option<i64>) -> Outcome
-    ensures row { (all : Extent) (setting : Setting) → count_from last step next setting ≡ outcome_in all result setting }
+    ensures row { (all : Extent) (setting : Setting)
+        → count_from last step next setting ≡ outcome_in all result setting }
     ensures live { (reach : Reach) → IsLiveOutcome reach result }
 {
     match next {

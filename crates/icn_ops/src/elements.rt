@@ -19,7 +19,8 @@ use icn_vars::{Halt, Locals, Outcome, World, deref};
 #[tactic(auto, using(crate::proofs::ElementRows::text_byte, crate::proofs::ElementRows::text_end))]
 pub fn text_bytes_from<L: Locals>(w: &World, l: &L, text: Span, place: u64) -> Result<Outcome, Halt>
     requires text { IsText (extent_of w.now.heap) text }
-    ensures row { Answers w.now (L.items l.now) w.now (L.items l.now) (text_bytes_from (text_in (extent_of w.now.heap) text) place) result }
+    ensures row { Answers w.now (L.items l.now) w.now (L.items l.now)
+        (text_bytes_from (text_in (extent_of w.now.heap) text) place) result }
     ensures live { IsLiveAnswer (reach_of w.now (L.items l.now)) result }
 {
     let size = w.heap.bytes(text).len() as u64;
@@ -47,7 +48,8 @@ pub fn variable_bytes_from<L: Locals>(
 ) -> Result<Outcome, Halt>
     requires locals { All (IsLive (extent_of w.now.heap)) (L.items l.now) }
     requires variable { IsLiveVariable (reach_of w.now (L.items l.now)) variable }
-    ensures row { Answers w.now (L.items l.now) w.now (L.items l.now) (variable_bytes_from (variable_in (extent_of w.now.heap) variable) place) result }
+    ensures row { Answers w.now (L.items l.now) w.now (L.items l.now)
+        (variable_bytes_from (variable_in (extent_of w.now.heap) variable) place) result }
     ensures live { IsLiveAnswer (reach_of w.now (L.items l.now)) result }
 {
     let held = deref(w, l, Item::Var(variable))?;

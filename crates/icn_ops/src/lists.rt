@@ -27,7 +27,8 @@ pub fn concatenate_lists_row<L: Locals>(
     requires locals { All (IsLive (extent_of w.old.heap)) (L.items l.now) }
     requires first { IsLiveItem (reach_of w.old (L.items l.now)) x }
     requires second { IsLiveItem (reach_of w.old (L.items l.now)) y }
-    ensures row { Answers w.old (L.items l.now) w.new (L.items l.now) (concatenate_lists_row (item_in (extent_of w.old.heap) x) (item_in (extent_of w.old.heap) y)) result }
+    ensures row { Answers w.old (L.items l.now) w.new (L.items l.now)
+        (concatenate_lists_row (item_in (extent_of w.old.heap) x) (item_in (extent_of w.old.heap) y)) result }
     ensures live { IsLiveAnswer (reach_of w.new (L.items l.now)) result }
     ensures locals { All (IsLive (extent_of w.new.heap)) (L.items l.now) }
     ensures kept { KeepsItems (reach_of w.old (L.items l.now)) (reach_of w.new (L.items l.now)) }
@@ -44,7 +45,8 @@ pub fn concatenate_lists_row<L: Locals>(
 fn items_of_both(heap: &Heap, first: u32, second: u32) -> Result<Vec<Val>, AllocError>
     requires first { IsLive (extent_of heap.now) (List first) }
     requires second { IsLive (extent_of heap.now) (List second) }
-    ensures items { IfOk result (λ items. map (value_in (extent_of heap.now)) items.items ≡ (list_at (heap_of heap.now) first).items ++ (list_at (heap_of heap.now) second).items) }
+    ensures items { IfOk result (λ items. map (value_in (extent_of heap.now)) items.items
+        ≡ (list_at (heap_of heap.now) first).items ++ (list_at (heap_of heap.now) second).items) }
     ensures live { IfOk result (λ items. All (IsLive (extent_of heap.now)) items.items) }
 {
     let mut items = heap.items(first)?;

@@ -16,7 +16,8 @@ use icn_vars::{Halt, Locals, Outcome, World, deref};
 
 // An item where a test is met; it fails elsewhere.
 pub fn item_if(test: bool, item: Item) -> Outcome
-    ensures row { (all : Extent) (setting : Setting) → passing test (gives (item_in all item)) setting ≡ outcome_in all result setting }
+    ensures row { (all : Extent) (setting : Setting)
+        → passing test (gives (item_in all item)) setting ≡ outcome_in all result setting }
     ensures live { (reach : Reach) → IsLiveItem reach item → IsLiveOutcome reach result }
 {
     if test {
@@ -30,7 +31,8 @@ pub fn item_if(test: bool, item: Item) -> Outcome
 pub fn is_null_row<L: Locals>(w: &World, l: &L, x: Item) -> Result<Outcome, Halt>
     requires locals { All (IsLive (extent_of w.now.heap)) (L.items l.now) }
     requires first { IsLiveItem (reach_of w.now (L.items l.now)) x }
-    ensures row { Answers w.now (L.items l.now) w.now (L.items l.now) (is_null_row (item_in (extent_of w.now.heap) x)) result }
+    ensures row { Answers w.now (L.items l.now) w.now (L.items l.now)
+        (is_null_row (item_in (extent_of w.now.heap) x)) result }
     ensures live { IsLiveAnswer (reach_of w.now (L.items l.now)) result }
 {
     let val = deref(w, l, x)?;
@@ -41,7 +43,8 @@ pub fn is_null_row<L: Locals>(w: &World, l: &L, x: Item) -> Result<Outcome, Halt
 pub fn is_not_null_row<L: Locals>(w: &World, l: &L, x: Item) -> Result<Outcome, Halt>
     requires locals { All (IsLive (extent_of w.now.heap)) (L.items l.now) }
     requires first { IsLiveItem (reach_of w.now (L.items l.now)) x }
-    ensures row { Answers w.now (L.items l.now) w.now (L.items l.now) (is_not_null_row (item_in (extent_of w.now.heap) x)) result }
+    ensures row { Answers w.now (L.items l.now) w.now (L.items l.now)
+        (is_not_null_row (item_in (extent_of w.now.heap) x)) result }
     ensures live { IsLiveAnswer (reach_of w.now (L.items l.now)) result }
 {
     let val = deref(w, l, x)?;
@@ -52,7 +55,8 @@ pub fn is_not_null_row<L: Locals>(w: &World, l: &L, x: Item) -> Result<Outcome, 
 pub fn dereference_row<L: Locals>(w: &World, l: &L, x: Item) -> Result<Outcome, Halt>
     requires locals { All (IsLive (extent_of w.now.heap)) (L.items l.now) }
     requires first { IsLiveItem (reach_of w.now (L.items l.now)) x }
-    ensures row { Answers w.now (L.items l.now) w.now (L.items l.now) (dereference_row (item_in (extent_of w.now.heap) x)) result }
+    ensures row { Answers w.now (L.items l.now) w.now (L.items l.now)
+        (dereference_row (item_in (extent_of w.now.heap) x)) result }
     ensures live { IsLiveAnswer (reach_of w.now (L.items l.now)) result }
 {
     let val = deref(w, l, x)?;
@@ -63,7 +67,8 @@ pub fn dereference_row<L: Locals>(w: &World, l: &L, x: Item) -> Result<Outcome, 
 pub fn size_row<L: Locals>(w: &World, l: &L, x: Item) -> Result<Outcome, Halt>
     requires locals { All (IsLive (extent_of w.now.heap)) (L.items l.now) }
     requires first { IsLiveItem (reach_of w.now (L.items l.now)) x }
-    ensures row { Answers w.now (L.items l.now) w.now (L.items l.now) (size_row (item_in (extent_of w.now.heap) x)) result }
+    ensures row { Answers w.now (L.items l.now) w.now (L.items l.now)
+        (size_row (item_in (extent_of w.now.heap) x)) result }
     ensures live { IsLiveAnswer (reach_of w.now (L.items l.now)) result }
 {
     let val = deref(w, l, x)?;

@@ -26,7 +26,10 @@ pub fn two_values<L: Locals>(w: &World, l: &L, x: Item, y: Item) -> Result<(Val,
     ensures second_live { IfOk result (λ two. IsLive (extent_of w.now.heap) two.1) }
     ensures short { OnOk result (IsShortItem x) }
     ensures stops { IfErr result (IsLiveStop (extent_of w.now.heap)) }
-    ensures found { (outside : Outside) → Found (extent_of w.now.heap) (operands.two_values (item_in (extent_of w.now.heap) x) (item_in (extent_of w.now.heap) y)) (setting_of outside w.now (L.items l.now)) (setting_of outside w.now (L.items l.now)) (values_in (extent_of w.now.heap)) result }
+    ensures found { (outside : Outside) → Found (extent_of w.now.heap)
+        (operands.two_values (item_in (extent_of w.now.heap) x) (item_in (extent_of w.now.heap) y))
+        (setting_of outside w.now (L.items l.now)) (setting_of outside w.now (L.items l.now))
+        (values_in (extent_of w.now.heap)) result }
 {
     let a = deref(w, l, x)?;
     let b = deref(w, l, y)?;
@@ -39,7 +42,10 @@ pub fn two_numbers<L: Locals>(w: &World, l: &L, x: Item, y: Item) -> Result<(i64
     requires first { IsLiveItem (reach_of w.now (L.items l.now)) x }
     requires second { IsLiveItem (reach_of w.now (L.items l.now)) y }
     ensures stops { IfErr result (IsLiveStop (extent_of w.now.heap)) }
-    ensures found { (outside : Outside) → Found (extent_of w.now.heap) (operands.two_numbers (item_in (extent_of w.now.heap) x) (item_in (extent_of w.now.heap) y)) (setting_of outside w.now (L.items l.now)) (setting_of outside w.now (L.items l.now)) (λ (two : ℤ × ℤ). two) result }
+    ensures found { (outside : Outside) → Found (extent_of w.now.heap)
+        (operands.two_numbers (item_in (extent_of w.now.heap) x) (item_in (extent_of w.now.heap) y))
+        (setting_of outside w.now (L.items l.now)) (setting_of outside w.now (L.items l.now))
+        (λ (two : ℤ × ℤ). two) result }
 {
     let (a, b) = two_values(w, l, x, y)?;
     let m = number_of(&w.heap, a)?;
@@ -58,7 +64,10 @@ pub fn compared_numbers<L: Locals>(
     requires first { IsLiveItem (reach_of w.now (L.items l.now)) x }
     requires second { IsLiveItem (reach_of w.now (L.items l.now)) y }
     ensures stops { IfErr result (IsLiveStop (extent_of w.now.heap)) }
-    ensures found { (outside : Outside) → Found (extent_of w.now.heap) (operands.compared_numbers (item_in (extent_of w.now.heap) x) (item_in (extent_of w.now.heap) y)) (setting_of outside w.now (L.items l.now)) (setting_of outside w.now (L.items l.now)) (λ (two : Ordering × ℤ). two) result }
+    ensures found { (outside : Outside) → Found (extent_of w.now.heap)
+        (operands.compared_numbers (item_in (extent_of w.now.heap) x) (item_in (extent_of w.now.heap) y))
+        (setting_of outside w.now (L.items l.now)) (setting_of outside w.now (L.items l.now))
+        (λ (two : Ordering × ℤ). two) result }
 {
     let (m, n) = two_numbers(w, l, x, y)?;
     Ok((m.cmp(&n), n))
@@ -72,7 +81,10 @@ pub fn two_texts<L: Locals>(w: &mut World, l: &L, x: Item, y: Item) -> Result<(S
     ensures first_live { IfOk result (λ two. IsText (extent_of w.new.heap) two.0) }
     ensures second_live { IfOk result (λ two. IsText (extent_of w.new.heap) two.1) }
     ensures stops { IfErr result (IsLiveStop (extent_of w.new.heap)) }
-    ensures found { (outside : Outside) → Found (extent_of w.new.heap) (operands.two_texts (item_in (extent_of w.old.heap) x) (item_in (extent_of w.old.heap) y)) (setting_of outside w.old (L.items l.now)) (setting_of outside w.new (L.items l.now)) (texts_in (extent_of w.new.heap)) result }
+    ensures found { (outside : Outside) → Found (extent_of w.new.heap)
+        (operands.two_texts (item_in (extent_of w.old.heap) x) (item_in (extent_of w.old.heap) y))
+        (setting_of outside w.old (L.items l.now)) (setting_of outside w.new (L.items l.now))
+        (texts_in (extent_of w.new.heap)) result }
     ensures locals { All (IsLive (extent_of w.new.heap)) (L.items l.now) }
     ensures kept { KeepsItems (reach_of w.old (L.items l.now)) (reach_of w.new (L.items l.now)) }
 {
@@ -94,7 +106,10 @@ pub fn compared_texts<L: Locals>(
     requires second { IsLiveItem (reach_of w.old (L.items l.now)) y }
     ensures live { IfOk result (λ two. IsText (extent_of w.new.heap) two.1) }
     ensures stops { IfErr result (IsLiveStop (extent_of w.new.heap)) }
-    ensures found { (outside : Outside) → Found (extent_of w.new.heap) (operands.compared_texts (item_in (extent_of w.old.heap) x) (item_in (extent_of w.old.heap) y)) (setting_of outside w.old (L.items l.now)) (setting_of outside w.new (L.items l.now)) (ordered_text_in (extent_of w.new.heap)) result }
+    ensures found { (outside : Outside) → Found (extent_of w.new.heap)
+        (operands.compared_texts (item_in (extent_of w.old.heap) x) (item_in (extent_of w.old.heap) y))
+        (setting_of outside w.old (L.items l.now)) (setting_of outside w.new (L.items l.now))
+        (ordered_text_in (extent_of w.new.heap)) result }
     ensures locals { All (IsLive (extent_of w.new.heap)) (L.items l.now) }
     ensures kept { KeepsItems (reach_of w.old (L.items l.now)) (reach_of w.new (L.items l.now)) }
 {
@@ -108,7 +123,9 @@ pub fn one_text<L: Locals>(w: &mut World, l: &L, x: Item) -> Result<Span, Stop>
     requires first { IsLiveItem (reach_of w.old (L.items l.now)) x }
     ensures live { IfOk result (IsText (extent_of w.new.heap)) }
     ensures stops { IfErr result (IsLiveStop (extent_of w.new.heap)) }
-    ensures found { (outside : Outside) → Found (extent_of w.new.heap) (operands.one_text (item_in (extent_of w.old.heap) x)) (setting_of outside w.old (L.items l.now)) (setting_of outside w.new (L.items l.now)) (text_in (extent_of w.new.heap)) result }
+    ensures found { (outside : Outside) → Found (extent_of w.new.heap)
+        (operands.one_text (item_in (extent_of w.old.heap) x)) (setting_of outside w.old (L.items l.now))
+        (setting_of outside w.new (L.items l.now)) (text_in (extent_of w.new.heap)) result }
     ensures locals { All (IsLive (extent_of w.new.heap)) (L.items l.now) }
     ensures kept { KeepsItems (reach_of w.old (L.items l.now)) (reach_of w.new (L.items l.now)) }
 {
@@ -125,7 +142,10 @@ pub fn two_lists<L: Locals>(w: &World, l: &L, x: Item, y: Item) -> Result<(u32, 
     ensures first_live { IfOk result (λ two. IsLive (extent_of w.now.heap) (List two.0)) }
     ensures second_live { IfOk result (λ two. IsLive (extent_of w.now.heap) (List two.1)) }
     ensures stops { IfErr result (IsLiveStop (extent_of w.now.heap)) }
-    ensures found { (outside : Outside) → Found (extent_of w.now.heap) (operands.two_lists (item_in (extent_of w.now.heap) x) (item_in (extent_of w.now.heap) y)) (setting_of outside w.now (L.items l.now)) (setting_of outside w.now (L.items l.now)) (λ (two : ℕ × ℕ). two) result }
+    ensures found { (outside : Outside) → Found (extent_of w.now.heap)
+        (operands.two_lists (item_in (extent_of w.now.heap) x) (item_in (extent_of w.now.heap) y))
+        (setting_of outside w.now (L.items l.now)) (setting_of outside w.now (L.items l.now))
+        (λ (two : ℕ × ℕ). two) result }
 {
     let (a, b) = two_values(w, l, x, y)?;
     let first = list_of(a)?;
@@ -146,7 +166,10 @@ pub fn three_integers<L: Locals>(
     requires second { IsLiveItem (reach_of w.now (L.items l.now)) y }
     requires third { IsLiveItem (reach_of w.now (L.items l.now)) z }
     ensures stops { IfErr result (IsLiveStop (extent_of w.now.heap)) }
-    ensures found { (outside : Outside) → Found (extent_of w.now.heap) (operands.three_integers (item_in (extent_of w.now.heap) x) (item_in (extent_of w.now.heap) y) (item_in (extent_of w.now.heap) z)) (setting_of outside w.now (L.items l.now)) (setting_of outside w.now (L.items l.now)) (λ (three : ℤ × ℤ × ℤ). three) result }
+    ensures found { (outside : Outside) → Found (extent_of w.now.heap)
+        (operands.three_integers (item_in (extent_of w.now.heap) x) (item_in (extent_of w.now.heap) y)
+        (item_in (extent_of w.now.heap) z)) (setting_of outside w.now (L.items l.now))
+        (setting_of outside w.now (L.items l.now)) (λ (three : ℤ × ℤ × ℤ). three) result }
 {
     let (from, to, by) = three_values(w, l, x, y, z)?;
     let given = integer_of(&w.heap, from)?;
@@ -172,7 +195,10 @@ pub fn three_values<L: Locals>(
     ensures third_live { IfOk result (λ three. IsLive (extent_of w.now.heap) three.2) }
     ensures short { OnOk result (IsShortItem x) }
     ensures stops { IfErr result (IsLiveStop (extent_of w.now.heap)) }
-    ensures found { (outside : Outside) → Found (extent_of w.now.heap) (operands.three_values (item_in (extent_of w.now.heap) x) (item_in (extent_of w.now.heap) y) (item_in (extent_of w.now.heap) z)) (setting_of outside w.now (L.items l.now)) (setting_of outside w.now (L.items l.now)) (three_in (extent_of w.now.heap)) result }
+    ensures found { (outside : Outside) → Found (extent_of w.now.heap)
+        (operands.three_values (item_in (extent_of w.now.heap) x) (item_in (extent_of w.now.heap) y)
+        (item_in (extent_of w.now.heap) z)) (setting_of outside w.now (L.items l.now))
+        (setting_of outside w.now (L.items l.now)) (three_in (extent_of w.now.heap)) result }
 {
     let (a, b) = two_values(w, l, x, y)?;
     let c = deref(w, l, z)?;

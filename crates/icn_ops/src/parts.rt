@@ -36,7 +36,8 @@ pub fn part_of(variable: VarRef, place: u64, len: u64) -> VarRef
 
 // The variable that holds a text, if the item is one.
 pub fn text_holder(item: Item, val: Val) -> Option<VarRef>
-    ensures holder { (all : Extent) → option_map (variable_in all) result ≡ text_variable (item_in all item) (value_in all val) }
+    ensures holder { (all : Extent)
+        → option_map (variable_in all) result ≡ text_variable (item_in all item) (value_in all val) }
     ensures live { (reach : Reach) → IsLiveItem reach item → IfSome result (IsLiveVariable reach) }
     ensures short { IsShortItem item → IfSome result IsShort }
 {
@@ -63,7 +64,9 @@ pub fn part_item<L: Locals>(
     requires short { IfSome holder IsShort }
     requires place { 1 ≤ place }
     requires within { place - 1 + len ≤ length (text_in (extent_of w.now.heap) text) }
-    ensures item { item_in (extent_of w.now.heap) result ≡ part_item (option_map (variable_in (extent_of w.now.heap)) holder) (text_in (extent_of w.now.heap) text) place len }
+    ensures item { item_in (extent_of w.now.heap) result
+        ≡ part_item (option_map (variable_in (extent_of w.now.heap)) holder)
+        (text_in (extent_of w.now.heap) text) place len }
     ensures live { IsLiveItem (reach_of w.now (L.items l.now)) result }
 {
     short_text(&w.heap, text);
@@ -97,7 +100,8 @@ pub fn element_item<L: Locals>(w: &World, l: &L, list: u32, place: u64) -> Item
     requires list { IsLive (extent_of w.now.heap) (ListVal list) }
     requires there { place < length (list_at (heap_of w.now.heap) list).items }
     requires small { place < 2 ^ 63 }
-    ensures item { item_in (extent_of w.now.heap) result ≡ element_item list (list_at (heap_of w.now.heap) list) place }
+    ensures item { item_in (extent_of w.now.heap) result
+        ≡ element_item list (list_at (heap_of w.now.heap) list) place }
     ensures live { IsLiveItem (reach_of w.now (L.items l.now)) result }
 {
     let number = w.heap.list(list).first() + place as i64;

@@ -9,7 +9,8 @@ use icn_vars::place_of;
 // The place of the element that a position stands before, from 1 on. `None` comes exactly where it stands before none.
 pub fn element_place(n: i64, size: u64) -> Option<u64>
     requires { size < 2 ^ 63 }
-    ensures place { (next : ℕ → Row) (setting : Setting) → element_place n size next setting ≡ found result next setting }
+    ensures place { (next : ℕ → Row) (setting : Setting)
+        → element_place n size next setting ≡ found result next setting }
     ensures low { IfSome result (λ place. 1 ≤ place) }
     ensures high { IfSome result (λ place. place ≤ size) }
 {
@@ -22,7 +23,8 @@ pub fn element_place(n: i64, size: u64) -> Option<u64>
 // The places that two positions mean, the smaller first. `None` comes exactly where one of them is out of range.
 pub fn places(m: i64, n: i64, size: u64) -> Option<(u64, u64)>
     requires { size < 2 ^ 63 }
-    ensures places { (next : ℕ × ℕ → Row) (setting : Setting) → places m n size next setting ≡ found result next setting }
+    ensures places { (next : ℕ × ℕ → Row) (setting : Setting)
+        → places m n size next setting ≡ found result next setting }
     ensures low { IfSome result (λ ends. 1 ≤ ends.0) }
     ensures order { IfSome result (λ ends. ends.0 ≤ ends.1) }
     ensures high { IfSome result (λ ends. ends.1 ≤ size + 1) }

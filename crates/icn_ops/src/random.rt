@@ -22,7 +22,8 @@ use icn_vars::{Halt, Locals, Outcome, World, deref};
 pub fn random_row<L: Locals>(w: &mut World, l: &L, x: Item) -> Result<Outcome, Halt>
     requires locals { All (IsLive (extent_of w.old.heap)) (L.items l.now) }
     requires first { IsLiveItem (reach_of w.old (L.items l.now)) x }
-    ensures row { Answers w.old (L.items l.now) w.new (L.items l.now) (random_row (item_in (extent_of w.old.heap) x)) result }
+    ensures row { Answers w.old (L.items l.now) w.new (L.items l.now)
+        (random_row (item_in (extent_of w.old.heap) x)) result }
     ensures live { IsLiveAnswer (reach_of w.new (L.items l.now)) result }
     ensures locals { All (IsLive (extent_of w.new.heap)) (L.items l.now) }
     ensures kept { KeepsItems (reach_of w.old (L.items l.now)) (reach_of w.new (L.items l.now)) }
@@ -38,7 +39,9 @@ fn random_by<L: Locals>(w: &mut World, l: &L, x: Item, val: Val) -> Result<Outco
     requires item { IsLiveItem (reach_of w.old (L.items l.now)) x }
     requires short { IsShortItem x }
     requires val { IsLive (extent_of w.old.heap) val }
-    ensures row { Answers w.old (L.items l.now) w.new (L.items l.now) (random_by (item_in (extent_of w.old.heap) x) (value_in (extent_of w.old.heap) val) (held_integer (value_in (extent_of w.old.heap) val))) result }
+    ensures row { Answers w.old (L.items l.now) w.new (L.items l.now)
+        (random_by (item_in (extent_of w.old.heap) x) (value_in (extent_of w.old.heap) val)
+        (held_integer (value_in (extent_of w.old.heap) val))) result }
     ensures live { IsLiveAnswer (reach_of w.new (L.items l.now)) result }
     ensures locals { All (IsLive (extent_of w.new.heap)) (L.items l.now) }
     ensures kept { KeepsItems (reach_of w.old (L.items l.now)) (reach_of w.new (L.items l.now)) }
@@ -60,7 +63,8 @@ fn random_by<L: Locals>(w: &mut World, l: &L, x: Item, val: Val) -> Result<Outco
 fn random_number<L: Locals>(w: &mut World, l: &L, val: Val, n: i64) -> Result<Outcome, Halt>
     requires locals { All (IsLive (extent_of w.old.heap)) (L.items l.now) }
     requires val { IsLive (extent_of w.old.heap) val }
-    ensures row { Answers w.old (L.items l.now) w.new (L.items l.now) (random_number (value_in (extent_of w.old.heap) val) n) result }
+    ensures row { Answers w.old (L.items l.now) w.new (L.items l.now)
+        (random_number (value_in (extent_of w.old.heap) val) n) result }
     ensures live { IsLiveAnswer (reach_of w.new (L.items l.now)) result }
     ensures locals { All (IsLive (extent_of w.new.heap)) (L.items l.now) }
     ensures kept { KeepsItems (reach_of w.old (L.items l.now)) (reach_of w.new (L.items l.now)) }
@@ -81,7 +85,9 @@ fn random_byte<L: Locals>(w: &mut World, l: &L, x: Item, val: Val) -> Result<Out
     requires short { IsShortItem x }
     requires val { IsLive (extent_of w.old.heap) val }
     requires has { HasText (value_in (extent_of w.old.heap) val) }
-    ensures row { Answers w.old (L.items l.now) w.new (L.items l.now) (random_of (item_in (extent_of w.old.heap) x) (value_in (extent_of w.old.heap) val) (Textual (the_text (value_in (extent_of w.old.heap) val)))) result }
+    ensures row { Answers w.old (L.items l.now) w.new (L.items l.now)
+        (random_of (item_in (extent_of w.old.heap) x) (value_in (extent_of w.old.heap) val)
+        (Textual (the_text (value_in (extent_of w.old.heap) val)))) result }
     ensures live { IsLiveAnswer (reach_of w.new (L.items l.now)) result }
     ensures locals { All (IsLive (extent_of w.new.heap)) (L.items l.now) }
     ensures kept { KeepsItems (reach_of w.old (L.items l.now)) (reach_of w.new (L.items l.now)) }
@@ -103,7 +109,9 @@ fn random_byte<L: Locals>(w: &mut World, l: &L, x: Item, val: Val) -> Result<Out
 fn random_item<L: Locals>(w: &mut World, l: &L, x: Item, list: u32) -> Result<Outcome, Halt>
     requires locals { All (IsLive (extent_of w.old.heap)) (L.items l.now) }
     requires list { IsLive (extent_of w.old.heap) (ListVal list) }
-    ensures row { Answers w.old (L.items l.now) w.new (L.items l.now) (random_of (item_in (extent_of w.old.heap) x) (value_in (extent_of w.old.heap) (ListVal list)) (Listed list)) result }
+    ensures row { Answers w.old (L.items l.now) w.new (L.items l.now)
+        (random_of (item_in (extent_of w.old.heap) x) (value_in (extent_of w.old.heap) (ListVal list))
+        (Listed list)) result }
     ensures live { IsLiveAnswer (reach_of w.new (L.items l.now)) result }
     ensures locals { All (IsLive (extent_of w.new.heap)) (L.items l.now) }
     ensures kept { KeepsItems (reach_of w.old (L.items l.now)) (reach_of w.new (L.items l.now)) }
@@ -123,7 +131,9 @@ fn random_item<L: Locals>(w: &mut World, l: &L, x: Item, list: u32) -> Result<Ou
 fn random_member<L: Locals>(w: &mut World, l: &L, x: Item, set: u32) -> Result<Outcome, Halt>
     requires locals { All (IsLive (extent_of w.old.heap)) (L.items l.now) }
     requires set { IsLive (extent_of w.old.heap) (Set set) }
-    ensures row { Answers w.old (L.items l.now) w.new (L.items l.now) (random_of (item_in (extent_of w.old.heap) x) (value_in (extent_of w.old.heap) (Set set)) (Collected set)) result }
+    ensures row { Answers w.old (L.items l.now) w.new (L.items l.now)
+        (random_of (item_in (extent_of w.old.heap) x) (value_in (extent_of w.old.heap) (Set set))
+        (Collected set)) result }
     ensures live { IsLiveAnswer (reach_of w.new (L.items l.now)) result }
     ensures locals { All (IsLive (extent_of w.new.heap)) (L.items l.now) }
     ensures kept { KeepsItems (reach_of w.old (L.items l.now)) (reach_of w.new (L.items l.now)) }
@@ -145,7 +155,9 @@ fn random_member<L: Locals>(w: &mut World, l: &L, x: Item, set: u32) -> Result<O
 fn random_value<L: Locals>(w: &mut World, l: &L, x: Item, table: u32) -> Result<Outcome, Halt>
     requires locals { All (IsLive (extent_of w.old.heap)) (L.items l.now) }
     requires table { IsLive (extent_of w.old.heap) (Table table) }
-    ensures row { Answers w.old (L.items l.now) w.new (L.items l.now) (random_of (item_in (extent_of w.old.heap) x) (value_in (extent_of w.old.heap) (Table table)) (Tabled table)) result }
+    ensures row { Answers w.old (L.items l.now) w.new (L.items l.now)
+        (random_of (item_in (extent_of w.old.heap) x) (value_in (extent_of w.old.heap) (Table table))
+        (Tabled table)) result }
     ensures live { IsLiveAnswer (reach_of w.new (L.items l.now)) result }
     ensures locals { All (IsLive (extent_of w.new.heap)) (L.items l.now) }
     ensures kept { KeepsItems (reach_of w.old (L.items l.now)) (reach_of w.new (L.items l.now)) }
@@ -170,7 +182,9 @@ fn random_value<L: Locals>(w: &mut World, l: &L, x: Item, table: u32) -> Result<
 fn random_field<L: Locals>(w: &mut World, l: &L, x: Item, rec: u32) -> Result<Outcome, Halt>
     requires locals { All (IsLive (extent_of w.old.heap)) (L.items l.now) }
     requires rec { IsLive (extent_of w.old.heap) (Rec rec) }
-    ensures row { Answers w.old (L.items l.now) w.new (L.items l.now) (random_of (item_in (extent_of w.old.heap) x) (value_in (extent_of w.old.heap) (Rec rec)) (Recorded rec)) result }
+    ensures row { Answers w.old (L.items l.now) w.new (L.items l.now)
+        (random_of (item_in (extent_of w.old.heap) x) (value_in (extent_of w.old.heap) (Rec rec))
+        (Recorded rec)) result }
     ensures live { IsLiveAnswer (reach_of w.new (L.items l.now)) result }
     ensures locals { All (IsLive (extent_of w.new.heap)) (L.items l.now) }
     ensures kept { KeepsItems (reach_of w.old (L.items l.now)) (reach_of w.new (L.items l.now)) }

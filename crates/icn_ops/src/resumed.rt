@@ -27,7 +27,8 @@ pub fn resume<L: Locals>(rest: Residual, w: &mut World, l: &mut L) -> Result<Out
     requires world { rest ≢ InputLines }
     requires locals { All (IsLive (extent_of w.old.heap)) (L.items l.old) }
     requires rest { IsLiveResidual (reach_of w.old (L.items l.old)) rest }
-    ensures row { Answers w.old (L.items l.old) w.new (L.items l.new) (again (residual_in (extent_of w.old.heap) rest)) result }
+    ensures row { Answers w.old (L.items l.old) w.new (L.items l.new)
+        (again (residual_in (extent_of w.old.heap) rest)) result }
     ensures live { IsLiveAnswer (reach_of w.new (L.items l.new)) result }
     ensures locals { All (IsLive (extent_of w.new.heap)) (L.items l.new) }
     ensures kept { KeepsItems (reach_of w.old (L.items l.old)) (reach_of w.new (L.items l.new)) }

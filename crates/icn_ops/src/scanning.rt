@@ -20,7 +20,8 @@ use icn_vars::{Halt, Locals, Outcome, World};
 pub fn tab_match_row<L: Locals>(w: &mut World, l: &L, x: Item) -> Result<Outcome, Halt>
     requires locals { All (IsLive (extent_of w.old.heap)) (L.items l.now) }
     requires first { IsLiveItem (reach_of w.old (L.items l.now)) x }
-    ensures row { Answers w.old (L.items l.now) w.new (L.items l.now) (tab_match_row (item_in (extent_of w.old.heap) x)) result }
+    ensures row { Answers w.old (L.items l.now) w.new (L.items l.now)
+        (tab_match_row (item_in (extent_of w.old.heap) x)) result }
     ensures live { IsLiveAnswer (reach_of w.new (L.items l.now)) result }
     ensures locals { All (IsLive (extent_of w.new.heap)) (L.items l.now) }
     ensures kept { KeepsItems (reach_of w.old (L.items l.now)) (reach_of w.new (L.items l.now)) }
@@ -33,7 +34,9 @@ pub fn tab_match_row<L: Locals>(w: &mut World, l: &L, x: Item) -> Result<Outcome
 fn match_here<L: Locals>(w: &mut World, l: &L, wanted: Span) -> Outcome
     requires locals { All (IsLive (extent_of w.old.heap)) (L.items l.now) }
     requires wanted { IsText (extent_of w.old.heap) wanted }
-    ensures row { (outside : Outside) → matches_here (text_in (extent_of w.old.heap) wanted) (setting_of outside w.old (L.items l.now)) ≡ outcome_in (extent_of w.new.heap) result (setting_of outside w.new (L.items l.now)) }
+    ensures row { (outside : Outside)
+        → matches_here (text_in (extent_of w.old.heap) wanted) (setting_of outside w.old (L.items l.now))
+        ≡ outcome_in (extent_of w.new.heap) result (setting_of outside w.new (L.items l.now)) }
     ensures live { IsLiveOutcome (reach_of w.new (L.items l.now)) result }
     ensures locals { All (IsLive (extent_of w.new.heap)) (L.items l.now) }
     ensures kept { KeepsItems (reach_of w.old (L.items l.now)) (reach_of w.new (L.items l.now)) }

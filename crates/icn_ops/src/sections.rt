@@ -47,7 +47,9 @@ pub fn section_row<L: Locals>(
     requires first { IsLiveItem (reach_of w.old (L.items l.now)) x }
     requires second { IsLiveItem (reach_of w.old (L.items l.now)) y }
     requires third { IsLiveItem (reach_of w.old (L.items l.now)) z }
-    ensures row { Answers w.old (L.items l.now) w.new (L.items l.now) (section_row (item_in (extent_of w.old.heap) x) (item_in (extent_of w.old.heap) y) (item_in (extent_of w.old.heap) z)) result }
+    ensures row { Answers w.old (L.items l.now) w.new (L.items l.now)
+        (section_row (item_in (extent_of w.old.heap) x) (item_in (extent_of w.old.heap) y)
+        (item_in (extent_of w.old.heap) z)) result }
     ensures live { IsLiveAnswer (reach_of w.new (L.items l.now)) result }
     ensures locals { All (IsLive (extent_of w.new.heap)) (L.items l.now) }
     ensures kept { KeepsItems (reach_of w.old (L.items l.now)) (reach_of w.new (L.items l.now)) }
@@ -68,7 +70,9 @@ pub fn section_plus_row<L: Locals>(
     requires first { IsLiveItem (reach_of w.old (L.items l.now)) x }
     requires second { IsLiveItem (reach_of w.old (L.items l.now)) y }
     requires third { IsLiveItem (reach_of w.old (L.items l.now)) z }
-    ensures row { Answers w.old (L.items l.now) w.new (L.items l.now) (section_plus_row (item_in (extent_of w.old.heap) x) (item_in (extent_of w.old.heap) y) (item_in (extent_of w.old.heap) z)) result }
+    ensures row { Answers w.old (L.items l.now) w.new (L.items l.now)
+        (section_plus_row (item_in (extent_of w.old.heap) x) (item_in (extent_of w.old.heap) y)
+        (item_in (extent_of w.old.heap) z)) result }
     ensures live { IsLiveAnswer (reach_of w.new (L.items l.now)) result }
     ensures locals { All (IsLive (extent_of w.new.heap)) (L.items l.now) }
     ensures kept { KeepsItems (reach_of w.old (L.items l.now)) (reach_of w.new (L.items l.now)) }
@@ -88,7 +92,9 @@ pub fn section_minus_row<L: Locals>(
     requires first { IsLiveItem (reach_of w.old (L.items l.now)) x }
     requires second { IsLiveItem (reach_of w.old (L.items l.now)) y }
     requires third { IsLiveItem (reach_of w.old (L.items l.now)) z }
-    ensures row { Answers w.old (L.items l.now) w.new (L.items l.now) (section_minus_row (item_in (extent_of w.old.heap) x) (item_in (extent_of w.old.heap) y) (item_in (extent_of w.old.heap) z)) result }
+    ensures row { Answers w.old (L.items l.now) w.new (L.items l.now)
+        (section_minus_row (item_in (extent_of w.old.heap) x) (item_in (extent_of w.old.heap) y)
+        (item_in (extent_of w.old.heap) z)) result }
     ensures live { IsLiveAnswer (reach_of w.new (L.items l.now)) result }
     ensures locals { All (IsLive (extent_of w.new.heap)) (L.items l.now) }
     ensures kept { KeepsItems (reach_of w.old (L.items l.now)) (reach_of w.new (L.items l.now)) }
@@ -109,7 +115,9 @@ fn section_by<L: Locals>(
     requires first { IsLiveItem (reach_of w.old (L.items l.now)) x }
     requires second { IsLiveItem (reach_of w.old (L.items l.now)) y }
     requires third { IsLiveItem (reach_of w.old (L.items l.now)) z }
-    ensures row { Answers w.old (L.items l.now) w.new (L.items l.now) (section_by (second_of kind) (item_in (extent_of w.old.heap) x) (item_in (extent_of w.old.heap) y) (item_in (extent_of w.old.heap) z)) result }
+    ensures row { Answers w.old (L.items l.now) w.new (L.items l.now)
+        (section_by (second_of kind) (item_in (extent_of w.old.heap) x) (item_in (extent_of w.old.heap) y)
+        (item_in (extent_of w.old.heap) z)) result }
     ensures live { IsLiveAnswer (reach_of w.new (L.items l.now)) result }
     ensures locals { All (IsLive (extent_of w.new.heap)) (L.items l.now) }
     ensures kept { KeepsItems (reach_of w.old (L.items l.now)) (reach_of w.new (L.items l.now)) }
@@ -135,7 +143,10 @@ fn section_of<L: Locals>(
     requires val { IsLive (extent_of w.old.heap) val }
     requires from { IsLive (extent_of w.old.heap) from }
     requires to { IsLive (extent_of w.old.heap) to }
-    ensures row { Answers w.old (L.items l.now) w.new (L.items l.now) (section_of (second_of kind) (item_in (extent_of w.old.heap) x) (value_in (extent_of w.old.heap) val) (value_in (extent_of w.old.heap) from) (value_in (extent_of w.old.heap) to) (group_of (value_in (extent_of w.old.heap) val))) result }
+    ensures row { Answers w.old (L.items l.now) w.new (L.items l.now)
+        (section_of (second_of kind) (item_in (extent_of w.old.heap) x) (value_in (extent_of w.old.heap) val)
+        (value_in (extent_of w.old.heap) from) (value_in (extent_of w.old.heap) to)
+        (group_of (value_in (extent_of w.old.heap) val))) result }
     ensures live { IsLiveAnswer (reach_of w.new (L.items l.now)) result }
     ensures locals { All (IsLive (extent_of w.new.heap)) (L.items l.now) }
     ensures kept { KeepsItems (reach_of w.old (L.items l.now)) (reach_of w.new (L.items l.now)) }
@@ -166,7 +177,10 @@ fn text_section<L: Locals>(
     requires has { HasText (value_in (extent_of w.old.heap) val) }
     requires from { IsLive (extent_of w.old.heap) from }
     requires to { IsLive (extent_of w.old.heap) to }
-    ensures row { Answers w.old (L.items l.now) w.new (L.items l.now) (section_of (second_of kind) (item_in (extent_of w.old.heap) x) (value_in (extent_of w.old.heap) val) (value_in (extent_of w.old.heap) from) (value_in (extent_of w.old.heap) to) (Textual (the_text (value_in (extent_of w.old.heap) val)))) result }
+    ensures row { Answers w.old (L.items l.now) w.new (L.items l.now)
+        (section_of (second_of kind) (item_in (extent_of w.old.heap) x) (value_in (extent_of w.old.heap) val)
+        (value_in (extent_of w.old.heap) from) (value_in (extent_of w.old.heap) to)
+        (Textual (the_text (value_in (extent_of w.old.heap) val)))) result }
     ensures live { IsLiveAnswer (reach_of w.new (L.items l.now)) result }
     ensures locals { All (IsLive (extent_of w.new.heap)) (L.items l.now) }
     ensures kept { KeepsItems (reach_of w.old (L.items l.now)) (reach_of w.new (L.items l.now)) }
@@ -197,7 +211,9 @@ fn list_section<L: Locals>(
     requires list { IsLive (extent_of w.old.heap) (ListVal list) }
     requires from { IsLive (extent_of w.old.heap) from }
     requires to { IsLive (extent_of w.old.heap) to }
-    ensures row { Answers w.old (L.items l.now) w.new (L.items l.now) (section_of (second_of kind) (item_in (extent_of w.old.heap) x) (value_in (extent_of w.old.heap) (ListVal list)) (value_in (extent_of w.old.heap) from) (value_in (extent_of w.old.heap) to) (Listed list)) result }
+    ensures row { Answers w.old (L.items l.now) w.new (L.items l.now) (section_of (second_of kind)
+        (item_in (extent_of w.old.heap) x) (value_in (extent_of w.old.heap) (ListVal list))
+        (value_in (extent_of w.old.heap) from) (value_in (extent_of w.old.heap) to) (Listed list)) result }
     ensures live { IsLiveAnswer (reach_of w.new (L.items l.now)) result }
     ensures locals { All (IsLive (extent_of w.new.heap)) (L.items l.now) }
     ensures kept { KeepsItems (reach_of w.old (L.items l.now)) (reach_of w.new (L.items l.now)) }
@@ -222,7 +238,8 @@ fn new_section<L: Locals>(
     requires list { IsLive (extent_of w.old.heap) (ListVal list) }
     requires order { from ≤ to }
     requires within { to ≤ length (list_at (heap_of w.old.heap) list).items }
-    ensures row { Answers w.old (L.items l.now) w.new (L.items l.now) (gives_list (slice_range (list_at (heap_of w.old.heap) list).items from to)) result }
+    ensures row { Answers w.old (L.items l.now) w.new (L.items l.now)
+        (gives_list (slice_range (list_at (heap_of w.old.heap) list).items from to)) result }
     ensures live { IsLiveAnswer (reach_of w.new (L.items l.now)) result }
     ensures locals { All (IsLive (extent_of w.new.heap)) (L.items l.now) }
     ensures kept { KeepsItems (reach_of w.old (L.items l.now)) (reach_of w.new (L.items l.now)) }
@@ -239,7 +256,9 @@ fn positions(kind: Second, heap: &Heap, from: Val, to: Val) -> Result<(i64, i64)
     requires from { IsLive (extent_of heap.now) from }
     requires to { IsLive (extent_of heap.now) to }
     ensures stops { IfErr result (IsLiveStop (extent_of heap.now)) }
-    ensures found { (setting : Setting) → Found (extent_of heap.now) (positions (second_of kind) (value_in (extent_of heap.now) from) (value_in (extent_of heap.now) to)) setting setting (λ (two : ℤ × ℤ). two) result }
+    ensures found { (setting : Setting) → Found (extent_of heap.now)
+        (positions (second_of kind) (value_in (extent_of heap.now) from) (value_in (extent_of heap.now) to))
+        setting setting (λ (two : ℤ × ℤ). two) result }
 {
     let m = integer_of(heap, from)?;
     let n = integer_of(heap, to)?;

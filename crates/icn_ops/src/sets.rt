@@ -26,7 +26,8 @@ pub fn union_row<L: Locals>(w: &mut World, l: &L, x: Item, y: Item) -> Result<Ou
     requires locals { All (IsLive (extent_of w.old.heap)) (L.items l.now) }
     requires first { IsLiveItem (reach_of w.old (L.items l.now)) x }
     requires second { IsLiveItem (reach_of w.old (L.items l.now)) y }
-    ensures row { Answers w.old (L.items l.now) w.new (L.items l.now) (union_row (item_in (extent_of w.old.heap) x) (item_in (extent_of w.old.heap) y)) result }
+    ensures row { Answers w.old (L.items l.now) w.new (L.items l.now)
+        (union_row (item_in (extent_of w.old.heap) x) (item_in (extent_of w.old.heap) y)) result }
     ensures live { IsLiveAnswer (reach_of w.new (L.items l.now)) result }
     ensures locals { All (IsLive (extent_of w.new.heap)) (L.items l.now) }
     ensures kept { KeepsItems (reach_of w.old (L.items l.now)) (reach_of w.new (L.items l.now)) }
@@ -49,7 +50,8 @@ pub fn difference_row<L: Locals>(w: &mut World, l: &L, x: Item, y: Item) -> Resu
     requires locals { All (IsLive (extent_of w.old.heap)) (L.items l.now) }
     requires first { IsLiveItem (reach_of w.old (L.items l.now)) x }
     requires second { IsLiveItem (reach_of w.old (L.items l.now)) y }
-    ensures row { Answers w.old (L.items l.now) w.new (L.items l.now) (difference_row (item_in (extent_of w.old.heap) x) (item_in (extent_of w.old.heap) y)) result }
+    ensures row { Answers w.old (L.items l.now) w.new (L.items l.now)
+        (difference_row (item_in (extent_of w.old.heap) x) (item_in (extent_of w.old.heap) y)) result }
     ensures live { IsLiveAnswer (reach_of w.new (L.items l.now)) result }
     ensures locals { All (IsLive (extent_of w.new.heap)) (L.items l.now) }
     ensures kept { KeepsItems (reach_of w.old (L.items l.now)) (reach_of w.new (L.items l.now)) }
@@ -72,7 +74,8 @@ pub fn intersection_row<L: Locals>(w: &mut World, l: &L, x: Item, y: Item) -> Re
     requires locals { All (IsLive (extent_of w.old.heap)) (L.items l.now) }
     requires first { IsLiveItem (reach_of w.old (L.items l.now)) x }
     requires second { IsLiveItem (reach_of w.old (L.items l.now)) y }
-    ensures row { Answers w.old (L.items l.now) w.new (L.items l.now) (intersection_row (item_in (extent_of w.old.heap) x) (item_in (extent_of w.old.heap) y)) result }
+    ensures row { Answers w.old (L.items l.now) w.new (L.items l.now)
+        (intersection_row (item_in (extent_of w.old.heap) x) (item_in (extent_of w.old.heap) y)) result }
     ensures live { IsLiveAnswer (reach_of w.new (L.items l.now)) result }
     ensures locals { All (IsLive (extent_of w.new.heap)) (L.items l.now) }
     ensures kept { KeepsItems (reach_of w.old (L.items l.now)) (reach_of w.new (L.items l.now)) }
@@ -107,7 +110,9 @@ fn two_csets(heap: &Heap, a: Val, b: Val) -> Result<(Cset, Cset), Stop>
     requires first { IsLive (extent_of heap.now) a }
     requires second { IsLive (extent_of heap.now) b }
     ensures stops { IfErr result (IsLiveStop (extent_of heap.now)) }
-    ensures found { (setting : Setting) → Found (extent_of heap.now) (operands.two_csets (value_in (extent_of heap.now) a) (value_in (extent_of heap.now) b)) setting setting csets_in result }
+    ensures found { (setting : Setting) → Found (extent_of heap.now)
+        (operands.two_csets (value_in (extent_of heap.now) a) (value_in (extent_of heap.now) b)) setting
+        setting csets_in result }
 {
     let c = one_cset(heap, a)?;
     let d = one_cset(heap, b)?;
@@ -118,7 +123,8 @@ fn two_csets(heap: &Heap, a: Val, b: Val) -> Result<(Cset, Cset), Stop>
 fn one_cset(heap: &Heap, val: Val) -> Result<Cset, Stop>
     requires { IsLive (extent_of heap.now) val }
     ensures stops { IfErr result (IsLiveStop (extent_of heap.now)) }
-    ensures found { (setting : Setting) → Found (extent_of heap.now) (operands.one_cset (value_in (extent_of heap.now) val)) setting setting members_of result }
+    ensures found { (setting : Setting) → Found (extent_of heap.now)
+        (operands.one_cset (value_in (extent_of heap.now) val)) setting setting members_of result }
 {
     to_cset(heap, val).ok_or(Stop::Error(120, Some(val)))
 }
@@ -131,7 +137,11 @@ fn new_union<L: Locals>(w: &mut World, l: &L, first: u32, second: u32) -> Result
     requires second { IsLive (extent_of w.old.heap) (Set second) }
     ensures live { IfOk result (IsLive (extent_of w.new.heap)) }
     ensures stops { IfErr result (IsLiveStop (extent_of w.new.heap)) }
-    ensures found { (outside : Outside) → Found (extent_of w.new.heap) (new_set_of ((set_at (heap_of w.old.heap) first) ++ difference (set_at (heap_of w.old.heap) second) (set_at (heap_of w.old.heap) first))) (setting_of outside w.old (L.items l.now)) (setting_of outside w.new (L.items l.now)) (value_in (extent_of w.new.heap)) result }
+    ensures found { (outside : Outside)
+        → Found (extent_of w.new.heap) (new_set_of ((set_at (heap_of w.old.heap) first)
+        ++ difference (set_at (heap_of w.old.heap) second) (set_at (heap_of w.old.heap) first)))
+        (setting_of outside w.old (L.items l.now)) (setting_of outside w.new (L.items l.now))
+        (value_in (extent_of w.new.heap)) result }
     ensures locals { All (IsLive (extent_of w.new.heap)) (L.items l.now) }
     ensures kept { KeepsItems (reach_of w.old (L.items l.now)) (reach_of w.new (L.items l.now)) }
 {
@@ -146,7 +156,10 @@ fn new_difference<L: Locals>(w: &mut World, l: &L, first: u32, second: u32) -> R
     requires second { IsLive (extent_of w.old.heap) (Set second) }
     ensures live { IfOk result (IsLive (extent_of w.new.heap)) }
     ensures stops { IfErr result (IsLiveStop (extent_of w.new.heap)) }
-    ensures found { (outside : Outside) → Found (extent_of w.new.heap) (new_set_of (difference (set_at (heap_of w.old.heap) first) (set_at (heap_of w.old.heap) second))) (setting_of outside w.old (L.items l.now)) (setting_of outside w.new (L.items l.now)) (value_in (extent_of w.new.heap)) result }
+    ensures found { (outside : Outside) → Found (extent_of w.new.heap)
+        (new_set_of (difference (set_at (heap_of w.old.heap) first) (set_at (heap_of w.old.heap) second)))
+        (setting_of outside w.old (L.items l.now)) (setting_of outside w.new (L.items l.now))
+        (value_in (extent_of w.new.heap)) result }
     ensures locals { All (IsLive (extent_of w.new.heap)) (L.items l.now) }
     ensures kept { KeepsItems (reach_of w.old (L.items l.now)) (reach_of w.new (L.items l.now)) }
 {
@@ -161,7 +174,10 @@ fn new_intersection<L: Locals>(w: &mut World, l: &L, first: u32, second: u32) ->
     requires second { IsLive (extent_of w.old.heap) (Set second) }
     ensures live { IfOk result (IsLive (extent_of w.new.heap)) }
     ensures stops { IfErr result (IsLiveStop (extent_of w.new.heap)) }
-    ensures found { (outside : Outside) → Found (extent_of w.new.heap) (new_set_of (intersection (set_at (heap_of w.old.heap) first) (set_at (heap_of w.old.heap) second))) (setting_of outside w.old (L.items l.now)) (setting_of outside w.new (L.items l.now)) (value_in (extent_of w.new.heap)) result }
+    ensures found { (outside : Outside) → Found (extent_of w.new.heap)
+        (new_set_of (intersection (set_at (heap_of w.old.heap) first) (set_at (heap_of w.old.heap) second)))
+        (setting_of outside w.old (L.items l.now)) (setting_of outside w.new (L.items l.now))
+        (value_in (extent_of w.new.heap)) result }
     ensures locals { All (IsLive (extent_of w.new.heap)) (L.items l.now) }
     ensures kept { KeepsItems (reach_of w.old (L.items l.now)) (reach_of w.new (L.items l.now)) }
 {

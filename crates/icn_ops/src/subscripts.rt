@@ -26,7 +26,8 @@ pub fn subscript_row<L: Locals>(w: &mut World, l: &L, x: Item, y: Item) -> Resul
     requires locals { All (IsLive (extent_of w.old.heap)) (L.items l.now) }
     requires first { IsLiveItem (reach_of w.old (L.items l.now)) x }
     requires second { IsLiveItem (reach_of w.old (L.items l.now)) y }
-    ensures row { Answers w.old (L.items l.now) w.new (L.items l.now) (subscript_row (item_in (extent_of w.old.heap) x) (item_in (extent_of w.old.heap) y)) result }
+    ensures row { Answers w.old (L.items l.now) w.new (L.items l.now)
+        (subscript_row (item_in (extent_of w.old.heap) x) (item_in (extent_of w.old.heap) y)) result }
     ensures live { IsLiveAnswer (reach_of w.new (L.items l.now)) result }
     ensures locals { All (IsLive (extent_of w.new.heap)) (L.items l.now) }
     ensures kept { KeepsItems (reach_of w.old (L.items l.now)) (reach_of w.new (L.items l.now)) }
@@ -49,7 +50,9 @@ fn subscript_of<L: Locals>(
     requires short { IsShortItem x }
     requires val { IsLive (extent_of w.old.heap) val }
     requires at { IsLive (extent_of w.old.heap) at }
-    ensures row { Answers w.old (L.items l.now) w.new (L.items l.now) (subscript_of (item_in (extent_of w.old.heap) x) (value_in (extent_of w.old.heap) val) (value_in (extent_of w.old.heap) at) (group_of (value_in (extent_of w.old.heap) val))) result }
+    ensures row { Answers w.old (L.items l.now) w.new (L.items l.now)
+        (subscript_of (item_in (extent_of w.old.heap) x) (value_in (extent_of w.old.heap) val)
+        (value_in (extent_of w.old.heap) at) (group_of (value_in (extent_of w.old.heap) val))) result }
     ensures live { IsLiveAnswer (reach_of w.new (L.items l.now)) result }
     ensures locals { All (IsLive (extent_of w.new.heap)) (L.items l.now) }
     ensures kept { KeepsItems (reach_of w.old (L.items l.now)) (reach_of w.new (L.items l.now)) }
@@ -82,7 +85,10 @@ fn text_subscript<L: Locals>(
     requires val { IsLive (extent_of w.old.heap) val }
     requires has { HasText (value_in (extent_of w.old.heap) val) }
     requires at { IsLive (extent_of w.old.heap) at }
-    ensures row { Answers w.old (L.items l.now) w.new (L.items l.now) (subscript_of (item_in (extent_of w.old.heap) x) (value_in (extent_of w.old.heap) val) (value_in (extent_of w.old.heap) at) (Textual (the_text (value_in (extent_of w.old.heap) val)))) result }
+    ensures row { Answers w.old (L.items l.now) w.new (L.items l.now)
+        (subscript_of (item_in (extent_of w.old.heap) x) (value_in (extent_of w.old.heap) val)
+        (value_in (extent_of w.old.heap) at) (Textual (the_text (value_in (extent_of w.old.heap) val))))
+        result }
     ensures live { IsLiveAnswer (reach_of w.new (L.items l.now)) result }
     ensures locals { All (IsLive (extent_of w.new.heap)) (L.items l.now) }
     ensures kept { KeepsItems (reach_of w.old (L.items l.now)) (reach_of w.new (L.items l.now)) }
@@ -102,7 +108,9 @@ fn text_subscript<L: Locals>(
 fn list_subscript<L: Locals>(w: &World, l: &L, x: Item, list: u32, at: Val) -> Result<Outcome, Halt>
     requires list { IsLive (extent_of w.now.heap) (ListVal list) }
     requires at { IsLive (extent_of w.now.heap) at }
-    ensures row { Answers w.now (L.items l.now) w.now (L.items l.now) (subscript_of (item_in (extent_of w.now.heap) x) (value_in (extent_of w.now.heap) (ListVal list)) (value_in (extent_of w.now.heap) at) (Listed list)) result }
+    ensures row { Answers w.now (L.items l.now) w.now (L.items l.now)
+        (subscript_of (item_in (extent_of w.now.heap) x) (value_in (extent_of w.now.heap) (ListVal list))
+        (value_in (extent_of w.now.heap) at) (Listed list)) result }
     ensures live { IsLiveAnswer (reach_of w.now (L.items l.now)) result }
 {
     let n = integer_of(&w.heap, at)?;
@@ -122,7 +130,9 @@ fn record_subscript<L: Locals>(
 ) -> Result<Outcome, Halt>
     requires rec { IsLive (extent_of w.now.heap) (Rec rec) }
     requires at { IsLive (extent_of w.now.heap) at }
-    ensures row { Answers w.now (L.items l.now) w.now (L.items l.now) (subscript_of (item_in (extent_of w.now.heap) x) (value_in (extent_of w.now.heap) (Rec rec)) (value_in (extent_of w.now.heap) at) (Recorded rec)) result }
+    ensures row { Answers w.now (L.items l.now) w.now (L.items l.now)
+        (subscript_of (item_in (extent_of w.now.heap) x) (value_in (extent_of w.now.heap) (Rec rec))
+        (value_in (extent_of w.now.heap) at) (Recorded rec)) result }
     ensures live { IsLiveAnswer (reach_of w.now (L.items l.now)) result }
 {
     let n = integer_of(&w.heap, at)?;

@@ -16,7 +16,8 @@ use icn_vars::{Halt, Locals, Outcome, World, deref};
 pub fn complement_row<L: Locals>(w: &World, l: &L, x: Item) -> Result<Outcome, Halt>
     requires locals { All (IsLive (extent_of w.now.heap)) (L.items l.now) }
     requires first { IsLiveItem (reach_of w.now (L.items l.now)) x }
-    ensures row { Answers w.now (L.items l.now) w.now (L.items l.now) (complement_row (item_in (extent_of w.now.heap) x)) result }
+    ensures row { Answers w.now (L.items l.now) w.now (L.items l.now)
+        (complement_row (item_in (extent_of w.now.heap) x)) result }
     ensures live { IsLiveAnswer (reach_of w.now (L.items l.now)) result }
 {
     let val = deref(w, l, x)?;
@@ -29,7 +30,8 @@ pub fn concatenate_row<L: Locals>(w: &mut World, l: &L, x: Item, y: Item) -> Res
     requires locals { All (IsLive (extent_of w.old.heap)) (L.items l.now) }
     requires first { IsLiveItem (reach_of w.old (L.items l.now)) x }
     requires second { IsLiveItem (reach_of w.old (L.items l.now)) y }
-    ensures row { Answers w.old (L.items l.now) w.new (L.items l.now) (concatenate_row (item_in (extent_of w.old.heap) x) (item_in (extent_of w.old.heap) y)) result }
+    ensures row { Answers w.old (L.items l.now) w.new (L.items l.now)
+        (concatenate_row (item_in (extent_of w.old.heap) x) (item_in (extent_of w.old.heap) y)) result }
     ensures live { IsLiveAnswer (reach_of w.new (L.items l.now)) result }
     ensures locals { All (IsLive (extent_of w.new.heap)) (L.items l.now) }
     ensures kept { KeepsItems (reach_of w.old (L.items l.now)) (reach_of w.new (L.items l.now)) }

@@ -42,7 +42,8 @@ pub fn apply_to_values<L: Locals>(
     requires arity { length args.now ≡ arity op }
     requires locals { All (IsLive (extent_of w.old.heap)) (L.items l.now) }
     requires args { All (IsLiveItem (reach_of w.old (L.items l.now))) args.now }
-    ensures row { Answers w.old (L.items l.now) w.new (L.items l.now) (operation_row op (map (item_in (extent_of w.old.heap)) args.now)) result }
+    ensures row { Answers w.old (L.items l.now) w.new (L.items l.now)
+        (operation_row op (map (item_in (extent_of w.old.heap)) args.now)) result }
     ensures live { IsLiveAnswer (reach_of w.new (L.items l.now)) result }
     ensures locals { All (IsLive (extent_of w.new.heap)) (L.items l.now) }
     ensures kept { KeepsItems (reach_of w.old (L.items l.now)) (reach_of w.new (L.items l.now)) }
@@ -61,7 +62,8 @@ fn apply_to_one<L: Locals>(op: Op, x: Item, w: &mut World, l: &L) -> Result<Outc
     requires arity { arity op ≡ 1 }
     requires locals { All (IsLive (extent_of w.old.heap)) (L.items l.now) }
     requires first { IsLiveItem (reach_of w.old (L.items l.now)) x }
-    ensures row { Answers w.old (L.items l.now) w.new (L.items l.now) (operation_on op (item_in (extent_of w.old.heap) x) (ValItem Null) (ValItem Null)) result }
+    ensures row { Answers w.old (L.items l.now) w.new (L.items l.now)
+        (operation_on op (item_in (extent_of w.old.heap) x) (ValItem Null) (ValItem Null)) result }
     ensures live { IsLiveAnswer (reach_of w.new (L.items l.now)) result }
     ensures locals { All (IsLive (extent_of w.new.heap)) (L.items l.now) }
     ensures kept { KeepsItems (reach_of w.old (L.items l.now)) (reach_of w.new (L.items l.now)) }
@@ -86,7 +88,8 @@ fn apply_to_two<L: Locals>(op: Op, x: Item, y: Item, w: &mut World, l: &L) -> Re
     requires locals { All (IsLive (extent_of w.old.heap)) (L.items l.now) }
     requires first { IsLiveItem (reach_of w.old (L.items l.now)) x }
     requires second { IsLiveItem (reach_of w.old (L.items l.now)) y }
-    ensures row { Answers w.old (L.items l.now) w.new (L.items l.now) (operation_on op (item_in (extent_of w.old.heap) x) (item_in (extent_of w.old.heap) y) (ValItem Null)) result }
+    ensures row { Answers w.old (L.items l.now) w.new (L.items l.now) (operation_on op
+        (item_in (extent_of w.old.heap) x) (item_in (extent_of w.old.heap) y) (ValItem Null)) result }
     ensures live { IsLiveAnswer (reach_of w.new (L.items l.now)) result }
     ensures locals { All (IsLive (extent_of w.new.heap)) (L.items l.now) }
     ensures kept { KeepsItems (reach_of w.old (L.items l.now)) (reach_of w.new (L.items l.now)) }
@@ -136,7 +139,9 @@ fn apply_to_three<L: Locals>(
     requires first { IsLiveItem (reach_of w.old (L.items l.now)) x }
     requires second { IsLiveItem (reach_of w.old (L.items l.now)) y }
     requires third { IsLiveItem (reach_of w.old (L.items l.now)) z }
-    ensures row { Answers w.old (L.items l.now) w.new (L.items l.now) (operation_on op (item_in (extent_of w.old.heap) x) (item_in (extent_of w.old.heap) y) (item_in (extent_of w.old.heap) z)) result }
+    ensures row { Answers w.old (L.items l.now) w.new (L.items l.now)
+        (operation_on op (item_in (extent_of w.old.heap) x) (item_in (extent_of w.old.heap) y)
+        (item_in (extent_of w.old.heap) z)) result }
     ensures live { IsLiveAnswer (reach_of w.new (L.items l.now)) result }
     ensures locals { All (IsLive (extent_of w.new.heap)) (L.items l.now) }
     ensures kept { KeepsItems (reach_of w.old (L.items l.now)) (reach_of w.new (L.items l.now)) }

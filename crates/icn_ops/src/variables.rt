@@ -22,7 +22,8 @@ use icn_vars::{
 
 // The variable that an item is. The error is 111 about the value that it is.
 fn variable_of(item: Item) -> Result<VarRef, Stop>
-    ensures found { (all : Extent) (setting : Setting) → Found all (the_variable (item_in all item)) setting setting (variable_in all) result }
+    ensures found { (all : Extent) (setting : Setting)
+        → Found all (the_variable (item_in all item)) setting setting (variable_in all) result }
     ensures live { (reach : Reach) → IsLiveItem reach item → IfOk result (IsLiveVariable reach) }
     ensures stops { (reach : Reach) → IsLiveItem reach item → IfErr result (IsLiveStop reach.extent) }
     ensures item { IfOk result (λ variable. item ≡ VarItem variable) }
@@ -39,7 +40,8 @@ pub fn assign_row<L: Locals>(w: &mut World, l: &mut L, x: Item, y: Item) -> Resu
     requires locals { All (IsLive (extent_of w.old.heap)) (L.items l.old) }
     requires first { IsLiveItem (reach_of w.old (L.items l.old)) x }
     requires second { IsLiveItem (reach_of w.old (L.items l.old)) y }
-    ensures row { Answers w.old (L.items l.old) w.new (L.items l.new) (assign_row (item_in (extent_of w.old.heap) x) (item_in (extent_of w.old.heap) y)) result }
+    ensures row { Answers w.old (L.items l.old) w.new (L.items l.new)
+        (assign_row (item_in (extent_of w.old.heap) x) (item_in (extent_of w.old.heap) y)) result }
     ensures live { IsLiveAnswer (reach_of w.new (L.items l.new)) result }
     ensures locals { All (IsLive (extent_of w.new.heap)) (L.items l.new) }
     ensures kept { KeepsItems (reach_of w.old (L.items l.old)) (reach_of w.new (L.items l.new)) }
@@ -58,7 +60,8 @@ pub fn swap_row<L: Locals>(w: &mut World, l: &mut L, x: Item, y: Item) -> Result
     requires locals { All (IsLive (extent_of w.old.heap)) (L.items l.old) }
     requires first { IsLiveItem (reach_of w.old (L.items l.old)) x }
     requires second { IsLiveItem (reach_of w.old (L.items l.old)) y }
-    ensures row { Answers w.old (L.items l.old) w.new (L.items l.new) (swap_row (item_in (extent_of w.old.heap) x) (item_in (extent_of w.old.heap) y)) result }
+    ensures row { Answers w.old (L.items l.old) w.new (L.items l.new)
+        (swap_row (item_in (extent_of w.old.heap) x) (item_in (extent_of w.old.heap) y)) result }
     ensures live { IsLiveAnswer (reach_of w.new (L.items l.new)) result }
     ensures locals { All (IsLive (extent_of w.new.heap)) (L.items l.new) }
     ensures kept { KeepsItems (reach_of w.old (L.items l.old)) (reach_of w.new (L.items l.new)) }
@@ -84,7 +87,8 @@ pub fn reversible_assign_row<L: Locals>(
     requires locals { All (IsLive (extent_of w.old.heap)) (L.items l.old) }
     requires first { IsLiveItem (reach_of w.old (L.items l.old)) x }
     requires second { IsLiveItem (reach_of w.old (L.items l.old)) y }
-    ensures row { Answers w.old (L.items l.old) w.new (L.items l.new) (reversible_assign_row (item_in (extent_of w.old.heap) x) (item_in (extent_of w.old.heap) y)) result }
+    ensures row { Answers w.old (L.items l.old) w.new (L.items l.new)
+        (reversible_assign_row (item_in (extent_of w.old.heap) x) (item_in (extent_of w.old.heap) y)) result }
     ensures live { IsLiveAnswer (reach_of w.new (L.items l.new)) result }
     ensures locals { All (IsLive (extent_of w.new.heap)) (L.items l.new) }
     ensures kept { KeepsItems (reach_of w.old (L.items l.old)) (reach_of w.new (L.items l.new)) }
@@ -111,8 +115,10 @@ pub fn undo_assign_again<L: Locals>(
 ) -> Result<Outcome, Halt>
     requires locals { All (IsLive (extent_of w.old.heap)) (L.items l.old) }
     requires old { IsOld (reach_of w.old (L.items l.old)) variable old }
-    ensures row { Answers w.old (L.items l.old) w.new (L.items l.new) (undo_assign_again (variable_in (extent_of w.old.heap) variable) (value_in (extent_of w.old.heap) old)) result }
-    ensures memory { takes_no_memory (variable_in (extent_of w.old.heap) variable) ≡ true → IfErr result (λ halt. halt ≢ NoMemory) }
+    ensures row { Answers w.old (L.items l.old) w.new (L.items l.new) (undo_assign_again
+        (variable_in (extent_of w.old.heap) variable) (value_in (extent_of w.old.heap) old)) result }
+    ensures memory { takes_no_memory (variable_in (extent_of w.old.heap) variable) ≡ true
+        → IfErr result (λ halt. halt ≢ NoMemory) }
     ensures live { IsLiveAnswer (reach_of w.new (L.items l.new)) result }
     ensures locals { All (IsLive (extent_of w.new.heap)) (L.items l.new) }
     ensures kept { KeepsItems (reach_of w.old (L.items l.old)) (reach_of w.new (L.items l.new)) }
@@ -132,7 +138,8 @@ pub fn reversible_swap_row<L: Locals>(
     requires locals { All (IsLive (extent_of w.old.heap)) (L.items l.old) }
     requires first { IsLiveItem (reach_of w.old (L.items l.old)) x }
     requires second { IsLiveItem (reach_of w.old (L.items l.old)) y }
-    ensures row { Answers w.old (L.items l.old) w.new (L.items l.new) (reversible_swap_row (item_in (extent_of w.old.heap) x) (item_in (extent_of w.old.heap) y)) result }
+    ensures row { Answers w.old (L.items l.old) w.new (L.items l.new)
+        (reversible_swap_row (item_in (extent_of w.old.heap) x) (item_in (extent_of w.old.heap) y)) result }
     ensures live { IsLiveAnswer (reach_of w.new (L.items l.new)) result }
     ensures locals { All (IsLive (extent_of w.new.heap)) (L.items l.new) }
     ensures kept { KeepsItems (reach_of w.old (L.items l.old)) (reach_of w.new (L.items l.new)) }
@@ -170,7 +177,9 @@ pub fn undo_exchange_again<L: Locals>(
     requires locals { All (IsLive (extent_of w.old.heap)) (L.items l.old) }
     requires left { IsOld (reach_of w.old (L.items l.old)) left old_left }
     requires right { IsOld (reach_of w.old (L.items l.old)) right old_right }
-    ensures row { Answers w.old (L.items l.old) w.new (L.items l.new) (undo_exchange_again (mover_of mover) (variable_in (extent_of w.old.heap) left) (variable_in (extent_of w.old.heap) right) (value_in (extent_of w.old.heap) old_left) (value_in (extent_of w.old.heap) old_right)) result }
+    ensures row { Answers w.old (L.items l.old) w.new (L.items l.new) (undo_exchange_again (mover_of mover)
+        (variable_in (extent_of w.old.heap) left) (variable_in (extent_of w.old.heap) right)
+        (value_in (extent_of w.old.heap) old_left) (value_in (extent_of w.old.heap) old_right)) result }
     ensures live { IsLiveAnswer (reach_of w.new (L.items l.new)) result }
     ensures locals { All (IsLive (extent_of w.new.heap)) (L.items l.new) }
     ensures kept { KeepsItems (reach_of w.old (L.items l.old)) (reach_of w.new (L.items l.new)) }

@@ -40,7 +40,10 @@ pub fn elements_row<L: Locals, I: Source>(
 ) -> Result<Outcome, Halt>
     requires locals { All (IsLive (extent_of w.old.heap)) (L.items l.now) }
     requires first { IsLiveItem (reach_of w.old (L.items l.now)) x }
-    ensures { (output errors : SinkState) → Applies (elements_row (item_in (extent_of w.old.heap) x)) (call_state w.old (L.items l.now) (call_streams (I.left input.old) (I.faults input.old) output errors)) (call_state w.new (L.items l.now) (call_streams (I.left input.new) (I.faults input.new) output errors)) result }
+    ensures { (output errors : SinkState)
+        → Applies (elements_row (item_in (extent_of w.old.heap) x)) (call_state w.old (L.items l.now)
+        (call_streams (I.left input.old) (I.faults input.old) output errors)) (call_state w.new
+        (L.items l.now) (call_streams (I.left input.new) (I.faults input.new) output errors)) result }
 {
     let val = deref(w, l, x)?;
     match val {
@@ -56,7 +59,9 @@ fn elements_of<L: Locals>(w: &mut World, l: &L, x: Item, val: Val) -> Result<Out
     requires item { IsLiveItem (reach_of w.old (L.items l.now)) x }
     requires val { IsLive (extent_of w.old.heap) val }
     requires no_file { file_of (value_in (extent_of w.old.heap) val) ≡ None }
-    ensures row { Answers w.old (L.items l.now) w.new (L.items l.now) (elements_of (item_in (extent_of w.old.heap) x) (value_in (extent_of w.old.heap) val) (group_of (value_in (extent_of w.old.heap) val))) result }
+    ensures row { Answers w.old (L.items l.now) w.new (L.items l.now)
+        (elements_of (item_in (extent_of w.old.heap) x) (value_in (extent_of w.old.heap) val)
+        (group_of (value_in (extent_of w.old.heap) val))) result }
     ensures live { IsLiveAnswer (reach_of w.new (L.items l.now)) result }
     ensures locals { All (IsLive (extent_of w.new.heap)) (L.items l.now) }
     ensures kept { KeepsItems (reach_of w.old (L.items l.now)) (reach_of w.new (L.items l.now)) }
@@ -81,7 +86,9 @@ fn text_elements<L: Locals>(w: &mut World, l: &L, x: Item, val: Val) -> Result<O
     requires item { IsLiveItem (reach_of w.old (L.items l.now)) x }
     requires val { IsLive (extent_of w.old.heap) val }
     requires has { HasText (value_in (extent_of w.old.heap) val) }
-    ensures row { Answers w.old (L.items l.now) w.new (L.items l.now) (text_elements (text_variable (item_in (extent_of w.old.heap) x) (value_in (extent_of w.old.heap) val)) (value_in (extent_of w.old.heap) val) (the_text (value_in (extent_of w.old.heap) val))) result }
+    ensures row { Answers w.old (L.items l.now) w.new (L.items l.now)
+        (text_elements (text_variable (item_in (extent_of w.old.heap) x) (value_in (extent_of w.old.heap)
+        val)) (value_in (extent_of w.old.heap) val) (the_text (value_in (extent_of w.old.heap) val))) result }
     ensures live { IsLiveAnswer (reach_of w.new (L.items l.now)) result }
     ensures locals { All (IsLive (extent_of w.new.heap)) (L.items l.now) }
     ensures kept { KeepsItems (reach_of w.old (L.items l.now)) (reach_of w.new (L.items l.now)) }

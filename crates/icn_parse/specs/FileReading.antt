@@ -88,7 +88,8 @@ abbrev pub in_front : {A : Type 0} → Option A → Option (List A × List Token
 in_front None others = None
 in_front (Some x) others = others >>= λ found. Some (x ∷ found.0, found.1)
 
-abbrev pub further_by : {A : Type 0} → Bool → Option A → Option (List A × List Token) → List Token → Option (List A × List Token)
+abbrev pub further_by : {A : Type 0} → Bool → Option A → Option (List A × List Token) → List Token
+    → Option (List A × List Token)
 further_by true x others tokens = in_front x others
 further_by false x others tokens = Some ([], tokens)
 
@@ -112,15 +113,19 @@ abbrev pub maybe_names : Reads (List Name)
 maybe_names tokens = names_by (is_close_parenthesis (next tokens)) tokens
 
 abbrev pub variadic_by : Bool → List Name → List Token → Option (List Name × Bool × List Token)
-variadic_by true names tokens = sign_read is_close_bracket (behind tokens) >>= λ rest. Some (names, true, rest)
+variadic_by true names tokens =
+    sign_read is_close_bracket (behind tokens) >>= λ rest. Some (names, true, rest)
 variadic_by false names tokens = Some (names, false, tokens)
 
 abbrev pub parameters_read : List Token → Option (List Name × Bool × List Token)
-parameters_read tokens = maybe_names tokens >>= λ names. variadic_by (is_open_bracket (next names.1)) names.0 names.1
+parameters_read tokens =
+    maybe_names tokens >>= λ names. variadic_by (is_open_bracket (next names.1)) names.0 names.1
 
 abbrev pub locals_by : Option LocalKind → Reads (List Locals) → Reads (List Locals)
 locals_by None others tokens = Some ([], tokens)
-locals_by (Some kind) others tokens = some_read name_of (behind tokens) >>= λ names. sign_read is_semicolon names.1 >>= λ rest. others rest >>= λ found. Some (record { place = place_of tokens; kind = kind; names = names.0 } ∷ found.0, found.1)
+locals_by (Some kind) others tokens =
+    some_read name_of (behind tokens) >>= λ names. sign_read is_semicolon names.1 >>= λ rest. others rest
+    >>= λ found. Some (record { place = place_of tokens; kind = kind; names = names.0 } ∷ found.0, found.1)
 
 -- in so many steps
 abbrev pub locals_read : ℕ → Reads (List Locals)
@@ -128,7 +133,8 @@ locals_read zero tokens = None
 locals_read (suc n) tokens = locals_by (local_kind (next tokens)) (locals_read n) tokens
 
 abbrev pub initial_by : {V L C : Type 0} → Builds V L C → Bool → Reads (Option (Place × V))
-initial_by make true tokens = expression_read make 1 (behind tokens) >>= λ value. sign_read is_semicolon value.1 >>= λ rest. Some (Some (place_of tokens, value.0), rest)
+initial_by make true tokens = expression_read make 1 (behind tokens)
+    >>= λ value. sign_read is_semicolon value.1 >>= λ rest. Some (Some (place_of tokens, value.0), rest)
 initial_by make false tokens = Some (None, tokens)
 
 abbrev pub initial_read : {V L C : Type 0} → Builds V L C → Reads (Option (Place × V))
@@ -136,7 +142,8 @@ initial_read make tokens = initial_by make (is_initial (next tokens)) tokens
 
 abbrev pub body_by : {V L C : Type 0} → Builds V L C → Bool → (L → Reads L) → L → Reads L
 body_by make true others done tokens = Some (done, tokens)
-body_by make false others done tokens = expression_read make 0 tokens >>= λ value. sign_read is_semicolon value.1 >>= λ rest. others (make.with_element done value.0) rest
+body_by make false others done tokens = expression_read make 0 tokens
+    >>= λ value. sign_read is_semicolon value.1 >>= λ rest. others (make.with_element done value.0) rest
 
 -- the expressions up to the end of the procedure, behind those that were read
 abbrev pub body_read : {V L C : Type 0} → Builds V L C → ℕ → L → Reads L
@@ -183,7 +190,18 @@ procedure_read make place tokens = do
   initial ← initial_read make locals.1
   body ← body_read make (suc (length initial.1)) make.no_elements initial.1
   rest ← sign_read is_end body.1
-  Some (ProcedureIs (record { place = place; name = head.0; parameters = head.1.0; is_variadic = head.1.1; locals = locals.0; initial = initial.0; body = body.0 }), rest)
+  Some (
+    ProcedureIs (record {
+      place = place;
+      name = head.0;
+      parameters = head.1.0;
+      is_variadic = head.1.1;
+      locals = locals.0;
+      initial = initial.0;
+      body = body.0;
+    }),
+    rest,
+  )
 
 abbrev pub record_read : {V L : Type 0} → Place → Reads (DeclarationOver V L)
 record_read place tokens = do
@@ -193,10 +211,14 @@ record_read place tokens = do
   rest ← sign_read is_close_parenthesis fields.1
   Some (RecordOver place name.0 fields.0, rest)
 
-abbrev pub declaration_by : {V L C : Type 0} → Builds V L C → Option Kind → Place → Reads (DeclarationOver V L)
-declaration_by make (Some (WordKind Words.Global)) place tokens = some_read name_of tokens >>= λ names. Some (GlobalOver place names.0, names.1)
-declaration_by make (Some (WordKind Words.Link)) place tokens = some_read item_of tokens >>= λ items. Some (LinkOver place items.0, items.1)
-declaration_by make (Some (WordKind Words.Invocable)) place tokens = some_read item_of tokens >>= λ items. Some (InvocableOver place items.0, items.1)
+abbrev pub declaration_by : {V L C : Type 0} → Builds V L C → Option Kind → Place
+    → Reads (DeclarationOver V L)
+declaration_by make (Some (WordKind Words.Global)) place tokens =
+    some_read name_of tokens >>= λ names. Some (GlobalOver place names.0, names.1)
+declaration_by make (Some (WordKind Words.Link)) place tokens =
+    some_read item_of tokens >>= λ items. Some (LinkOver place items.0, items.1)
+declaration_by make (Some (WordKind Words.Invocable)) place tokens =
+    some_read item_of tokens >>= λ items. Some (InvocableOver place items.0, items.1)
 declaration_by make (Some (WordKind Words.Record)) place tokens = record_read place tokens
 declaration_by make (Some (WordKind Words.Procedure)) place tokens = procedure_read make place tokens
 declaration_by make _ place tokens = None
@@ -209,4 +231,5 @@ declaration_read make tokens = declaration_by make (next tokens) (place_of token
 abbrev pub file_read : {V L C : Type 0} → Builds V L C → ℕ → List Token → Option (List (DeclarationOver V L))
 file_read make n [] = Some []
 file_read make zero (token ∷ tokens) = None
-file_read make (suc n) (token ∷ tokens) = declaration_read make (token ∷ tokens) >>= λ first. file_read make n first.1 >>= λ others. Some (first.0 ∷ others)
+file_read make (suc n) (token ∷ tokens) = declaration_read make (token ∷ tokens)
+    >>= λ first. file_read make n first.1 >>= λ others. Some (first.0 ∷ others)

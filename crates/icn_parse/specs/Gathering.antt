@@ -22,7 +22,15 @@ finish_initial None = Some NoInitial
 finish_initial (Some initial) = option_map (Initially initial.0) (kept_tree initial.1)
 
 abbrev pub finish_procedure : CappedProcedure → Option Initial → Option Trees → Finish
-finish_procedure p (Some initial) (Some body) = IsKept (ProcedureOf (record { place = p.place; name = p.name; parameters = p.parameters; is_variadic = p.is_variadic; locals = p.locals; initial = initial; body = body }))
+finish_procedure p (Some initial) (Some body) = IsKept (ProcedureOf (record {
+  place = p.place;
+  name = p.name;
+  parameters = p.parameters;
+  is_variadic = p.is_variadic;
+  locals = p.locals;
+  initial = initial;
+  body = body;
+}))
 finish_procedure p _ _ = IsTooHigh p.name.place
 
 abbrev pub finish : CappedDeclaration → Finish
@@ -43,6 +51,8 @@ done_with done (IsKept declaration) = done ++ declaration ∷ []
 done_with done (IsTooHigh place) = done
 
 -- what is kept in the end, behind what was kept so far
-abbrev pub kept_declarations : Option Place → List Declaration → List CappedDeclaration → Option Place × List Declaration
+abbrev pub kept_declarations : Option Place → List Declaration → List CappedDeclaration
+    → Option Place × List Declaration
 kept_declarations high done [] = (high, done)
-kept_declarations high done (declaration ∷ others) = kept_declarations (high_with high (finish declaration)) (done_with done (finish declaration)) others
+kept_declarations high done (declaration ∷ others) =
+    kept_declarations (high_with high (finish declaration)) (done_with done (finish declaration)) others

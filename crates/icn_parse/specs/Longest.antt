@@ -16,10 +16,13 @@ IsLongest level tree after = (goes_on (climbing_level level) (next after) && is_
 
 -- an expression by the grammar that is the longest is what is read; one that is too high is read without its tree
 abbrev pub ReadsLongest : Type 0
-ReadsLongest = (level : ℕ) (tree : Tree) (here after : List Token) → Part level tree (Spells tree) here after → IsLongest level tree after
+ReadsLongest = (level : ℕ) (tree : Tree) (here after : List Token) → Part level tree (Spells tree) here after
+    → IsLongest level tree after
     → expression_read capped level here ≡ Some (capped_at tree (height tree), after)
 
 -- what is read is an expression by the grammar, and the longest
 abbrev pub ReadsByGrammar : Type 0
-ReadsByGrammar = (level : ℕ) (here after : List Token) (value : Capped Tree) → level ≤ 12 → expression_read capped level here ≡ Some (value, after)
-    → (tree : Tree) × Part level tree (Spells tree) here after × IsLongest level tree after × (value ≡ capped_at tree (height tree))
+ReadsByGrammar = (level : ℕ) (here after : List Token) (value : Capped Tree) → level ≤ 12
+    → expression_read capped level here ≡ Some (value, after)
+    → (tree : Tree) × Part level tree (Spells tree) here after × IsLongest level tree after
+    × (value ≡ capped_at tree (height tree))

@@ -57,7 +57,8 @@ abbrev mutual
   clauses_keywords (MoreClauses clause clauses) = clause_keywords clause ++ clauses_keywords clauses
 
 abbrev pub known_keywords : List KnownKeyword
-known_keywords = K.Ascii ∷ K.Cset ∷ K.Current ∷ K.Digits ∷ K.Errout ∷ K.Fail ∷ K.Input ∷ K.Lcase ∷ K.Letters ∷ K.Level ∷ K.Main ∷ K.Null ∷ K.Output ∷ K.Pos ∷ K.Random ∷ K.Source ∷ K.Subject ∷ K.Ucase ∷ []
+known_keywords = K.Ascii ∷ K.Cset ∷ K.Current ∷ K.Digits ∷ K.Errout ∷ K.Fail ∷ K.Input ∷ K.Lcase ∷ K.Letters
+    ∷ K.Level ∷ K.Main ∷ K.Null ∷ K.Output ∷ K.Pos ∷ K.Random ∷ K.Source ∷ K.Subject ∷ K.Ucase ∷ []
 
 abbrev pub is_known : List ℕ → Bool
 is_known text = list_any (λ keyword. bytes_eq text (keyword_name keyword)) known_keywords
@@ -70,7 +71,8 @@ first_unknown (name ∷ names) = if is_known name.text then first_unknown names 
 -- the name of the first procedure that has a tree higher than 2000
 abbrev pub first_too_high : List Declaration → Option Place
 first_too_high [] = None
-first_too_high (ProcedureOf p ∷ others) = if nat_le (procedure_height p) 2000 then first_too_high others else Some p.name.place
+first_too_high (ProcedureOf p ∷ others) =
+    if nat_le (procedure_height p) 2000 then first_too_high others else Some p.name.place
 first_too_high (other ∷ others) = first_too_high others
 
 -- an unknown keyword, or a form that is not in this profile
@@ -85,7 +87,8 @@ initial_keywords (Initially place value) = keywords value
 -- what a declaration has that is not in this profile
 abbrev pub declaration_fault : Declaration → Option Fault
 declaration_fault (Invocable place items) = Some (NotInProfile place)
-declaration_fault (ProcedureOf p) = option_map UnknownKeyword (first_unknown (initial_keywords p.initial ++ all_keywords p.body))
+declaration_fault (ProcedureOf p) =
+    option_map UnknownKeyword (first_unknown (initial_keywords p.initial ++ all_keywords p.body))
 declaration_fault declaration = None
 
 abbrev pub fault_or : Option Fault → Option Fault → Option Fault
@@ -107,6 +110,9 @@ pub data Outcome : Type 0 where
 -- what tokens come to: they are no program; a tree is too high; a rule is broken; or this is their tree
 pub data IsOutcome (tokens : List Token) : Outcome → Type 0 where
   no_program : (HasTree tokens → ⊥) → IsOutcome tokens NoProgram
-  too_high : (file : List Declaration) (place : Place) → IsTreeOf file tokens → first_too_high file ≡ Some place → IsOutcome tokens (TooHigh place)
-  faulty : (file : List Declaration) (fault : Fault) → IsTreeOf file tokens → first_too_high file ≡ None → first_fault file ≡ Some fault → IsOutcome tokens (Faulty fault)
-  is_tree : (file : List Declaration) → IsTreeOf file tokens → first_too_high file ≡ None → first_fault file ≡ None → IsOutcome tokens (IsTree file)
+  too_high : (file : List Declaration) (place : Place) → IsTreeOf file tokens
+      → first_too_high file ≡ Some place → IsOutcome tokens (TooHigh place)
+  faulty : (file : List Declaration) (fault : Fault) → IsTreeOf file tokens → first_too_high file ≡ None
+      → first_fault file ≡ Some fault → IsOutcome tokens (Faulty fault)
+  is_tree : (file : List Declaration) → IsTreeOf file tokens → first_too_high file ≡ None
+      → first_fault file ≡ None → IsOutcome tokens (IsTree file)

@@ -19,4 +19,5 @@ item_read (token ∷ tokens) = item_of token >>= λ item. Some (item, tokens)
 
 -- the names behind one word of names
 abbrev pub locals_one : LocalKind → Reads Locals
-locals_one kind tokens = some_read name_of (behind tokens) >>= λ names. sign_read is_semicolon names.1 >>= λ rest. Some (record { place = place_of tokens; kind = kind; names = names.0 }, rest)
+locals_one kind tokens = some_read name_of (behind tokens) >>= λ names. sign_read is_semicolon names.1
+    >>= λ rest. Some (record { place = place_of tokens; kind = kind; names = names.0 }, rest)

@@ -34,7 +34,15 @@ first_value first = (first.place, capped_of first.value)
 
 -- a procedure as it was read, whose parts may be too high
 abbrev pub outline_of : Outline → CappedDeclaration
-outline_of o = ProcedureIs (record { place = o.place; name = o.head.name; parameters = o.head.parameters.items; is_variadic = o.head.is_variadic; locals = map locals_of o.locals.items; initial = option_map first_value o.initial; body = elements_of o.body })
+outline_of o = ProcedureIs (record {
+  place = o.place;
+  name = o.head.name;
+  parameters = o.head.parameters.items;
+  is_variadic = o.head.is_variadic;
+  locals = map locals_of o.locals.items;
+  initial = option_map first_value o.initial;
+  body = elements_of o.body;
+})
 
 -- a declaration that is kept, or the place of one that is too high
 abbrev pub finish_of : Finished → Finish
@@ -79,7 +87,8 @@ broken_by (IsTree file) = None
 
 -- the fault is of an outcome, or memory ran out
 abbrev pub Breaks : (Outcome → Type 0) → ParseFault → Type 0
-Breaks IsIt (Broken rule file line) = (outcome : Outcome) × IsIt outcome × (broken_by outcome ≡ Some (rule, record { line = line; file = file }))
+Breaks IsIt (Broken rule file line) = (outcome : Outcome) × IsIt outcome
+    × (broken_by outcome ≡ Some (rule, record { line = line; file = file }))
 Breaks IsIt NoMemoryFault = Unit {0}
 
 -- The answer is the outcome's, or memory ran out.

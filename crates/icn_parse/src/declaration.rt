@@ -84,7 +84,8 @@ fn read_record<'a>(
     place: Place,
     tokens: &'a [Token],
 ) -> Result<(Finished, &'a [Token]), Stop>
-    ensures { let read = finished_read (record_read place tokens.now) in MatchResult result (λ found. read ≡ Some (finish_of found.0, found.1.now)) (ReadsNothing read) }
+    ensures { let read = finished_read (record_read place tokens.now) in
+        MatchResult result (λ found. read ≡ Some (finish_of found.0, found.1.now)) (ReadsNothing read) }
 {
     let (name, rest) = read_name(alloc, tokens)?;
     let rest = sign(open_parenthesis_next(rest), rest)?;
@@ -107,7 +108,8 @@ fn read_behind<'a>(
     place: Place,
     tokens: &'a [Token],
 ) -> Result<(Finished, &'a [Token]), Stop>
-    ensures { let read = finished_read (declaration_by capped (Some kind.now) place tokens.now) in MatchResult result (λ found. read ≡ Some (finish_of found.0, found.1.now)) (ReadsNothing read) }
+    ensures { let read = finished_read (declaration_by capped (Some kind.now) place tokens.now) in
+        MatchResult result (λ found. read ≡ Some (finish_of found.0, found.1.now)) (ReadsNothing read) }
 {
     match kind {
         Kind::Word(Word::Global) => {
@@ -136,7 +138,8 @@ pub fn read_declaration<'a>(
     alloc: Global,
     tokens: &'a [Token],
 ) -> Result<(Finished, &'a [Token]), Stop>
-    ensures { let read = finished_read (declaration_read capped tokens.now) in MatchResult result (λ found. read ≡ Some (finish_of found.0, found.1.now)) (ReadsNothing read) }
+    ensures { let read = finished_read (declaration_read capped tokens.now) in
+        MatchResult result (λ found. read ≡ Some (finish_of found.0, found.1.now)) (ReadsNothing read) }
 {
     let Some((token, rest)) = tokens.split_first() else {
         return Err(Stop::NotHere);

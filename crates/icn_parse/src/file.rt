@@ -25,7 +25,8 @@ impl Gathered {
     // One declaration more.
     fn add(&mut self, finished: Finished) -> Result<(), AllocError>
         ensures high { IfOk result (λ done. self.new.high ≡ high_with self.old.high (finish_of finished)) }
-        ensures decls { IfOk result (λ done. map declaration_of self.new.decls.items ≡ done_with (map declaration_of self.old.decls.items) (finish_of finished)) }
+        ensures decls { IfOk result (λ done. map declaration_of self.new.decls.items
+            ≡ done_with (map declaration_of self.old.decls.items) (finish_of finished)) }
     {
         match finished {
             Finished::Kept(decl) => self.decls.push(decl)?,
@@ -41,7 +42,9 @@ impl Gathered {
 
 /// The declarations of a program text.
 pub fn read_file(alloc: Global, tokens: &[Token]) -> Result<Gathered, Stop>
-    ensures { let read = file_read capped (length tokens.now) tokens.now in MatchResult result (λ all. option_map (kept_declarations None []) read ≡ Some (all.high, map declaration_of all.decls.items)) (ReadsNothing read) }
+    ensures { let read = file_read capped (length tokens.now) tokens.now in
+        MatchResult result (λ all. option_map (kept_declarations None []) read
+        ≡ Some (all.high, map declaration_of all.decls.items)) (ReadsNothing read) }
 {
     let mut all = Gathered {
         high: None,

@@ -15,7 +15,8 @@ pub fn one_outcome()
 /// The tokens of a tree parse to that tree, unless it is too high, has an unknown keyword or a form that is not in this
 /// profile.
 pub fn trees_are_read()
-    ensures { (file : List Declaration) (tokens : List Token) → IsTreeOf file tokens → first_too_high file ≡ None → first_fault file ≡ None
+    ensures { (file : List Declaration) (tokens : List Token) → IsTreeOf file tokens
+        → first_too_high file ≡ None → first_fault file ≡ None
         → (outcome : Outcome) → IsOutcome tokens outcome → outcome ≡ IsTree file }
 {}
 

@@ -25,7 +25,8 @@ fn place_at(token: &Token) -> Place
 
 // The name that a token is.
 fn name_of(alloc: Global, token: &Token) -> Result<Name, Stop>
-    ensures { MatchResult result (λ name. name_at_token token.now ≡ Some name) (ReadsNothing (name_at_token token.now)) }
+    ensures { MatchResult result (λ name. name_at_token token.now ≡ Some name)
+        (ReadsNothing (name_at_token token.now)) }
 {
     let Kind::Identifier(text) = &token.kind else {
         return Err(Stop::NotHere);
@@ -38,7 +39,8 @@ fn name_of(alloc: Global, token: &Token) -> Result<Name, Stop>
 
 // The item that a token is.
 fn item_of(alloc: Global, token: &Token) -> Result<Item, Stop>
-    ensures { MatchResult result (λ item. item_at_token token.now ≡ Some item) (ReadsNothing (item_at_token token.now)) }
+    ensures { MatchResult result (λ item. item_at_token token.now ≡ Some item)
+        (ReadsNothing (item_at_token token.now)) }
 {
     match &token.kind {
         Kind::Identifier(text) => Ok(Item::Identifier(Name {
@@ -55,7 +57,8 @@ fn item_of(alloc: Global, token: &Token) -> Result<Item, Stop>
 
 /// The name that stands next.
 pub fn read_name<'a>(alloc: Global, tokens: &'a [Token]) -> Result<(Name, &'a [Token]), Stop>
-    ensures { MatchResult result (λ found. name_read tokens.now ≡ Some (found.0, found.1.now)) (ReadsNothing (name_read tokens.now)) }
+    ensures { MatchResult result (λ found. name_read tokens.now ≡ Some (found.0, found.1.now))
+        (ReadsNothing (name_read tokens.now)) }
 {
     let Some((token, rest)) = tokens.split_first() else {
         return Err(Stop::NotHere);
@@ -65,7 +68,8 @@ pub fn read_name<'a>(alloc: Global, tokens: &'a [Token]) -> Result<(Name, &'a [T
 
 /// One or more names.
 pub fn read_names<'a>(alloc: Global, tokens: &'a [Token]) -> Result<(Vec<Name>, &'a [Token]), Stop>
-    ensures { MatchResult result (λ found. some_read name_at_token tokens.now ≡ Some (found.0.items, found.1.now)) (ReadsNothing (some_read name_at_token tokens.now)) }
+    ensures { MatchResult result (λ found. some_read name_at_token tokens.now
+        ≡ Some (found.0.items, found.1.now)) (ReadsNothing (some_read name_at_token tokens.now)) }
 {
     let (first, mut rest) = read_name(alloc, tokens)?;
     let mut names = Vec::new(alloc);
@@ -80,7 +84,8 @@ pub fn read_names<'a>(alloc: Global, tokens: &'a [Token]) -> Result<(Vec<Name>, 
 
 // The item that stands next.
 fn read_item<'a>(alloc: Global, tokens: &'a [Token]) -> Result<(Item, &'a [Token]), Stop>
-    ensures { MatchResult result (λ found. item_read tokens.now ≡ Some (found.0, found.1.now)) (ReadsNothing (item_read tokens.now)) }
+    ensures { MatchResult result (λ found. item_read tokens.now ≡ Some (found.0, found.1.now))
+        (ReadsNothing (item_read tokens.now)) }
 {
     let Some((token, rest)) = tokens.split_first() else {
         return Err(Stop::NotHere);
@@ -90,7 +95,8 @@ fn read_item<'a>(alloc: Global, tokens: &'a [Token]) -> Result<(Item, &'a [Token
 
 /// One or more items.
 pub fn read_items<'a>(alloc: Global, tokens: &'a [Token]) -> Result<(Vec<Item>, &'a [Token]), Stop>
-    ensures { MatchResult result (λ found. some_read item_at_token tokens.now ≡ Some (found.0.items, found.1.now)) (ReadsNothing (some_read item_at_token tokens.now)) }
+    ensures { MatchResult result (λ found. some_read item_at_token tokens.now
+        ≡ Some (found.0.items, found.1.now)) (ReadsNothing (some_read item_at_token tokens.now)) }
 {
     let (first, mut rest) = read_item(alloc, tokens)?;
     let mut items = Vec::new(alloc);
@@ -108,7 +114,8 @@ pub fn read_maybe_names<'a>(
     alloc: Global,
     tokens: &'a [Token],
 ) -> Result<(Vec<Name>, &'a [Token]), Stop>
-    ensures { MatchResult result (λ found. maybe_names_read tokens.now ≡ Some (found.0.items, found.1.now)) (ReadsNothing (maybe_names_read tokens.now)) }
+    ensures { MatchResult result (λ found. maybe_names_read tokens.now ≡ Some (found.0.items, found.1.now))
+        (ReadsNothing (maybe_names_read tokens.now)) }
 {
     if close_parenthesis_next(tokens) {
         return Ok((Vec::new(alloc), tokens));

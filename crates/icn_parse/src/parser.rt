@@ -12,7 +12,8 @@ use std::alloc::Global;
 
 // Declarations in which no tree is too high.
 fn read_declarations(alloc: Global, tokens: &[Token]) -> Result<Vec<Decl>, ParseFault>
-    ensures { MatchResult result (λ decls. IsLowTree tokens.now (map declaration_of decls.items)) (Breaks (IsOutcome tokens.now)) }
+    ensures { MatchResult result (λ decls. IsLowTree tokens.now (map declaration_of decls.items))
+        (Breaks (IsOutcome tokens.now)) }
 {
     let all = read_file(alloc, tokens)?;
     match all.high {

@@ -50,7 +50,8 @@ fn read_value<'a>(
     level: u32,
     tokens: &'a [Token],
 ) -> Result<(Value, &'a [Token]), Stop>
-    ensures { MatchResult result (λ found. expression_read capped level tokens.now ≡ Some (capped_of found.0, found.1.now)) (ReadsNothing (expression_read capped level tokens.now)) }
+    ensures { MatchResult result (λ found. expression_read capped level tokens.now
+        ≡ Some (capped_of found.0, found.1.now)) (ReadsNothing (expression_read capped level tokens.now)) }
 {
     match expression(alloc, level, tokens)? {
         Some(found) => Ok(found),
@@ -63,7 +64,8 @@ fn read_parameters<'a>(
     alloc: Global,
     tokens: &'a [Token],
 ) -> Result<(Vec<Name>, bool, &'a [Token]), Stop>
-    ensures { MatchResult result (λ found. parameters_read tokens.now ≡ Some (found.0.items, found.1, found.2.now)) (ReadsNothing (parameters_read tokens.now)) }
+    ensures { MatchResult result (λ found. parameters_read tokens.now
+        ≡ Some (found.0.items, found.1, found.2.now)) (ReadsNothing (parameters_read tokens.now)) }
 {
     let (names, rest) = read_maybe_names(alloc, tokens)?;
     if !open_bracket_next(rest) {
@@ -76,7 +78,9 @@ fn read_parameters<'a>(
 
 // The head of a procedure, behind its word.
 fn read_head<'a>(alloc: Global, tokens: &'a [Token]) -> Result<(Head, &'a [Token]), Stop>
-    ensures { MatchResult result (λ found. head_read tokens.now ≡ Some (found.0.name, (found.0.parameters.items, found.0.is_variadic), found.1.now)) (ReadsNothing (head_read tokens.now)) }
+    ensures { MatchResult result (λ found. head_read tokens.now
+        ≡ Some (found.0.name, (found.0.parameters.items, found.0.is_variadic), found.1.now))
+        (ReadsNothing (head_read tokens.now)) }
 {
     let (name, rest) = read_name(alloc, tokens)?;
     let rest = sign(open_parenthesis_next(rest), rest)?;
@@ -97,7 +101,8 @@ fn read_locals<'a>(
     kind: LocalKind,
     tokens: &'a [Token],
 ) -> Result<(Locals, &'a [Token]), Stop>
-    ensures { MatchResult result (λ found. locals_one kind tokens.now ≡ Some (locals_of found.0, found.1.now)) (ReadsNothing (locals_one kind tokens.now)) }
+    ensures { MatchResult result (λ found. locals_one kind tokens.now ≡ Some (locals_of found.0, found.1.now))
+        (ReadsNothing (locals_one kind tokens.now)) }
 {
     let place = place_of(tokens);
     let (names, rest) = read_names(alloc, behind(tokens))?;
@@ -110,7 +115,9 @@ fn read_all_locals<'a>(
     alloc: Global,
     tokens: &'a [Token],
 ) -> Result<(Vec<Locals>, &'a [Token]), Stop>
-    ensures { MatchResult result (λ found. locals_read (suc (length tokens.now)) tokens.now ≡ Some (map locals_of found.0.items, found.1.now)) (ReadsNothing (locals_read (suc (length tokens.now)) tokens.now)) }
+    ensures { MatchResult result (λ found. locals_read (suc (length tokens.now)) tokens.now
+        ≡ Some (map locals_of found.0.items, found.1.now))
+        (ReadsNothing (locals_read (suc (length tokens.now)) tokens.now)) }
 {
     let mut all = Vec::new(alloc);
     let mut rest = tokens;
@@ -127,7 +134,9 @@ fn read_initial<'a>(
     alloc: Global,
     tokens: &'a [Token],
 ) -> Result<(Option<First>, &'a [Token]), Stop>
-    ensures { MatchResult result (λ found. initial_read capped tokens.now ≡ Some (option_map first_value found.0, found.1.now)) (ReadsNothing (initial_read capped tokens.now)) }
+    ensures { MatchResult result
+        (λ found. initial_read capped tokens.now ≡ Some (option_map first_value found.0, found.1.now))
+        (ReadsNothing (initial_read capped tokens.now)) }
 {
     if !initial_next(tokens) {
         return Ok((None, tokens));
@@ -140,7 +149,9 @@ fn read_initial<'a>(
 
 // The expressions up to the end of a procedure.
 fn read_body<'a>(alloc: Global, tokens: &'a [Token]) -> Result<(Elements, &'a [Token]), Stop>
-    ensures { MatchResult result (λ found. body_read capped (suc (length tokens.now)) capped.no_elements tokens.now ≡ Some (elements_of found.0, found.1.now)) (ReadsNothing (body_read capped (suc (length tokens.now)) capped.no_elements tokens.now)) }
+    ensures { MatchResult result (λ found. body_read capped
+        (suc (length tokens.now)) capped.no_elements tokens.now ≡ Some (elements_of found.0, found.1.now))
+        (ReadsNothing (body_read capped (suc (length tokens.now)) capped.no_elements tokens.now)) }
 {
     let mut done = Elements::new(alloc);
     let mut rest = tokens;
@@ -158,7 +169,8 @@ pub fn read_procedure<'a>(
     place: Place,
     tokens: &'a [Token],
 ) -> Result<(Outline, &'a [Token]), Stop>
-    ensures { MatchResult result (λ found. procedure_read capped place tokens.now ≡ Some (outline_of found.0, found.1.now)) (ReadsNothing (procedure_read capped place tokens.now)) }
+    ensures { MatchResult result (λ found. procedure_read capped place tokens.now
+        ≡ Some (outline_of found.0, found.1.now)) (ReadsNothing (procedure_read capped place tokens.now)) }
 {
     let (head, rest) = read_head(alloc, tokens)?;
     let (locals, rest) = read_all_locals(alloc, rest)?;

@@ -12,7 +12,8 @@ use icn_tree::{Kind, LocalKind, Punctuation, Token, Word};
 
 /// The tokens behind a sign, where it stands next.
 pub fn sign(stands: bool, tokens: &[Token]) -> Result<&[Token], Stop>
-    ensures { MatchResult result (λ rest. sign_by stands tokens.now ≡ Some rest.now) (ReadsNothing (sign_by stands tokens.now)) }
+    ensures { MatchResult result (λ rest. sign_by stands tokens.now ≡ Some rest.now)
+        (ReadsNothing (sign_by stands tokens.now)) }
 {
     if !stands {
         return Err(Stop::NotHere);

@@ -7,7 +7,8 @@ use Rattle.icn_prep.specs.Places.{Place}
 abbrev pub open_conditional : Place → Bool → Place
 open_conditional place chosen = record place {
   taken = place.taken && chosen;
-  conditionals = (record { around = place.taken; in_else = false; file = place.file; line = place.line }) ∷ place.conditionals;
+  conditionals = (record { around = place.taken; in_else = false; file = place.file; line = place.line })
+      ∷ place.conditionals;
 }
 
 -- the innermost one goes on with its other part

@@ -41,7 +41,8 @@ is_comment (Control quote) = false
 abbrev pub uncommented : Bool → LiteralState → List ℕ → List ℕ
 uncommented is_name state [] = []
 uncommented is_name state (b ∷ rest) =
-    if is_comment (after_in is_name state b) then [] else b ∷ uncommented is_name (after_in is_name state b) rest
+    if is_comment (after_in is_name state b) then []
+    else b ∷ uncommented is_name (after_in is_name state b) rest
 
 -- what stands behind the `$` of a directive, without the blanks before its name
 abbrev pub directive_text : List ℕ → List ℕ
@@ -57,7 +58,8 @@ names_file name = bytes_eq name (codes "include") || bytes_eq name (codes "line"
 
 -- what stands behind a directive's name, without a comment and the blanks round it
 abbrev pub operand : List ℕ → List ℕ
-operand line = trimmed (uncommented (names_file (directive_name line)) Outside (behind_word (directive_text line)))
+operand line =
+    trimmed (uncommented (names_file (directive_name line)) Outside (behind_word (directive_text line)))
 
 -- the directive of this name, if there is one
 abbrev pub keyword_of : List ℕ → Option Keyword

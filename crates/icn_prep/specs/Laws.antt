@@ -12,17 +12,20 @@ use Rattle.icn_prep.specs.Texts.{Texts, no_texts, with_text, without_text}
 
 -- files and a name have one outcome, and no other
 abbrev pub OneOutcome : Type 0
-OneOutcome = (files : FileMap) (name : List ℕ) → (outcome : Result Source PrepFault) × (source_lines files name ≡ outcome)
+OneOutcome = (files : FileMap) (name : List ℕ)
+    → (outcome : Result Source PrepFault) × (source_lines files name ≡ outcome)
     × ((other : Result Source PrepFault) → source_lines files name ≡ other → other ≡ outcome)
 
 -- a file without directives, in which no name can be defined, gives its own lines, numbered from 1
 abbrev pub OwnLines : Type 0
-OwnLines = (files : FileMap) (name bytes : List ℕ) → files name ≡ Some bytes → length bytes ≤ 16777216 → has_no_directive (lines_of bytes) ≡ true
+OwnLines = (files : FileMap) (name bytes : List ℕ) → files name ≡ Some bytes → length bytes ≤ 16777216
+    → has_no_directive (lines_of bytes) ≡ true
     → source_lines files name ≡ Ok (record { names = name ∷ []; lines = numbered_lines 0 1 (lines_of bytes) })
 
 -- where there are no lines, the file is missing or a rule is broken
 abbrev pub TextFaults : Type 0
-TextFaults = (files : FileMap) (name : List ℕ) (fault : PrepFault) → source_lines files name ≡ Err fault → IsTextFault fault
+TextFaults = (files : FileMap) (name : List ℕ) (fault : PrepFault) → source_lines files name ≡ Err fault
+    → IsTextFault fault
 
 -- texts that `$define` and `$undef` make
 pub data IsMade : Texts → Type 0 where
@@ -34,4 +37,5 @@ pub data IsMade : Texts → Type 0 where
 -- a text, each line is replaced in the same way
 abbrev pub CountNeverBinds : Type 0
 CountNeverBinds = (texts : Texts) → IsMade texts → (more : ℕ) (state : LiteralState) (line : List ℕ)
-    → replace_words (texts.count + more) texts.text_of state line ≡ replace_words texts.count texts.text_of state line
+    → replace_words (texts.count + more) texts.text_of state line
+    ≡ replace_words texts.count texts.text_of state line

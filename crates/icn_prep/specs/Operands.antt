@@ -18,7 +18,8 @@ name_operand operand = if is_name operand then Some operand else None
 -- a name, and its text
 abbrev pub define_operand : List ℕ → Option (List ℕ × List ℕ)
 define_operand operand =
-    if is_name (first_word operand) && not (begins_with 40 (behind_word operand)) then Some (first_word operand, trimmed (behind_word operand))
+    if is_name (first_word operand) && not (begins_with 40 (behind_word operand))
+    then Some (first_word operand, trimmed (behind_word operand))
     else None
 
 -- a byte that may stand inside a quoted name: any but the quote
@@ -35,7 +36,8 @@ is_quote_alone (b ∷ c ∷ rest) = false
 abbrev pub text_in_quotes : List ℕ → Option (List ℕ)
 text_in_quotes [] = None
 text_in_quotes (b ∷ rest) =
-    if (b == 34) && is_quote_alone (drop (prefix_len is_unquoted rest) rest) then Some (take (prefix_len is_unquoted rest) rest)
+    if (b == 34) && is_quote_alone (drop (prefix_len is_unquoted rest) rest)
+    then Some (take (prefix_len is_unquoted rest) rest)
     else None
 
 -- a run of bytes without a blank
@@ -48,7 +50,8 @@ file_name name = if not (is_empty name) && is_utf8 name then Some name else None
 
 -- the name of a file, in double quotes or as a run of bytes that begins with none
 abbrev pub file_operand : List ℕ → Option (List ℕ)
-file_operand operand = option_and_then file_name (if begins_with 34 operand then text_in_quotes operand else plain_run operand)
+file_operand operand =
+    option_and_then file_name (if begins_with 34 operand then text_in_quotes operand else plain_run operand)
 
 -- the number that digits write
 abbrev pub number_of : List ℕ → ℕ
@@ -60,10 +63,12 @@ number_with number None = None
 number_with number (Some name) = Some (number, Some name)
 
 abbrev pub number_and_name : ℕ → List ℕ → Option (ℕ × Option (List ℕ))
-number_and_name number rest = if is_empty rest then Some (number, None) else number_with number (text_in_quotes rest)
+number_and_name number rest =
+    if is_empty rest then Some (number, None) else number_with number (text_in_quotes rest)
 
 -- 1 to 9 digits, and perhaps a name in double quotes
 abbrev pub line_operand : List ℕ → Option (ℕ × Option (List ℕ))
 line_operand operand =
     let count = prefix_len is_digit operand in
-    if nat_le 1 count && nat_le count 9 then number_and_name (number_of (take count operand)) (trimmed_start (drop count operand)) else None
+    if nat_le 1 count && nat_le count 9
+    then number_and_name (number_of (take count operand)) (trimmed_start (drop count operand)) else None

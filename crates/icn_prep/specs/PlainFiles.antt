@@ -11,4 +11,5 @@ has_no_directive lines = list_all (λ line. not (begins_directive line)) lines
 -- the lines of a file, numbered from here on
 abbrev pub numbered_lines : ℕ → ℕ → List (List ℕ) → List SourceLine
 numbered_lines file number [] = []
-numbered_lines file number (line ∷ lines) = (record { bytes = line; file = file; number = number }) ∷ numbered_lines file (number + 1) lines
+numbered_lines file number (line ∷ lines) =
+    (record { bytes = line; file = file; number = number }) ∷ numbered_lines file (number + 1) lines

@@ -27,4 +27,5 @@ rest_of_line includes (Some name) s place = includes name s place >>= λ s'. Ok 
 -- lines were read up to one that includes the file of a name, behind which so many bytes were passed, or else to the end
 abbrev pub rest_of_lines : IncludeStep → Option (List ℕ × ℕ) → State → Place → List ℕ → Outcome
 rest_of_lines includes None s place content = Ok s
-rest_of_lines includes (Some stop) s place content = includes stop.0 s place >>= λ s'. lines_read includes s' (next_line place) (lines_of (drop stop.1 content))
+rest_of_lines includes (Some stop) s place content = includes stop.0 s place
+    >>= λ s'. lines_read includes s' (next_line place) (lines_of (drop stop.1 content))

@@ -39,7 +39,8 @@ read_from becomes zero state (b ∷ rest) =
     else behind (b ∷ []) (read_from becomes zero (after state b) rest)
 
 -- a word is replaced by its text, which is read with that word switched off
-abbrev pub word_read : (TextOf → LiteralState → List ℕ → ReplacedText) → TextOf → List ℕ → Option (List ℕ) → ReplacedText
+abbrev pub word_read : (TextOf → LiteralState → List ℕ → ReplacedText) → TextOf → List ℕ → Option (List ℕ)
+    → ReplacedText
 word_read reads texts word None = as_it_stands word
 word_read reads texts word (Some text) = reads (without texts word) Outside text
 

@@ -62,7 +62,8 @@ given_more s literal lines =
 
 -- one line more is given, of these bytes, with its file and number; the next one begins in this literal state
 abbrev pub give_line : State → Place → List ℕ → LiteralState → Outcome
-give_line s place bytes literal = given_more s literal (s.lines ++ (record { bytes = bytes; file = place.file; number = place.line }) ∷ [])
+give_line s place bytes literal =
+    given_more s literal (s.lines ++ (record { bytes = bytes; file = place.file; number = place.line }) ∷ [])
 
 -- an empty line is given
 abbrev pub left_empty : State → Place → Outcome
@@ -74,12 +75,15 @@ pass_line s place onward = left_empty s place >>= λ s'. Ok (s', onward)
 
 -- a line that is no directive
 abbrev pub text_line : State → Place → ReplacedText → Step
-text_line s place read = give_line s place read.bytes (next_line_state read.state) >>= λ s'. Ok (s', next_line place)
+text_line s place read =
+    give_line s place read.bytes (next_line_state read.state) >>= λ s'. Ok (s', next_line place)
 
 -- $define
 abbrev pub define_again : State → Place → List ℕ → List ℕ → Option (List ℕ) → Step
-define_again s place name text None = pass_line (record s { texts = with_text s.texts name text }) place (next_line place)
-define_again s place name text (Some old) = if bytes_eq old text then pass_line s place (next_line place) else refuse s place P5
+define_again s place name text None =
+    pass_line (record s { texts = with_text s.texts name text }) place (next_line place)
+define_again s place name text (Some old) =
+    if bytes_eq old text then pass_line s place (next_line place) else refuse s place P5
 
 abbrev pub define_line : State → Place → Option (List ℕ × List ℕ) → Step
 define_line s place None = refuse s place P2
@@ -88,7 +92,8 @@ define_line s place (Some named) = define_again s place named.0 named.1 (s.texts
 -- $undef
 abbrev pub undef_line : State → Place → Option (List ℕ) → Step
 undef_line s place None = refuse s place P2
-undef_line s place (Some name) = pass_line (record s { texts = without_text s.texts name }) place (next_line place)
+undef_line s place (Some name) =
+    pass_line (record s { texts = without_text s.texts name }) place (next_line place)
 
 -- $include
 abbrev pub include_line : IncludeStep → State → Place → Option (List ℕ) → Step
@@ -99,24 +104,28 @@ include_line includes s place (Some name) = includes name s place >>= λ s'. Ok 
 abbrev pub if_line : State → Place → Bool → Option (List ℕ) → Step
 if_line s place wanted None = refuse s place P2
 if_line s place wanted (Some name) =
-    pass_line s place (next_line (open_conditional place (if wanted then is_some (s.texts.text_of name) else not (is_some (s.texts.text_of name)))))
+    pass_line s place (next_line (open_conditional place (if wanted then is_some (s.texts.text_of name)
+    else not (is_some (s.texts.text_of name)))))
 
 -- $else
 abbrev pub else_line : State → Place → List Conditional → Step
 else_line s place [] = refuse s place P3
 else_line s place (innermost ∷ others) =
-    if innermost.in_else then refuse s place P3 else pass_line s place (next_line (other_part place innermost others))
+    if innermost.in_else then refuse s place P3
+    else pass_line s place (next_line (other_part place innermost others))
 
 -- $endif
 abbrev pub endif_line : State → Place → List Conditional → Step
 endif_line s place [] = refuse s place P3
-endif_line s place (innermost ∷ others) = pass_line s place (next_line (close_conditional place innermost others))
+endif_line s place (innermost ∷ others) =
+    pass_line s place (next_line (close_conditional place innermost others))
 
 -- $line: the next line has this number, and from there on the file may have another name
 abbrev pub renumber : State → Place → ℕ → Option (List ℕ) → Step
 renumber s place number None = pass_line s place (record place { line = number })
 renumber s place number (Some name) =
-    pass_line (record s { names = s.names ++ name ∷ [] }) place (record place { file = length s.names; line = number })
+    pass_line (record s { names = s.names ++ name ∷ [] }) place
+    (record place { file = length s.names; line = number })
 
 abbrev pub line_line : State → Place → Option (ℕ × Option (List ℕ)) → Step
 line_line s place None = refuse s place P2
@@ -129,20 +138,26 @@ where_taken s place step = if place.taken then step else pass_line s place (next
 -- one case for each directive
 abbrev pub directive_line : IncludeStep → State → Place → Option Keyword → List ℕ → Step
 directive_line includes s place None text = where_taken s place (refuse s place P1)
-directive_line includes s place (Some Define) text = where_taken s place (define_line s place (define_operand text))
-directive_line includes s place (Some Undef) text = where_taken s place (undef_line s place (name_operand text))
-directive_line includes s place (Some Include) text = where_taken s place (include_line includes s place (file_operand text))
+directive_line includes s place (Some Define) text =
+    where_taken s place (define_line s place (define_operand text))
+directive_line includes s place (Some Undef) text =
+    where_taken s place (undef_line s place (name_operand text))
+directive_line includes s place (Some Include) text =
+    where_taken s place (include_line includes s place (file_operand text))
 directive_line includes s place (Some Ifdef) text = if_line s place true (name_operand text)
 directive_line includes s place (Some Ifndef) text = if_line s place false (name_operand text)
-directive_line includes s place (Some Else) text = if is_empty text then else_line s place place.conditionals else refuse s place P2
-directive_line includes s place (Some Endif) text = if is_empty text then endif_line s place place.conditionals else refuse s place P2
+directive_line includes s place (Some Else) text =
+    if is_empty text then else_line s place place.conditionals else refuse s place P2
+directive_line includes s place (Some Endif) text =
+    if is_empty text then endif_line s place place.conditionals else refuse s place P2
 directive_line includes s place (Some Line) text = where_taken s place (line_line s place (line_operand text))
 directive_line includes s place (Some Error) text = where_taken s place (refuse s place P8)
 
 -- what comes of one line: a directive is done; another line is given with its words replaced, where it is taken
 abbrev pub line_read : IncludeStep → State → Place → List ℕ → Step
 line_read includes s place line =
-    if is_directive s.literal line then directive_line includes s place (keyword_of (directive_name line)) (operand line)
+    if is_directive s.literal line
+    then directive_line includes s place (keyword_of (directive_name line)) (operand line)
     else where_taken s place (text_line s place (replace_words s.texts.count s.texts.text_of s.literal line))
 
 -- a file ends, and closes what it began
@@ -153,11 +168,13 @@ end_file s (innermost ∷ others) = Err (Broken P4 (name_at s innermost.file) in
 -- what comes of the lines up to the end of their file
 abbrev pub lines_read : IncludeStep → State → Place → List (List ℕ) → Outcome
 lines_read includes s place [] = end_file s place.conditionals
-lines_read includes s place (line ∷ rest) = line_read includes s place line >>= λ after. lines_read includes after.0 after.1 rest
+lines_read includes s place (line ∷ rest) =
+    line_read includes s place line >>= λ after. lines_read includes after.0 after.1 rest
 
 -- a file of this name and content, with a name of its own from the start
 abbrev pub file_read : IncludeStep → List ℕ → State → List ℕ → Outcome
-file_read includes name s bytes = lines_read includes (record s { names = s.names ++ name ∷ [] }) (start_of (length s.names)) (lines_of bytes)
+file_read includes name s bytes = lines_read includes (record s { names = s.names ++ name ∷ [] })
+    (start_of (length s.names)) (lines_of bytes)
 
 -- unless the file is too long
 abbrev pub unless_long : List ℕ → List ℕ → Outcome → Outcome
@@ -165,7 +182,8 @@ unless_long name bytes outcome = if nat_lt 16777216 (length bytes) then Err (Bro
 
 -- the line that includes a file is left empty, and the lines of the file stand behind it
 abbrev pub include_read : IncludeStep → List ℕ → State → Place → List ℕ → Outcome
-include_read includes name s place bytes = unless_long name bytes (left_empty s place >>= λ s'. file_read includes name s' bytes)
+include_read includes name s place bytes =
+    unless_long name bytes (left_empty s place >>= λ s'. file_read includes name s' bytes)
 
 -- no deeper file is read
 abbrev pub too_deep : List ℕ → State → Place → Option (List ℕ) → Outcome
@@ -184,7 +202,8 @@ include_file files (suc n) name s place = include_found (include_file files n) n
 -- the named file with all that it includes, at most 32 levels deep
 abbrev pub named_file : FileMap → List ℕ → Option (List ℕ) → Outcome
 named_file files name None = Err Missing
-named_file files name (Some bytes) = unless_long name bytes (file_read (include_file files 32) name first_state bytes)
+named_file files name (Some bytes) =
+    unless_long name bytes (file_read (include_file files 32) name first_state bytes)
 
 -- what a named file gives: the names of files in the order in which they were met, the named one first, and the lines
 pub record Source : Type 0 where

@@ -5,4 +5,5 @@ use Rattle.icn_prep.specs.TextViews.{texts_of}
 
 -- what reading has come to, as definitions see it
 abbrev pub state_of : Reading → State
-state_of r = record { names = r.names.items; lines = r.lines.items; texts = texts_of r.texts; literal = r.literal }
+state_of r =
+    record { names = r.names.items; lines = r.lines.items; texts = texts_of r.texts; literal = r.literal }

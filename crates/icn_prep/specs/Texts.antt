@@ -22,7 +22,8 @@ without texts name = update bytes_eq texts name None
 
 -- a name that had none gets a text
 abbrev pub with_text : Texts → List ℕ → List ℕ → Texts
-with_text texts name text = record { count = texts.count + 1; text_of = update bytes_eq texts.text_of name (Some text) }
+with_text texts name text =
+    record { count = texts.count + 1; text_of = update bytes_eq texts.text_of name (Some text) }
 
 -- a name that had this text, or none, has none
 abbrev pub undefined_by : Texts → List ℕ → Option (List ℕ) → Texts

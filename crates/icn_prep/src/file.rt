@@ -27,14 +27,17 @@ pub fn read_lines(
     requires named { place.old.file < vec_len reading.old.names }
     requires short { length content.now ≤ 16777216 }
     requires numbered { place.old.line + (length content.now - from) ≤ 1016777216 }
-    ensures exact { (includes : IncludeStep) → let outcome = lines_read includes (state_of reading.old) (place_of place.old) (lines_of (drop from content.now)) in
+    ensures exact { (includes : IncludeStep) → let outcome = lines_read includes (state_of reading.old)
+        (place_of place.old) (lines_of (drop from content.now)) in
         MatchResult result
-        (λ stop. outcome ≡ rest_of_lines includes (option_map (λ s. (string_bytes s.0, s.1)) stop) (state_of reading.new) (place_of place.new) content.now)
+        (λ stop. outcome ≡ rest_of_lines includes (option_map (λ s. (string_bytes s.0, s.1)) stop)
+        (state_of reading.new) (place_of place.new) content.now)
         (Refuses outcome) }
     ensures fault { IfErr result IsOfText }
     ensures named { IfOk result (λ stop. IfSome stop (λ _. place.new.file < vec_len reading.new.names)) }
     ensures behind { IfOk result (λ stop. IfSome stop (λ s. s.1 ≤ length content.now)) }
-    ensures numbered { IfOk result (λ stop. IfSome stop (λ s. place.new.line + 1 + (length content.now - s.1) ≤ 1016777216)) }
+    ensures numbered { IfOk result
+        (λ stop. IfSome stop (λ s. place.new.line + 1 + (length content.now - s.1) ≤ 1016777216)) }
     ensures first { OnOk result (slice_get reading.new.names.items 0 ≡ slice_get reading.old.names.items 0) }
     ensures kept { OnOk result (vec_len reading.old.names ≤ vec_len reading.new.names) }
     ensures longer { OnOk result (reading.old.size ≤ reading.new.size) }

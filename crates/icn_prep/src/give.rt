@@ -57,7 +57,8 @@ pub fn broken(alloc: Global, rule: Rule, file: &[u8], line: u32) -> PrepFault
 
 /// The refusal of the line at the place.
 pub fn refusal(reading: &Reading, place: &Place, rule: Rule) -> PrepFault
-    ensures { (result ≡ NoMemory) ⊎ (result ≡ Broken rule (name_at (state_of reading.now) place.now.file) place.now.line) }
+    ensures { (result ≡ NoMemory)
+        ⊎ (result ≡ Broken rule (name_at (state_of reading.now) place.now.file) place.now.line) }
 {
     broken(
         reading.alloc,
@@ -113,10 +114,12 @@ pub fn leave_empty(reading: &mut Reading, place: &Place) -> Result<(), PrepFault
 pub fn add_name(reading: &mut Reading, name: &[u8]) -> Result<u32, PrepFault>
     requires { vec_len reading.old.names ≤ reading.old.size }
     ensures place { IfOk result (λ place. place ≡ length reading.old.names.items) }
-    ensures state { OnOk result (state_of reading.new ≡ record (state_of reading.old) { names = reading.old.names.items ++ name.now ∷ [] }) }
+    ensures state { OnOk result (state_of reading.new
+        ≡ record (state_of reading.old) { names = reading.old.names.items ++ name.now ∷ [] }) }
     ensures fault { IfErr result (λ fault. fault ≡ NoMemory) }
     ensures size { OnOk result (reading.new.size ≡ reading.old.size) }
-    ensures first { OnOk result (0 < vec_len reading.old.names → slice_get reading.new.names.items 0 ≡ slice_get reading.old.names.items 0) }
+    ensures first { OnOk result (0 < vec_len reading.old.names
+        → slice_get reading.new.names.items 0 ≡ slice_get reading.old.names.items 0) }
     ensures kept { OnOk result (vec_len reading.new.names ≡ vec_len reading.old.names + 1) }
 {
     let place = reading.names.len() as u32;

@@ -29,9 +29,11 @@ pub fn read_line<'a>(
 ) -> Result<Option<&'a str>, PrepFault>
     requires named { place.old.file < vec_len reading.old.names }
     requires numbered { place.old.line + 1 < 2 ^ 32 }
-    ensures exact { (includes : IncludeStep) → let step = line_read includes (state_of reading.old) (place_of place.old) line.now in
+    ensures exact { (includes : IncludeStep)
+        → let step = line_read includes (state_of reading.old) (place_of place.old) line.now in
         MatchResult result
-        (λ name. step ≡ rest_of_line includes (option_map (λ n. n.now) name) (state_of reading.new) (place_of place.new))
+        (λ name. step
+        ≡ rest_of_line includes (option_map (λ n. n.now) name) (state_of reading.new) (place_of place.new))
         (Refuses step) }
     ensures fault { IfErr result IsOfText }
     ensures stays { IfOk result (λ name. IfSome name (λ _. place.new.line ≡ place.old.line)) }
@@ -55,7 +57,8 @@ fn text_line(reading: &mut Reading, place: &mut Place, line: &[u8]) -> Result<()
     requires named { place.old.file < vec_len reading.old.names }
     requires numbered { place.old.line + 1 < 2 ^ 32 }
     ensures exact { let s = state_of reading.old in
-        let step = text_line s (place_of place.old) (replace_words s.texts.count s.texts.text_of s.literal line.now) in
+        let step = text_line s (place_of place.old)
+        (replace_words s.texts.count s.texts.text_of s.literal line.now) in
         MatchResult result (λ _. step ≡ Ok (state_of reading.new, place_of place.new)) (Refuses step) }
     ensures fault { IfErr result IsOfText }
     ensures leaves { OnOk result (LeavesLine reading.old reading.new place.old place.new) }
@@ -74,7 +77,8 @@ fn text_line(reading: &mut Reading, place: &mut Place, line: &[u8]) -> Result<()
 fn skip(reading: &mut Reading, place: &mut Place) -> Result<(), PrepFault>
     requires named { place.old.file < vec_len reading.old.names }
     requires numbered { place.old.line + 1 < 2 ^ 32 }
-    ensures exact { let step = pass_line (state_of reading.old) (place_of place.old) (next_line (place_of place.old)) in
+    ensures exact { let step = pass_line (state_of reading.old) (place_of place.old)
+        (next_line (place_of place.old)) in
         MatchResult result (λ _. step ≡ Ok (state_of reading.new, place_of place.new)) (Refuses step) }
     ensures fault { IfErr result IsOfText }
     ensures leaves { OnOk result (LeavesLine reading.old reading.new place.old place.new) }
@@ -93,9 +97,11 @@ fn directive<'a>(
 ) -> Result<Option<&'a str>, PrepFault>
     requires named { place.old.file < vec_len reading.old.names }
     requires numbered { place.old.line + 1 < 2 ^ 32 }
-    ensures exact { (includes : IncludeStep) → let step = directive_line includes (state_of reading.old) (place_of place.old) keyword operand.now in
+    ensures exact { (includes : IncludeStep) → let step = directive_line includes (state_of reading.old)
+        (place_of place.old) keyword operand.now in
         MatchResult result
-        (λ name. step ≡ rest_of_line includes (option_map (λ n. n.now) name) (state_of reading.new) (place_of place.new))
+        (λ name. step
+        ≡ rest_of_line includes (option_map (λ n. n.now) name) (state_of reading.new) (place_of place.new))
         (Refuses step) }
     ensures fault { IfErr result IsOfText }
     ensures stays { IfOk result (λ name. IfSome name (λ _. place.new.line ≡ place.old.line)) }
@@ -124,7 +130,8 @@ fn directive<'a>(
 fn define_line(reading: &mut Reading, place: &mut Place, operand: &[u8]) -> Result<(), PrepFault>
     requires named { place.old.file < vec_len reading.old.names }
     requires numbered { place.old.line + 1 < 2 ^ 32 }
-    ensures exact { let step = define_line (state_of reading.old) (place_of place.old) (define_operand operand.now) in
+    ensures exact { let step = define_line (state_of reading.old) (place_of place.old)
+        (define_operand operand.now) in
         MatchResult result (λ _. step ≡ Ok (state_of reading.new, place_of place.new)) (Refuses step) }
     ensures fault { IfErr result IsOfText }
     ensures leaves { OnOk result (LeavesLine reading.old reading.new place.old place.new) }
@@ -147,7 +154,8 @@ fn define_line(reading: &mut Reading, place: &mut Place, operand: &[u8]) -> Resu
 fn undef_line(reading: &mut Reading, place: &mut Place, operand: &[u8]) -> Result<(), PrepFault>
     requires named { place.old.file < vec_len reading.old.names }
     requires numbered { place.old.line + 1 < 2 ^ 32 }
-    ensures exact { let step = undef_line (state_of reading.old) (place_of place.old) (name_operand operand.now) in
+    ensures exact { let step = undef_line (state_of reading.old) (place_of place.old)
+        (name_operand operand.now) in
         MatchResult result (λ _. step ≡ Ok (state_of reading.new, place_of place.new)) (Refuses step) }
     ensures fault { IfErr result IsOfText }
     ensures leaves { OnOk result (LeavesLine reading.old reading.new place.old place.new) }
@@ -168,7 +176,8 @@ fn if_line(
 ) -> Result<(), PrepFault>
     requires named { place.old.file < vec_len reading.old.names }
     requires numbered { place.old.line + 1 < 2 ^ 32 }
-    ensures exact { let step = if_line (state_of reading.old) (place_of place.old) wanted (name_operand operand.now) in
+    ensures exact { let step = if_line (state_of reading.old) (place_of place.old) wanted
+        (name_operand operand.now) in
         MatchResult result (λ _. step ≡ Ok (state_of reading.new, place_of place.new)) (Refuses step) }
     ensures fault { IfErr result IsOfText }
     ensures leaves { OnOk result (LeavesLine reading.old reading.new place.old place.new) }
@@ -244,7 +253,8 @@ fn endif_line(reading: &mut Reading, place: &mut Place, operand: &[u8]) -> Resul
 fn line_line(reading: &mut Reading, place: &mut Place, operand: &[u8]) -> Result<(), PrepFault>
     requires named { place.old.file < vec_len reading.old.names }
     requires numbered { place.old.line + 1 < 2 ^ 32 }
-    ensures exact { let step = line_line (state_of reading.old) (place_of place.old) (line_operand operand.now) in
+    ensures exact { let step = line_line (state_of reading.old) (place_of place.old)
+        (line_operand operand.now) in
         MatchResult result (λ _. step ≡ Ok (state_of reading.new, place_of place.new)) (Refuses step) }
     ensures fault { IfErr result IsOfText }
     ensures leaves { OnOk result (LeavesLine reading.old reading.new place.old place.new) }

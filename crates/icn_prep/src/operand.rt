@@ -102,7 +102,8 @@ fn is_quote_alone(bytes: &[u8]) -> bool
 
 // 1 to 9 digits, and perhaps a name in double quotes.
 pub fn line_operand(operand: &[u8]) -> Option<(u32, Option<&[u8]>)>
-    ensures read { option_map (λ found. (found.0, option_map (λ name. name.now) found.1)) result ≡ line_operand operand.now }
+    ensures read { option_map (λ found. (found.0, option_map (λ name. name.now) found.1)) result
+        ≡ line_operand operand.now }
     ensures small { IfSome result (λ found. found.0 ≤ 999999999) }
 {
     let count = digits_len(operand);
@@ -115,7 +116,8 @@ pub fn line_operand(operand: &[u8]) -> Option<(u32, Option<&[u8]>)>
 
 // The number, and perhaps a name in double quotes.
 fn numbered(number: u32, rest: &[u8]) -> Option<(u32, Option<&[u8]>)>
-    ensures read { option_map (λ found. (found.0, option_map (λ name. name.now) found.1)) result ≡ number_and_name number rest.now }
+    ensures read { option_map (λ found. (found.0, option_map (λ name. name.now) found.1)) result
+        ≡ number_and_name number rest.now }
     ensures same { IfSome result (λ found. found.0 ≡ number) }
 {
     if rest.is_empty() {

@@ -24,8 +24,10 @@ pub fn replaced<'a>(
     line: &'a [u8],
     most: usize,
 ) -> Result<Option<(Vec<u8>, LiteralState)>, AllocError>
-    ensures { IfOk result (λ found. let all = replace_words (texts_of texts.now).count (texts_of texts.now).text_of literal line.now in
-        MatchOption found (most < length all.bytes) (λ read. all ≡ record { bytes = read.0.items; state = read.1 })) }
+    ensures { IfOk result (λ found.
+        let all = replace_words (texts_of texts.now).count (texts_of texts.now).text_of literal line.now in
+        MatchOption found (most < length all.bytes)
+        (λ read. all ≡ record { bytes = read.0.items; state = read.1 })) }
 {
     let mut given = Vec::with_capacity(alloc, line.len().min(most))?;
     let mut outer: Outer<'a> = IndexMap::new(alloc);
@@ -75,7 +77,8 @@ fn begins_word(state: LiteralState, byte: u8) -> bool
 // The text that a word is replaced by, if it is defined and not switched off. No more names than are defined can be.
 fn text_for<'a>(texts: &'a Texts, outer: &Outer<'a>, word: &[u8]) -> Option<&'a [u8]>
     ensures value { option_map (λ text. text.now) result ≡
-        (if nat_lt (index_map_len outer.now) (texts_of texts.now).count && not (is_some (get_by (λ name. bytes_eq word.now name.now) outer.now))
+        (if nat_lt (index_map_len outer.now) (texts_of texts.now).count
+        && not (is_some (get_by (λ name. bytes_eq word.now name.now) outer.now))
         then (texts_of texts.now).text_of word.now else None) }
     ensures bounded { IfSome result (λ text. length text.now < 2 ^ 64) }
 {

@@ -28,7 +28,8 @@ const DEEPEST: usize = 32;
 /// where the store failed, and `NoMemory` where there was no memory.
 pub fn preprocess<F: Files>(alloc: Global, name: &str, files: &mut F) -> Result<Lines, PrepFault>
     // Where the store tells its files: exactly what the definition gives, or a fault of the store, or want of memory.
-    ensures exact { IfSome (F.held files.old) (λ held. IsOutside result ⊎ (outcome_of result ≡ source_lines held name.now)) }
+    ensures exact { IfSome (F.held files.old)
+        (λ held. IsOutside result ⊎ (outcome_of result ≡ source_lines held name.now)) }
     ensures begins { IfOk result (λ lines. slice_get lines.names.items 0 ≡ Some name.now) }
 
     // The causes of what the store answers, also where it tells nothing.
@@ -71,10 +72,12 @@ fn begin_file(reading: &mut Reading, name: &str, content: Vec<u8>) -> Result<Ope
     ensures content { IfOk result (λ file. file.content.items ≡ content.items) }
     ensures at { IfOk result (λ file. file.at ≡ 0) }
     ensures named { IfOk result (λ file. file.place.file < vec_len reading.new.names) }
-    ensures state { OnOk result (state_of reading.new ≡ record (state_of reading.old) { names = reading.old.names.items ++ name.now ∷ [] }) }
+    ensures state { OnOk result (state_of reading.new
+        ≡ record (state_of reading.old) { names = reading.old.names.items ++ name.now ∷ [] }) }
     ensures fault { IfErr result (λ fault. fault ≡ NoMemory) }
     ensures size { OnOk result (reading.new.size ≡ reading.old.size) }
-    ensures first { OnOk result (0 < vec_len reading.old.names → slice_get reading.new.names.items 0 ≡ slice_get reading.old.names.items 0) }
+    ensures first { OnOk result (0 < vec_len reading.old.names
+        → slice_get reading.new.names.items 0 ≡ slice_get reading.old.names.items 0) }
     ensures kept { OnOk result (vec_len reading.new.names ≡ vec_len reading.old.names + 1) }
 {
     let alloc = reading.alloc;
@@ -141,7 +144,8 @@ fn included_content<F: Files>(
 // The content of a file, unless it is too long.
 fn not_longer(alloc: Global, name: &str, content: Vec<u8>) -> Result<Vec<u8>, PrepFault>
     ensures ok { IfOk result (λ whole. (whole.items ≡ content.items) × (length content.items ≤ 16777216)) }
-    ensures err { IfErr result (λ fault. (fault ≡ NoMemory) ⊎ ((16777216 < length content.items) × (fault ≡ Broken Rule.P9 name.now 0))) }
+    ensures err { IfErr result (λ fault. (fault ≡ NoMemory)
+        ⊎ ((16777216 < length content.items) × (fault ≡ Broken Rule.P9 name.now 0))) }
 {
     if content.len() > LONGEST {
         return Err(broken(alloc, Rule::P9, name.as_bytes(), 0));

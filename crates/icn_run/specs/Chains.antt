@@ -83,7 +83,11 @@ with_saved n pair m = record m { saved = slice_set m.saved n pair }
 
 -- a new chain: a frame with a cell of its own for its locals
 abbrev pub begin : ℕ → List Value → ℕ → Linked → Linked
-begin proc values place m = record m { chain = chain [] none [] (base proc (length m.activations)); place = place; activations = m.activations ++ values ∷ [] }
+begin proc values place m = record m {
+  chain = chain [] none [] (base proc (length m.activations));
+  place = place;
+  activations = m.activations ++ values ∷ [];
+}
 
 -- the procedure of a frame
 abbrev pub proc_of : Frame → ℕ
@@ -138,7 +142,8 @@ take_top (suc n) (item ∷ items) found = take_top n items (item ∷ found)
 
 -- so many operands of this chain, if there are as many, and what is left
 abbrev pub take_from : ℕ → Linked → Chain → Option (List Item × Linked)
-take_from n m (chain items s scans outer) = option_map (λ parts. (parts.0, with_chain (chain parts.1 s scans outer) m)) (take_top n items [])
+take_from n m (chain items s scans outer) =
+    option_map (λ parts. (parts.0, with_chain (chain parts.1 s scans outer) m)) (take_top n items [])
 
 -- the newest operands of the innermost mark, if there are as many, and what is left
 abbrev pub take_items : ℕ → Linked → Option (List Item × Linked)
@@ -169,17 +174,22 @@ push_mark label m = with_chain (chain [] none (scans_of m.chain) (mark label m.c
 -- a mark is opened; where it repeats, it has a cell that tells whether there was a result
 abbrev pub open_mark : (ℕ → ℕ → Bool) → Option ℕ → Linked → Linked
 open_mark repeats label m = if repeats (proc_of (frame m)) (pred m.place)
-    then record (push_mark (flagged label (length m.flags) (pred m.place)) m) { flags = m.flags ++ false ∷ [] }
+    then record (push_mark (flagged label (length m.flags) (pred m.place))
+    m) { flags = m.flags ++ false ∷ [] }
     else push_mark (fixed label) m
 
 -- a mark that counts results down is opened
 abbrev pub open_limit : ℕ → Linked → Linked
-open_limit count m = record m { chain = chain [] none (scans_of m.chain) (limit (length m.limits) m.chain); limits = m.limits ++ count ∷ [] }
+open_limit count m = record m {
+  chain = chain [] none (scans_of m.chain) (limit (length m.limits) m.chain);
+  limits = m.limits ++ count ∷ [];
+}
 
 -- the other labels but that of this cell; and that of a cell
 abbrev pub forget_label : ℕ → List (ℕ × ℕ) → List (ℕ × ℕ)
 forget_label flag [] = []
-forget_label flag (entry ∷ others) = if entry.0 == flag then forget_label flag others else (entry ∷ forget_label flag others)
+forget_label flag (entry ∷ others) =
+    if entry.0 == flag then forget_label flag others else (entry ∷ forget_label flag others)
 
 -- the label that a mark got later, if it got one
 abbrev pub label_of : ℕ → List (ℕ × ℕ) → Option ℕ
@@ -188,12 +198,15 @@ label_of flag (entry ∷ others) = if entry.0 == flag then Some entry.1 else lab
 
 -- the place of the mark itself raises its flag; another label is kept apart
 abbrev pub relabelled_if : Bool → ℕ → ℕ → Linked → Linked
-relabelled_if true label flag m = record m { flags = slice_set m.flags flag true; relabels = forget_label flag m.relabels }
-relabelled_if false label flag m = record m { flags = slice_set m.flags flag false; relabels = (flag, label) ∷ forget_label flag m.relabels }
+relabelled_if true label flag m =
+    record m { flags = slice_set m.flags flag true; relabels = forget_label flag m.relabels }
+relabelled_if false label flag m =
+    record m { flags = slice_set m.flags flag false; relabels = (flag, label) ∷ forget_label flag m.relabels }
 
 -- the innermost mark gets another label, if it can change
 abbrev pub relabel_in : ℕ → Linked → Outer → Option Linked
-relabel_in label m (mark (flagged old flag place) outside) = Some (relabelled_if (label == place) label flag m)
+relabel_in label m (mark (flagged old flag place) outside) =
+    Some (relabelled_if (label == place) label flag m)
 relabel_in label m outer = None
 
 -- the innermost mark gets another label
@@ -206,7 +219,8 @@ remaining n m = pred (slice_index_or m.limits n 0)
 
 -- one result of a limit is counted, where the innermost mark is one
 abbrev pub count_in : Linked → Outer → Option (ℕ × Linked)
-count_in m (limit n outside) = Some (remaining n m, record m { limits = slice_set m.limits n (remaining n m) })
+count_in m (limit n outside) =
+    Some (remaining n m, record m { limits = slice_set m.limits n (remaining n m) })
 count_in m outer = None
 
 -- one result of the innermost mark, which is a limit, is counted
@@ -260,7 +274,8 @@ swap_oldest pair m = swap_at pair m (oldest None (scans_of m.chain))
 
 -- the mark is dropped, and the pair comes back that its oldest open scan saved
 abbrev pub unmark_in : Linked → Chain → Option (Linked × Option Pair)
-unmark_in m outside = Some (with_chain outside m, pair_at m (oldest (first_scan (scans_of outside)) (scans_of m.chain)))
+unmark_in m outside =
+    Some (with_chain outside m, pair_at m (oldest (first_scan (scans_of outside)) (scans_of m.chain)))
 
 -- the mark or the limit is dropped, if the innermost one is there
 abbrev pub unmark_from : Linked → Outer → Option (Linked × Option Pair)
@@ -285,13 +300,18 @@ dropped_by m outside label None = dropped_to m outside label
 -- where the flag is up it is put down, and the repeated alternation begins again behind its mark
 abbrev pub repeat_mark : Option ℕ → ℕ → ℕ → Chain → Linked → Bool → MarkDrop Linked
 repeat_mark label flag place outside m true =
-    Repeats (record m { chain = chain [] none (scans_of outside) (mark (flagged label flag place) outside); place = suc place; flags = slice_set m.flags flag false })
+    Repeats (record m {
+      chain = chain [] none (scans_of outside) (mark (flagged label flag place) outside);
+      place = suc place;
+      flags = slice_set m.flags flag false;
+    })
 repeat_mark label flag place outside m false = dropped_by m outside label (label_of flag m.relabels)
 
 -- where failing goes on once the innermost mark is dropped, by what it is
 abbrev pub drop_from : Linked → Outer → MarkDrop Linked
 drop_from m (mark (fixed label) outside) = dropped_to m outside label
-drop_from m (mark (flagged label flag place) outside) = repeat_mark label flag place outside m (slice_index_or m.flags flag false)
+drop_from m (mark (flagged label flag place) outside) =
+    repeat_mark label flag place outside m (slice_index_or m.flags flag false)
 drop_from m (limit n outside) = Outside (with_chain outside m)
 drop_from m outer = NoMark
 
@@ -317,14 +337,20 @@ with_scan n (chain items s scans outer) = chain items s (n ∷ scans) outer
 -- something is suspended in the innermost mark
 abbrev pub suspend : Why → Linked → Linked
 suspend (Scan pair) m = let n = length m.saved in
-    record m { chain = with_scan n (suspend_in (suspension (scanning n) m.place m.chain) m.chain); saved = m.saved ++ pair ∷ [] }
-suspend Escan m = with_chain (without_scan (suspend_in (suspension (because Escan) m.place m.chain) m.chain)) m
+    record m {
+      chain = with_scan n (suspend_in (suspension (scanning n) m.place m.chain) m.chain);
+      saved = m.saved ++ pair ∷ [];
+    }
+suspend Escan m =
+    with_chain (without_scan (suspend_in (suspension (because Escan) m.place m.chain) m.chain)) m
 suspend why m = with_chain (suspend_in (suspension (because why) m.place m.chain) m.chain) m
 
 -- the innermost mark is left suspended in the one outside, if it is there
 abbrev pub suspend_outer : Linked → Outer → Option Linked
-suspend_outer m (mark label outside) = Some (with_chain (suspend_in (suspension (because Alt) m.place m.chain) outside) m)
-suspend_outer m (limit n outside) = Some (with_chain (suspend_in (suspension (because Alt) m.place m.chain) outside) m)
+suspend_outer m (mark label outside) =
+    Some (with_chain (suspend_in (suspension (because Alt) m.place m.chain) outside) m)
+suspend_outer m (limit n outside) =
+    Some (with_chain (suspend_in (suspension (because Alt) m.place m.chain) outside) m)
 suspend_outer m outer = None
 
 -- the innermost mark is left suspended in the one outside
@@ -334,7 +360,8 @@ suspend_mark m = suspend_outer m (outer_of m.chain)
 -- the procedure is left suspended in its caller, if it has one
 abbrev pub suspend_frame : Linked → Frame → Option Linked
 suspend_frame m (at_base proc activation) = None
-suspend_frame m (in_call proc activation level place caller) = Some (record m { chain = suspend_in (suspension (because Proc) m.place m.chain) caller; place = place })
+suspend_frame m (in_call proc activation level place caller) =
+    Some (record m { chain = suspend_in (suspension (because Proc) m.place m.chain) caller; place = place })
 
 -- the procedure is left suspended in its caller
 abbrev pub suspend_proc : Linked → Option Linked
@@ -348,7 +375,8 @@ why_of (scanning n) m = Scan (saved_at m n)
 -- the newest suspension comes back, if there is one
 abbrev pub resume_from : Linked → Chain → Option (Why × Linked)
 resume_from m (chain items none scans outer) = None
-resume_from m (chain items (suspension reason place inside) scans outer) = Some (why_of reason m, record m { chain = inside; place = place })
+resume_from m (chain items (suspension reason place inside) scans outer) =
+    Some (why_of reason m, record m { chain = inside; place = place })
 
 -- the newest suspension of the innermost mark comes back
 abbrev pub resume : Linked → Option (Why × Linked)
@@ -375,7 +403,15 @@ leave m = leave_frame m (frame m)
 
 -- no stack yet
 abbrev pub empty : Linked
-empty = record { chain = chain [] none [] (base 0 0); place = 0; activations = []; flags = []; relabels = []; limits = []; saved = [] }
+empty = record {
+  chain = chain [] none [] (base 0 0);
+  place = 0;
+  activations = [];
+  flags = [];
+  relabels = [];
+  limits = [];
+  saved = [];
+}
 
 -- The calls, where it is told at which places of each procedure marks are opened whose labels may change. For translated code these are the places where
 -- repeated alternations begin, and then the cells are those of the meaning; where it is said of all places, no code lacks a cell.

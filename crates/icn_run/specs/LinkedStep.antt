@@ -27,7 +27,8 @@ start repeats P launch = Step.start (linked repeats) empty P launch
 
 -- the same of the run on linked marks
 abbrev pub Runs : (ℕ → ℕ → Bool) → Tables → Launch → Observed → Type 0
-Runs repeats tables launch seen = Observes (step repeats tables) Step.observed (start repeats tables launch) seen
+Runs repeats tables launch seen =
+    Observes (step repeats tables) Step.observed (start repeats tables launch) seen
 
 -- a label of a `chfail` stands there
 abbrev pub is_chfail_to : ℕ → Instr → Bool

@@ -52,7 +52,11 @@ put_above (value ∷ values) cells = put_above values (local value ∷ cells)
 -- a new stack
 abbrev pub begin : ℕ → List Value → ℕ → Frames → Frames
 begin proc values place m =
-    record { cells = put_above values (base proc (length values) ∷ []); registers = record { base = 1; mark = 1; newest = None; scan = None }; place = place }
+    record {
+      cells = put_above values (base proc (length values) ∷ []);
+      registers = record { base = 1; mark = 1; newest = None; scan = None };
+      place = place;
+    }
 
 -- the procedure
 
@@ -112,7 +116,8 @@ set_local height value cells cell = cells
 -- the locals above a height, from the lowest on
 abbrev pub set_from : ℕ → List Value → List Cell → List Cell
 set_from height [] cells = cells
-set_from height (value ∷ values) cells = set_from (suc height) values (set_local (suc height) value cells (cell_at (suc height) cells))
+set_from height (value ∷ values) cells =
+    set_from (suc height) values (set_local (suc height) value cells (cell_at (suc height) cells))
 
 -- the procedure that runs has other locals
 abbrev pub set_locals : List Value → Frames → Frames
@@ -156,7 +161,10 @@ copy_up cells onto = onto
 
 -- a mark's cell on top, which is the innermost mark then
 abbrev pub push_mark : Cell → Frames → Frames
-push_mark cell m = record m { cells = cell ∷ m.cells; registers = record m.registers { mark = suc (length m.cells); newest = None } }
+push_mark cell m = record m {
+  cells = cell ∷ m.cells;
+  registers = record m.registers { mark = suc (length m.cells); newest = None };
+}
 
 -- a mark is opened with this label, or without one
 abbrev pub open_mark : Option ℕ → Frames → Frames
@@ -177,7 +185,8 @@ below m = below_in (cut m.registers.mark m.cells)
 
 -- the innermost mark gets another label, where it is a mark
 abbrev pub relabel_in : ℕ → Frames → Option Cell → Option Frames
-relabel_in label m (Some (mark old changed registers)) = Some (record m { cells = set_cell m.registers.mark (mark (Some label) true registers) m.cells })
+relabel_in label m (Some (mark old changed registers)) =
+    Some (record m { cells = set_cell m.registers.mark (mark (Some label) true registers) m.cells })
 relabel_in label m cell = None
 
 -- the innermost mark gets another label
@@ -186,7 +195,8 @@ relabel label m = relabel_in label m (cell_at m.registers.mark m.cells)
 
 -- one result of a limit is counted, where the innermost mark is one
 abbrev pub count_in : Frames → Option Cell → Option (ℕ × Frames)
-count_in m (Some (limit count registers)) = Some (pred count, record m { cells = set_cell m.registers.mark (limit (pred count) registers) m.cells })
+count_in m (Some (limit count registers)) =
+    Some (pred count, record m { cells = set_cell m.registers.mark (limit (pred count) registers) m.cells })
 count_in m cell = None
 
 -- one result of the innermost mark, which is a limit, is counted
@@ -224,15 +234,18 @@ is_same m n = false
 -- from an open scan through older ones to the last before a given one; there are at most so many
 abbrev pub oldest_from : ℕ → List Cell → Option ℕ → Option ℕ → Option ℕ
 oldest_from zero cells until scan = scan
-oldest_from (suc n) cells until scan = elim (is_same (older_scan cells scan) until) as (λ x. Option ℕ) [ true ↦ scan | false ↦ oldest_from n cells until (older_scan cells scan) ]
+oldest_from (suc n) cells until scan = elim (is_same (older_scan cells scan) until) as (λ x. Option ℕ)
+    [ true ↦ scan | false ↦ oldest_from n cells until (older_scan cells scan) ]
 
 -- the oldest scan that is open and was opened after a given one
 abbrev pub oldest : Option ℕ → Frames → Option ℕ
-oldest until m = elim (is_same m.registers.scan until) as (λ x. Option ℕ) [ true ↦ None | false ↦ oldest_from (length m.cells) m.cells until m.registers.scan ]
+oldest until m = elim (is_same m.registers.scan until) as (λ x. Option ℕ)
+    [ true ↦ None | false ↦ oldest_from (length m.cells) m.cells until m.registers.scan ]
 
 -- the saved pair of a scan is exchanged
 abbrev pub with_pair : Pair → ℕ → Frames → Option Cell → Option (Pair × Frames)
-with_pair pair height m (Some (suspension (Scan old) registers place)) = Some (old, record m { cells = set_cell height (suspension (Scan pair) registers place) m.cells })
+with_pair pair height m (Some (suspension (Scan old) registers place)) =
+    Some (old, record m { cells = set_cell height (suspension (Scan pair) registers place) m.cells })
 with_pair pair height m cell = None
 
 -- the saved pair of the scan at a height is exchanged, if one is given
@@ -252,8 +265,10 @@ swap_oldest pair m = swap_at pair m (oldest None m)
 
 -- from the mark's cell downward
 abbrev pub unmark_in : Frames → List Cell → Option (Frames × Option Pair)
-unmark_in m (mark label changed registers ∷ cells) = Some (record m { cells = cells; registers = registers }, pair_at m.cells (oldest registers.scan m))
-unmark_in m (limit count registers ∷ cells) = Some (record m { cells = cells; registers = registers }, pair_at m.cells (oldest registers.scan m))
+unmark_in m (mark label changed registers ∷ cells) =
+    Some (record m { cells = cells; registers = registers }, pair_at m.cells (oldest registers.scan m))
+unmark_in m (limit count registers ∷ cells) =
+    Some (record m { cells = cells; registers = registers }, pair_at m.cells (oldest registers.scan m))
 unmark_in m cells = None
 
 -- the innermost mark is dropped with all that it suspended
@@ -262,9 +277,12 @@ unmark m = unmark_in m (cut m.registers.mark m.cells)
 
 -- where failing goes on once the mark on top is dropped
 abbrev pub drop_from : Frames → List Cell → MarkDrop Frames
-drop_from m (mark (Some label) false registers ∷ cells) = Goes (record { cells = cells; registers = registers; place = label })
-drop_from m (mark (Some label) true registers ∷ cells) = Repeats (record { cells = cells; registers = registers; place = label })
-drop_from m (mark None changed registers ∷ cells) = Outside (record m { cells = cells; registers = registers })
+drop_from m (mark (Some label) false registers ∷ cells) =
+    Goes (record { cells = cells; registers = registers; place = label })
+drop_from m (mark (Some label) true registers ∷ cells) =
+    Repeats (record { cells = cells; registers = registers; place = label })
+drop_from m (mark None changed registers ∷ cells) =
+    Outside (record m { cells = cells; registers = registers })
 drop_from m (limit count registers ∷ cells) = Outside (record m { cells = cells; registers = registers })
 drop_from m cells = NoMark
 
@@ -290,7 +308,11 @@ suspend why m = let height = suc (length m.cells) in record m {
 -- a suspension frame on all that stands, then the operands on top of some lower cells, with the registers of these
 abbrev pub suspended_onto : Why → Frames → List Cell → Registers → ℕ → Frames
 suspended_onto why m cells registers place =
-    record { cells = copy_up cells (suspension why m.registers m.place ∷ m.cells); registers = record registers { newest = Some (suc (length m.cells)) }; place = place }
+    record {
+      cells = copy_up cells (suspension why m.registers m.place ∷ m.cells);
+      registers = record registers { newest = Some (suc (length m.cells)) };
+      place = place;
+    }
 
 -- from the mark's cell downward
 abbrev pub mark_suspended : Frames → List Cell → Option Frames
@@ -304,7 +326,8 @@ suspend_mark m = mark_suspended m (cut m.registers.mark m.cells)
 
 -- from the procedure's frame downward
 abbrev pub proc_suspended : Frames → List Cell → Option Frames
-proc_suspended m (call proc locals level registers place ∷ cells) = Some (suspended_onto Proc m cells registers place)
+proc_suspended m (call proc locals level registers place ∷ cells) =
+    Some (suspended_onto Proc m cells registers place)
 proc_suspended m cells = None
 
 -- the procedure is left suspended in its caller
@@ -313,7 +336,8 @@ suspend_proc m = proc_suspended m (cut m.registers.base m.cells)
 
 -- from the suspension frame downward
 abbrev pub resume_from : List Cell → Option (Why × Frames)
-resume_from (suspension why registers place ∷ cells) = Some (why, record { cells = cells; registers = registers; place = place })
+resume_from (suspension why registers place ∷ cells) =
+    Some (why, record { cells = cells; registers = registers; place = place })
 resume_from cells = None
 
 -- the newest suspension of the innermost mark comes back
@@ -332,7 +356,8 @@ enter proc values m = let height = suc (length m.cells) in record {
 
 -- from the procedure's frame downward
 abbrev pub leave_from : List Cell → Option Frames
-leave_from (call proc locals level registers place ∷ cells) = Some (record { cells = cells; registers = registers; place = place })
+leave_from (call proc locals level registers place ∷ cells) =
+    Some (record { cells = cells; registers = registers; place = place })
 leave_from cells = None
 
 -- the procedure ends and its caller goes on
@@ -341,7 +366,8 @@ leave m = leave_from (cut m.registers.base m.cells)
 
 -- no stack yet
 abbrev pub empty : Frames
-empty = record { cells = []; registers = record { base = 0; mark = 0; newest = None; scan = None }; place = 0 }
+empty =
+    record { cells = []; registers = record { base = 0; mark = 0; newest = None; scan = None }; place = 0 }
 
 -- the calls of a stack, as a flat stack answers them
 abbrev pub flat : Calls Frames Frames

@@ -112,7 +112,8 @@ with_given (Error n value seen) m st next = errs n value st
 with_given _ m st next = failing m st
 
 -- the same where the row changes the store
-abbrev pub with_made : {K M : Type 0} → Calls K M → Outcome → M → Store K → (Value → M → Store K → State K M) → State K M
+abbrev pub with_made : {K M : Type 0} → Calls K M → Outcome → M → Store K → (Value → M → Store K → State K M)
+    → State K M
 with_made C (Gives (Val value) seen) m st next = next value (C.set_locals seen.locals m) (with_at seen st)
 with_made C (Error n value seen) m st next = errs n value (with_at seen st)
 with_made C _ m st next = failing m st
@@ -122,9 +123,11 @@ abbrev pub with_value : {K M : Type 0} → Calls K M → Item → M → Store K 
 with_value C item m st next = with_given (value_row item (here C m st)) m st next
 
 -- the values of items from left to right, or the first error
-abbrev pub with_values : {K M : Type 0} → Calls K M → List Item → M → Store K → (List Value → State K M) → State K M
+abbrev pub with_values : {K M : Type 0} → Calls K M → List Item → M → Store K → (List Value → State K M)
+    → State K M
 with_values C [] m st next = next []
-with_values C (item ∷ items) m st next = with_value C item m st (λ value. with_values C items m st (λ values. next (value ∷ values)))
+with_values C (item ∷ items) m st next =
+    with_value C item m st (λ value. with_values C items m st (λ values. next (value ∷ values)))
 
 -- the item is pushed, and the code goes on
 abbrev pub push_item : {K M : Type 0} → Calls K M → Item → M → Store K → State K M
@@ -134,12 +137,14 @@ push_item C item m st = running (C.push item m) st
 abbrev pub outcome : {K M : Type 0} → Calls K M → Outcome → M → Store K → State K M
 outcome C (Fails seen) m st = failing (C.set_locals seen.locals m) (with_at seen st)
 outcome C (Gives item seen) m st = push_item C item (C.set_locals seen.locals m) (with_at seen st)
-outcome C (Suspends item residual seen) m st = push_item C item (C.suspend (Operation residual) (C.set_locals seen.locals m)) (with_at seen st)
+outcome C (Suspends item residual seen) m st =
+    push_item C item (C.suspend (Operation residual) (C.set_locals seen.locals m)) (with_at seen st)
 outcome C (Error n value seen) m st = errs n value (with_at seen st)
 outcome C (Ends n seen) m st = over (Exit n) seen.outside
 
 -- a list of values is charged and made
-abbrev pub list_made : {K M : Type 0} → Calls K M → List Value → M → Store K → (Value → M → Store K → State K M) → State K M
+abbrev pub list_made : {K M : Type 0} → Calls K M → List Value → M → Store K
+    → (Value → M → Store K → State K M) → State K M
 list_made C values m st next = with_made C (list_row values (here C m st)) m st next
 
 -- The code
@@ -172,12 +177,14 @@ scans_left None st = st
 scans_left (Some pair) st = with_pair pair st
 
 -- the present pair was exchanged with a saved one
-abbrev pub with_exchange : {K M : Type 0} → Option (Pair × M) → (M → Store K → State K M) → Store K → State K M
+abbrev pub with_exchange : {K M : Type 0} → Option (Pair × M) → (M → Store K → State K M) → Store K
+    → State K M
 with_exchange None next st = stuck
 with_exchange (Some swap) next st = next swap.1 (with_pair swap.0 st)
 
 -- the present pair was exchanged with a saved one, where there is one
-abbrev pub maybe_exchanged : {K M : Type 0} → Option (Pair × M) → M → Store K → (M → Store K → State K M) → State K M
+abbrev pub maybe_exchanged : {K M : Type 0} → Option (Pair × M) → M → Store K → (M → Store K → State K M)
+    → State K M
 maybe_exchanged None m st next = next m st
 maybe_exchanged (Some swap) m st next = next swap.1 (with_pair swap.0 st)
 
@@ -194,7 +201,8 @@ all_left C m st = swapped_back (C.swap_oldest (pair_now st) m) st
 
 -- the co-expression of this number; where there is none, an exhausted one
 abbrev pub coexp_at : {K : Type 0} → ℕ → Store K → Coexp K
-coexp_at n st = slice_index_or st.coexps n (record { status = Exhausted; activator = zero; values = []; proc = zero; place = zero })
+coexp_at n st = slice_index_or st.coexps n
+    (record { status = Exhausted; activator = zero; values = []; proc = zero; place = zero })
 
 -- whether a co-expression has begun, is active, waits or is exhausted
 abbrev pub status_of : {K : Type 0} → ℕ → Store K → Status K
@@ -214,7 +222,8 @@ with_status n status st = let coexp = coexp_at n st in with_coexp n (record coex
 
 -- the co-expression has another activator
 abbrev pub with_activator : {K : Type 0} → ℕ → ℕ → Store K → Store K
-with_activator n activator st = let coexp = coexp_at n st in with_coexp n (record coexp { activator = activator }) st
+with_activator n activator st =
+    let coexp = coexp_at n st in with_coexp n (record coexp { activator = activator }) st
 
 -- this one becomes the active one
 abbrev pub make_active : {K : Type 0} → ℕ → Store K → Store K
@@ -252,16 +261,20 @@ hop C P m st = turn P st (λ st. passed_failure C (activator_of st.active st) m 
 
 -- the expression of the active one fails
 abbrev pub exhaust_active : {K M : Type 0} → Calls K M → Program → M → Store K → State K M
-exhaust_active C P m st = turn P st (λ st. passed_failure C (activator_of st.active st) m (with_status st.active Exhausted st))
+exhaust_active C P m st =
+    turn P st (λ st. passed_failure C (activator_of st.active st) m (with_status st.active Exhausted st))
 
 -- one more result of a co-expression is counted
 abbrev pub counted_result : {K : Type 0} → ℕ → Store K → Store K
 counted_result n st = let counts = st.world.heap.coexps in
-    with_world (record st.world { heap = record st.world.heap { coexps = slice_set counts n (suc (slice_index_or counts n zero)) } }) st
+    with_world (record st.world {
+      heap = record st.world.heap { coexps = slice_set counts n (suc (slice_index_or counts n zero)) };
+    }) st
 
 -- the expression of the active one gives a value
 abbrev pub result_given : {K M : Type 0} → Calls K M → Value → M → Store K → State K M
-result_given C value m st = passed_value C (activator_of st.active st) value m (counted_result st.active (with_status st.active (Waiting (C.kept m)) st))
+result_given C value m st = passed_value C (activator_of st.active st) value m
+    (counted_result st.active (with_status st.active (Waiting (C.kept m)) st))
 
 -- `&main` is the first of the co-expressions
 abbrev pub is_main : ℕ → Bool
@@ -274,11 +287,15 @@ is_create_body C m st = C.is_base m && not (is_main st.active)
 
 -- one more co-expression, which has not begun
 abbrev pub with_new : {K : Type 0} → List Value → ℕ → ℕ → Store K → Store K
-with_new values proc place st = record st { coexps = st.coexps ++ record { status = Fresh; activator = zero; values = values; proc = proc; place = place } ∷ [] }
+with_new values proc place st = record st {
+  coexps = st.coexps
+      ++ record { status = Fresh; activator = zero; values = values; proc = proc; place = place } ∷ [];
+}
 
 -- a new one is charged and made
 abbrev pub coexp_made : {K M : Type 0} → Calls K M → List Value → ℕ → ℕ → M → Store K → State K M
-coexp_made C values proc place m st = with_made C (coexpression_row (length values) (here C m st)) m st (λ value m st. push_item C (Val value) m (with_new values proc place st))
+coexp_made C values proc place m st = with_made C (coexpression_row (length values) (here C m st)) m st
+    (λ value m st. push_item C (Val value) m (with_new values proc place st))
 
 -- a new co-expression, made as this one was
 abbrev pub refreshed_from : {K M : Type 0} → Calls K M → Option (Coexp K) → M → Store K → State K M
@@ -293,7 +310,8 @@ refresh C value m st = errs 118 (Some value) st
 
 -- another one is entered: the active one waits, and becomes its activator
 abbrev pub entered_by : {K M : Type 0} → Calls K M → ℕ → Value → M → Store K → State K M
-entered_by C n value m st = passed_value C n value m (with_activator n st.active (with_status st.active (Waiting (C.kept m)) st))
+entered_by C n value m st =
+    passed_value C n value m (with_activator n st.active (with_status st.active (Waiting (C.kept m)) st))
 
 -- an exhausted co-expression fails, the active one gives the value at once, and another one is entered
 abbrev pub entered_if : {K M : Type 0} → Calls K M → Bool → Status K → ℕ → Value → M → Store K → State K M
@@ -314,29 +332,40 @@ fill_nulls n values = take n (values ++ replicate n Null)
 
 -- the procedure is entered with these parameters
 abbrev pub enter_procedure : {K M : Type 0} → Calls K M → ℕ → Procedure → List Value → M → Store K → State K M
-enter_procedure C n entry parameters m st = running (C.enter n (parameters ++ replicate entry.locals Null) m) st
+enter_procedure C n entry parameters m st =
+    running (C.enter n (parameters ++ replicate entry.locals Null) m) st
 
 -- values for all parameters; where the last one collects, it gets a list of those that are left
-abbrev pub collect_rest : {K M : Type 0} → Calls K M → Bool → ℕ → List Value → M → Store K → (List Value → M → Store K → State K M) → State K M
+abbrev pub collect_rest : {K M : Type 0} → Calls K M → Bool → ℕ → List Value → M → Store K
+    → (List Value → M → Store K → State K M) → State K M
 collect_rest C false n arguments m st next = next (fill_nulls n arguments) m st
-collect_rest C true n arguments m st next = list_made C (drop (n - 1) arguments) m st (λ rest m st. next (fill_nulls (n - 1) arguments ++ rest ∷ []) m st)
+collect_rest C true n arguments m st next = list_made C (drop (n - 1) arguments) m st
+    (λ rest m st. next (fill_nulls (n - 1) arguments ++ rest ∷ []) m st)
 
 -- the arguments are the parameters, and where the last one collects it gets a list of those that are left
-abbrev pub with_parameters : {K M : Type 0} → Calls K M → Procedure → List Value → M → Store K → (List Value → M → Store K → State K M) → State K M
-with_parameters C entry arguments m st next = collect_rest C entry.collects entry.parameters arguments m st next
+abbrev pub with_parameters : {K M : Type 0} → Calls K M → Procedure → List Value → M → Store K
+    → (List Value → M → Store K → State K M) → State K M
+with_parameters C entry arguments m st next =
+    collect_rest C entry.collects entry.parameters arguments m st next
 
 -- a procedure is called, unless that is too deep
-abbrev pub called_if : {K M : Type 0} → Calls K M → Bool → ℕ → Procedure → List Value → M → Store K → State K M
-called_if C true n entry arguments m st = with_parameters C entry arguments m st (λ parameters m st. enter_procedure C n entry parameters m st)
+abbrev pub called_if : {K M : Type 0} → Calls K M → Bool → ℕ → Procedure → List Value → M → Store K
+    → State K M
+called_if C true n entry arguments m st =
+    with_parameters C entry arguments m st (λ parameters m st. enter_procedure C n entry parameters m st)
 called_if C false n entry arguments m st = errs 301 None st
 
 -- a procedure is called with these values, unless that is deeper than the limit
 abbrev pub call_procedure : {K M : Type 0} → Calls K M → ℕ → Procedure → List Value → M → Store K → State K M
-call_procedure C n entry arguments m st = called_if C (nat_le (suc (C.level m)) st.world.heap.bounds.levels) n entry arguments m st
+call_procedure C n entry arguments m st =
+    called_if C (nat_le (suc (C.level m)) st.world.heap.bounds.levels) n entry arguments m st
 
 -- a record of this type is made of the arguments, with nulls for those that are missing, and pushed
-abbrev pub construct_record : {K M : Type 0} → Calls K M → ℕ → RecordType → List Value → M → Store K → State K M
-construct_record C kind entry arguments m st = with_made C (record_row kind (fill_nulls (length entry.fields) arguments) (here C m st)) m st (λ value m st. push_item C (Val value) m st)
+abbrev pub construct_record : {K M : Type 0} → Calls K M → ℕ → RecordType → List Value → M → Store K
+    → State K M
+construct_record C kind entry arguments m st =
+    with_made C (record_row kind (fill_nulls (length entry.fields) arguments) (here C m st)) m st
+    (λ value m st. push_item C (Val value) m st)
 
 -- the argument of this number, from the left from 1 on or from the right from -1 on
 abbrev pub argument_at : Option ℕ → List Item → Option Item
@@ -353,7 +382,8 @@ pushed_or_fails C (Some item) m st = push_item C item m st
 pushed_or_fails C None m st = failing m st
 
 -- an integer selects one of the arguments, or fails; what is no integer can't be called
-abbrev pub integer_called : {K M : Type 0} → Calls K M → Value → Option ℤ → List Item → M → Store K → State K M
+abbrev pub integer_called : {K M : Type 0} → Calls K M → Value → Option ℤ → List Item → M → Store K
+    → State K M
 integer_called C callee (Some n) items m st = pushed_or_fails C (choose_item n items) m st
 integer_called C callee None items m st = errs 106 (Some callee) st
 
@@ -387,9 +417,12 @@ callee_of tables n = callee_among n tables.procs tables.records
 
 -- what a number stands for is called
 abbrev pub callee_called : {K M : Type 0} → Calls K M → Callee → ℕ → List Item → M → Store K → State K M
-callee_called C (IsProc entry) n items m st = with_values C items m st (λ arguments. call_procedure C n entry arguments m st)
-callee_called C (IsRecord kind entry) n items m st = with_values C items m st (λ arguments. construct_record C kind entry arguments m st)
-callee_called C (IsFunc func) n items m st = outcome C (apply st.names (Function func) items (here C m st)) m st
+callee_called C (IsProc entry) n items m st =
+    with_values C items m st (λ arguments. call_procedure C n entry arguments m st)
+callee_called C (IsRecord kind entry) n items m st =
+    with_values C items m st (λ arguments. construct_record C kind entry arguments m st)
+callee_called C (IsFunc func) n items m st =
+    outcome C (apply st.names (Function func) items (here C m st)) m st
 callee_called C IsNothing n items m st = errs 106 (Some (ProcedureValue n)) st
 
 -- a value is called with these arguments: a procedure, a record constructor or a function, or an integer
@@ -408,18 +441,23 @@ plain value = Val value
 
 -- a value is called with the elements of a list or the fields of a record as arguments
 abbrev pub elements_called : {K M : Type 0} → Calls K M → Program → Value → Value → M → Store K → State K M
-elements_called C P callee (AList n) m st = invoke_value C P callee (map plain (list_at st.world.heap n).items) m st
-elements_called C P callee (ARecord n) m st = invoke_value C P callee (map plain (record_at st.world.heap n).fields) m st
+elements_called C P callee (AList n) m st =
+    invoke_value C P callee (map plain (list_at st.world.heap n).items) m st
+elements_called C P callee (ARecord n) m st =
+    invoke_value C P callee (map plain (record_at st.world.heap n).fields) m st
 elements_called C P callee from m st = errs 126 (Some from) st
 
 -- a value is applied to the elements of another one
 abbrev pub applied_to_elements : {K M : Type 0} → Calls K M → Program → List Item → M → Store K → State K M
-applied_to_elements C P (callee ∷ from ∷ []) m st = with_value C callee m st (λ callee. with_value C from m st (λ from. elements_called C P callee from m st))
+applied_to_elements C P (callee ∷ from ∷ []) m st =
+    with_value C callee m st (λ callee. with_value C from m st (λ from. elements_called C P callee from m st))
 applied_to_elements C P items m st = stuck
 
 -- the first of the record's fields whose entry is this
 abbrev pub field_place : Tables → ℕ → ℕ → Option ℕ
-field_place tables field kind = option_and_then (λ (entry : RecordType). position (λ other. other == field) entry.fields) (slice_get tables.records kind)
+field_place tables field kind =
+    option_and_then (λ (entry : RecordType). position (λ other. other == field) entry.fields)
+    (slice_get tables.records kind)
 
 -- the variable of a field; a record without that field is error 207
 abbrev pub field_taken : {K M : Type 0} → Calls K M → Option ℕ → ℕ → M → Store K → State K M
@@ -428,13 +466,16 @@ field_taken C None n m st = errs 207 (Some (ARecord n)) st
 
 -- the variable of a record's field; what is no record is error 107
 abbrev pub field_of : {K M : Type 0} → Calls K M → Program → ℕ → Value → M → Store K → State K M
-field_of C P field (ARecord n) m st = field_taken C (field_place P field (record_at st.world.heap n).kind) n m st
+field_of C P field (ARecord n) m st =
+    field_taken C (field_place P field (record_at st.world.heap n).kind) n m st
 field_of C P field value m st = errs 107 (Some value) st
 
 -- a result that is a local, or a part of one, is its value
 abbrev pub with_result : {K M : Type 0} → Calls K M → Item → M → Store K → (Item → State K M) → State K M
-with_result C (Var (Whole (Local n))) m st next = with_value C (Var (Whole (Local n))) m st (λ value. next (Val value))
-with_result C (Var (Part (Local n) place size)) m st next = with_value C (Var (Part (Local n) place size)) m st (λ value. next (Val value))
+with_result C (Var (Whole (Local n))) m st next =
+    with_value C (Var (Whole (Local n))) m st (λ value. next (Val value))
+with_result C (Var (Part (Local n) place size)) m st next =
+    with_value C (Var (Part (Local n) place size)) m st (λ value. next (Val value))
 with_result C item m st next = next item
 
 -- the starting call ends, and with it the run; a create body has no end of its own here
@@ -472,7 +513,8 @@ resume_by C P Escan m st = with_exchange (C.swap_newest (pair_now st) m) failing
 resume_by C P Proc m st = turn P st (λ st. maybe_exchanged (C.swap_oldest (pair_now st) m) m st running)
 
 -- the suspension is resumed, if there is one; else the mark is dropped
-abbrev pub resumed_or_dropped : {K M : Type 0} → Calls K M → Program → M → Store K → Option (Why × M) → State K M
+abbrev pub resumed_or_dropped : {K M : Type 0} → Calls K M → Program → M → Store K → Option (Why × M)
+    → State K M
 resumed_or_dropped C P m st None = mark_dropped C P m st (C.drop_mark m)
 resumed_or_dropped C P m st (Some back) = resume_by C P back.0 back.1 st
 
@@ -500,7 +542,8 @@ with_taken C n m next = with_found (C.take n m) (on_pair next)
 
 -- it goes on without the innermost mark, and with the pair that its oldest open scan saved, if one is open
 abbrev pub unmark_then : {K M : Type 0} → Calls K M → M → Store K → (M → Store K → State K M) → State K M
-unmark_then C m st next = with_found (C.unmark m) (on_pair (λ outside pair. next outside (scans_left pair st)))
+unmark_then C m st next =
+    with_found (C.unmark m) (on_pair (λ outside pair. next outside (scans_left pair st)))
 
 -- the limit of a limitation
 abbrev pub limit_results : {K M : Type 0} → Calls K M → Value → Option ℤ → M → Store K → State K M
@@ -516,7 +559,8 @@ limited_result C item (suc n) m st = with_found (C.suspend_mark m) (λ after. pu
 
 -- a scan begins: the present pair is saved, and the subject is this text
 abbrev pub scan_opened : {K M : Type 0} → Calls K M → Value → M → Store K → State K M
-scan_opened C (Text text) m st = running (C.suspend (Scan (pair_now st)) m) (with_pair (record { subject = text; position = 1 }) st)
+scan_opened C (Text text) m st =
+    running (C.suspend (Scan (pair_now st)) m) (with_pair (record { subject = text; position = 1 }) st)
 scan_opened C value m st = failing m st
 
 -- `initial` is passed where it was done; else it is done now, and that is noted
@@ -530,7 +574,8 @@ initial_done C label m st = initial_if C (slice_index_or st.begun (C.proc m) tru
 
 -- a value is sent to a co-expression, both taken from operands
 abbrev pub activation_of : {K M : Type 0} → Calls K M → List Item → M → Store K → State K M
-activation_of C (value ∷ other ∷ []) m st = with_value C value m st (λ value. with_value C other m st (λ other. activation C value other m st))
+activation_of C (value ∷ other ∷ []) m st =
+    with_value C value m st (λ value. with_value C other m st (λ other. activation C value other m st))
 activation_of C items m st = stuck
 
 -- an operation; that which refreshes a co-expression is no row
@@ -546,46 +591,63 @@ field_applied C P k [] m st = stuck
 -- the expression of a co-expression has a result, which goes to its activator
 abbrev pub coexp_result : {K M : Type 0} → Calls K M → Program → M → Store K → State K M
 coexp_result C P m st = if is_create_body C m st
-    then with_popped C m (λ item m. turn P st (λ st. with_value C item m st (λ value. result_given C value m st)))
+    then with_popped C m
+    (λ item m. turn P st (λ st. with_value C item m st (λ value. result_given C value m st)))
     else stuck
 
 -- the place is that of the next instruction
 abbrev pub instruction : {K M : Type 0} → Calls K M → Program → Instr → M → Store K → State K M
 instruction C P Instrs.Pnull m st = push_item C (Val Null) m st
-instruction C P (Instrs.Int k) m st = with_found (slice_get P.integers k) (λ n. push_item C (Val (Integer n)) m st)
-instruction C P (Instrs.Str k) m st = with_found (slice_get P.strings k) (λ bytes. push_item C (Val (Text bytes)) m st)
-instruction C P (Instrs.Cset k) m st = with_found (slice_get P.csets k) (λ set. push_item C (Val (Chars (members_of set))) m st)
+instruction C P (Instrs.Int k) m st =
+    with_found (slice_get P.integers k) (λ n. push_item C (Val (Integer n)) m st)
+instruction C P (Instrs.Str k) m st =
+    with_found (slice_get P.strings k) (λ bytes. push_item C (Val (Text bytes)) m st)
+instruction C P (Instrs.Cset k) m st =
+    with_found (slice_get P.csets k) (λ set. push_item C (Val (Chars (members_of set))) m st)
 instruction C P (Instrs.Local k) m st = push_item C (Var (Whole (Local k))) m st
-instruction C P (Instrs.Static k) m st = push_item C (Var (Whole (Static (statics_before P (C.proc m) + k)))) m st
+instruction C P (Instrs.Static k) m st =
+    push_item C (Var (Whole (Static (statics_before P (C.proc m) + k)))) m st
 instruction C P (Instrs.Global k) m st = push_item C (Var (Whole (Global k))) m st
-instruction C P (Instrs.Keywd keyword) m st = pushed_or_fails C (keyword_item (standing_of C m st) keyword) m st
+instruction C P (Instrs.Keywd keyword) m st =
+    pushed_or_fails C (keyword_item (standing_of C m st) keyword) m st
 instruction C P Instrs.Pop m st = with_popped C m (λ item m. running m st)
 instruction C P Instrs.Dup m st = with_popped C m (λ item below. push_item C item m st)
 instruction C P (Instrs.Op op) m st = with_taken C (arity op) m (λ items m. turn P st (operate C op items m))
-instruction C P (Instrs.Llist n) m st = with_taken C n m (λ items m. turn P st (λ st. with_values C items m st (λ values. list_made C values m st (λ list m st. push_item C (Val list) m st))))
+instruction C P (Instrs.Llist n) m st = with_taken C n m (λ items m. turn P st (λ st.
+    with_values C items m st (λ values. list_made C values m st (λ list m st. push_item C (Val list) m st))))
 instruction C P (Instrs.Field k) m st = with_taken C 1 m (λ items m. turn P st (field_applied C P k items m))
-instruction C P (Instrs.Invoke n) m st = with_taken C (suc n) m (λ items m. turn P st (invoked_with C P items m))
+instruction C P (Instrs.Invoke n) m st =
+    with_taken C (suc n) m (λ items m. turn P st (invoked_with C P items m))
 instruction C P Instrs.Appl m st = with_taken C 2 m (λ items m. turn P st (applied_to_elements C P items m))
 instruction C P (Instrs.Mark l) m st = running (C.mark (Some l) m) st
 instruction C P Instrs.Mark0 m st = running (C.mark None m) st
 instruction C P Instrs.Unmark m st = unmark_then C m st running
-instruction C P Instrs.Eret m st = with_popped C m (λ item m. with_value C item m st (λ value. unmark_then C m st (push_item C (Val value))))
-instruction C P Instrs.Esusp m st = with_popped C m (λ item m. with_found (C.suspend_mark m) (λ m. push_item C item m st))
-instruction C P Instrs.Limit m st = with_popped C m (λ item m. with_value C item m st (λ value. limit_results C value (integer_of value) m st))
-instruction C P Instrs.Lsusp m st = with_popped C m (λ item m. with_found (C.count_down m) (on_pair (λ count m. limited_result C item count m st)))
+instruction C P Instrs.Eret m st =
+    with_popped C m (λ item m. with_value C item m st (λ value. unmark_then C m st (push_item C (Val value))))
+instruction C P Instrs.Esusp m st =
+    with_popped C m (λ item m. with_found (C.suspend_mark m) (λ m. push_item C item m st))
+instruction C P Instrs.Limit m st = with_popped C m
+    (λ item m. with_value C item m st (λ value. limit_results C value (integer_of value) m st))
+instruction C P Instrs.Lsusp m st = with_popped C m
+    (λ item m. with_found (C.count_down m) (on_pair (λ count m. limited_result C item count m st)))
 instruction C P Instrs.Efail m st = failing m st
 instruction C P (Instrs.Chfail l) m st = with_found (C.relabel l m) (λ m. running m st)
 instruction C P (Instrs.Goto l) m st = running (C.go l m) st
 instruction C P (Instrs.Loop l) m st = turn P st (running (C.go l m))
-instruction C P Instrs.Bscan m st = with_popped C m (λ item m. with_value C item m st (λ value. with_made C (text_row value (here C m st)) m st (scan_opened C)))
-instruction C P Instrs.Escan m st = with_popped C m (λ item m. with_exchange (C.swap_newest (pair_now st) m) (λ m. push_item C item (C.suspend Escan m)) st)
+instruction C P Instrs.Bscan m st = with_popped C m (λ item m.
+    with_value C item m st (λ value. with_made C (text_row value (here C m st)) m st (scan_opened C)))
+instruction C P Instrs.Escan m st = with_popped C m
+    (λ item m. with_exchange (C.swap_newest (pair_now st) m) (λ m. push_item C item (C.suspend Escan m)) st)
 instruction C P Instrs.Ccase m st = with_found (C.below m) (λ item. push_item C item m st)
 instruction C P (Instrs.Init l) m st = initial_done C l m st
 instruction C P Instrs.Psusp m st = with_popped C m (λ item below. with_result C item m st (λ result.
-    maybe_exchanged (C.swap_oldest (pair_now st) m) m st (λ m. return_to (C.suspend_proc m) (push_item C result))))
-instruction C P Instrs.Pret m st = with_popped C m (λ item m. with_result C item m st (λ result. return_to (C.leave m) (push_item C result) (all_left C m st)))
+    maybe_exchanged (C.swap_oldest (pair_now st) m) m st
+    (λ m. return_to (C.suspend_proc m) (push_item C result))))
+instruction C P Instrs.Pret m st = with_popped C m (λ item m.
+    with_result C item m st (λ result. return_to (C.leave m) (push_item C result) (all_left C m st)))
 instruction C P Instrs.Pfail m st = if is_create_body C m st then stuck else proc_fails C m st
-instruction C P (Instrs.Create l) m st = turn P st (coexp_made C (C.locals m) (C.proc m) (C.place m) (C.go l m))
+instruction C P (Instrs.Create l) m st =
+    turn P st (coexp_made C (C.locals m) (C.proc m) (C.place m) (C.go l m))
 instruction C P Instrs.Coact m st = with_taken C 2 m (λ items m. turn P st (activation_of C items m))
 instruction C P Instrs.Coret m st = coexp_result C P m st
 instruction C P Instrs.Cofail m st = if is_create_body C m st then exhaust_active C P m st else stuck
@@ -598,7 +660,8 @@ instruction_at C P m = slice_get (instrs_of P (C.proc m)) (C.place m)
 
 -- one step: the instruction that is due, failing, or passing failure on; what is over stays
 abbrev pub step : {K M : Type 0} → Calls K M → Program → State K M → State K M
-step C P (running m st) = with_found (instruction_at C P m) (λ instr. instruction C P instr (C.go (suc (C.place m)) m) st)
+step C P (running m st) =
+    with_found (instruction_at C P m) (λ instr. instruction C P instr (C.go (suc (C.place m)) m) st)
 step C P (failing m st) = fails C P m st
 step C P (hopping m st) = hop C P m st
 step C P (over ending outside) = over ending outside
@@ -620,7 +683,8 @@ abbrev pub start_value : Tables → Start → Value
 start_value tables Starts.Null = Null
 start_value tables (Starts.Procedure place) = ProcedureValue place
 start_value tables (Starts.Record place) = ProcedureValue (length tables.procs + place)
-start_value tables (Starts.Function func) = ProcedureValue (length tables.procs + length tables.records + pred (func_number func))
+start_value tables (Starts.Function func) =
+    ProcedureValue (length tables.procs + length tables.records + pred (func_number func))
 
 -- the value that a global begins with
 abbrev pub global_value : Tables → GlobalEntry → Value
@@ -644,7 +708,10 @@ record_name tables entry = slice_index_or tables.strings entry.name []
 
 -- the names of all procedures and record types of a code
 abbrev pub all_names : Tables → Names
-all_names tables = record { procedures = map (proc_name tables) tables.procs; records = map (record_name tables) tables.records }
+all_names tables = record {
+  procedures = map (proc_name tables) tables.procs;
+  records = map (record_name tables) tables.records;
+}
 
 -- the store that a run begins with
 abbrev pub first_store : {K : Type 0} → Program → Launch → Store K
@@ -665,18 +732,22 @@ procedure_at start = None
 
 -- the procedure that the global `main` begins with, if there is one
 abbrev pub main_of : Tables → Option ℕ
-main_of tables = option_and_then (λ (global : GlobalEntry). procedure_at global.start) (find (λ global. bytes_eq (name_of tables.strings global) (codes "main")) tables.globals)
+main_of tables = option_and_then (λ (global : GlobalEntry). procedure_at global.start)
+    (find (λ global. bytes_eq (name_of tables.strings global) (codes "main")) tables.globals)
 
 -- `main` is called with a list of the words, whose texts are charged before it; the starting call is no turn
 abbrev pub begun_if : {K M : Type 0} → Calls K M → Bool → ℕ → Procedure → List Value → M → Store K → State K M
-begun_if C true n entry arguments m st = with_parameters C entry arguments m st (λ parameters m st. running (C.begin n (parameters ++ replicate entry.locals Null) 0 m) st)
+begun_if C true n entry arguments m st = with_parameters C entry arguments m st
+    (λ parameters m st. running (C.begin n (parameters ++ replicate entry.locals Null) 0 m) st)
 begun_if C false n entry arguments m st = errs 301 None st
 
 -- `main` is called with the words of the launch; a program without it is error 117
-abbrev pub start_of : {K M : Type 0} → Calls K M → Program → List (List ℕ) → M → Store K → Option ℕ → State K M
+abbrev pub start_of : {K M : Type 0} → Calls K M → Program → List (List ℕ) → M → Store K → Option ℕ
+    → State K M
 start_of C P words m st None = errs 117 None st
 start_of C P words m st (Some main) = with_found (slice_get P.procs main) (λ (entry : Procedure).
-    with_made C (words_row words (here C m st)) m st (λ list m st. begun_if C (nat_le 1 st.world.heap.bounds.levels) main entry (list ∷ []) m st))
+    with_made C (words_row words (here C m st)) m st
+    (λ list m st. begun_if C (nat_le 1 st.world.heap.bounds.levels) main entry (list ∷ []) m st))
 
 -- where a run begins
 abbrev pub start : {K M : Type 0} → Calls K M → M → Program → Launch → State K M

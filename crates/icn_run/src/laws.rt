@@ -8,6 +8,8 @@ ghost use Rattle.icn_run.specs.LinkedStep as Linked;
 /// A run of a code, on flat stacks or on linked marks, has at most one observation: one ending, with the input left, what was put on
 /// both outputs, and the readings that were made.
 pub fn one_observation()
-    ensures on_stacks { (tables : Tables) (launch : Launch) (a b : Observed) → Flat.Runs tables launch a → Flat.Runs tables launch b → a ≡ b }
-    ensures on_marks { (repeats : ℕ → ℕ → Bool) (tables : Tables) (launch : Launch) (a b : Observed) → Linked.Runs repeats tables launch a → Linked.Runs repeats tables launch b → a ≡ b }
+    ensures on_stacks { (tables : Tables) (launch : Launch) (a b : Observed) → Flat.Runs tables launch a
+        → Flat.Runs tables launch b → a ≡ b }
+    ensures on_marks { (repeats : ℕ → ℕ → Bool) (tables : Tables) (launch : Launch) (a b : Observed)
+        → Linked.Runs repeats tables launch a → Linked.Runs repeats tables launch b → a ≡ b }
 {}

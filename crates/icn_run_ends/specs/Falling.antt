@@ -23,7 +23,8 @@ backward_worth N place instr = 0
 
 -- what is left to do before the next turn, at most
 abbrev pub left_of : Tables → State Frames Frames → ℕ
-left_of tables (running m st) = let N = instr_count tables.procs in worth N m.place + stack_weight N m + backward_worth N m.place (instruction_at flat tables m)
+left_of tables (running m st) = let N = instr_count tables.procs in
+    worth N m.place + stack_weight N m + backward_worth N m.place (instruction_at flat tables m)
 left_of tables (failing m st) = stack_weight (instr_count tables.procs) m
 left_of tables (hopping m st) = 0
 left_of tables (over ending outside) = 0
@@ -41,10 +42,12 @@ turns_of stuck = 0
 pub data Falls (tables : Tables) (bound : ℕ) (before after : State Frames Frames) : Type 0 where
   ends : IsEnd after → Falls tables bound before after
   turned : turns_of before < bound → turns_of after ≡ suc (turns_of before) → Falls tables bound before after
-  lighter : turns_of after ≡ turns_of before → left_of tables after < left_of tables before → Falls tables bound before after
+  lighter : turns_of after ≡ turns_of before → left_of tables after < left_of tables before
+      → Falls tables bound before after
 
 -- so it is of each step of a run, whatever the outside is before each
 abbrev pub EachStepFalls : Tables → Launch → Type 0
 EachStepFalls tables launch = (outsides : List Outside) (outside : Outside)
-    → Falls tables launch.bounds.turns (over_outside outside (run_over tables outsides (Flat.start tables launch)))
+    → Falls tables launch.bounds.turns
+    (over_outside outside (run_over tables outsides (Flat.start tables launch)))
     (step flat tables (over_outside outside (run_over tables outsides (Flat.start tables launch))))

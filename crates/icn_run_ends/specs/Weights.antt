@@ -17,9 +17,11 @@ back_weight Proc inside = 0
 abbrev pub outer_weight : ℕ → (List Cell → Registers → ℕ) → List Cell → ℕ
 outer_weight N below_weight [] = 0
 outer_weight N below_weight (base proc locals ∷ below) = 0
-outer_weight N below_weight (call proc locals level registers place ∷ below) = suc (worth N place) + below_weight below registers
+outer_weight N below_weight (call proc locals level registers place ∷ below) =
+    suc (worth N place) + below_weight below registers
 outer_weight N below_weight (local value ∷ below) = 0
-outer_weight N below_weight (mark label changed registers ∷ below) = suc (label_weight N label changed) + below_weight below registers
+outer_weight N below_weight (mark label changed registers ∷ below) =
+    suc (label_weight N label changed) + below_weight below registers
 outer_weight N below_weight (limit count registers ∷ below) = suc (below_weight below registers)
 outer_weight N below_weight (suspension why registers place ∷ below) = 0
 outer_weight N below_weight (operand item ∷ below) = 0
@@ -32,7 +34,8 @@ newest_weight below_weight (call proc locals level registers place ∷ below) = 
 newest_weight below_weight (local value ∷ below) = 0
 newest_weight below_weight (mark label changed registers ∷ below) = 0
 newest_weight below_weight (limit count registers ∷ below) = 0
-newest_weight below_weight (suspension why registers place ∷ below) = back_weight why (below_weight below registers)
+newest_weight below_weight (suspension why registers place ∷ below) =
+    back_weight why (below_weight below registers)
 newest_weight below_weight (operand item ∷ below) = 0
 
 -- the cells up to a height, if there is one
@@ -44,7 +47,8 @@ weight_up_to weight cells (Some height) = weight (cut height cells)
 abbrev pub weight_to_depth : ℕ → ℕ → List Cell → Registers → ℕ
 weight_to_depth N zero cells registers = 0
 weight_to_depth N (suc n) cells registers =
-    max (outer_weight N (weight_to_depth N n) (cut registers.mark cells)) (weight_up_to (newest_weight (weight_to_depth N n)) cells registers.newest)
+    max (outer_weight N (weight_to_depth N n) (cut registers.mark cells))
+    (weight_up_to (newest_weight (weight_to_depth N n)) cells registers.newest)
 
 -- a stack, where no procedure has more than N instructions
 abbrev pub stack_weight : ℕ → Frames → ℕ

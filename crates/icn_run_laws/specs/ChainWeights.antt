@@ -23,7 +23,8 @@ abbrev mutual
 
   pub susp_weight : ℕ → Suspensions → ℕ
   susp_weight N none = 0
-  susp_weight N (suspension reason place inside) = reason_weight reason (inside_weight N inside) (own_weight N inside)
+  susp_weight N (suspension reason place inside) =
+      reason_weight reason (inside_weight N inside) (own_weight N inside)
 
   pub outer_weight : ℕ → Outer → ℕ
   outer_weight N (base proc activation) = 0

@@ -27,7 +27,8 @@ IfThere (Some x) P = P x
 
 -- `Fits m v` says that a stack is well formed and weighs v at most. What a call does to a stack that weighs v at most: the weight rises by so much at
 -- most, and the place stays.
-pub record Stays {M : Type 0} (Fits : M → ℕ → Type 0) (place : M → ℕ) (extra v : ℕ) (m after : M) : Type 0 where
+pub record Stays {M : Type 0} (Fits : M → ℕ → Type 0) (place : M → ℕ) (extra v : ℕ)
+    (m after : M) : Type 0 where
   pub fits : (x : ℕ) × Fits after x
   pub weighs : fits.0 ≤ extra + v
   pub stands : place after ≡ place m
@@ -70,27 +71,44 @@ pub record Weighs {K M : Type 0} (C : Calls K M) (N : ℕ) : Type 1 where
   pub FitsAway : K → Type 0
   pub kept : (m : M) (f : (v : ℕ) × Bounded m v) → FitsAway (C.kept m)
   pub taken_up : (k : K) (m : M) → FitsAway k → (v : ℕ) × Bounded (C.taken_up k m) v
-  pub begin : (proc : ℕ) (values : List Value) (place : ℕ) (m : M) → (v : ℕ) × Bounded (C.begin proc values place m) v
-  pub set_locals : (values : List Value) (m : M) (f : (v : ℕ) × Bounded m v) → Stays Bounded C.place 0 f.0 m (C.set_locals values m)
+  pub begin : (proc : ℕ) (values : List Value) (place : ℕ) (m : M)
+      → (v : ℕ) × Bounded (C.begin proc values place m) v
+  pub set_locals : (values : List Value) (m : M) (f : (v : ℕ) × Bounded m v)
+      → Stays Bounded C.place 0 f.0 m (C.set_locals values m)
   pub go : (place : ℕ) (m : M) (v : ℕ) → Bounded m v → Bounded (C.go place m) v
   pub go_stands : (place : ℕ) (m : M) → C.place (C.go place m) ≡ place
   pub push : (item : Item) (m : M) (f : (v : ℕ) × Bounded m v) → Stays Bounded C.place 0 f.0 m (C.push item m)
-  pub pop : (m : M) (f : (v : ℕ) × Bounded m v) → IfThere (C.pop m) (λ top. Stays Bounded C.place 0 f.0 m top.1)
-  pub take : (n : ℕ) (m : M) (f : (v : ℕ) × Bounded m v) → IfThere (C.take n m) (λ tops. Stays Bounded C.place 0 f.0 m tops.1)
-  pub mark : (label : Option ℕ) (m : M) (f : (v : ℕ) × Bounded m v) → Stays Bounded C.place (suc (worth_of N label)) f.0 m (C.mark label m)
-  pub limit : (count : ℕ) (m : M) (f : (v : ℕ) × Bounded m v) → Stays Bounded C.place 1 f.0 m (C.limit count m)
-  pub relabel : (label : ℕ) (m : M) (f : (v : ℕ) × Bounded m v) → IfThere (C.relabel label m) (λ after. Stays Bounded C.place 0 f.0 m after)
-  pub count_down : (m : M) (f : (v : ℕ) × Bounded m v) → IfThere (C.count_down m) (λ count. Stays Bounded C.place 0 f.0 m count.1)
-  pub unmark : (m : M) (f : (v : ℕ) × Bounded m v) → IfThere (C.unmark m) (λ outside. Stays Bounded C.place 0 f.0 m outside.0)
+  pub pop : (m : M) (f : (v : ℕ) × Bounded m v)
+      → IfThere (C.pop m) (λ top. Stays Bounded C.place 0 f.0 m top.1)
+  pub take : (n : ℕ) (m : M) (f : (v : ℕ) × Bounded m v)
+      → IfThere (C.take n m) (λ tops. Stays Bounded C.place 0 f.0 m tops.1)
+  pub mark : (label : Option ℕ) (m : M) (f : (v : ℕ) × Bounded m v)
+      → Stays Bounded C.place (suc (worth_of N label)) f.0 m (C.mark label m)
+  pub limit : (count : ℕ) (m : M) (f : (v : ℕ) × Bounded m v)
+      → Stays Bounded C.place 1 f.0 m (C.limit count m)
+  pub relabel : (label : ℕ) (m : M) (f : (v : ℕ) × Bounded m v)
+      → IfThere (C.relabel label m) (λ after. Stays Bounded C.place 0 f.0 m after)
+  pub count_down : (m : M) (f : (v : ℕ) × Bounded m v)
+      → IfThere (C.count_down m) (λ count. Stays Bounded C.place 0 f.0 m count.1)
+  pub unmark : (m : M) (f : (v : ℕ) × Bounded m v)
+      → IfThere (C.unmark m) (λ outside. Stays Bounded C.place 0 f.0 m outside.0)
   pub drop_mark : (m : M) (f : (v : ℕ) × Bounded m v) → DropsWell Bounded C.place N f.0 (C.drop_mark m)
-  pub suspend : (why : Why) (m : M) → IsInside why → (f : (v : ℕ) × Bounded m v) → Stays Bounded C.place 1 f.0 m (C.suspend why m)
-  pub suspend_mark : (m : M) (f : (v : ℕ) × Bounded m v) → IfThere (C.suspend_mark m) (λ after. Stays Bounded C.place 1 f.0 m after)
-  pub suspend_proc : (m : M) (f : (v : ℕ) × Bounded m v) → IfThere (C.suspend_proc m) (λ after. Pays Bounded C.place N f.0 after)
-  pub resume : (m : M) (f : (v : ℕ) × Bounded m v) → IfThere (C.resume m) (λ back. ResumesWell Bounded f.0 back.0 back.1)
-  pub swap_newest : (pair : Pair) (m : M) (f : (v : ℕ) × Bounded m v) → IfThere (C.swap_newest pair m) (λ swap. Stays Bounded C.place 0 f.0 m swap.1)
-  pub swap_oldest : (pair : Pair) (m : M) (f : (v : ℕ) × Bounded m v) → IfThere (C.swap_oldest pair m) (λ swap. Stays Bounded C.place 0 f.0 m swap.1)
-  pub enter : (proc : ℕ) (values : List Value) (m : M) (f : (v : ℕ) × Bounded m v) → (v : ℕ) × Bounded (C.enter proc values m) v
-  pub leave : (m : M) (f : (v : ℕ) × Bounded m v) → IfThere (C.leave m) (λ caller. Pays Bounded C.place N f.0 caller)
+  pub suspend : (why : Why) (m : M) → IsInside why → (f : (v : ℕ) × Bounded m v)
+      → Stays Bounded C.place 1 f.0 m (C.suspend why m)
+  pub suspend_mark : (m : M) (f : (v : ℕ) × Bounded m v)
+      → IfThere (C.suspend_mark m) (λ after. Stays Bounded C.place 1 f.0 m after)
+  pub suspend_proc : (m : M) (f : (v : ℕ) × Bounded m v)
+      → IfThere (C.suspend_proc m) (λ after. Pays Bounded C.place N f.0 after)
+  pub resume : (m : M) (f : (v : ℕ) × Bounded m v)
+      → IfThere (C.resume m) (λ back. ResumesWell Bounded f.0 back.0 back.1)
+  pub swap_newest : (pair : Pair) (m : M) (f : (v : ℕ) × Bounded m v)
+      → IfThere (C.swap_newest pair m) (λ swap. Stays Bounded C.place 0 f.0 m swap.1)
+  pub swap_oldest : (pair : Pair) (m : M) (f : (v : ℕ) × Bounded m v)
+      → IfThere (C.swap_oldest pair m) (λ swap. Stays Bounded C.place 0 f.0 m swap.1)
+  pub enter : (proc : ℕ) (values : List Value) (m : M) (f : (v : ℕ) × Bounded m v)
+      → (v : ℕ) × Bounded (C.enter proc values m) v
+  pub leave : (m : M) (f : (v : ℕ) × Bounded m v)
+      → IfThere (C.leave m) (λ caller. Pays Bounded C.place N f.0 caller)
 
 -- labels of marks, `goto` and `init` lie behind their instruction
 abbrev pub IsForward : ℕ → Instr → Type 0
@@ -102,7 +120,8 @@ IsForward place instr = Unit {0}
 -- no procedure has more than N instructions, and each goes forward
 pub record Forward (N : ℕ) (P : Program) : Type 0 where
   pub within : (proc place : ℕ) (instr : Instr) → slice_get (instrs_of P proc) place ≡ Some instr → place < N
-  pub forward : (proc place : ℕ) (instr : Instr) → slice_get (instrs_of P proc) place ≡ Some instr → IsForward place instr
+  pub forward : (proc place : ℕ) (instr : Instr) → slice_get (instrs_of P proc) place ≡ Some instr
+      → IsForward place instr
 
 -- stacks that wait are well formed
 abbrev pub FitsStatus : {K : Type 0} → (K → Type 0) → Status K → Type 0

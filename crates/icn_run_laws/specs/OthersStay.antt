@@ -16,7 +16,8 @@ is_transfer instr = false
 
 -- a co-expression that was just made with these values, for this procedure and place, and that nothing has entered
 abbrev pub IsNew : {K : Type 0} → List Value → ℕ → ℕ → Coexp K → Type 0
-IsNew values proc place coexp = coexp ≡ record { status = Fresh; activator = zero; values = values; proc = proc; place = place }
+IsNew values proc place coexp =
+    coexp ≡ record { status = Fresh; activator = zero; values = values; proc = proc; place = place }
 
 -- what is made again from one that is there: with the values, the procedure and the place of its creation
 pub record IsMadeAgain {K : Type 0} (coexps : List (Coexp K)) (new : Coexp K) : Type 0 where
@@ -39,7 +40,8 @@ AddsNone new = ⊥
 -- the same one is active, and each has the stack, the activator and the status that it had; at most one was added, one of these
 pub record Stay {K : Type 0} (IsAdded : Coexp K → Type 0) (before after : Store K) : Type 0 where
   pub active : after.active ≡ before.active
-  pub coexps : (after.coexps ≡ before.coexps) ⊎ ((new : Coexp K) × IsAdded new × (after.coexps ≡ before.coexps ++ new ∷ []))
+  pub coexps : (after.coexps ≡ before.coexps)
+      ⊎ ((new : Coexp K) × IsAdded new × (after.coexps ≡ before.coexps ++ new ∷ []))
 
 -- a state that the active one goes on in
 abbrev pub StayIn : {K M : Type 0} → (Coexp K → Type 0) → Store K → State K M → Type 0
@@ -64,6 +66,7 @@ pub record EndsBody {K M : Type 0} (C : Calls K M) (m : M) (st : Store K) : Type
 -- Of both machines: an instruction that is no transfer leaves the others as they were, and so does failure that does not end a create body. The place of
 -- the stack is that of the next instruction when an instruction is done.
 pub record OthersStay {K M : Type 0} (C : Calls K M) (P : Program) : Type 0 where
-  pub instructions : (m : M) (st : Store K) (instr : Instr) → instruction_at C P m ≡ Some instr → is_transfer instr ≡ false
+  pub instructions : (m : M) (st : Store K) (instr : Instr) → instruction_at C P m ≡ Some instr
+      → is_transfer instr ≡ false
       → StayIn (Adds C instr (C.go (suc (C.place m)) m) st) st (step C P (running m st))
   pub failure : (m : M) (st : Store K) → (EndsBody C m st → ⊥) → StayIn AddsNone st (step C P (failing m st))

@@ -46,11 +46,25 @@ pub record Memory : Type 0 where
   pub saved : List Pair
 
 abbrev pub memory_of : Linked → Memory
-memory_of m = record { activations = m.activations; flags = m.flags; relabels = m.relabels; limits = m.limits; saved = m.saved }
+memory_of m = record {
+  activations = m.activations;
+  flags = m.flags;
+  relabels = m.relabels;
+  limits = m.limits;
+  saved = m.saved;
+}
 
 -- a chain at a place, with what is held beside it
 abbrev pub linked_with : Memory → Chain → ℕ → Linked
-linked_with F c q = record { chain = c; place = q; activations = F.activations; flags = F.flags; relabels = F.relabels; limits = F.limits; saved = F.saved }
+linked_with F c q = record {
+  chain = c;
+  place = q;
+  activations = F.activations;
+  flags = F.flags;
+  relabels = F.relabels;
+  limits = F.limits;
+  saved = F.saved;
+}
 
 -- where a flag is down, the mark may have got another label
 abbrev pub flag_kept : Option ℕ → Bool → Kept
@@ -139,8 +153,10 @@ IsFlag kept = ⊥
 -- the number that a cell at height h of stack s names holds what it should, and is shown there
 abbrev pub Ok : World → ℕ → ℕ → NCell → Type 0
 Ok w s h (n_base p a n) = (vs : List Value) × Owned w (activation_name a) s h (Locals vs) × (length vs ≡ n)
-Ok w s h (n_call p a n level r q) = (vs : List Value) × Owned w (activation_name a) s h (Locals vs) × (length vs ≡ n)
-Ok w s h (n_local a i) = (vs : List Value) × (b : ℕ) × Owned w (activation_name a) s b (Locals vs) × (h ≡ suc (b + i)) × (i < length vs)
+Ok w s h (n_call p a n level r q) =
+    (vs : List Value) × Owned w (activation_name a) s h (Locals vs) × (length vs ≡ n)
+Ok w s h (n_local a i) = (vs : List Value) × (b : ℕ) × Owned w (activation_name a) s b (Locals vs)
+    × (h ≡ suc (b + i)) × (i < length vs)
 Ok w s h (n_mark (fixed l) r) = Unit {0}
 Ok w s h (n_mark (flagged l f q) r) = (k : Kept) × Owned w (flag_name f) s h k × IsFlag k
 Ok w s h (n_limit n r) = (count : ℕ) × Owned w (limit_name n) s h (Count count)
@@ -167,7 +183,8 @@ Bare cells = Unit {0}
 -- the saved pairs of open scans with the newest first: their frames stand at these heights, each below the one before
 pub data FlatScans : List ℕ → List NCell → Option ℕ → Type 0 where
   f_no_scan : {cells : List NCell} → FlatScans [] cells None
-  f_scan : {n h : ℕ} {scans : List ℕ} {cells : List NCell} (q : ℕ) (r : Registers) (above below : List NCell) → cells ≡ above ++ n_suspension (scanning n) r q ∷ below → h ≡ suc (length below)
+  f_scan : {n h : ℕ} {scans : List ℕ} {cells : List NCell} (q : ℕ) (r : Registers) (above below : List NCell)
+      → cells ≡ above ++ n_suspension (scanning n) r q ∷ below → h ≡ suc (length below)
       → FlatScans scans below r.scan → FlatScans (n ∷ scans) cells (Some h)
 
 -- what is known of the label of a mark of a procedure: the mark stands at a place, which is not told as one where labels may change, or which the label has
@@ -179,21 +196,32 @@ module _ (repeats : ℕ → ℕ → Bool) (Opens : ℕ → ℕ → Option ℕ �
   mutual
     -- operands are on top; below them is the newest suspension, or what the mark or the frame stands at
     pub data IsFlat : Chain → List NCell → Registers → Type 0 where
-      f_chain : {items : List Item} {s : Suspensions} {scans : List ℕ} {outer : Outer} {cells : List NCell} {r : Registers} (z : List NCell) → cells ≡ map n_operand items ++ z → Bare z
-          → FlatOuter outer z r.mark r.base → FlatSusps s z r.newest → FlatScans scans z r.scan → IsFlat (chain items s scans outer) cells r
+      f_chain : {items : List Item} {s : Suspensions} {scans : List ℕ} {outer : Outer} {cells : List NCell}
+          {r : Registers} (z : List NCell) → cells ≡ map n_operand items ++ z → Bare z
+          → FlatOuter outer z r.mark r.base → FlatSusps s z r.newest → FlatScans scans z r.scan
+          → IsFlat (chain items s scans outer) cells r
 
     pub data FlatSusps : Suspensions → List NCell → Option ℕ → Type 0 where
       f_none : {z : List NCell} → FlatSusps none z None
-      f_susp : {reason : Reason} {q h : ℕ} {inside : Chain} {r : Registers} {z : List NCell} → h ≡ suc (length z) → IsFlat inside z r → FlatSusps (suspension reason q inside) (n_suspension reason r q ∷ z) (Some h)
+      f_susp : {reason : Reason} {q h : ℕ} {inside : Chain} {r : Registers} {z : List NCell}
+          → h ≡ suc (length z) → IsFlat inside z r
+          → FlatSusps (suspension reason q inside) (n_suspension reason r q ∷ z) (Some h)
 
     -- the cell of the innermost mark, and the frame
     pub data FlatOuter : Outer → List NCell → ℕ → ℕ → Type 0 where
-      f_base : {p a h b : ℕ} {z : List NCell} (n : ℕ) (above : List NCell) → z ≡ above ++ locs a 0 n (n_base p a n ∷ []) → h ≡ 1 → b ≡ 1 → FlatOuter (base p a) z h b
-      f_call : {p a level q h b : ℕ} {caller : Chain} {z : List NCell} (n : ℕ) (r : Registers) (above below : List NCell) → z ≡ above ++ locs a 0 n (n_call p a n level r q ∷ below) → h ≡ suc (length below) → b ≡ suc (length below)
+      f_base : {p a h b : ℕ} {z : List NCell} (n : ℕ) (above : List NCell)
+          → z ≡ above ++ locs a 0 n (n_base p a n ∷ []) → h ≡ 1 → b ≡ 1 → FlatOuter (base p a) z h b
+      f_call : {p a level q h b : ℕ} {caller : Chain} {z : List NCell} (n : ℕ) (r : Registers)
+          (above below : List NCell) → z ≡ above ++ locs a 0 n (n_call p a n level r q ∷ below)
+          → h ≡ suc (length below) → b ≡ suc (length below)
           → IsFlat caller below r → FlatOuter (call p a level q caller) z h b
-      f_mark : {label : Label} {h b : ℕ} {outside : Chain} {z : List NCell} (r : Registers) (above below : List NCell) → z ≡ above ++ n_mark label r ∷ below → h ≡ suc (length below) → b ≡ r.base
-          → LabelOk repeats Opens (proc_of (frame_of (outer_of outside))) label → IsFlat outside below r → FlatOuter (mark label outside) z h b
-      f_limit : {n h b : ℕ} {outside : Chain} {z : List NCell} (r : Registers) (above below : List NCell) → z ≡ above ++ n_limit n r ∷ below → h ≡ suc (length below) → b ≡ r.base
+      f_mark : {label : Label} {h b : ℕ} {outside : Chain} {z : List NCell}
+          (r : Registers) (above below : List NCell)
+          → z ≡ above ++ n_mark label r ∷ below → h ≡ suc (length below) → b ≡ r.base
+          → LabelOk repeats Opens (proc_of (frame_of (outer_of outside))) label → IsFlat outside below r
+          → FlatOuter (mark label outside) z h b
+      f_limit : {n h b : ℕ} {outside : Chain} {z : List NCell} (r : Registers) (above below : List NCell)
+          → z ≡ above ++ n_limit n r ∷ below → h ≡ suc (length below) → b ≡ r.base
           → IsFlat outside below r → FlatOuter (limit n outside) z h b
 
   -- the stack that runs, as number s
@@ -204,7 +232,8 @@ module _ (repeats : ℕ → ℕ → Bool) (Opens : ℕ → ℕ → Option ℕ �
   -- a stack that waits
   pub data Away (w : World) (s : ℕ) : Parked → Frames → Type 0 where
     away : {c : Chain} {q : ℕ} {r : Registers} (cells : List NCell) → IsFlat c cells r → AllOk w s cells
-        → Away w s (record { chain = c; place = q }) (record { cells = render w.kept cells; registers = r; place = q })
+        → Away w s (record { chain = c; place = q })
+        (record { cells = render w.kept cells; registers = r; place = q })
 
 -- from a world to one where the numbers of other stacks than s hold what they held
 abbrev pub Next : ℕ → World → World → Type 0

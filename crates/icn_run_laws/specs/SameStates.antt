@@ -20,7 +20,8 @@ Opens P proc place label = slice_get (instrs_of P proc) place ≡ Some (mark_of 
 
 -- a label is to be set, and the stack lacks what that wants
 abbrev pub IsLacking : {K M : Type 0} → Calls K M → Program → (M → Type 0) → State K M → Type 0
-IsLacking C P Lacks (running m st) = (label : ℕ) × (instruction_at C P m ≡ Some (Instrs.Chfail label)) × Lacks (C.go (suc (C.place m)) m)
+IsLacking C P Lacks (running m st) =
+    (label : ℕ) × (instruction_at C P m ≡ Some (Instrs.Chfail label)) × Lacks (C.go (suc (C.place m)) m)
 IsLacking C P Lacks state = ⊥
 
 -- it gives a value, or is an error
@@ -31,7 +32,8 @@ IsMade outcome = ⊥
 
 -- Rows keep the number of locals and the limits, and a list is made or an error.
 pub record RowsKeep : Type 0 where
-  pub applied : (names : Names) (what : Applied) (items : List Item) (at : Setting) → KeepsIn at (apply names what items at)
+  pub applied : (names : Names) (what : Applied) (items : List Item) (at : Setting)
+      → KeepsIn at (apply names what items at)
   pub resumed : (residual : Residual) (at : Setting) → KeepsIn at (again residual at)
   pub listed : (values : List Value) (at : Setting) → KeepsIn at (list_row values at)
   pub recorded : (kind : ℕ) (values : List Value) (at : Setting) → KeepsIn at (record_row kind values at)
@@ -50,7 +52,8 @@ SameStatus A s' s = ⊥
 
 pub data SameCoexp {K' K : Type 0} (A : K' → K → Type 0) : Coexp K' → Coexp K → Type 0 where
   alike : (s' : Status K') (s : Status K) (a : ℕ) (vs : List Value) (p q : ℕ) → SameStatus A s' s
-      → SameCoexp A (record { status = s'; activator = a; values = vs; proc = p; place = q }) (record { status = s; activator = a; values = vs; proc = p; place = q })
+      → SameCoexp A (record { status = s'; activator = a; values = vs; proc = p; place = q })
+      (record { status = s; activator = a; values = vs; proc = p; place = q })
 
 -- co-expressions one by one, by a relation of the stacks that wait for each number
 abbrev pub Rests : {K' K : Type 0} → (ℕ → K' → K → Type 0) → List (Coexp K') → List (Coexp K) → Type 0
@@ -60,9 +63,18 @@ Rests A ks' ks = ⊥
 
 -- a store with other co-expressions
 abbrev pub lift : {K' K : Type 0} → Store K → List (Coexp K') → Store K'
-lift st ks' = record { world = st.world; outside = st.outside; turns = st.turns; begun = st.begun; coexps = ks'; active = st.active; names = st.names }
+lift st ks' = record {
+  world = st.world;
+  outside = st.outside;
+  turns = st.turns;
+  begun = st.begun;
+  coexps = ks';
+  active = st.active;
+  names = st.names;
+}
 
-module _ {K M K' M' : Type 0} (C' : Calls K' M') (C : Calls K M) (P : Program) (Lacks : M' → Type 0) (Lost : Type 0) (G : Agrees C' C (Opens P) Lacks) where
+module _ {K M K' M' : Type 0} (C' : Calls K' M') (C : Calls K M) (P : Program) (Lacks : M' → Type 0)
+    (Lost : Type 0) (G : Agrees C' C (Opens P) Lacks) where
   -- stack s runs, and the others wait
   pub record Ready (s : ℕ) (m' : M') (m : M) (ks' : List (Coexp K')) (ks : List (Coexp K)) : Type 0 where
     pub world : G.W
@@ -77,9 +89,12 @@ module _ {K M K' M' : Type 0} (C' : Calls K' M') (C : Calls K M) (P : Program) (
 
   -- where something lacked, the second machine may be in any state
   pub data Same : State K' M' → State K M → Type 0 where
-    same_running : {m' : M'} {m : M} (st : Store K) (ks' : List (Coexp K')) → Ready st.active m' m ks' st.coexps → Same (running m' (lift st ks')) (running m st)
-    same_failing : {m' : M'} {m : M} (st : Store K) (ks' : List (Coexp K')) → Ready st.active m' m ks' st.coexps → Same (failing m' (lift st ks')) (failing m st)
-    same_hopping : {m' : M'} {m : M} (st : Store K) (ks' : List (Coexp K')) → Idle m' ks' st.coexps → Same (hopping m' (lift st ks')) (hopping m st)
+    same_running : {m' : M'} {m : M} (st : Store K) (ks' : List (Coexp K'))
+        → Ready st.active m' m ks' st.coexps → Same (running m' (lift st ks')) (running m st)
+    same_failing : {m' : M'} {m : M} (st : Store K) (ks' : List (Coexp K'))
+        → Ready st.active m' m ks' st.coexps → Same (failing m' (lift st ks')) (failing m st)
+    same_hopping : {m' : M'} {m : M} (st : Store K) (ks' : List (Coexp K')) → Idle m' ks' st.coexps
+        → Same (hopping m' (lift st ks')) (hopping m st)
     same_over : {ending : Ending} {outside : Outside} → Same (over ending outside) (over ending outside)
     same_stuck : Same stuck stuck
     lost : {s : State K M} → Lost → Same stuck s

@@ -19,7 +19,8 @@ pub record LinkedStuck (repeats : ℕ → ℕ → Bool) (tables : Tables) (launc
 
 -- The innermost mark has no cell for its label: the procedure has a mark at a place that is not told as one where labels may change.
 abbrev pub LacksCell : (ℕ → ℕ → Bool) → (ℕ → ℕ → Option ℕ → Type 0) → Outer → ℕ → Type 0
-LacksCell repeats IsMark (mark (fixed label) outside) proc = (place : ℕ) × (label : Option ℕ) × (repeats proc place ≡ false) × IsMark proc place label
+LacksCell repeats IsMark (mark (fixed label) outside) proc =
+    (place : ℕ) × (label : Option ℕ) × (repeats proc place ≡ false) × IsMark proc place label
 LacksCell repeats IsMark outer proc = ⊥
 
 -- The run on linked marks comes to a `chfail` in a mark that has no cell for its label.
@@ -34,14 +35,20 @@ pub record MissingCell (repeats : ℕ → ℕ → Bool) (tables : Tables) (launc
 
 -- Both end alike, or lack something, or neither.
 pub record RunsAgree (repeats : ℕ → ℕ → Bool) (tables : Tables) (launch : Launch) : Type 0 where
-  pub to_linked : (observed : Observed) → Flat.Runs tables launch observed → Linked.Runs repeats tables launch observed
-  pub to_flat : (observed : Observed) → Linked.Runs repeats tables launch observed → Flat.Runs tables launch observed
+  pub to_linked : (observed : Observed) → Flat.Runs tables launch observed
+      → Linked.Runs repeats tables launch observed
+  pub to_flat : (observed : Observed) → Linked.Runs repeats tables launch observed
+      → Flat.Runs tables launch observed
   pub stuck_linked : FlatStuck tables launch → LinkedStuck repeats tables launch
   pub stuck_flat : LinkedStuck repeats tables launch → FlatStuck tables launch
 
 -- The run on linked marks may lack more only where it comes to a missing cell.
 pub record RunsAgreeAt (repeats : ℕ → ℕ → Bool) (tables : Tables) (launch : Launch) : Type 0 where
-  pub to_linked : (observed : Observed) → Flat.Runs tables launch observed → Linked.Runs repeats tables launch observed ⊎ (LinkedStuck repeats tables launch × MissingCell repeats tables launch)
-  pub to_flat : (observed : Observed) → Linked.Runs repeats tables launch observed → Flat.Runs tables launch observed
+  pub to_linked : (observed : Observed) → Flat.Runs tables launch observed
+      → Linked.Runs repeats tables launch observed
+      ⊎ (LinkedStuck repeats tables launch × MissingCell repeats tables launch)
+  pub to_flat : (observed : Observed) → Linked.Runs repeats tables launch observed
+      → Flat.Runs tables launch observed
   pub stuck_linked : FlatStuck tables launch → LinkedStuck repeats tables launch
-  pub stuck_flat : LinkedStuck repeats tables launch → FlatStuck tables launch ⊎ MissingCell repeats tables launch
+  pub stuck_flat : LinkedStuck repeats tables launch
+      → FlatStuck tables launch ⊎ MissingCell repeats tables launch

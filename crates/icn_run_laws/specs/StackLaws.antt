@@ -18,7 +18,8 @@ pub record AreOnTop (items : List Item) (cells : List Cell) : Type 0 where
 
 -- each cell up to a height is as it was
 abbrev pub SameUpTo : ℕ → List Cell → List Cell → Type 0
-SameUpTo top before after = (height : ℕ) → 0 < height → height ≤ top → cell_at height after ≡ cell_at height before
+SameUpTo top before after =
+    (height : ℕ) → 0 < height → height ≤ top → cell_at height after ≡ cell_at height before
 
 -- the cell of a mark that leads to these registers outside it
 abbrev pub IsMarkOn : Registers → Cell → Type 0
@@ -33,11 +34,14 @@ IsCallFrom outside back cell = ⊥
 
 -- All that stood is as it was. On it are the frame, the operands of the mark that goes on, and the result; that mark's registers are those that it had, but
 -- that the frame is its newest suspension, and the code goes on at this place.
-pub record Suspended (why : Why) (before : Frames) (outside : Registers) (back : ℕ) (operands : List Item) (result : Item)
+pub record Suspended (why : Why) (before : Frames) (outside : Registers) (back : ℕ) (operands : List Item)
+    (result : Item)
     (after : Frames) : Type 0 where
   pub below : SameUpTo (length before.cells) before.cells after.cells
-  pub frame : cell_at (suc (length before.cells)) after.cells ≡ Some (suspension why before.registers before.place)
-  pub above : after.cells ≡ operand result ∷ (map operand operands ++ suspension why before.registers before.place ∷ before.cells)
+  pub frame : cell_at (suc (length before.cells)) after.cells
+      ≡ Some (suspension why before.registers before.place)
+  pub above : after.cells
+      ≡ operand result ∷ (map operand operands ++ suspension why before.registers before.place ∷ before.cells)
   pub registers : after.registers ≡ record outside { newest = Some (suc (length before.cells)) }
   pub place : after.place ≡ back
 
@@ -50,11 +54,15 @@ registers_within why m = record m.registers { scan = scan_after why (suc (length
 pub record Suspends : Type 0 where
   pub in_mark : (why : Why) (m : Frames) (operands : List Item) (result : Item) → AreOnTop operands m.cells
       → Suspended why m (registers_within why m) m.place operands result (push result (suspend why m))
-  pub mark : (m after : Frames) (cell : Cell) (outside : List Cell) (registers : Registers) (operands : List Item) (result : Item)
-      → suspend_mark m ≡ Some after → cut m.registers.mark m.cells ≡ cell ∷ outside → IsMarkOn registers cell → AreOnTop operands outside
+  pub mark : (m after : Frames) (cell : Cell) (outside : List Cell) (registers : Registers)
+      (operands : List Item) (result : Item)
+      → suspend_mark m ≡ Some after → cut m.registers.mark m.cells ≡ cell ∷ outside → IsMarkOn registers cell
+      → AreOnTop operands outside
       → Suspended Alt m registers m.place operands result (push result after)
-  pub proc : (m after : Frames) (cell : Cell) (outside : List Cell) (registers : Registers) (place : ℕ) (operands : List Item) (result : Item)
-      → suspend_proc m ≡ Some after → cut m.registers.base m.cells ≡ cell ∷ outside → IsCallFrom registers place cell
+  pub proc : (m after : Frames) (cell : Cell) (outside : List Cell) (registers : Registers) (place : ℕ)
+      (operands : List Item) (result : Item)
+      → suspend_proc m ≡ Some after → cut m.registers.base m.cells ≡ cell ∷ outside
+      → IsCallFrom registers place cell
       → AreOnTop operands outside → Suspended Proc m registers place operands result (push result after)
 
 -- The newest suspension of the innermost mark came back: what stood above the start of its frame is gone with the frame, its registers and its place are
@@ -91,5 +99,6 @@ pub record EndsLimit (item : Item) (m after : Frames) (pair : Option Pair) (st :
 -- of `unmark`, and of the last result of a limit, which unmarks
 pub record Unmarks : Type 0 where
   pub drops : (m after : Frames) (pair : Option Pair) → unmark m ≡ Some (after, pair) → Unmarked m after pair
-  pub last_result : (item : Item) (m after : Frames) (pair : Option Pair) (st : Store Frames) → unmark m ≡ Some (after, pair)
+  pub last_result : (item : Item) (m after : Frames) (pair : Option Pair) (st : Store Frames)
+      → unmark m ≡ Some (after, pair)
       → EndsLimit item m after pair st

@@ -17,14 +17,18 @@ ghost use Rattle.icn_run_laws.specs.StackLaws.{Suspends, Resumes, Unmarks};
 /// The run of any code on flat stacks and its run on linked marks agree.
 pub fn second_law()
     ensures everywhere { (tables : Tables) (launch : Launch) → RunsAgree repeats_anywhere tables launch }
-    ensures covered { (repeats : ℕ → ℕ → Bool) (tables : Tables) (launch : Launch) → (MissingCell repeats tables launch → ⊥) → RunsAgree repeats tables launch }
-    ensures told { (repeats : ℕ → ℕ → Bool) (tables : Tables) (launch : Launch) → RunsAgreeAt repeats tables launch }
+    ensures covered { (repeats : ℕ → ℕ → Bool) (tables : Tables) (launch : Launch)
+        → (MissingCell repeats tables launch → ⊥) → RunsAgree repeats tables launch }
+    ensures told { (repeats : ℕ → ℕ → Bool) (tables : Tables) (launch : Launch)
+        → RunsAgreeAt repeats tables launch }
 {}
 
 /// Every run ends by its bound on turns, where the labels of marks, `goto` and `init` lie behind their instruction.
 pub fn runs_end()
-    ensures on_stacks { (most : ℕ) (code : Program) → Forward most code → (launch : Launch) → EndsFrom flat code (Flat.start code launch) }
-    ensures on_marks { (repeats : ℕ → ℕ → Bool) (most : ℕ) (code : Program) → Forward most code → (launch : Launch) → EndsFrom (linked repeats) code (Linked.start repeats code launch) }
+    ensures on_stacks { (most : ℕ) (code : Program) → Forward most code → (launch : Launch)
+        → EndsFrom flat code (Flat.start code launch) }
+    ensures on_marks { (repeats : ℕ → ℕ → Bool) (most : ℕ) (code : Program) → Forward most code
+        → (launch : Launch) → EndsFrom (linked repeats) code (Linked.start repeats code launch) }
 {}
 
 /// An instruction that passes no control to another co-expression leaves what waits of each, its activator and its status as they were, and no co-expression

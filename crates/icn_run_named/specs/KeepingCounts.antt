@@ -16,8 +16,11 @@ pub record KeepCounts (before after : Heap) : Type 0 where
 
 -- what operations and functions leave, and what they leave once they are resumed
 pub record RowsKeepCounts : Type 0 where
-  pub operations : (op : Op) (items : List Item) (at : Setting) → KeepCounts at.world.heap (heap_after (operation_row op items at))
+  pub operations : (op : Op) (items : List Item) (at : Setting)
+      → KeepCounts at.world.heap (heap_after (operation_row op items at))
   pub values : (items : List Item) (next : List Value → Row) (at : Setting)
-      → ((values : List Value) → KeepCounts at.world.heap (heap_after (next values at))) → KeepCounts at.world.heap (heap_after (the_values items next at))
-  pub functions : (names : Names) (func : Func) (values : List Value) (at : Setting) → KeepCounts at.world.heap (heap_after (function_of names func values at))
+      → ((values : List Value) → KeepCounts at.world.heap (heap_after (next values at)))
+      → KeepCounts at.world.heap (heap_after (the_values items next at))
+  pub functions : (names : Names) (func : Func) (values : List Value) (at : Setting)
+      → KeepCounts at.world.heap (heap_after (function_of names func values at))
   pub resumed : (rest : Residual) (at : Setting) → KeepCounts at.world.heap (heap_after (again rest at))

@@ -14,7 +14,8 @@ use Rattle.icn_run_named.specs.KeepingNames.{MayCall}
 
 -- how many fields a kind of the tables has
 abbrev pub field_count : Tables → ℕ → ℕ
-field_count tables kind = option_map_or (λ (entry : RecordType). length entry.fields) (slice_get tables.records kind) 0
+field_count tables kind =
+    option_map_or (λ (entry : RecordType). length entry.fields) (slice_get tables.records kind) 0
 
 -- each record of the heap has as many fields as its kind
 abbrev pub StoreFits : Tables → Store Frames → Type 0
@@ -32,18 +33,24 @@ OutcomeFits tables answer = FitSizes (field_count tables) (heap_after answer)
 
 -- where what is called is a function, what it comes to is so
 abbrev pub FunctionFits : Tables → Value → List Item → Frames → Store Frames → Type 0
-FunctionFits tables callee items m st = (n : ℕ) (func : Func) → callee ≡ Procedure n → callee_of tables n ≡ IsFunc func
+FunctionFits tables callee items m st =
+    (n : ℕ) (func : Func) → callee ≡ Procedure n → callee_of tables n ≡ IsFunc func
     → OutcomeFits tables (apply st.names (Function func) items (here flat m st))
 
 -- By parts of the steps. Of functions nothing is said here, as of their names: one that copies a record may be given one that is not there.
 pub record StepsKeepSizes : Type 0 where
   pub instructions : (tables : Tables) (instr : Instr) (m : Frames) (st : Store Frames) → (MayCall instr → ⊥)
       → StoreFits tables st → StateFits tables (instruction flat tables instr m st)
-  pub failing : (tables : Tables) (m : Frames) (st : Store Frames) → StoreFits tables st → StateFits tables (fails flat tables m st)
-  pub hops : (tables : Tables) (m : Frames) (st : Store Frames) → StoreFits tables st → StateFits tables (hop flat tables m st)
+  pub failing : (tables : Tables) (m : Frames) (st : Store Frames) → StoreFits tables st
+      → StateFits tables (fails flat tables m st)
+  pub hops : (tables : Tables) (m : Frames) (st : Store Frames) → StoreFits tables st
+      → StateFits tables (hop flat tables m st)
   pub outcomes : (tables : Tables) (answer : Outcome) (m : Frames) (st : Store Frames)
       → OutcomeFits tables answer → StateFits tables (outcome flat answer m st)
-  pub values : (tables : Tables) (items : List Item) (m : Frames) (st : Store Frames) (next : List Value → State Frames Frames)
-      → StoreFits tables st → ((values : List Value) → StateFits tables (next values)) → StateFits tables (with_values flat items m st next)
+  pub values : (tables : Tables) (items : List Item) (m : Frames) (st : Store Frames)
+      (next : List Value → State Frames Frames)
+      → StoreFits tables st → ((values : List Value) → StateFits tables (next values))
+      → StateFits tables (with_values flat items m st next)
   pub called : (tables : Tables) (callee : Value) (items : List Item) (m : Frames) (st : Store Frames)
-      → FunctionFits tables callee items m st → StoreFits tables st → StateFits tables (invoke_value flat tables callee items m st)
+      → FunctionFits tables callee items m st → StoreFits tables st
+      → StateFits tables (invoke_value flat tables callee items m st)

@@ -10,7 +10,8 @@ use Rattle.icn_run_named.specs.StateNames.{StateNamed}
 
 -- what it names has a name, where the tables keep the rules of a code
 abbrev pub StartsNamed : Type 0
-StartsNamed = (tables : Tables) (launch : Launch) → keeps_rules tables ≡ true → StateNamed (all_names tables) (start tables launch)
+StartsNamed = (tables : Tables) (launch : Launch) → keeps_rules tables ≡ true
+    → StateNamed (all_names tables) (start tables launch)
 
 -- each record has as many fields as its kind
 abbrev pub StartsFit : Type 0

@@ -16,7 +16,8 @@ over_outside outside stuck = stuck
 -- as many steps as there are outsides, each over its own
 abbrev pub run_over : Tables → List Outside → State Frames Frames → State Frames Frames
 run_over tables [] state = state
-run_over tables (outside ∷ later) state = run_over tables later (step flat tables (over_outside outside state))
+run_over tables (outside ∷ later) state =
+    run_over tables later (step flat tables (over_outside outside state))
 
 -- no step from here on lacks anything, whatever the outside is before each
 abbrev pub IsNeverStuckOver : Tables → State Frames Frames → Type 0

@@ -14,5 +14,7 @@ use Rattle.icn_run_laws.specs.SecondLaw.{MissingCell}
 pub record AreOver (tables : Tables) : Type 0 where
   pub flat : (launch : Launch) → (seen : Observed) × Flat.Runs tables launch seen
   pub linked : (launch : Launch) → (seen : Observed) × Linked.Runs repeats_anywhere tables launch seen
-  pub covered : (repeats : ℕ → ℕ → Bool) (launch : Launch) → (MissingCell repeats tables launch → ⊥) → (seen : Observed) × Linked.Runs repeats tables launch seen
-  pub told : (repeats : ℕ → ℕ → Bool) (launch : Launch) → EndsFrom (on_marks repeats) tables (Linked.start repeats tables launch)
+  pub covered : (repeats : ℕ → ℕ → Bool) (launch : Launch) → (MissingCell repeats tables launch → ⊥)
+      → (seen : Observed) × Linked.Runs repeats tables launch seen
+  pub told : (repeats : ℕ → ℕ → Bool) (launch : Launch)
+      → EndsFrom (on_marks repeats) tables (Linked.start repeats tables launch)

@@ -31,7 +31,8 @@ marks = linked repeats_anywhere
 
 -- The stack has the shape of the place: as many operands and marks, its open scans, and a create body where the shape says so. The instruction there finds
 -- what it takes and asks for, each place to which it leads has its shape, and the procedure has all its locals.
-pub record IsShapedAt (tables : Tables) (shapes : ℕ → ℕ → Option PlainShape) (m : Linked) (st : Store Parked) : Type 0 where
+pub record IsShapedAt (tables : Tables) (shapes : ℕ → ℕ → Option PlainShape) (m : Linked)
+    (st : Store Parked) : Type 0 where
   pub shape : PlainShape
   pub here : shapes (marks.proc m) m.place ≡ Some shape
   pub fine : IsFine (instrs_of tables (marks.proc m)) (shapes (marks.proc m)) m.place shape
@@ -48,7 +49,8 @@ pub record GoesOn {K M : Type 0} (C : Calls K M) (tables : Tables) (m : M) (st :
   pub lacks_nothing : instruction C tables instr (C.go (suc (C.place m)) m) st ≢ stuck
 
 -- The same of a flat stack, as far as its calls tell: the operands of its innermost mark, the procedure that runs, and its locals.
-pub record IsFlatShapedAt (tables : Tables) (shapes : ℕ → ℕ → Option PlainShape) (m : Frames) (st : Store Frames) : Type 0 where
+pub record IsFlatShapedAt (tables : Tables) (shapes : ℕ → ℕ → Option PlainShape) (m : Frames)
+    (st : Store Frames) : Type 0 where
   pub shape : PlainShape
   pub here : shapes (flat.proc m) m.place ≡ Some shape
   pub fine : IsFine (instrs_of tables (flat.proc m)) (shapes (flat.proc m)) m.place shape
@@ -62,14 +64,18 @@ abbrev pub IsMarkDue : Tables → Frames → Type 0
 IsMarkDue tables m = (label : Option ℕ) × (instruction_at flat tables m ≡ Some (mark_of label))
 
 -- An instruction is due that lacks nothing. The stack has its shape; where a mark is due, nothing is said of it if failure came back to that mark.
-pub record Stands (tables : Tables) (shapes : ℕ → ℕ → Option PlainShape) (m : Frames) (st : Store Frames) : Type 0 where
+pub record Stands (tables : Tables) (shapes : ℕ → ℕ → Option PlainShape) (m : Frames)
+    (st : Store Frames) : Type 0 where
   pub goes_on : GoesOn flat tables m st
   pub shaped : IsFlatShapedAt tables shapes m st ⊎ IsMarkDue tables m
 
 -- Of each state in which a run has an instruction due. Of those in which it fails nothing is said.
 pub record AreShaped (tables : Tables) (shapes : ℕ → ℕ → Option PlainShape) : Type 0 where
-  pub on_marks : (launch : Launch) (n : ℕ) (m : Linked) (st : Store Parked) → Marks.steps repeats_anywhere tables n (Marks.start repeats_anywhere tables launch) ≡ running m st → IsShapedAt tables shapes m st
-  pub on_stacks : (launch : Launch) (n : ℕ) (m : Frames) (st : Store Frames) → Flat.steps tables n (Flat.start tables launch) ≡ running m st → Stands tables shapes m st
+  pub on_marks : (launch : Launch) (n : ℕ) (m : Linked) (st : Store Parked)
+      → Marks.steps repeats_anywhere tables n (Marks.start repeats_anywhere tables launch) ≡ running m st
+      → IsShapedAt tables shapes m st
+  pub on_stacks : (launch : Launch) (n : ℕ) (m : Frames) (st : Store Frames)
+      → Flat.steps tables n (Flat.start tables launch) ≡ running m st → Stands tables shapes m st
 
 -- there are shapes that hold at each state of each run of the code
 abbrev pub HasFacts : Tables → Type 0
@@ -77,7 +83,8 @@ HasFacts tables = (shapes : ℕ → ℕ → Option PlainShape) × AreShaped tabl
 
 -- the shapes of a procedure by its number; where there is no such procedure, no place has one
 abbrev pub shapes_by : (entry : Option Procedure)
-    → ((proc : Procedure) → entry ≡ Some proc → (shapes : ℕ → Option PlainShape) × HasShapes proc.instrs shapes) → ℕ → Option PlainShape
+    → ((proc : Procedure) → entry ≡ Some proc
+    → (shapes : ℕ → Option PlainShape) × HasShapes proc.instrs shapes) → ℕ → Option PlainShape
 shapes_by None given place = None
 shapes_by (Some proc) given place = (given proc refl).0 place
 

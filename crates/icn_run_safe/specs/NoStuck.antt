@@ -10,8 +10,10 @@ use Rattle.icn_run_safe.specs.Shaped.{InRange}
 
 -- what tables keep, as far as a run needs it
 pub record TablesOk (tables : Tables) : Type 0 where
-  pub instrs : (p place : ℕ) (instr : Instr) → slice_get (instrs_of tables p) place ≡ Some instr → InRange tables instr
-  pub collects : (p : ℕ) (entry : Procedure) → slice_get tables.procs p ≡ Some entry → entry.collects ≡ true → 0 < entry.parameters
+  pub instrs : (p place : ℕ) (instr : Instr) → slice_get (instrs_of tables p) place ≡ Some instr
+      → InRange tables instr
+  pub collects : (p : ℕ) (entry : Procedure) → slice_get tables.procs p ≡ Some entry → entry.collects ≡ true
+      → 0 < entry.parameters
   pub globals : Each (ValueWithin 1) (map (global_value tables) tables.globals)
   pub main : (n : ℕ) → main_of tables ≡ Some n → n < length tables.procs
 
@@ -20,4 +22,5 @@ pub record TablesOk (tables : Tables) : Type 0 where
 pub record IsNeverStuck (tables : Tables) : Type 0 where
   pub linked : (launch : Launch) → LinkedStuck repeats_anywhere tables launch → ⊥
   pub flat : (launch : Launch) → FlatStuck tables launch → ⊥
-  pub covered : (repeats : ℕ → ℕ → Bool) (launch : Launch) → (MissingCell repeats tables launch → ⊥) → LinkedStuck repeats tables launch → ⊥
+  pub covered : (repeats : ℕ → ℕ → Bool) (launch : Launch) → (MissingCell repeats tables launch → ⊥)
+      → LinkedStuck repeats tables launch → ⊥

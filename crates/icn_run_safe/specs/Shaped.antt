@@ -44,11 +44,13 @@ module _ (tables : Tables) (sh : ℕ → ℕ → Option PlainShape) where
 
   abbrev pub LabelOk : Known → ℕ → PlainShape → Label → Type 0
   LabelOk w p S (fixed label) = ⊥
-  LabelOk w p S (flagged label flag place) = IsBefore w flag p S × LabelTo p S label × (sh p (suc place) ≡ Some (with_mark Levels.Plain S))
+  LabelOk w p S (flagged label flag place) =
+      IsBefore w flag p S × LabelTo p S label × (sh p (suc place) ≡ Some (with_mark Levels.Plain S))
 
   abbrev pub ReasonOk : Known → ℕ → PlainShape → ℕ → Reason → Type 0
   ReasonOk w p S place (because Alt) = Unit {0}
-  ReasonOk w p S place (because (Op residual)) = ResidualWithin w.coexps residual × (sh p place ≡ Some (with_more 1 S))
+  ReasonOk w p S place (because (Op residual)) =
+      ResidualWithin w.coexps residual × (sh p place ≡ Some (with_more 1 S))
   ReasonOk w p S place (because (Scan pair)) = Unit {0}
   ReasonOk w p S place (because Escan) = 0 < S.inner.scans
   ReasonOk w p S place (because Proc) = sh p place ≡ Some S
@@ -62,26 +64,33 @@ module _ (tables : Tables) (sh : ℕ → ℕ → Option PlainShape) where
   abbrev mutual
     pub ChainOk : Known → ℕ → ℕ → PlainShape → Chain → Type 0
     ChainOk w s p S (chain items q scans o) =
-        (length items ≡ S.inner.operands) × Each (ItemWithin w.coexps) items × (S.inner.scans ≤ length scans) × SuspsOk w s q × OuterOk w s p S.in_create S.inner.kind S.outer o
+        (length items ≡ S.inner.operands) × Each (ItemWithin w.coexps) items × (S.inner.scans ≤ length scans)
+        × SuspsOk w s q × OuterOk w s p S.in_create S.inner.kind S.outer o
 
     pub SuspsOk : Known → ℕ → Suspensions → Type 0
     SuspsOk w s none = Unit {0}
-    SuspsOk w s (suspension reason place inside) = (p : ℕ) × (S : PlainShape) × ReasonOk w p S place reason × ChainOk w s p S inside
+    SuspsOk w s (suspension reason place inside) =
+        (p : ℕ) × (S : PlainShape) × ReasonOk w p S place reason × ChainOk w s p S inside
 
     pub OuterOk : Known → ℕ → ℕ → Bool → LevelKind → List Level → Outer → Type 0
-    OuterOk w s p cr kind ls (base proc a) = (proc ≡ p) × (cr ≡ not (is_main s)) × (kind ≡ Levels.Base) × (ls ≡ []) × IsOf w a p
+    OuterOk w s p cr kind ls (base proc a) =
+        (proc ≡ p) × (cr ≡ not (is_main s)) × (kind ≡ Levels.Base) × (ls ≡ []) × IsOf w a p
     OuterOk w s p cr kind ls (call proc a level place caller) =
-        (proc ≡ p) × (cr ≡ false) × (kind ≡ Levels.Base) × (ls ≡ []) × IsOf w a p × ((p' : ℕ) × (S : PlainShape) × (sh p' place ≡ Some (with_more 1 S)) × ChainOk w s p' S caller)
+        (proc ≡ p) × (cr ≡ false) × (kind ≡ Levels.Base) × (ls ≡ []) × IsOf w a p
+        × ((p' : ℕ) × (S : PlainShape) × (sh p' place ≡ Some (with_more 1 S)) × ChainOk w s p' S caller)
     OuterOk w s p cr kind ls (mark label outside) =
-        (l : Level) × (ls' : List Level) × (ls ≡ l ∷ ls') × (kind ≡ Levels.Plain) × LabelOk w p (level_shape cr l ls') label × ChainOk w s p (level_shape cr l ls') outside
+        (l : Level) × (ls' : List Level) × (ls ≡ l ∷ ls') × (kind ≡ Levels.Plain)
+        × LabelOk w p (level_shape cr l ls') label × ChainOk w s p (level_shape cr l ls') outside
     OuterOk w s p cr kind ls (limit n outside) =
-        (l : Level) × (ls' : List Level) × (ls ≡ l ∷ ls') × (kind ≡ Levels.Limit) × ChainOk w s p (level_shape cr l ls') outside
+        (l : Level) × (ls' : List Level) × (ls ≡ l ∷ ls') × (kind ≡ Levels.Limit)
+        × ChainOk w s p (level_shape cr l ls') outside
 
   -- the frame of the procedure that runs
   abbrev pub FrameOk : Known → ℕ → ℕ → Bool → Frame → Type 0
   FrameOk w s p cr (at_base proc a) = (proc ≡ p) × (cr ≡ not (is_main s)) × IsOf w a p
   FrameOk w s p cr (in_call proc a level place caller) =
-      (proc ≡ p) × (cr ≡ false) × IsOf w a p × ((p' : ℕ) × (S : PlainShape) × (sh p' place ≡ Some (with_more 1 S)) × ChainOk w s p' S caller)
+      (proc ≡ p) × (cr ≡ false) × IsOf w a p
+      × ((p' : ℕ) × (S : PlainShape) × (sh p' place ≡ Some (with_more 1 S)) × ChainOk w s p' S caller)
 
   -- the locals of an activation
   pub record LocalsOk (w : Known) (p : ℕ) (values : List Value) : Type 0 where
@@ -93,10 +102,12 @@ module _ (tables : Tables) (sh : ℕ → ℕ → Option PlainShape) where
   RelabelOk w entry = (p : ℕ) × (S : PlainShape) × IsBefore w entry.0 p S × (sh p entry.1 ≡ Some S)
 
   -- what changes is as is known of it
-  pub record MemoryOk (w : Known) (activations : List (List Value)) (flags : List Bool) (relabels : List (ℕ × ℕ)) : Type 0 where
+  pub record MemoryOk (w : Known) (activations : List (List Value)) (flags : List Bool)
+      (relabels : List (ℕ × ℕ)) : Type 0 where
     pub same_activations : length w.activations ≡ length activations
     pub same_flags : length w.flags ≡ length flags
-    pub locals : (a p : ℕ) → IsOf w a p → (values : List Value) × (slice_get activations a ≡ Some values) × LocalsOk w p values
+    pub locals : (a p : ℕ) → IsOf w a p
+        → (values : List Value) × (slice_get activations a ≡ Some values) × LocalsOk w p values
     pub labels : Each (RelabelOk w) relabels
 
   abbrev pub MemoryOf : Known → Linked → Type 0
@@ -133,7 +144,8 @@ module _ (tables : Tables) (sh : ℕ → ℕ → Option PlainShape) where
     pub activator : Entered coexps c.activator
 
   -- those wait of which it may not be that they run
-  pub record CoexpsOk (w : Known) (May : ℕ → Type 0) (active : ℕ) (coexps : List (Coexp Parked)) : Type 0 where
+  pub record CoexpsOk (w : Known) (May : ℕ → Type 0) (active : ℕ)
+      (coexps : List (Coexp Parked)) : Type 0 where
     pub count : length coexps ≡ w.coexps
     pub each : (i : ℕ) (c : Coexp Parked) → slice_get coexps i ≡ Some c → CoexpOk w coexps i c
     pub waits : (i : ℕ) (c : Coexp Parked) → slice_get coexps i ≡ Some c → (May i → ⊥) → StatusOk w i c.status
@@ -149,15 +161,18 @@ module _ (tables : Tables) (sh : ℕ → ℕ → Option PlainShape) where
     pub memory : MemoryOf w m
 
   abbrev pub Safe : State Parked Linked → Type 0
-  Safe (running m st) = (w : Known) × (p : ℕ) × (S : PlainShape) × Now w st.active p S m × (sh p m.place ≡ Some S) × StoreOk w (λ i. i ≡ st.active) st
-  Safe (failing m st) = (w : Known) × (p : ℕ) × (S : PlainShape) × Now w st.active p S m × StoreOk w (λ i. i ≡ st.active) st
+  Safe (running m st) = (w : Known) × (p : ℕ) × (S : PlainShape) × Now w st.active p S m
+      × (sh p m.place ≡ Some S) × StoreOk w (λ i. i ≡ st.active) st
+  Safe (failing m st) =
+      (w : Known) × (p : ℕ) × (S : PlainShape) × Now w st.active p S m × StoreOk w (λ i. i ≡ st.active) st
   Safe (hopping m st) = (w : Known) × MemoryOf w m × StoreOk w (λ i. ⊥) st
   Safe (over ending outside) = Unit {0}
   Safe stuck = ⊥
 
 -- each place with a shape is fine, in each procedure; and a last parameter collects only where there is one
 pub record Shaped (tables : Tables) (sh : ℕ → ℕ → Option PlainShape) : Type 0 where
-  pub collects : (p : ℕ) (entry : Procedure) → slice_get tables.procs p ≡ Some entry → entry.collects ≡ true → 0 < entry.parameters
+  pub collects : (p : ℕ) (entry : Procedure) → slice_get tables.procs p ≡ Some entry → entry.collects ≡ true
+      → 0 < entry.parameters
   pub starts : (p : ℕ) → p < length tables.procs → sh p 0 ≡ Some (start_shape false)
   pub fine : (p place : ℕ) (S : PlainShape) → sh p place ≡ Some S → IsFine (instrs_of tables p) (sh p) place S
 

@@ -64,28 +64,38 @@ pub record SettingWithin (n : ℕ) (setting : Setting) : Type 0 where
 abbrev pub ResidualWithin : ℕ → Residual → Type 0
 ResidualWithin n (VariableBytes variable place) = VariableWithin n variable
 ResidualWithin n (UndoAssign variable old) = VariableWithin n variable × ValueWithin n old
-ResidualWithin n (UndoExchange mover x y old_x old_y) = VariableWithin n x × VariableWithin n y × ValueWithin n old_x × ValueWithin n old_y
+ResidualWithin n (UndoExchange mover x y old_x old_y) =
+    VariableWithin n x × VariableWithin n y × ValueWithin n old_x × ValueWithin n old_y
 ResidualWithin n residual = Unit {0}
 
 abbrev pub OutcomeWithin : ℕ → Outcome → Type 0
 OutcomeWithin n (Fails seen) = SettingWithin n seen
 OutcomeWithin n (Gives item seen) = ItemWithin n item × SettingWithin n seen
-OutcomeWithin n (Suspends item residual seen) = ItemWithin n item × ResidualWithin n residual × SettingWithin n seen
+OutcomeWithin n (Suspends item residual seen) =
+    ItemWithin n item × ResidualWithin n residual × SettingWithin n seen
 OutcomeWithin n (Error number value seen) = Unit {0}
 OutcomeWithin n (Ends status seen) = Unit {0}
 
 -- one more co-expression was made, and nothing else changed of what values stand in
 abbrev pub CreatedWithin : ℕ → Setting → Outcome → Type 0
-CreatedWithin n before (Gives (Val value) seen) = (value ≡ ACoexp n) × WorldWithin (suc n) seen.world × (seen.locals ≡ before.locals)
+CreatedWithin n before (Gives (Val value) seen) =
+    (value ≡ ACoexp n) × WorldWithin (suc n) seen.world × (seen.locals ≡ before.locals)
 CreatedWithin n before (Error number value seen) = Unit {0}
 CreatedWithin n before outcome = ⊥
 
 -- rows make no others
 pub record RowsStayWithin : Type 0 where
-  pub applied : (n : ℕ) (names : Names) (what : Applied) (items : List Item) (at : Setting) → SettingWithin n at → Each (ItemWithin n) items → OutcomeWithin n (apply names what items at)
-  pub listed : (n : ℕ) (values : List Value) (at : Setting) → SettingWithin n at → Each (ValueWithin n) values → OutcomeWithin n (list_row values at)
-  pub recorded : (n kind : ℕ) (values : List Value) (at : Setting) → SettingWithin n at → Each (ValueWithin n) values → OutcomeWithin n (record_row kind values at)
-  pub scanned : (n : ℕ) (value : Value) (at : Setting) → SettingWithin n at → OutcomeWithin n (text_row value at)
-  pub worded : (n : ℕ) (words : List (List ℕ)) (at : Setting) → SettingWithin n at → OutcomeWithin n (words_row words at)
-  pub created : (n locals : ℕ) (at : Setting) → SettingWithin n at → CreatedWithin n at (coexpression_row locals at)
-  pub resumed : (n : ℕ) (residual : Residual) (at : Setting) → SettingWithin n at → ResidualWithin n residual → OutcomeWithin n (again residual at)
+  pub applied : (n : ℕ) (names : Names) (what : Applied) (items : List Item) (at : Setting)
+      → SettingWithin n at → Each (ItemWithin n) items → OutcomeWithin n (apply names what items at)
+  pub listed : (n : ℕ) (values : List Value) (at : Setting) → SettingWithin n at → Each (ValueWithin n) values
+      → OutcomeWithin n (list_row values at)
+  pub recorded : (n kind : ℕ) (values : List Value) (at : Setting) → SettingWithin n at
+      → Each (ValueWithin n) values → OutcomeWithin n (record_row kind values at)
+  pub scanned : (n : ℕ) (value : Value) (at : Setting) → SettingWithin n at
+      → OutcomeWithin n (text_row value at)
+  pub worded : (n : ℕ) (words : List (List ℕ)) (at : Setting) → SettingWithin n at
+      → OutcomeWithin n (words_row words at)
+  pub created : (n locals : ℕ) (at : Setting) → SettingWithin n at
+      → CreatedWithin n at (coexpression_row locals at)
+  pub resumed : (n : ℕ) (residual : Residual) (at : Setting) → SettingWithin n at → ResidualWithin n residual
+      → OutcomeWithin n (again residual at)

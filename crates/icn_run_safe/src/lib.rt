@@ -16,22 +16,26 @@ ghost use Rattle.icn_run_safe.specs.NoStuck.{IsNeverStuck};
 
 /// No run of verified code lacks what an instruction needs.
 pub fn never_stuck()
-    ensures verified { (tables : Tables) → keeps_rules tables ≡ true → IsVerified tables → IsNeverStuck tables }
+    ensures verified { (tables : Tables) → keeps_rules tables ≡ true → IsVerified tables
+        → IsNeverStuck tables }
     ensures shaped { (tables : Tables) → keeps_rules tables ≡ true → HaveShapes tables → IsNeverStuck tables }
 {}
 
 /// Nor does one on flat stacks, whatever the outside is before each of its steps: so it is where the input tells nothing of what
 /// it has left.
 pub fn never_stuck_over_any_outside()
-    ensures verified { (tables : Tables) → keeps_rules tables ≡ true → IsVerified tables → (launch : Launch) → IsNeverStuckOver tables (flat.start tables launch) }
-    ensures shaped { (tables : Tables) → keeps_rules tables ≡ true → HaveShapes tables → (launch : Launch) → IsNeverStuckOver tables (flat.start tables launch) }
+    ensures verified { (tables : Tables) → keeps_rules tables ≡ true → IsVerified tables → (launch : Launch)
+        → IsNeverStuckOver tables (flat.start tables launch) }
+    ensures shaped { (tables : Tables) → keeps_rules tables ≡ true → HaveShapes tables → (launch : Launch)
+        → IsNeverStuckOver tables (flat.start tables launch) }
 {}
 
 /// At each state in which a run of verified code has an instruction due, the instruction finds what it wants, the stack has the shape of the place, whatever
 /// shapes the verifier gave, and the procedure has all its locals. On flat stacks the shape is left unsaid where a mark is due that failure came back to.
 pub fn reached_states()
     ensures verified { (tables : Tables) → keeps_rules tables ≡ true → IsVerified tables → HasFacts tables }
-    ensures shaped { (tables : Tables) → keeps_rules tables ≡ true → (have : HaveShapes tables) → AreShaped tables (shapes_of tables have) }
+    ensures shaped { (tables : Tables) → keeps_rules tables ≡ true → (have : HaveShapes tables)
+        → AreShaped tables (shapes_of tables have) }
 {}
 
 /// Where what a row is given names no co-expression but those that are there, nor does what it leaves and gives.

@@ -12,7 +12,8 @@ use Rattle.icn_control.specs.declared.machine.Machine.{Machine}
 -- each step from here on falls, whatever the outside is before each
 abbrev pub AlwaysFalls : Tables → ℕ → State Frames Frames → Type 0
 AlwaysFalls tables bound state = (outsides : List Outside) (outside : Outside)
-    → Falls tables bound (over_outside outside (run_over tables outsides state)) (step flat tables (over_outside outside (run_over tables outsides state)))
+    → Falls tables bound (over_outside outside (run_over tables outsides state))
+    (step flat tables (over_outside outside (run_over tables outsides state)))
 
 -- the state of a machine at which an instruction is due, over this outside
 abbrev pub state_seen : {K : Type 0} → Tables → Outside → Machine K → State Frames Frames

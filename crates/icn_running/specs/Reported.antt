@@ -31,7 +31,8 @@ ending_seen HeldEndings.AtBound = AtBound
 abbrev pub IsReportOf : Ending → List ℕ → Type 0
 IsReportOf Done text = text ≡ []
 IsReportOf (Exit status) text = text ≡ []
-IsReportOf (Errored number) text = (names : Names) × ((heap : Heap) × ((offending : Option Value) × (text ≡ error_report names heap number offending)))
+IsReportOf (Errored number) text = (names : Names)
+    × ((heap : Heap) × ((offending : Option Value) × (text ≡ error_report names heap number offending)))
 IsReportOf AtBound text = text ≡ bound_report
 
 -- Behind what the run itself has put stands the report of its ending, whole.
@@ -59,10 +60,13 @@ abbrev pub AnswersFault : RunFault → Result HeldEnding RunFault → SinkState 
 AnswersFault fault result before after = (result ≡ Err fault) × (after ≡ before)
 
 -- What is answered of a run that an error, its own end or a fault has halted.
-abbrev pub AnswersHalt : Names → Heap → Extent → Halt → Result HeldEnding RunFault → SinkState → SinkState → Type 0
+abbrev pub AnswersHalt : Names → Heap → Extent → Halt → Result HeldEnding RunFault → SinkState → SinkState
+    → Type 0
 AnswersHalt names heap all (Halts.Error number offending) result before after =
-    AnswersEnd (Errored number) (error_report names heap number (option_map (value_in all) offending)) result before after
-AnswersHalt names heap all (Halts.Ends status) result before after = AnswersEnd (Exit status) [] result before after
+    AnswersEnd (Errored number)
+    (error_report names heap number (option_map (value_in all) offending)) result before after
+AnswersHalt names heap all (Halts.Ends status) result before after =
+    AnswersEnd (Exit status) [] result before after
 AnswersHalt names heap all Halts.ReadFault result before after = AnswersFault ReadFault result before after
 AnswersHalt names heap all Halts.WriteFault result before after = AnswersFault WriteFault result before after
 AnswersHalt names heap all Halts.NoMemory result before after = AnswersFault NoMemory result before after
@@ -74,14 +78,17 @@ AnswersStop Steppeds.Finished result before after = AnswersEnd Done [] result be
 AnswersStop Steppeds.AtBound result before after = AnswersEnd AtBound bound_report result before after
 
 -- What is answered of a run whose machine has stopped so.
-abbrev pub AnswersMachine : {K : Type 0} → Names → Machine K → Result Stepped Halt → Result HeldEnding RunFault → SinkState → SinkState → Type 0
+abbrev pub AnswersMachine : {K : Type 0} → Names → Machine K → Result Stepped Halt
+    → Result HeldEnding RunFault → SinkState → SinkState → Type 0
 AnswersMachine names m (Ok stepped) result before after = AnswersStop stepped result before after
-AnswersMachine names m (Err halt) result before after = AnswersHalt names (heap_of m.world.heap) (extent m) halt result before after
+AnswersMachine names m (Err halt) result before after =
+    AnswersHalt names (heap_of m.world.heap) (extent m) halt result before after
 
 -- What is answered of a run that was over before its first instruction, over the heap that it was to have: by an error that is about no value, or for
 -- want of memory.
 abbrev pub AnswersUnbegun : Names → Heap → Halt → Result HeldEnding RunFault → SinkState → SinkState → Type 0
-AnswersUnbegun names heap (Halts.Error number None) result before after = AnswersEnd (Errored number) (error_report names heap number None) result before after
+AnswersUnbegun names heap (Halts.Error number None) result before after =
+    AnswersEnd (Errored number) (error_report names heap number None) result before after
 AnswersUnbegun names heap (Halts.Error number (Some offending)) result before after = ⊥
 AnswersUnbegun names heap (Halts.Ends status) result before after = ⊥
 AnswersUnbegun names heap Halts.ReadFault result before after = ⊥

@@ -24,7 +24,8 @@ streams_of handed = record { left = handed.left; output = handed.output.held; er
 -- The run of a code ends so, and the streams have gained what it puts, with what it leaves of the input.
 abbrev pub RunsTo : Tables → Launch → Ending → CallStreams → CallStreams → Type 0
 RunsTo tables launch ending before after =
-    (seen : Observed) × ((seen.ending ≡ ending) × (Runs tables launch seen × Ends seen (streams_of before) (streams_of after)))
+    (seen : Observed)
+    × ((seen.ending ≡ ending) × (Runs tables launch seen × Ends seen (streams_of before) (streams_of after)))
 
 -- what this fault leaves of a run that was begun with this input: broken off at a reading, at a put, or for want of memory
 abbrev pub LeavesBy : RunFault → List ℕ → Observed → CallStreams → CallStreams → Type 0
@@ -34,18 +35,23 @@ LeavesBy NoMemory input seen before after = Breaks input seen (streams_of before
 
 -- The run of a code was broken off by this fault.
 abbrev pub IsBrokenOff : Tables → Launch → RunFault → CallStreams → CallStreams → Type 0
-IsBrokenOff tables launch fault before after = (seen : Observed) × (Runs tables launch seen × LeavesBy fault launch.outside.left seen before after)
+IsBrokenOff tables launch fault before after =
+    (seen : Observed) × (Runs tables launch seen × LeavesBy fault launch.outside.left seen before after)
 
 -- what is said of a run that was begun so, by what was answered
 abbrev pub AnswersRun : Tables → Launch → Result HeldEnding RunFault → CallStreams → CallStreams → Type 0
 AnswersRun tables launch (Ok ending) before after =
-    RunsTo tables launch (ending_seen ending) before after × PutsReport (ending_seen ending) before.errors after.errors
+    RunsTo tables launch (ending_seen ending) before after
+    × PutsReport (ending_seen ending) before.errors after.errors
 AnswersRun tables launch (Err fault) before after = IsBrokenOff tables launch fault before after
 
 -- the same of each run with whose start this machine stands
-abbrev pub AnswersRuns : {K : Type 0} → Tables → Machine K → Result HeldEnding RunFault → CallStreams → CallStreams → Type 0
-AnswersRuns tables m result before after = (words : List (List ℕ)) (bounds : Bounds) (left : List ℕ) → before.left ≡ Some left
-    → start tables (launch_of words bounds left) ≡ running (stack_seen m) (store_seen tables (outside_of left) m)
+abbrev pub AnswersRuns : {K : Type 0} → Tables → Machine K → Result HeldEnding RunFault → CallStreams
+    → CallStreams → Type 0
+AnswersRuns tables m result before after =
+    (words : List (List ℕ)) (bounds : Bounds) (left : List ℕ) → before.left ≡ Some left
+    → start tables (launch_of words bounds left)
+    ≡ running (stack_seen m) (store_seen tables (outside_of left) m)
     → AnswersRun tables (launch_of words bounds left) result before after
 
 -- A fault is answered where that object has failed for the first time; where it is not, nothing has failed.

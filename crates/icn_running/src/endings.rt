@@ -46,7 +46,9 @@ fn put_error<E: Sink>(
     err: &mut E,
 ) -> Result<Ending, RunFault>
     requires live { IfSome offending (IsLive (extent_of heap.now)) }
-    ensures { AnswersEnd (Errored number) (error_report (all_names (tables_of code.now)) (heap_of heap.now) number (option_map (value_in (extent_of heap.now)) offending)) result (E.state err.old) (E.state err.new) }
+    ensures { AnswersEnd (Errored number) (error_report (all_names (tables_of code.now))
+        (heap_of heap.now) number (option_map (value_in (extent_of heap.now)) offending))
+        result (E.state err.old) (E.state err.new) }
 {
     let report = error_report(alloc, code, heap, number, offending)?;
     put_report(Ending::Errored(number), &report, err)
@@ -61,7 +63,8 @@ fn end_halted<E: Sink>(
     err: &mut E,
 ) -> Result<Ending, RunFault>
     requires { IsAboutLive (extent_of heap.now) halt }
-    ensures { AnswersHalt (all_names (tables_of code.now)) (heap_of heap.now) (extent_of heap.now) halt result (E.state err.old) (E.state err.new) }
+    ensures { AnswersHalt (all_names (tables_of code.now)) (heap_of heap.now) (extent_of heap.now) halt result
+        (E.state err.old) (E.state err.new) }
 {
     match halt {
         Halt::Error(number, offending) => put_error(alloc, code, heap, number, offending, err),
@@ -98,7 +101,8 @@ pub fn end_run<K: Stack<Cell> + Drop, E: Sink>(
 ) -> Result<Ending, RunFault>
     requires stops { IfOk stopped (λ stepped. is_on stepped ≡ false) }
     requires halt { IfErr stopped (IsLiveHalt (world_reach m.now)) }
-    ensures { AnswersMachine (all_names (tables_of code.now)) m.now stopped result (E.state err.old) (E.state err.new) }
+    ensures { AnswersMachine (all_names (tables_of code.now)) m.now stopped result (E.state err.old)
+        (E.state err.new) }
 {
     match stopped {
         Ok(stepped) => end_stopped(stepped, err),
@@ -120,7 +124,8 @@ pub fn end_unbegun<E: Sink>(
     err: &mut E,
 ) -> Result<Ending, RunFault>
     requires { IsUnbegun halt }
-    ensures { (heap : HeapSeen) → AnswersUnbegun (all_names (tables_of code.now)) heap halt result (E.state err.old) (E.state err.new) }
+    ensures { (heap : HeapSeen) → AnswersUnbegun (all_names (tables_of code.now)) heap halt result
+        (E.state err.old) (E.state err.new) }
 {
     let heap = Heap::new(alloc, limits)?;
     end_halted(alloc, code, &heap, halt, err)

@@ -40,10 +40,19 @@ pub fn run<K: Stack<Cell> + Drop, I: Source, O: Sink, E: Sink>(
     out: &mut O,
     err: &mut E,
 ) -> Result<Ending, RunFault>
-    ensures ends { IfOk result (λ ending. (left : List ℕ) → I.left input.old ≡ Some left → RunsTo (tables_of code.now.code) (launch_with words.now limits (outside_of left)) (ending_seen ending) (call_streams (I.left input.old) (I.faults input.old) (O.state out.old) (E.state err.old)) (call_streams (I.left input.new) (I.faults input.new) (O.state out.new) (E.state err.new))) }
-    ensures breaks { IfErr result (λ fault. (left : List ℕ) → I.left input.old ≡ Some left → IsBrokenOff (tables_of code.now.code) (launch_with words.now limits (outside_of left)) fault (call_streams (I.left input.old) (I.faults input.old) (O.state out.old) (E.state err.old)) (call_streams (I.left input.new) (I.faults input.new) (O.state out.new) (E.state err.new))) }
-    ensures first_fault { EndsAtFirst result (call_streams (I.left input.old) (I.faults input.old) (O.state out.old) (E.state err.old)) (call_streams (I.left input.new) (I.faults input.new) (O.state out.new) (E.state err.new)) }
-    ensures reported { IfOk result (λ ending. (left : List ℕ) → I.left input.old ≡ Some left → PutsReport (ending_seen ending) (E.state err.old) (E.state err.new)) }
+    ensures ends { IfOk result (λ ending. (left : List ℕ) → I.left input.old ≡ Some left → RunsTo
+        (tables_of code.now.code) (launch_with words.now limits (outside_of left)) (ending_seen ending)
+        (call_streams (I.left input.old) (I.faults input.old) (O.state out.old) (E.state err.old))
+        (call_streams (I.left input.new) (I.faults input.new) (O.state out.new) (E.state err.new))) }
+    ensures breaks { IfErr result (λ fault. (left : List ℕ) → I.left input.old ≡ Some left
+        → IsBrokenOff (tables_of code.now.code) (launch_with words.now limits (outside_of left)) fault
+        (call_streams (I.left input.old) (I.faults input.old) (O.state out.old) (E.state err.old))
+        (call_streams (I.left input.new) (I.faults input.new) (O.state out.new) (E.state err.new))) }
+    ensures first_fault { EndsAtFirst result
+        (call_streams (I.left input.old) (I.faults input.old) (O.state out.old) (E.state err.old))
+        (call_streams (I.left input.new) (I.faults input.new) (O.state out.new) (E.state err.new)) }
+    ensures reported { IfOk result (λ ending. (left : List ℕ) → I.left input.old ≡ Some left
+        → PutsReport (ending_seen ending) (E.state err.old) (E.state err.new)) }
 {
     runs_hold();
     match start::<K>(alloc, code.code(), words, limits) {
@@ -63,8 +72,12 @@ fn run_started<K: Stack<Cell> + Drop, I: Source, O: Sink, E: Sink>(
 ) -> Result<Ending, RunFault>
     requires ready { IsReady (tables_of code.now.code) m.old Stages.Runs }
     requires lasts { Lasts (tables_of code.now.code) m.old }
-    ensures answers { AnswersRuns (tables_of code.now.code) m.old result (call_streams (I.left input.old) (I.faults input.old) (O.state out.old) (E.state err.old)) (call_streams (I.left input.new) (I.faults input.new) (O.state out.new) (E.state err.new)) }
-    ensures first_fault { EndsAtFirst result (call_streams (I.left input.old) (I.faults input.old) (O.state out.old) (E.state err.old)) (call_streams (I.left input.new) (I.faults input.new) (O.state out.new) (E.state err.new)) }
+    ensures answers { AnswersRuns (tables_of code.now.code) m.old result
+        (call_streams (I.left input.old) (I.faults input.old) (O.state out.old) (E.state err.old))
+        (call_streams (I.left input.new) (I.faults input.new) (O.state out.new) (E.state err.new)) }
+    ensures first_fault { EndsAtFirst result
+        (call_streams (I.left input.old) (I.faults input.old) (O.state out.old) (E.state err.old))
+        (call_streams (I.left input.new) (I.faults input.new) (O.state out.new) (E.state err.new)) }
 {
     runs_hold();
     let mut rooms = Rooms {

@@ -13,7 +13,8 @@ use instruction_laws::{cases_stand, variables_stay};
 
 /// From its start on nothing ever lacks in a run of verified code, its steps fall, and it has an end.
 pub fn runs_hold()
-    ensures { (tables : Tables) → keeps_rules tables ≡ true → IsVerified tables → (launch : Launch) → RunHolds tables launch }
+    ensures { (tables : Tables) → keeps_rules tables ≡ true → IsVerified tables → (launch : Launch)
+        → RunHolds tables launch }
 {
     never_stuck_over_any_outside();
     cases_stand();

@@ -25,7 +25,8 @@ pub fn error_report(
     offending: Option<Val>,
 ) -> Result<Vec<u8>, AllocError>
     requires live { IfSome offending (IsLive (extent_of heap.now)) }
-    ensures { IfOk result (λ text. text.items ≡ error_report (all_names (tables_of code.now)) (heap_of heap.now) number (option_map (value_in (extent_of heap.now)) offending)) }
+    ensures { IfOk result (λ text. text.items ≡ error_report (all_names (tables_of code.now))
+        (heap_of heap.now) number (option_map (value_in (extent_of heap.now)) offending)) }
 {
     let mut out = Vec::from_slice(alloc, b"Run-time error ")?;
     out.extend_from_slice(decimal(i64::from(number)).as_bytes())?;
@@ -44,7 +45,8 @@ fn push_offending(
     offending: Option<Val>,
 ) -> Result<(), AllocError>
     requires live { IfSome offending (IsLive (extent_of heap.now)) }
-    ensures { OnOk result (out.new.items ≡ out.old.items ++ offending_line (all_names (tables_of code.now)) (heap_of heap.now) (option_map (value_in (extent_of heap.now)) offending)) }
+    ensures { OnOk result (out.new.items ≡ out.old.items ++ offending_line (all_names (tables_of code.now))
+        (heap_of heap.now) (option_map (value_in (extent_of heap.now)) offending)) }
 {
     match offending {
         None => Ok(()),
@@ -54,7 +56,8 @@ fn push_offending(
 
 fn push_shown(out: &mut Vec<u8>, code: &Code, heap: &Heap, val: Val) -> Result<(), AllocError>
     requires live { IsLive (extent_of heap.now) val }
-    ensures { OnOk result (out.new.items ≡ out.old.items ++ offending_line (all_names (tables_of code.now)) (heap_of heap.now) (Some (value_in (extent_of heap.now) val))) }
+    ensures { OnOk result (out.new.items ≡ out.old.items ++ offending_line (all_names (tables_of code.now))
+        (heap_of heap.now) (Some (value_in (extent_of heap.now) val))) }
 {
     push(out, b"offending value: ")?;
     push_image(out, code, heap, val)?;

@@ -51,7 +51,10 @@ pub fn run_on<K: Stack<Cell> + Drop, I: Source, O: Sink, E: Sink>(
 ) -> Result<Stepped, Halt>
     requires ready { IsReady (tables_of code.now.code) m.old Stages.Runs }
     requires lasts { Lasts (tables_of code.now.code) m.old }
-    ensures steps { Advances (tables_of code.now.code) m.old Stages.Runs (call_streams (I.left input.old) (I.faults input.old) (O.state out.old) (E.state err.old)) m.new (call_streams (I.left input.new) (I.faults input.new) (O.state out.new) (E.state err.new)) (stage_result result) }
+    ensures steps { Advances (tables_of code.now.code) m.old Stages.Runs
+        (call_streams (I.left input.old) (I.faults input.old) (O.state out.old) (E.state err.old)) m.new
+        (call_streams (I.left input.new) (I.faults input.new) (O.state out.new) (E.state err.new))
+        (stage_result result) }
     ensures stops { IfOk result (λ stepped. is_on stepped ≡ false) }
     ensures halt { IfErr result (IsLiveHalt (world_reach m.new)) }
     ensures limits { m.new.limits ≡ m.old.limits }
@@ -74,7 +77,10 @@ fn run_to_turn<K: Stack<Cell> + Drop, I: Source, O: Sink, E: Sink>(
 ) -> Result<Stepped, Halt>
     requires ready { IsReady (tables_of code.now.code) m.old Stages.Runs }
     requires lasts { Lasts (tables_of code.now.code) m.old }
-    ensures steps { GoesOn (tables_of code.now.code) m.old Stages.Runs (call_streams (I.left input.old) (I.faults input.old) (O.state out.old) (E.state err.old)) m.new (call_streams (I.left input.new) (I.faults input.new) (O.state out.new) (E.state err.new)) (stage_result result) }
+    ensures steps { GoesOn (tables_of code.now.code) m.old Stages.Runs
+        (call_streams (I.left input.old) (I.faults input.old) (O.state out.old) (E.state err.old)) m.new
+        (call_streams (I.left input.new) (I.faults input.new) (O.state out.new) (E.state err.new))
+        (stage_result result) }
     ensures ready { IfOk result (λ stepped. IsReady (tables_of code.now.code) m.new (stage_of stepped)) }
     ensures lasts { IfOk result (λ stepped. IsTrue (is_on stepped) → Lasts (tables_of code.now.code) m.new) }
     ensures turn { IfOk result (λ stepped. IsTrue (is_on stepped) → MadeTurn m.old m.new) }

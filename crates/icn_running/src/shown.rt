@@ -25,7 +25,8 @@ use std::alloc::{AllocError, Global};
 /// Appends the image of a value. The error is want of memory.
 pub fn push_image(out: &mut Vec<u8>, code: &Code, heap: &Heap, val: Val) -> Result<(), AllocError>
     requires live { IsLive (extent_of heap.now) val }
-    ensures { OnOk result (out.new.items ≡ out.old.items ++ image (all_names (tables_of code.now)) (heap_of heap.now) (value_in (extent_of heap.now) val)) }
+    ensures { OnOk result (out.new.items ≡ out.old.items
+        ++ image (all_names (tables_of code.now)) (heap_of heap.now) (value_in (extent_of heap.now) val)) }
 {
     match val {
         Val::Null => push_plain(out, code, val),
@@ -66,7 +67,8 @@ fn empty_heap(alloc: Global) -> Result<Heap, AllocError>
 #[tactic(auto, using(crate::proofs::Images::plain_image))]
 fn push_plain(out: &mut Vec<u8>, code: &Code, val: Val) -> Result<(), AllocError>
     requires { IsPlain val }
-    ensures { OnOk result ((names : Names) (heap : HeapData) (all : Extent) → out.new.items ≡ out.old.items ++ image names heap (value_in all val)) }
+    ensures { OnOk result ((names : Names) (heap : HeapData) (all : Extent)
+        → out.new.items ≡ out.old.items ++ image names heap (value_in all val)) }
 {
     let alloc = *out.allocator();
     let empty = empty_heap(alloc)?;
@@ -87,7 +89,8 @@ fn push_text(out: &mut Vec<u8>, code: &Code, bytes: &[u8]) -> Result<(), AllocEr
 
 // The image of a procedure, a constructor or a function; a number without a name is that of a function without one.
 fn push_procedure(out: &mut Vec<u8>, code: &Code, number: u32) -> Result<(), AllocError>
-    ensures { OnOk result (out.new.items ≡ out.old.items ++ procedure_image (all_names (tables_of code.now)) number) }
+    ensures { OnOk result
+        (out.new.items ≡ out.old.items ++ procedure_image (all_names (tables_of code.now)) number) }
 {
     if has_name(code, number) {
         let text = image_of_named(*out.allocator(), code, number)?;
@@ -115,7 +118,8 @@ fn push_structure(
     val: Val,
 ) -> Result<(), AllocError>
     requires { IsLive (extent_of heap.now) val }
-    ensures { OnOk result (out.new.items ≡ out.old.items ++ numbered_image name.now (id + 1) (size_of (heap_of heap.now) (value_in (extent_of heap.now) val))) }
+    ensures { OnOk result (out.new.items ≡ out.old.items ++ numbered_image name.now (id + 1)
+        (size_of (heap_of heap.now) (value_in (extent_of heap.now) val))) }
 {
     out.extend_from_slice(name)?;
     push_number(out, u64::from(id) + 1, heap.size(val).unwrap_or(0))
@@ -124,7 +128,8 @@ fn push_structure(
 // The image of a record: its name, its number among those of its name, and its size.
 fn push_record(out: &mut Vec<u8>, code: &Code, heap: &Heap, id: u32) -> Result<(), AllocError>
     requires { IsLive (extent_of heap.now) (Rec id) }
-    ensures { OnOk result (out.new.items ≡ out.old.items ++ image (all_names (tables_of code.now)) (heap_of heap.now) (ARecord id)) }
+    ensures { OnOk result (out.new.items ≡ out.old.items
+        ++ image (all_names (tables_of code.now)) (heap_of heap.now) (ARecord id)) }
 {
     out.extend_from_slice(b"record ")?;
     out.extend_from_slice(record_name(code, heap, id))?;

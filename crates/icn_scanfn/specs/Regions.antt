@@ -11,11 +11,13 @@ use Rattle.icn_scanfn.specs.declared.regions.Searched.{Searched}
 
 -- the text of a value that was given, and the positions
 abbrev pub given_in : Extent → Given → Region
-given_in all given = record { text = the_text (value_in all given.val); first = given.first; last = given.last }
+given_in all given =
+    record { text = the_text (value_in all given.val); first = given.first; last = given.last }
 
 -- a text of the heap, and the positions
 abbrev pub searched_in : Extent → Searched → Region
-searched_in all searched = record { text = text_in all searched.text; first = searched.first; last = searched.last }
+searched_in all searched =
+    record { text = text_in all searched.text; first = searched.first; last = searched.last }
 
 -- the arguments from this one on as a text and two positions, once the text is charged
 abbrev pub charged_region : List Value → ℕ → Finds Region

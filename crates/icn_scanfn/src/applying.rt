@@ -26,7 +26,8 @@ pub fn first<L: Locals>(func: Func, args: &[Val], w: &mut World, l: &L) -> Resul
     requires function { is_scanning_function func ≡ true }
     requires locals { All (IsLive (extent_of w.old.heap)) (L.items l.now) }
     requires args { All (IsLive (extent_of w.old.heap)) args.now }
-    ensures row { (names : Names) → Answers w.old (L.items l.now) w.new (L.items l.now) (function_of names func (map (value_in (extent_of w.old.heap)) args.now)) result }
+    ensures row { (names : Names) → Answers w.old (L.items l.now) w.new (L.items l.now)
+        (function_of names func (map (value_in (extent_of w.old.heap)) args.now)) result }
     ensures live { IsLiveAnswer (reach_of w.new (L.items l.now)) result }
     ensures locals { All (IsLive (extent_of w.new.heap)) (L.items l.now) }
     ensures kept { KeepsItems (reach_of w.old (L.items l.now)) (reach_of w.new (L.items l.now)) }
@@ -52,7 +53,8 @@ pub fn again<L: Locals>(rest: Residual, w: &mut World, l: &L) -> Result<Outcome,
     requires scanning { is_of_scanning rest ≡ true }
     requires locals { All (IsLive (extent_of w.old.heap)) (L.items l.now) }
     requires rest { IsLiveResidual (reach_of w.old (L.items l.now)) rest }
-    ensures row { Answers w.old (L.items l.now) w.new (L.items l.now) (again (residual_in (extent_of w.old.heap) rest)) result }
+    ensures row { Answers w.old (L.items l.now) w.new (L.items l.now)
+        (again (residual_in (extent_of w.old.heap) rest)) result }
     ensures live { IsLiveAnswer (reach_of w.new (L.items l.now)) result }
     ensures locals { All (IsLive (extent_of w.new.heap)) (L.items l.now) }
     ensures kept { KeepsItems (reach_of w.old (L.items l.now)) (reach_of w.new (L.items l.now)) }

@@ -39,7 +39,8 @@ pub struct Sets {
 pub fn bal_row<L: Locals>(w: &mut World, l: &L, args: &[Val]) -> Result<Outcome, Halt>
     requires locals { All (IsLive (extent_of w.old.heap)) (L.items l.now) }
     requires args { All (IsLive (extent_of w.old.heap)) args.now }
-    ensures row { Answers w.old (L.items l.now) w.new (L.items l.now) (bal_row (map (value_in (extent_of w.old.heap)) args.now)) result }
+    ensures row { Answers w.old (L.items l.now) w.new (L.items l.now)
+        (bal_row (map (value_in (extent_of w.old.heap)) args.now)) result }
     ensures live { IsLiveAnswer (reach_of w.new (L.items l.now)) result }
     ensures locals { All (IsLive (extent_of w.new.heap)) (L.items l.now) }
     ensures kept { KeepsItems (reach_of w.old (L.items l.now)) (reach_of w.new (L.items l.now)) }
@@ -52,7 +53,8 @@ pub fn bal_row<L: Locals>(w: &mut World, l: &L, args: &[Val]) -> Result<Outcome,
 // The first three arguments: all bytes and the brackets, where they are null. The error is 104.
 fn balanced_sets(heap: &Heap, args: &[Val]) -> Result<Sets, Stop>
     requires { All (IsLive (extent_of heap.now)) args.now }
-    ensures found { (setting : Setting) → Found (extent_of heap.now) (balanced_sets (map (value_in (extent_of heap.now)) args.now)) setting setting sets_of result }
+    ensures found { (setting : Setting) → Found (extent_of heap.now)
+        (balanced_sets (map (value_in (extent_of heap.now)) args.now)) setting setting sets_of result }
     ensures stops { IfErr result (IsLiveStop (extent_of heap.now)) }
 {
     let wanted = cset_of(heap, or_all_bytes(arg(args, 0)))?;
@@ -68,7 +70,9 @@ fn balanced_sets(heap: &Heap, args: &[Val]) -> Result<Sets, Stop>
 // The first balanced place.
 fn balanced_in<L: Locals>(w: &World, l: &L, sets: Sets, searched: Searched) -> Outcome
     requires { IsText (extent_of w.now.heap) searched.text }
-    ensures row { (outside : Outside) → balanced_in (sets_of sets) (searched_in (extent_of w.now.heap) searched) (setting_of outside w.now (L.items l.now)) ≡ outcome_in (extent_of w.now.heap) result (setting_of outside w.now (L.items l.now)) }
+    ensures row { (outside : Outside) → balanced_in (sets_of sets)
+        (searched_in (extent_of w.now.heap) searched) (setting_of outside w.now (L.items l.now))
+        ≡ outcome_in (extent_of w.now.heap) result (setting_of outside w.now (L.items l.now)) }
     ensures live { IsLiveOutcome (reach_of w.now (L.items l.now)) result }
 {
     match ends_of(&w.heap, searched) {
@@ -89,7 +93,10 @@ fn balanced_from<L: Locals>(
 ) -> Outcome
     requires search { IsSearch (extent_of w.now.heap) text place last }
     requires count { count ≤ place }
-    ensures row { (outside : Outside) → balanced_from (members_of sets.wanted) (members_of sets.opening) (members_of sets.closing) (text_in (extent_of w.now.heap) text) place last count (setting_of outside w.now (L.items _l.now)) ≡ outcome_in (extent_of w.now.heap) result (setting_of outside w.now (L.items _l.now)) }
+    ensures row { (outside : Outside)
+        → balanced_from (members_of sets.wanted) (members_of sets.opening) (members_of sets.closing)
+        (text_in (extent_of w.now.heap) text) place last count (setting_of outside w.now (L.items _l.now))
+        ≡ outcome_in (extent_of w.now.heap) result (setting_of outside w.now (L.items _l.now)) }
     ensures live { IsLiveOutcome (reach_of w.now (L.items _l.now)) result }
 {
     short_text(&w.heap, text);
@@ -128,7 +135,10 @@ pub fn balanced_again<L: Locals>(
     last: u64,
 ) -> Outcome
     requires { IsSearch (extent_of w.now.heap) text place last }
-    ensures row { (outside : Outside) → balanced_again (members_of sets.wanted) (members_of sets.opening) (members_of sets.closing) (text_in (extent_of w.now.heap) text) place last (setting_of outside w.now (L.items l.now)) ≡ outcome_in (extent_of w.now.heap) result (setting_of outside w.now (L.items l.now)) }
+    ensures row { (outside : Outside)
+        → balanced_again (members_of sets.wanted) (members_of sets.opening) (members_of sets.closing)
+        (text_in (extent_of w.now.heap) text) place last (setting_of outside w.now (L.items l.now))
+        ≡ outcome_in (extent_of w.now.heap) result (setting_of outside w.now (L.items l.now)) }
     ensures live { IsLiveOutcome (reach_of w.now (L.items l.now)) result }
 {
     if place >= last {

@@ -12,7 +12,8 @@ use icn_vars::World;
 
 // The first position in a text: `&pos` where that text is null, else 1.
 pub fn first_position(w: &World, text: Val) -> Val
-    ensures value { (all : Extent) → value_in all result ≡ Integer (pos (if is_null (value_in all text) then w.now.pair.position else 1)) }
+    ensures value { (all : Extent) → value_in all result
+        ≡ Integer (pos (if is_null (value_in all text) then w.now.pair.position else 1)) }
     ensures live { (all : Extent) → IsLive all result }
 {
     short_text(&w.heap, w.pair.subject);
@@ -24,7 +25,8 @@ pub fn first_position(w: &World, text: Val) -> Val
 
 // A value, or the cset of all bytes where it is null.
 pub fn or_all_bytes(val: Val) -> Val
-    ensures value { (all : Extent) → value_in all result ≡ value_or (Chars (members (λ byte. true))) (value_in all val) }
+    ensures value { (all : Extent)
+        → value_in all result ≡ value_or (Chars (members (λ byte. true))) (value_in all val) }
     ensures live { (all : Extent) → IsLive all val → IsLive all result }
 {
     match val {

@@ -24,7 +24,8 @@ use icn_vars::{Halt, Locals, Outcome, World};
 pub fn find_row<L: Locals>(w: &mut World, l: &L, args: &[Val]) -> Result<Outcome, Halt>
     requires locals { All (IsLive (extent_of w.old.heap)) (L.items l.now) }
     requires args { All (IsLive (extent_of w.old.heap)) args.now }
-    ensures row { Answers w.old (L.items l.now) w.new (L.items l.now) (find_row (map (value_in (extent_of w.old.heap)) args.now)) result }
+    ensures row { Answers w.old (L.items l.now) w.new (L.items l.now)
+        (find_row (map (value_in (extent_of w.old.heap)) args.now)) result }
     ensures live { IsLiveAnswer (reach_of w.new (L.items l.now)) result }
     ensures locals { All (IsLive (extent_of w.new.heap)) (L.items l.now) }
     ensures kept { KeepsItems (reach_of w.old (L.items l.now)) (reach_of w.new (L.items l.now)) }
@@ -37,7 +38,9 @@ pub fn find_row<L: Locals>(w: &mut World, l: &L, args: &[Val]) -> Result<Outcome
 fn find_in<L: Locals>(w: &World, l: &L, wanted: Span, searched: Searched) -> Outcome
     requires wanted { IsText (extent_of w.now.heap) wanted }
     requires text { IsText (extent_of w.now.heap) searched.text }
-    ensures row { (outside : Outside) → find_in (text_in (extent_of w.now.heap) wanted) (searched_in (extent_of w.now.heap) searched) (setting_of outside w.now (L.items l.now)) ≡ outcome_in (extent_of w.now.heap) result (setting_of outside w.now (L.items l.now)) }
+    ensures row { (outside : Outside) → find_in (text_in (extent_of w.now.heap) wanted)
+        (searched_in (extent_of w.now.heap) searched) (setting_of outside w.now (L.items l.now))
+        ≡ outcome_in (extent_of w.now.heap) result (setting_of outside w.now (L.items l.now)) }
     ensures live { IsLiveOutcome (reach_of w.now (L.items l.now)) result }
 {
     match ends_of(&w.heap, searched) {
@@ -57,7 +60,9 @@ fn found_from<L: Locals>(
 ) -> Outcome
     requires wanted { IsText (extent_of w.now.heap) wanted }
     requires search { IsSearch (extent_of w.now.heap) text place last }
-    ensures row { (outside : Outside) → found_from (text_in (extent_of w.now.heap) wanted) (text_in (extent_of w.now.heap) text) place last (setting_of outside w.now (L.items _l.now)) ≡ outcome_in (extent_of w.now.heap) result (setting_of outside w.now (L.items _l.now)) }
+    ensures row { (outside : Outside) → found_from (text_in (extent_of w.now.heap) wanted)
+        (text_in (extent_of w.now.heap) text) place last (setting_of outside w.now (L.items _l.now))
+        ≡ outcome_in (extent_of w.now.heap) result (setting_of outside w.now (L.items _l.now)) }
     ensures live { IsLiveOutcome (reach_of w.now (L.items _l.now)) result }
 {
     short_text(&w.heap, text);
@@ -86,7 +91,9 @@ pub fn found_again<L: Locals>(
 ) -> Outcome
     requires wanted { IsText (extent_of w.now.heap) wanted }
     requires search { IsSearch (extent_of w.now.heap) text place last }
-    ensures row { (outside : Outside) → found_from (text_in (extent_of w.now.heap) wanted) (text_in (extent_of w.now.heap) text) (place + 1) last (setting_of outside w.now (L.items l.now)) ≡ outcome_in (extent_of w.now.heap) result (setting_of outside w.now (L.items l.now)) }
+    ensures row { (outside : Outside) → found_from (text_in (extent_of w.now.heap) wanted)
+        (text_in (extent_of w.now.heap) text) (place + 1) last (setting_of outside w.now (L.items l.now))
+        ≡ outcome_in (extent_of w.now.heap) result (setting_of outside w.now (L.items l.now)) }
     ensures live { IsLiveOutcome (reach_of w.now (L.items l.now)) result }
 {
     if place < last {
@@ -101,7 +108,8 @@ pub fn found_again<L: Locals>(
 pub fn upto_row<L: Locals>(w: &mut World, l: &L, args: &[Val]) -> Result<Outcome, Halt>
     requires locals { All (IsLive (extent_of w.old.heap)) (L.items l.now) }
     requires args { All (IsLive (extent_of w.old.heap)) args.now }
-    ensures row { Answers w.old (L.items l.now) w.new (L.items l.now) (upto_row (map (value_in (extent_of w.old.heap)) args.now)) result }
+    ensures row { Answers w.old (L.items l.now) w.new (L.items l.now)
+        (upto_row (map (value_in (extent_of w.old.heap)) args.now)) result }
     ensures live { IsLiveAnswer (reach_of w.new (L.items l.now)) result }
     ensures locals { All (IsLive (extent_of w.new.heap)) (L.items l.now) }
     ensures kept { KeepsItems (reach_of w.old (L.items l.now)) (reach_of w.new (L.items l.now)) }
@@ -113,7 +121,9 @@ pub fn upto_row<L: Locals>(w: &mut World, l: &L, args: &[Val]) -> Result<Outcome
 // The first place before a byte of the cset.
 fn upto_in<L: Locals>(w: &World, l: &L, wanted: Cset, searched: Searched) -> Outcome
     requires { IsText (extent_of w.now.heap) searched.text }
-    ensures row { (outside : Outside) → upto_in (members_of wanted) (searched_in (extent_of w.now.heap) searched) (setting_of outside w.now (L.items l.now)) ≡ outcome_in (extent_of w.now.heap) result (setting_of outside w.now (L.items l.now)) }
+    ensures row { (outside : Outside) → upto_in (members_of wanted)
+        (searched_in (extent_of w.now.heap) searched) (setting_of outside w.now (L.items l.now))
+        ≡ outcome_in (extent_of w.now.heap) result (setting_of outside w.now (L.items l.now)) }
     ensures live { IsLiveOutcome (reach_of w.now (L.items l.now)) result }
 {
     match ends_of(&w.heap, searched) {
@@ -132,7 +142,9 @@ fn among_from<L: Locals>(
     last: u64,
 ) -> Outcome
     requires { IsSearch (extent_of w.now.heap) text place last }
-    ensures row { (outside : Outside) → among_from (members_of wanted) (text_in (extent_of w.now.heap) text) place last (setting_of outside w.now (L.items _l.now)) ≡ outcome_in (extent_of w.now.heap) result (setting_of outside w.now (L.items _l.now)) }
+    ensures row { (outside : Outside) → among_from (members_of wanted)
+        (text_in (extent_of w.now.heap) text) place last (setting_of outside w.now (L.items _l.now))
+        ≡ outcome_in (extent_of w.now.heap) result (setting_of outside w.now (L.items _l.now)) }
     ensures live { IsLiveOutcome (reach_of w.now (L.items _l.now)) result }
 {
     short_text(&w.heap, text);
@@ -160,7 +172,9 @@ pub fn among_again<L: Locals>(
     last: u64,
 ) -> Outcome
     requires { IsSearch (extent_of w.now.heap) text place last }
-    ensures row { (outside : Outside) → among_from (members_of wanted) (text_in (extent_of w.now.heap) text) (place + 1) last (setting_of outside w.now (L.items l.now)) ≡ outcome_in (extent_of w.now.heap) result (setting_of outside w.now (L.items l.now)) }
+    ensures row { (outside : Outside) → among_from (members_of wanted)
+        (text_in (extent_of w.now.heap) text) (place + 1) last (setting_of outside w.now (L.items l.now))
+        ≡ outcome_in (extent_of w.now.heap) result (setting_of outside w.now (L.items l.now)) }
     ensures live { IsLiveOutcome (reach_of w.now (L.items l.now)) result }
 {
     if place < last {

@@ -20,7 +20,8 @@ use icn_vars::{Halt, Locals, Outcome, World, place_of};
 pub fn tab_row<L: Locals>(w: &mut World, l: &L, args: &[Val]) -> Result<Outcome, Halt>
     requires locals { All (IsLive (extent_of w.old.heap)) (L.items l.now) }
     requires args { All (IsLive (extent_of w.old.heap)) args.now }
-    ensures row { Answers w.old (L.items l.now) w.new (L.items l.now) (tab_row (map (value_in (extent_of w.old.heap)) args.now)) result }
+    ensures row { Answers w.old (L.items l.now) w.new (L.items l.now)
+        (tab_row (map (value_in (extent_of w.old.heap)) args.now)) result }
     ensures live { IsLiveAnswer (reach_of w.new (L.items l.now)) result }
     ensures locals { All (IsLive (extent_of w.new.heap)) (L.items l.now) }
     ensures kept { KeepsItems (reach_of w.old (L.items l.now)) (reach_of w.new (L.items l.now)) }
@@ -32,7 +33,8 @@ pub fn tab_row<L: Locals>(w: &mut World, l: &L, args: &[Val]) -> Result<Outcome,
 // Moves to a position, or fails where it is out of range.
 fn tab_by<L: Locals>(w: &mut World, l: &L, n: i64) -> Outcome
     requires locals { All (IsLive (extent_of w.old.heap)) (L.items l.now) }
-    ensures row { (outside : Outside) → tabs_by n (setting_of outside w.old (L.items l.now)) ≡ outcome_in (extent_of w.new.heap) result (setting_of outside w.new (L.items l.now)) }
+    ensures row { (outside : Outside) → tabs_by n (setting_of outside w.old (L.items l.now))
+        ≡ outcome_in (extent_of w.new.heap) result (setting_of outside w.new (L.items l.now)) }
     ensures live { IsLiveOutcome (reach_of w.new (L.items l.now)) result }
     ensures locals { All (IsLive (extent_of w.new.heap)) (L.items l.now) }
     ensures kept { KeepsItems (reach_of w.old (L.items l.now)) (reach_of w.new (L.items l.now)) }
@@ -50,7 +52,8 @@ fn tab_by<L: Locals>(w: &mut World, l: &L, n: i64) -> Outcome
 pub fn move_row<L: Locals>(w: &mut World, l: &L, args: &[Val]) -> Result<Outcome, Halt>
     requires locals { All (IsLive (extent_of w.old.heap)) (L.items l.now) }
     requires args { All (IsLive (extent_of w.old.heap)) args.now }
-    ensures row { Answers w.old (L.items l.now) w.new (L.items l.now) (move_row (map (value_in (extent_of w.old.heap)) args.now)) result }
+    ensures row { Answers w.old (L.items l.now) w.new (L.items l.now)
+        (move_row (map (value_in (extent_of w.old.heap)) args.now)) result }
     ensures live { IsLiveAnswer (reach_of w.new (L.items l.now)) result }
     ensures locals { All (IsLive (extent_of w.new.heap)) (L.items l.now) }
     ensures kept { KeepsItems (reach_of w.old (L.items l.now)) (reach_of w.new (L.items l.now)) }
@@ -62,7 +65,8 @@ pub fn move_row<L: Locals>(w: &mut World, l: &L, args: &[Val]) -> Result<Outcome
 // Moves so many bytes on, or fails where there are not so many.
 fn move_by<L: Locals>(w: &mut World, l: &L, n: i64) -> Outcome
     requires locals { All (IsLive (extent_of w.old.heap)) (L.items l.now) }
-    ensures row { (outside : Outside) → moves_by n (setting_of outside w.old (L.items l.now)) ≡ outcome_in (extent_of w.new.heap) result (setting_of outside w.new (L.items l.now)) }
+    ensures row { (outside : Outside) → moves_by n (setting_of outside w.old (L.items l.now))
+        ≡ outcome_in (extent_of w.new.heap) result (setting_of outside w.new (L.items l.now)) }
     ensures live { IsLiveOutcome (reach_of w.new (L.items l.now)) result }
     ensures locals { All (IsLive (extent_of w.new.heap)) (L.items l.now) }
     ensures kept { KeepsItems (reach_of w.old (L.items l.now)) (reach_of w.new (L.items l.now)) }
@@ -103,7 +107,8 @@ fn moved_place(place: u64, n: i64, size: u64) -> Option<u64>
 /// `pos(i)`: the place of the position, where a position of the subject means it; else it fails. The error is 101.
 pub fn pos_row<L: Locals>(w: &World, l: &L, args: &[Val]) -> Result<Outcome, Halt>
     requires args { All (IsLive (extent_of w.now.heap)) args.now }
-    ensures row { Answers w.now (L.items l.now) w.now (L.items l.now) (pos_row (map (value_in (extent_of w.now.heap)) args.now)) result }
+    ensures row { Answers w.now (L.items l.now) w.now (L.items l.now)
+        (pos_row (map (value_in (extent_of w.now.heap)) args.now)) result }
     ensures live { IsLiveAnswer (reach_of w.now (L.items l.now)) result }
 {
     let n = integer_of(&w.heap, arg(args, 0))?;
@@ -112,7 +117,8 @@ pub fn pos_row<L: Locals>(w: &World, l: &L, args: &[Val]) -> Result<Outcome, Hal
 
 // The place of the position, where this position means it.
 fn position_tested<L: Locals>(w: &World, _l: &L, n: i64) -> Outcome
-    ensures row { (outside : Outside) → tests_position n (setting_of outside w.now (L.items _l.now)) ≡ outcome_in (extent_of w.now.heap) result (setting_of outside w.now (L.items _l.now)) }
+    ensures row { (outside : Outside) → tests_position n (setting_of outside w.now (L.items _l.now))
+        ≡ outcome_in (extent_of w.now.heap) result (setting_of outside w.now (L.items _l.now)) }
     ensures live { IsLiveOutcome (reach_of w.now (L.items _l.now)) result }
 {
     short_text(&w.heap, w.pair.subject);

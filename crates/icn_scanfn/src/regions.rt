@@ -49,10 +49,13 @@ pub struct Searched {
 pub fn region_from(w: &World, args: &[Val], place: usize) -> Result<Given, Stop>
     requires args { All (IsLive (extent_of w.now.heap)) args.now }
     requires place { place < 2 ^ 32 }
-    ensures found { (outside : Outside) (locals : List ValData) → Found (extent_of w.now.heap) (region_from (map (value_in (extent_of w.now.heap)) args.now) place) (setting_of outside w.now locals) (setting_of outside w.now locals) (given_in (extent_of w.now.heap)) result }
+    ensures found { (outside : Outside) (locals : List ValData) → Found (extent_of w.now.heap)
+        (region_from (map (value_in (extent_of w.now.heap)) args.now) place) (setting_of outside w.now locals)
+        (setting_of outside w.now locals) (given_in (extent_of w.now.heap)) result }
     ensures live { IfOk result (λ given. IsLive (extent_of w.now.heap) given.val) }
     ensures has { IfOk result (λ given. HasText (value_in (extent_of w.now.heap) given.val)) }
-    ensures made { IfOk result (λ given. text_made (form_of (value_in (extent_of w.now.heap) given.val)) ≡ text_made (form_of (arg (map (value_in (extent_of w.now.heap)) args.now) place))) }
+    ensures made { IfOk result (λ given. text_made (form_of (value_in (extent_of w.now.heap) given.val))
+        ≡ text_made (form_of (arg (map (value_in (extent_of w.now.heap)) args.now) place))) }
     ensures stops { IfErr result (IsLiveStop (extent_of w.now.heap)) }
 {
     let text = arg(args, place);
@@ -76,7 +79,10 @@ pub fn charged_region<L: Locals>(
     requires locals { All (IsLive (extent_of w.old.heap)) (L.items l.now) }
     requires args { All (IsLive (extent_of w.old.heap)) args.now }
     requires place { place < 2 ^ 32 }
-    ensures found { (outside : Outside) → Found (extent_of w.new.heap) (charged_region (map (value_in (extent_of w.old.heap)) args.now) place) (setting_of outside w.old (L.items l.now)) (setting_of outside w.new (L.items l.now)) (searched_in (extent_of w.new.heap)) result }
+    ensures found { (outside : Outside)
+        → Found (extent_of w.new.heap) (charged_region (map (value_in (extent_of w.old.heap)) args.now) place)
+        (setting_of outside w.old (L.items l.now)) (setting_of outside w.new (L.items l.now))
+        (searched_in (extent_of w.new.heap)) result }
     ensures live { IfOk result (λ searched. IsText (extent_of w.new.heap) searched.text) }
     ensures stops { IfErr result (IsLiveStop (extent_of w.new.heap)) }
     ensures locals { All (IsLive (extent_of w.new.heap)) (L.items l.now) }
@@ -94,7 +100,8 @@ pub fn charged_region<L: Locals>(
 // The places that the two positions mean, the smaller first, or none where one is out of range.
 pub fn ends_of(heap: &Heap, searched: Searched) -> Option<(u64, u64)>
     requires { IsText (extent_of heap.now) searched.text }
-    ensures ends { (next : ℕ × ℕ → Row) (setting : Setting) → ends_of (searched_in (extent_of heap.now) searched) next setting ≡ found result next setting }
+    ensures ends { (next : ℕ × ℕ → Row) (setting : Setting)
+        → ends_of (searched_in (extent_of heap.now) searched) next setting ≡ found result next setting }
     ensures low { IfSome result (λ ends. 1 ≤ ends.0) }
     ensures order { IfSome result (λ ends. ends.0 ≤ ends.1) }
     ensures high { IfSome result (λ ends. ends.1 ≤ length (text_in (extent_of heap.now) searched.text) + 1) }
@@ -108,7 +115,8 @@ pub fn ends_of(heap: &Heap, searched: Searched) -> Option<(u64, u64)>
 // The places that two positions mean in a text of so many bytes.
 fn ordered_places(first: i64, last: i64, size: u64) -> Option<(u64, u64)>
     requires { size < 2 ^ 63 - 1 }
-    ensures ends { (next : ℕ × ℕ → Row) (setting : Setting) → places first last size next setting ≡ found result next setting }
+    ensures ends { (next : ℕ × ℕ → Row) (setting : Setting)
+        → places first last size next setting ≡ found result next setting }
     ensures low { IfSome result (λ ends. 1 ≤ ends.0) }
     ensures order { IfSome result (λ ends. ends.0 ≤ ends.1) }
     ensures high { IfSome result (λ ends. ends.1 ≤ size + 1) }

@@ -21,7 +21,10 @@ use icn_vars::{Locals, Stop, World};
 pub fn cset_search<L: Locals>(w: &mut World, l: &L, args: &[Val]) -> Result<(Cset, Searched), Stop>
     requires locals { All (IsLive (extent_of w.old.heap)) (L.items l.now) }
     requires args { All (IsLive (extent_of w.old.heap)) args.now }
-    ensures found { (outside : Outside) → Found (extent_of w.new.heap) (cset_search (map (value_in (extent_of w.old.heap)) args.now)) (setting_of outside w.old (L.items l.now)) (setting_of outside w.new (L.items l.now)) (λ two. (members_of two.0, searched_in (extent_of w.new.heap) two.1)) result }
+    ensures found { (outside : Outside)
+        → Found (extent_of w.new.heap) (cset_search (map (value_in (extent_of w.old.heap)) args.now))
+        (setting_of outside w.old (L.items l.now)) (setting_of outside w.new (L.items l.now))
+        (λ two. (members_of two.0, searched_in (extent_of w.new.heap) two.1)) result }
     ensures live { IfOk result (λ two. IsText (extent_of w.new.heap) two.1.text) }
     ensures stops { IfErr result (IsLiveStop (extent_of w.new.heap)) }
     ensures locals { All (IsLive (extent_of w.new.heap)) (L.items l.now) }
@@ -37,7 +40,10 @@ pub fn cset_search<L: Locals>(w: &mut World, l: &L, args: &[Val]) -> Result<(Cse
 pub fn text_search<L: Locals>(w: &mut World, l: &L, args: &[Val]) -> Result<(Span, Searched), Stop>
     requires locals { All (IsLive (extent_of w.old.heap)) (L.items l.now) }
     requires args { All (IsLive (extent_of w.old.heap)) args.now }
-    ensures found { (outside : Outside) → Found (extent_of w.new.heap) (text_search (map (value_in (extent_of w.old.heap)) args.now)) (setting_of outside w.old (L.items l.now)) (setting_of outside w.new (L.items l.now)) (λ two. (text_in (extent_of w.new.heap) two.0, searched_in (extent_of w.new.heap) two.1)) result }
+    ensures found { (outside : Outside)
+        → Found (extent_of w.new.heap) (text_search (map (value_in (extent_of w.old.heap)) args.now))
+        (setting_of outside w.old (L.items l.now)) (setting_of outside w.new (L.items l.now))
+        (λ two. (text_in (extent_of w.new.heap) two.0, searched_in (extent_of w.new.heap) two.1)) result }
     ensures wanted { IfOk result (λ two. IsText (extent_of w.new.heap) two.0) }
     ensures live { IfOk result (λ two. IsText (extent_of w.new.heap) two.1.text) }
     ensures stops { IfErr result (IsLiveStop (extent_of w.new.heap)) }

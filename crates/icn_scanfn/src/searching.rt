@@ -11,7 +11,8 @@ use memchr::memmem;
 pub fn next_occurrence(wanted: &[u8], text: &[u8], place: u64, last: u64) -> Option<u64>
     requires low { 1 ≤ place }
     requires high { last ≤ length text.now + 1 }
-    ensures value { result ≡ find (λ place. stands wanted.now text.now place last) (range_with_len place (last + 1 - place)) }
+    ensures value { result
+        ≡ find (λ place. stands wanted.now text.now place last) (range_with_len place (last + 1 - place)) }
     ensures within { IfSome result (λ found. (1 ≤ found) × (found ≤ last)) }
 {
     if place > last {
@@ -28,7 +29,8 @@ pub fn next_occurrence(wanted: &[u8], text: &[u8], place: u64, last: u64) -> Opt
 pub fn next_member(wanted: &Cset, text: &[u8], place: u64, last: u64) -> Option<u64>
     requires low { 1 ≤ place }
     requires high { last ≤ length text.now + 1 }
-    ensures value { result ≡ find (λ place. contains (members_of wanted.now) (byte_behind text.now place)) (range_with_len place (last - place)) }
+    ensures value { result ≡ find (λ place. contains (members_of wanted.now) (byte_behind text.now place))
+        (range_with_len place (last - place)) }
     ensures within { IfSome result (λ found. (1 ≤ found) × (found < last)) }
 {
     let mut at = place;
@@ -96,7 +98,8 @@ pub fn next_balanced(
     requires low { 1 ≤ place }
     requires high { last ≤ length text.now + 1 }
     requires count { count ≤ place }
-    ensures value { result ≡ balanced_place (members_of wanted.now) (members_of opening.now) (members_of closing.now) (between text.now place last) place count }
+    ensures value { result ≡ balanced_place (members_of wanted.now) (members_of opening.now)
+        (members_of closing.now) (between text.now place last) place count }
     ensures within { IfSome result (λ found. (1 ≤ found) × (found < last)) }
 {
     let mut at = place;

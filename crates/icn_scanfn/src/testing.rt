@@ -25,7 +25,8 @@ use icn_vars::{Halt, Locals, Outcome, World};
 pub fn any_row<L: Locals>(w: &mut World, l: &L, args: &[Val]) -> Result<Outcome, Halt>
     requires locals { All (IsLive (extent_of w.old.heap)) (L.items l.now) }
     requires args { All (IsLive (extent_of w.old.heap)) args.now }
-    ensures row { Answers w.old (L.items l.now) w.new (L.items l.now) (any_row (map (value_in (extent_of w.old.heap)) args.now)) result }
+    ensures row { Answers w.old (L.items l.now) w.new (L.items l.now)
+        (any_row (map (value_in (extent_of w.old.heap)) args.now)) result }
     ensures live { IsLiveAnswer (reach_of w.new (L.items l.now)) result }
     ensures locals { All (IsLive (extent_of w.new.heap)) (L.items l.now) }
     ensures kept { KeepsItems (reach_of w.old (L.items l.now)) (reach_of w.new (L.items l.now)) }
@@ -37,7 +38,9 @@ pub fn any_row<L: Locals>(w: &mut World, l: &L, args: &[Val]) -> Result<Outcome,
 // The place behind the first byte, where it is of the cset.
 fn any_in(heap: &Heap, wanted: &Cset, searched: Searched) -> Outcome
     requires { IsText (extent_of heap.now) searched.text }
-    ensures row { (setting : Setting) → any_in (members_of wanted.now) (searched_in (extent_of heap.now) searched) setting ≡ outcome_in (extent_of heap.now) result setting }
+    ensures row { (setting : Setting)
+        → any_in (members_of wanted.now) (searched_in (extent_of heap.now) searched) setting
+        ≡ outcome_in (extent_of heap.now) result setting }
     ensures live { (reach : Reach) → IsLiveOutcome reach result }
 {
     short_text(heap, searched.text);
@@ -57,7 +60,8 @@ fn any_in(heap: &Heap, wanted: &Cset, searched: Searched) -> Outcome
 fn has_behind(wanted: &Cset, text: &[u8], from: u64, to: u64) -> bool
     requires low { 1 ≤ from }
     requires high { to ≤ length text.now + 1 }
-    ensures value { result ≡ (nat_lt from to && contains (members_of wanted.now) (byte_behind text.now from)) }
+    ensures value { result
+        ≡ (nat_lt from to && contains (members_of wanted.now) (byte_behind text.now from)) }
     ensures within { MatchBool result (from < to) ⊤ }
 {
     from < to && wanted.has(text[(from - 1) as usize])
@@ -68,7 +72,8 @@ fn has_behind(wanted: &Cset, text: &[u8], from: u64, to: u64) -> bool
 pub fn many_row<L: Locals>(w: &mut World, l: &L, args: &[Val]) -> Result<Outcome, Halt>
     requires locals { All (IsLive (extent_of w.old.heap)) (L.items l.now) }
     requires args { All (IsLive (extent_of w.old.heap)) args.now }
-    ensures row { Answers w.old (L.items l.now) w.new (L.items l.now) (many_row (map (value_in (extent_of w.old.heap)) args.now)) result }
+    ensures row { Answers w.old (L.items l.now) w.new (L.items l.now)
+        (many_row (map (value_in (extent_of w.old.heap)) args.now)) result }
     ensures live { IsLiveAnswer (reach_of w.new (L.items l.now)) result }
     ensures locals { All (IsLive (extent_of w.new.heap)) (L.items l.now) }
     ensures kept { KeepsItems (reach_of w.old (L.items l.now)) (reach_of w.new (L.items l.now)) }
@@ -80,7 +85,9 @@ pub fn many_row<L: Locals>(w: &mut World, l: &L, args: &[Val]) -> Result<Outcome
 // The place behind the first bytes that are of the cset.
 fn many_in(heap: &Heap, wanted: &Cset, searched: Searched) -> Outcome
     requires { IsText (extent_of heap.now) searched.text }
-    ensures row { (setting : Setting) → many_in (members_of wanted.now) (searched_in (extent_of heap.now) searched) setting ≡ outcome_in (extent_of heap.now) result setting }
+    ensures row { (setting : Setting)
+        → many_in (members_of wanted.now) (searched_in (extent_of heap.now) searched) setting
+        ≡ outcome_in (extent_of heap.now) result setting }
     ensures live { (reach : Reach) → IsLiveOutcome reach result }
 {
     short_text(heap, searched.text);
@@ -102,7 +109,8 @@ fn many_in(heap: &Heap, wanted: &Cset, searched: Searched) -> Outcome
 pub fn match_row<L: Locals>(w: &mut World, l: &L, args: &[Val]) -> Result<Outcome, Halt>
     requires locals { All (IsLive (extent_of w.old.heap)) (L.items l.now) }
     requires args { All (IsLive (extent_of w.old.heap)) args.now }
-    ensures row { Answers w.old (L.items l.now) w.new (L.items l.now) (match_row (map (value_in (extent_of w.old.heap)) args.now)) result }
+    ensures row { Answers w.old (L.items l.now) w.new (L.items l.now)
+        (match_row (map (value_in (extent_of w.old.heap)) args.now)) result }
     ensures live { IsLiveAnswer (reach_of w.new (L.items l.now)) result }
     ensures locals { All (IsLive (extent_of w.new.heap)) (L.items l.now) }
     ensures kept { KeepsItems (reach_of w.old (L.items l.now)) (reach_of w.new (L.items l.now)) }
@@ -115,7 +123,9 @@ pub fn match_row<L: Locals>(w: &mut World, l: &L, args: &[Val]) -> Result<Outcom
 fn match_in(heap: &Heap, wanted: Span, searched: Searched) -> Outcome
     requires wanted { IsText (extent_of heap.now) wanted }
     requires text { IsText (extent_of heap.now) searched.text }
-    ensures row { (setting : Setting) → match_in (text_in (extent_of heap.now) wanted) (searched_in (extent_of heap.now) searched) setting ≡ outcome_in (extent_of heap.now) result setting }
+    ensures row { (setting : Setting)
+        → match_in (text_in (extent_of heap.now) wanted) (searched_in (extent_of heap.now) searched) setting
+        ≡ outcome_in (extent_of heap.now) result setting }
     ensures live { (reach : Reach) → IsLiveOutcome reach result }
 {
     short_text(heap, searched.text);
@@ -135,7 +145,8 @@ fn match_in(heap: &Heap, wanted: Span, searched: Searched) -> Outcome
 // A place as what a row gives.
 fn place_given(place: u64) -> Outcome
     requires { place < 2 ^ 63 }
-    ensures row { (all : Extent) (setting : Setting) → gives_place place setting ≡ outcome_in all result setting }
+    ensures row { (all : Extent) (setting : Setting)
+        → gives_place place setting ≡ outcome_in all result setting }
     ensures live { (reach : Reach) → IsLiveOutcome reach result }
 {
     Outcome::Gives(Item::Val(Val::Integer(place as i64)))

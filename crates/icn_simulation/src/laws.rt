@@ -11,22 +11,30 @@ ghost use Rattle.icn_simulation.specs.Law.{IsLinked, FilesMean, RunsLinked, Runs
 pub fn same_ends()
     ensures on_marks { (files : List (List Declaration)) (tables : Tables) (launch : Launch) (seen : Observed)
         → IsLinked files tables → FilesMean files launch seen ↔ RunsLinked tables launch seen }
-    ensures on_stacks { (files : List (List Declaration)) (tables : Tables) (launch : Launch) (seen : Observed)
+    ensures on_stacks { (files : List (List Declaration)) (tables : Tables) (launch : Launch)
+        (seen : Observed)
         → IsLinked files tables → FilesMean files launch seen ↔ RunsFlat tables launch seen }
 {}
 
 /// Both take the same number of turns, and the same sums of string bytes and of cells are charged: each is told by its limit.
 pub fn same_amounts()
-    ensures turns { (files : List (List Declaration)) (tables : Tables) (launch : Launch) (amount : ℕ) (seen : Observed)
-        → IsLinked files tables → TakesTurns (FilesMean files) launch amount seen ↔ TakesTurns (RunsFlat tables) launch amount seen }
-    ensures strings { (files : List (List Declaration)) (tables : Tables) (launch : Launch) (amount : ℕ) (seen : Observed)
-        → IsLinked files tables → TakesStrings (FilesMean files) launch amount seen ↔ TakesStrings (RunsFlat tables) launch amount seen }
-    ensures cells { (files : List (List Declaration)) (tables : Tables) (launch : Launch) (amount : ℕ) (seen : Observed)
-        → IsLinked files tables → TakesCells (FilesMean files) launch amount seen ↔ TakesCells (RunsFlat tables) launch amount seen }
+    ensures turns { (files : List (List Declaration)) (tables : Tables) (launch : Launch) (amount : ℕ)
+        (seen : Observed)
+        → IsLinked files tables
+        → TakesTurns (FilesMean files) launch amount seen ↔ TakesTurns (RunsFlat tables) launch amount seen }
+    ensures strings { (files : List (List Declaration)) (tables : Tables) (launch : Launch) (amount : ℕ)
+        (seen : Observed)
+        → IsLinked files tables → TakesStrings (FilesMean files) launch amount seen
+        ↔ TakesStrings (RunsFlat tables) launch amount seen }
+    ensures cells { (files : List (List Declaration)) (tables : Tables) (launch : Launch) (amount : ℕ)
+        (seen : Observed)
+        → IsLinked files tables
+        → TakesCells (FilesMean files) launch amount seen ↔ TakesCells (RunsFlat tables) launch amount seen }
 {}
 
 /// Broken off by a fault, both leave the same.
 pub fn same_broken_off()
     ensures { (files : List (List Declaration)) (tables : Tables) (launch : Launch) (before after : Streams)
-        → IsLinked files tables → BrokenOff (FilesMean files) launch before after ↔ BrokenOff (RunsFlat tables) launch before after }
+        → IsLinked files tables
+        → BrokenOff (FilesMean files) launch before after ↔ BrokenOff (RunsFlat tables) launch before after }
 {}

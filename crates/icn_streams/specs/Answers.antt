@@ -40,10 +40,12 @@ outside_after (Error number offending setting) = setting.outside
 outside_after (Ends status setting) = setting.outside
 
 -- What the row comes to is what was answered, with an outside that the input and the outputs tell.
-pub record Comes (row : Row) (was : Outside) (before after : CallState) (result : Result HeldOutcome Halt) : Type 0 where
+pub record Comes (row : Row) (was : Outside) (before after : CallState)
+    (result : Result HeldOutcome Halt) : Type 0 where
   pub now : Outside
   pub follows : Follows before.handed after.handed was now
-  pub comes : ComesToAnswer (extent_of after.world.heap) row (setting_with was before) (setting_with now after) result
+  pub comes : ComesToAnswer (extent_of after.world.heap) row (setting_with was before)
+      (setting_with now after) result
 
 -- The row reads once, and was broken off in that reading or behind it: some first part of what it reads was
 -- taken, and nothing was put.
@@ -71,18 +73,23 @@ pub data Stops (row : Row) (at : Setting) (before after : CallStreams) : Type 0 
 -- want of memory, which broke it off.
 abbrev pub Answers : Row → Outside → CallState → CallState → Result HeldOutcome Halt → Type 0
 Answers row was before after (Ok outcome) = Comes row was before after (Ok outcome)
-Answers row was before after (Err (ErrorHalt number offending)) = Comes row was before after (Err (ErrorHalt number offending))
+Answers row was before after (Err (ErrorHalt number offending)) =
+    Comes row was before after (Err (ErrorHalt number offending))
 Answers row was before after (Err (EndsHalt status)) = Comes row was before after (Err (EndsHalt status))
-Answers row was before after (Err ReadFault) = StopsReading row (setting_with was before) before.handed after.handed
-Answers row was before after (Err WriteFault) = StopsPutting row (setting_with was before) before.handed after.handed
+Answers row was before after (Err ReadFault) =
+    StopsReading row (setting_with was before) before.handed after.handed
+Answers row was before after (Err WriteFault) =
+    StopsPutting row (setting_with was before) before.handed after.handed
 Answers row was before after (Err NoMemory) = Stops row (setting_with was before) before.handed after.handed
 
 -- What was answered is what the row comes to, or what broke it off, over some input that has these bytes and leaves
 -- those: so it is whatever the input tells.
-pub record OverSomeInput (row : Row) (before after : CallState) (result : Result HeldOutcome Halt) : Type 0 where
+pub record OverSomeInput (row : Row) (before after : CallState)
+    (result : Result HeldOutcome Halt) : Type 0 where
   pub had : List ℕ
   pub has : List ℕ
-  pub answers : (was : Outside) → was.left ≡ had → Answers row was (with_left had before) (with_left has after) result
+  pub answers : (was : Outside) → was.left ≡ had
+      → Answers row was (with_left had before) (with_left has after) result
 
 -- Why it was answered, whatever the input and the outputs tell: a fault comes where that object has failed in
 -- this call, and no object fails in a call that is answered otherwise.

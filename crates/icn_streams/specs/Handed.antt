@@ -13,7 +13,8 @@ pub record CallStreams : Type 0 where
 
 -- an input that has this left and failed so often, and both outputs
 abbrev pub call_streams : Option (List ℕ) → ℕ → SinkState → SinkState → CallStreams
-call_streams left faults output errors = record { left = left; faults = faults; output = output; errors = errors }
+call_streams left faults output errors =
+    record { left = left; faults = faults; output = output; errors = errors }
 
 -- What is put
 
@@ -67,9 +68,11 @@ pub record ReadingFails (before after : CallStreams) : Type 0 where
 -- the input was left alone, and one of the outputs has failed, once
 pub data WritingFails (before after : CallStreams) : Type 0 where
   output_fails : after.left ≡ before.left → after.faults ≡ before.faults
-      → FailsOnce before.output after.output → KeepsCounts before.errors after.errors → WritingFails before after
+      → FailsOnce before.output after.output → KeepsCounts before.errors after.errors
+      → WritingFails before after
   errors_fail : after.left ≡ before.left → after.faults ≡ before.faults
-      → KeepsCounts before.output after.output → FailsOnce before.errors after.errors → WritingFails before after
+      → KeepsCounts before.output after.output → FailsOnce before.errors after.errors
+      → WritingFails before after
 
 -- nothing has failed, and at most one of the outputs has wanted memory, once
 pub data WantsMemory (before after : CallStreams) : Type 0 where

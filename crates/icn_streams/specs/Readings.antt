@@ -37,7 +37,8 @@ next_read ALine next = next_line next
 next_read (SomeBytes count) next = next_bytes count next
 
 -- what was asked for was taken from the input
-pub record Fills (asked : Request) (left : List ℕ) (there : Bool) (bytes : List ℕ) (after : Option (List ℕ)) : Type 0 where
+pub record Fills (asked : Request) (left : List ℕ) (there : Bool) (bytes : List ℕ)
+    (after : Option (List ℕ)) : Type 0 where
   pub found : there ≡ is_there asked left
   pub read : bytes ≡ read_of asked left
   pub rest : after ≡ Some (drop (asked_of asked left) left)
@@ -52,13 +53,16 @@ pub record FillsOfSome (asked : Request) (there : Bool) (bytes : List ℕ) : Typ
 -- part of what is asked for was taken.
 abbrev pub Reads : Request → Outside → CallState → CallState → Result (Option Span) Halt → Type 0
 Reads asked was before after (Ok (Some span)) =
-    GoesOn (next_read asked) (setting_with was before) (text_in (extent_of after.world.heap) span) (setting_with (after_reading asked was) after)
+    GoesOn (next_read asked) (setting_with was before) (text_in (extent_of after.world.heap) span)
+    (setting_with (after_reading asked was) after)
     × (after.handed.left ≡ Some (after_reading asked was).left)
 Reads asked was before after (Ok None) =
     ComesTo (next_read asked) (setting_with was before) (Fails (setting_with (with_reading asked was) after))
     × (after.handed.left ≡ Some was.left)
 Reads asked was before after (Err (ErrorHalt number offending)) =
-    ComesTo (next_read asked) (setting_with was before) (Error number (option_map (value_in (extent_of after.world.heap)) offending) (setting_with (after_reading asked was) after))
+    ComesTo (next_read asked) (setting_with was before)
+    (Error number (option_map (value_in (extent_of after.world.heap)) offending)
+    (setting_with (after_reading asked was) after))
     × (after.handed.left ≡ Some (after_reading asked was).left)
 Reads asked was before after (Err (EndsHalt status)) = ⊥
 Reads asked was before after (Err ReadFault) = LosesPart was.left (asked_of asked was.left) after.handed.left
@@ -66,10 +70,12 @@ Reads asked was before after (Err WriteFault) = ⊥
 Reads asked was before after (Err NoMemory) = LosesPart was.left (asked_of asked was.left) after.handed.left
 
 -- What the reading was answered is so over some input that has these bytes and leaves those.
-pub record ReadsOfSome (asked : Request) (before after : CallState) (result : Result (Option Span) Halt) : Type 0 where
+pub record ReadsOfSome (asked : Request) (before after : CallState)
+    (result : Result (Option Span) Halt) : Type 0 where
   pub had : List ℕ
   pub has : List ℕ
-  pub reads : (was : Outside) → was.left ≡ had → Reads asked was (with_left had before) (with_left has after) result
+  pub reads : (was : Outside) → was.left ≡ had
+      → Reads asked was (with_left had before) (with_left has after) result
 
 -- The input's count of faults rose, once, where a fault of it is answered, and stayed where none is. A reading neither
 -- ends the program nor writes.

@@ -10,9 +10,11 @@ use icn_host::{Fault, Line, Source};
 
 // Fills the buffer with what is asked for, and answers whether there was something.
 pub fn fill<I: Source>(ask: Ask, input: &mut I, buffer: &mut Vec<u8>) -> Result<bool, Fault>
-    ensures ok { IfOk result (λ there. IfSome (I.left input.old) (λ left. Fills (asked_in ask) left there buffer.new.items (I.left input.new))) }
+    ensures ok { IfOk result (λ there. IfSome (I.left input.old)
+        (λ left. Fills (asked_in ask) left there buffer.new.items (I.left input.new))) }
     ensures some { IfOk result (λ there. FillsOfSome (asked_in ask) there buffer.new.items) }
-    ensures err { OnErr result (IfSome (I.left input.old) (λ left. LosesPart left (asked_of (asked_in ask) left) (I.left input.new))) }
+    ensures err { OnErr result (IfSome (I.left input.old)
+        (λ left. LosesPart left (asked_of (asked_in ask) left) (I.left input.new))) }
     ensures cause { CountsOnce (I.faults input.old) (I.faults input.new) (IsErrOf result Fault.Failed) }
 {
     match ask {
@@ -22,9 +24,11 @@ pub fn fill<I: Source>(ask: Ask, input: &mut I, buffer: &mut Vec<u8>) -> Result<
 }
 
 fn fill_line<I: Source>(input: &mut I, buffer: &mut Vec<u8>) -> Result<bool, Fault>
-    ensures ok { IfOk result (λ there. IfSome (I.left input.old) (λ left. Fills ALine left there buffer.new.items (I.left input.new))) }
+    ensures ok { IfOk result (λ there.
+        IfSome (I.left input.old) (λ left. Fills ALine left there buffer.new.items (I.left input.new))) }
     ensures some { IfOk result (λ there. FillsOfSome ALine there buffer.new.items) }
-    ensures err { OnErr result (IfSome (I.left input.old) (λ left. LosesPart left (asked_of ALine left) (I.left input.new))) }
+    ensures err { OnErr result
+        (IfSome (I.left input.old) (λ left. LosesPart left (asked_of ALine left) (I.left input.new))) }
     ensures cause { CountsOnce (I.faults input.old) (I.faults input.new) (IsErrOf result Fault.Failed) }
 {
     buffer.clear();
@@ -33,9 +37,11 @@ fn fill_line<I: Source>(input: &mut I, buffer: &mut Vec<u8>) -> Result<bool, Fau
 }
 
 fn fill_bytes<I: Source>(count: u64, input: &mut I, buffer: &mut Vec<u8>) -> Result<bool, Fault>
-    ensures ok { IfOk result (λ there. IfSome (I.left input.old) (λ left. Fills (SomeBytes count) left there buffer.new.items (I.left input.new))) }
+    ensures ok { IfOk result (λ there. IfSome (I.left input.old)
+        (λ left. Fills (SomeBytes count) left there buffer.new.items (I.left input.new))) }
     ensures some { IfOk result (λ there. FillsOfSome (SomeBytes count) there buffer.new.items) }
-    ensures err { OnErr result (IfSome (I.left input.old) (λ left. LosesPart left (asked_of (SomeBytes count) left) (I.left input.new))) }
+    ensures err { OnErr result (IfSome (I.left input.old)
+        (λ left. LosesPart left (asked_of (SomeBytes count) left) (I.left input.new))) }
     ensures cause { CountsOnce (I.faults input.old) (I.faults input.new) (IsErrOf result Fault.Failed) }
 {
     buffer.clear();

@@ -26,7 +26,10 @@ pub fn lines_row<L: Locals, I: Source>(
     input: &mut I,
 ) -> Result<Outcome, Halt>
     requires { All (IsLive (extent_of w.old.heap)) (L.items l.now) }
-    ensures { (output errors : SinkState) → Applies (rows.lines_row (file_of file)) (call_state w.old (L.items l.now) (call_streams (I.left input.old) (I.faults input.old) output errors)) (call_state w.new (L.items l.now) (call_streams (I.left input.new) (I.faults input.new) output errors)) result }
+    ensures { (output errors : SinkState) → Applies (rows.lines_row (file_of file)) (call_state w.old
+        (L.items l.now) (call_streams (I.left input.old) (I.faults input.old) output errors))
+        (call_state w.new (L.items l.now)
+        (call_streams (I.left input.new) (I.faults input.new) output errors)) result }
 {
     match file {
         File::Input => lines_again(w, l, buffer, input),
@@ -46,7 +49,9 @@ pub fn lines_again<L: Locals, I: Source>(
     input: &mut I,
 ) -> Result<Outcome, Halt>
     requires { All (IsLive (extent_of w.old.heap)) (L.items l.now) }
-    ensures { (output errors : SinkState) → Applies rows.lines_again (call_state w.old (L.items l.now) (call_streams (I.left input.old) (I.faults input.old) output errors)) (call_state w.new (L.items l.now) (call_streams (I.left input.new) (I.faults input.new) output errors)) result }
+    ensures { (output errors : SinkState) → Applies rows.lines_again (call_state w.old (L.items l.now)
+        (call_streams (I.left input.old) (I.faults input.old) output errors)) (call_state w.new
+        (L.items l.now) (call_streams (I.left input.new) (I.faults input.new) output errors)) result }
 {
     match read_text(Ask::Line, w, l, buffer, input)? {
         Some(line) => Ok(Outcome::Suspends(Item::Val(Val::Text(line)), Residual::InputLines)),

@@ -34,8 +34,13 @@ pub fn read_text<L: Locals, I: Source>(
     input: &mut I,
 ) -> Result<Option<Span>, Halt>
     requires locals { All (IsLive (extent_of w.old.heap)) (L.items l.now) }
-    ensures reads { (was : Outside) (output errors : SinkState) → I.left input.old ≡ Some was.left → Reads (asked_in ask) was (call_state w.old (L.items l.now) (call_streams (I.left input.old) (I.faults input.old) output errors)) (call_state w.new (L.items l.now) (call_streams (I.left input.new) (I.faults input.new) output errors)) result }
-    ensures some { (output errors : SinkState) → ReadsOfSome (asked_in ask) (call_state w.old (L.items l.now) (call_streams (I.left input.old) (I.faults input.old) output errors)) (call_state w.new (L.items l.now) (call_streams (I.left input.new) (I.faults input.new) output errors)) result }
+    ensures reads { (was : Outside) (output errors : SinkState)
+        → I.left input.old ≡ Some was.left → Reads (asked_in ask) was (call_state w.old (L.items l.now)
+        (call_streams (I.left input.old) (I.faults input.old) output errors)) (call_state w.new
+        (L.items l.now) (call_streams (I.left input.new) (I.faults input.new) output errors)) result }
+    ensures some { (output errors : SinkState) → ReadsOfSome (asked_in ask) (call_state w.old (L.items l.now)
+        (call_streams (I.left input.old) (I.faults input.old) output errors)) (call_state w.new
+        (L.items l.now) (call_streams (I.left input.new) (I.faults input.new) output errors)) result }
     ensures cause { InputCause (I.faults input.old) (I.faults input.new) result }
     ensures live { IfOk result (λ found. IfSome found (IsText (extent_of w.new.heap))) }
     ensures halts { IfErr result (IsLiveHalt (reach_of w.new (L.items l.now))) }
@@ -57,7 +62,10 @@ fn text_of<L: Locals>(w: &mut World, l: &L, bytes: &[u8]) -> Result<Span, Stop>
     ensures live { IfOk result (IsText (extent_of w.new.heap)) }
     ensures text { IfOk result (λ span. text_in (extent_of w.new.heap) span ≡ bytes.now) }
     ensures stops { IfErr result (IsLiveStop (extent_of w.new.heap)) }
-    ensures step { (outside : Outside) → MatchResult result (λ _. Passes (costs_bytes (length bytes.now)) (setting_of outside w.old (L.items l.now)) (setting_of outside w.new (L.items l.now))) (StopsPassing (extent_of w.new.heap) (costs_bytes (length bytes.now)) (setting_of outside w.old (L.items l.now)) (setting_of outside w.new (L.items l.now))) }
+    ensures step { (outside : Outside) → MatchResult result (λ _. Passes (costs_bytes (length bytes.now))
+        (setting_of outside w.old (L.items l.now)) (setting_of outside w.new (L.items l.now)))
+        (StopsPassing (extent_of w.new.heap) (costs_bytes (length bytes.now))
+        (setting_of outside w.old (L.items l.now)) (setting_of outside w.new (L.items l.now))) }
     ensures locals { All (IsLive (extent_of w.new.heap)) (L.items l.now) }
     ensures kept { KeepsItems (reach_of w.old (L.items l.now)) (reach_of w.new (L.items l.now)) }
 {

@@ -21,7 +21,8 @@ natural_in (negsuc n) = None
 
 -- the row stops with this, and changes nothing; of want of memory this says nothing
 abbrev pub StopsRow : Extent → Row → Setting → Stop → Type 0
-StopsRow all row setting (Error number offending) = row setting ≡ ErrorOutcome number (option_map (value_in all) offending) setting
+StopsRow all row setting (Error number offending) =
+    row setting ≡ ErrorOutcome number (option_map (value_in all) offending) setting
 StopsRow all row setting NoMemory = ⊤
 
 -- a text can be laid out in a field of so many bytes
@@ -35,4 +36,5 @@ pub record IsMapping (args : List Value) : Type 0 where
   pub text : HasText (arg args 0)
   pub from : HasText (or_default Upper (arg args 1))
   pub to : HasText (or_default Lower (arg args 2))
-  pub alike : length (the_text (or_default Upper (arg args 1))) ≡ length (the_text (or_default Lower (arg args 2)))
+  pub alike : length (the_text (or_default Upper (arg args 1)))
+      ≡ length (the_text (or_default Lower (arg args 2)))

@@ -25,7 +25,8 @@ ComesToOutcome all row before after (Err NoMemory) = ⊤
 -- same locals after, whatever the outside.
 abbrev pub Gives : World → World → List Val → Row → Result Outcome Stop → Type 0
 Gives old new locals row result =
-    (outside : Outside) → ComesToOutcome (extent_of new.heap) row (setting_of outside old locals) (setting_of outside new locals) result
+    (outside : Outside) → ComesToOutcome (extent_of new.heap) row (setting_of outside old locals)
+    (setting_of outside new locals) result
 
 -- what was answered is of the world
 abbrev pub IsLiveGiven : Reach → Result Outcome Stop → Type 0

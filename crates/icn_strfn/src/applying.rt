@@ -39,7 +39,8 @@ pub fn first<N: Names, L: Locals>(
     requires args { All (IsLive (extent_of w.old.heap)) args.now }
     requires named { All (IsNamed (N.known names.now)) args.now }
     requires records { AreRecordsNamed (N.known names.now) (heap_of w.old.heap) }
-    ensures row { Answers w.old (L.items l.now) w.new (L.items l.now) (function_of (N.known names.now) func (map (value_in (extent_of w.old.heap)) args.now)) result }
+    ensures row { Answers w.old (L.items l.now) w.new (L.items l.now)
+        (function_of (N.known names.now) func (map (value_in (extent_of w.old.heap)) args.now)) result }
     ensures live { IsLiveAnswer (reach_of w.new (L.items l.now)) result }
     ensures locals { All (IsLive (extent_of w.new.heap)) (L.items l.now) }
     ensures kept { KeepsItems (reach_of w.old (L.items l.now)) (reach_of w.new (L.items l.now)) }
@@ -51,7 +52,8 @@ pub fn first<N: Names, L: Locals>(
 /// Resumes what a function of this crate left, which is a sequence.
 pub fn again<L: Locals>(rest: Residual, w: &World, l: &L) -> Result<Outcome, Halt>
     requires { is_sequence rest ≡ true }
-    ensures row { Answers w.now (L.items l.now) w.now (L.items l.now) (again (residual_in (extent_of w.now.heap) rest)) result }
+    ensures row { Answers w.now (L.items l.now) w.now (L.items l.now)
+        (again (residual_in (extent_of w.now.heap) rest)) result }
     ensures live { IsLiveAnswer (reach_of w.now (L.items l.now)) result }
 {
     match rest {
@@ -73,7 +75,8 @@ fn applied<N: Names, L: Locals>(
     requires args { All (IsLive (extent_of w.old.heap)) args.now }
     requires named { All (IsNamed (N.known names.now)) args.now }
     requires records { AreRecordsNamed (N.known names.now) (heap_of w.old.heap) }
-    ensures row { Gives w.old w.new (L.items l.now) (function_of (N.known names.now) func (map (value_in (extent_of w.old.heap)) args.now)) result }
+    ensures row { Gives w.old w.new (L.items l.now)
+        (function_of (N.known names.now) func (map (value_in (extent_of w.old.heap)) args.now)) result }
     ensures live { IsLiveGiven (reach_of w.new (L.items l.now)) result }
     ensures locals { All (IsLive (extent_of w.new.heap)) (L.items l.now) }
     ensures kept { KeepsItems (reach_of w.old (L.items l.now)) (reach_of w.new (L.items l.now)) }

@@ -24,7 +24,8 @@ use icn_vars::{Halt, Locals, Outcome, Stop, World};
 /// `abs(n)`: the absolute value, or error 102; 203 where 64 bits do not hold it.
 pub fn abs_row<L: Locals>(w: &World, l: &L, args: &[Val]) -> Result<Outcome, Stop>
     requires { All (IsLive (extent_of w.now.heap)) args.now }
-    ensures row { Gives w.now w.now (L.items l.now) (abs_row (map (value_in (extent_of w.now.heap)) args.now)) result }
+    ensures row { Gives w.now w.now (L.items l.now)
+        (abs_row (map (value_in (extent_of w.now.heap)) args.now)) result }
     ensures live { IsLiveGiven (reach_of w.now (L.items l.now)) result }
 {
     let val = arg(args, 0);
@@ -37,7 +38,8 @@ pub fn abs_row<L: Locals>(w: &World, l: &L, args: &[Val]) -> Result<Outcome, Sto
 /// `iand(i, j)`: the bits that are set in both, or error 101.
 pub fn iand_row<L: Locals>(w: &World, l: &L, args: &[Val]) -> Result<Outcome, Stop>
     requires { All (IsLive (extent_of w.now.heap)) args.now }
-    ensures row { Gives w.now w.now (L.items l.now) (iand_row (map (value_in (extent_of w.now.heap)) args.now)) result }
+    ensures row { Gives w.now w.now (L.items l.now)
+        (iand_row (map (value_in (extent_of w.now.heap)) args.now)) result }
     ensures live { IsLiveGiven (reach_of w.now (L.items l.now)) result }
 {
     let first = arg(args, 0);
@@ -52,7 +54,8 @@ pub fn iand_row<L: Locals>(w: &World, l: &L, args: &[Val]) -> Result<Outcome, St
 /// `ior(i, j)`: the bits that are set in either, or error 101.
 pub fn ior_row<L: Locals>(w: &World, l: &L, args: &[Val]) -> Result<Outcome, Stop>
     requires { All (IsLive (extent_of w.now.heap)) args.now }
-    ensures row { Gives w.now w.now (L.items l.now) (ior_row (map (value_in (extent_of w.now.heap)) args.now)) result }
+    ensures row { Gives w.now w.now (L.items l.now)
+        (ior_row (map (value_in (extent_of w.now.heap)) args.now)) result }
     ensures live { IsLiveGiven (reach_of w.now (L.items l.now)) result }
 {
     let first = arg(args, 0);
@@ -67,7 +70,8 @@ pub fn ior_row<L: Locals>(w: &World, l: &L, args: &[Val]) -> Result<Outcome, Sto
 /// `ixor(i, j)`: the bits that are set in one of them alone, or error 101.
 pub fn ixor_row<L: Locals>(w: &World, l: &L, args: &[Val]) -> Result<Outcome, Stop>
     requires { All (IsLive (extent_of w.now.heap)) args.now }
-    ensures row { Gives w.now w.now (L.items l.now) (ixor_row (map (value_in (extent_of w.now.heap)) args.now)) result }
+    ensures row { Gives w.now w.now (L.items l.now)
+        (ixor_row (map (value_in (extent_of w.now.heap)) args.now)) result }
     ensures live { IsLiveGiven (reach_of w.now (L.items l.now)) result }
 {
     let first = arg(args, 0);
@@ -82,7 +86,8 @@ pub fn ixor_row<L: Locals>(w: &World, l: &L, args: &[Val]) -> Result<Outcome, St
 /// `icom(i)`: the bits that are not set, or error 101.
 pub fn icom_row<L: Locals>(w: &World, l: &L, args: &[Val]) -> Result<Outcome, Stop>
     requires { All (IsLive (extent_of w.now.heap)) args.now }
-    ensures row { Gives w.now w.now (L.items l.now) (icom_row (map (value_in (extent_of w.now.heap)) args.now)) result }
+    ensures row { Gives w.now w.now (L.items l.now)
+        (icom_row (map (value_in (extent_of w.now.heap)) args.now)) result }
     ensures live { IsLiveGiven (reach_of w.now (L.items l.now)) result }
 {
     let val = arg(args, 0);
@@ -95,7 +100,8 @@ pub fn icom_row<L: Locals>(w: &World, l: &L, args: &[Val]) -> Result<Outcome, St
 /// `ishift(i, j)`: the bits moved to the left, or below 0 to the right with zeros, or error 101.
 pub fn ishift_row<L: Locals>(w: &World, l: &L, args: &[Val]) -> Result<Outcome, Stop>
     requires { All (IsLive (extent_of w.now.heap)) args.now }
-    ensures row { Gives w.now w.now (L.items l.now) (ishift_row (map (value_in (extent_of w.now.heap)) args.now)) result }
+    ensures row { Gives w.now w.now (L.items l.now)
+        (ishift_row (map (value_in (extent_of w.now.heap)) args.now)) result }
     ensures live { IsLiveGiven (reach_of w.now (L.items l.now)) result }
 {
     let first = arg(args, 0);
@@ -110,7 +116,8 @@ pub fn ishift_row<L: Locals>(w: &World, l: &L, args: &[Val]) -> Result<Outcome, 
 /// `integer(x)` and `numeric(x)`: the integer that a value converts to; it fails where there is none.
 pub fn integer_row<L: Locals>(w: &World, l: &L, args: &[Val]) -> Result<Outcome, Stop>
     requires { All (IsLive (extent_of w.now.heap)) args.now }
-    ensures row { Gives w.now w.now (L.items l.now) (integer_row (map (value_in (extent_of w.now.heap)) args.now)) result }
+    ensures row { Gives w.now w.now (L.items l.now)
+        (integer_row (map (value_in (extent_of w.now.heap)) args.now)) result }
     ensures live { IsLiveGiven (reach_of w.now (L.items l.now)) result }
 {
     match to_integer(&w.heap, arg(args, 0)) {
@@ -122,7 +129,8 @@ pub fn integer_row<L: Locals>(w: &World, l: &L, args: &[Val]) -> Result<Outcome,
 /// `seq(i, j)`: the integers from `i` on by `j`, both 1 where they are null; or error 101, or 211 at a step of 0.
 pub fn seq_row<L: Locals>(w: &World, l: &L, args: &[Val]) -> Result<Outcome, Stop>
     requires { All (IsLive (extent_of w.now.heap)) args.now }
-    ensures row { Gives w.now w.now (L.items l.now) (seq_row (map (value_in (extent_of w.now.heap)) args.now)) result }
+    ensures row { Gives w.now w.now (L.items l.now)
+        (seq_row (map (value_in (extent_of w.now.heap)) args.now)) result }
     ensures live { IsLiveGiven (reach_of w.now (L.items l.now)) result }
 {
     let first = or_one(arg(args, 0));
@@ -137,7 +145,8 @@ pub fn seq_row<L: Locals>(w: &World, l: &L, args: &[Val]) -> Result<Outcome, Sto
 
 /// A sequence goes on by its step; 203 where 64 bits do not hold the next integer.
 pub fn sequence_again(given: i64, step: i64) -> Result<Outcome, Halt>
-    ensures row { (all : Extent) (setting : Setting) → ComesToAnswer all (sequence_again given step) setting setting result }
+    ensures row { (all : Extent) (setting : Setting)
+        → ComesToAnswer all (sequence_again given step) setting setting result }
     ensures live { (reach : Reach) → IsLiveAnswer reach result }
 {
     match add(given, step) {
@@ -148,7 +157,8 @@ pub fn sequence_again(given: i64, step: i64) -> Result<Outcome, Halt>
 
 // An integer that was computed, or the error of its operation.
 fn given(found: Result<i64, Arith>) -> Result<Outcome, Stop>
-    ensures { MatchResult found (λ n. result ≡ Ok (Outcome.Gives (ValItem (Integer n)))) (λ why. result ≡ Err (Stop.Error (arithmetic_error why) None)) }
+    ensures { MatchResult found (λ n. result ≡ Ok (Outcome.Gives (ValItem (Integer n))))
+        (λ why. result ≡ Err (Stop.Error (arithmetic_error why) None)) }
 {
     match found {
         Ok(n) => Ok(integer(n)),

@@ -37,7 +37,8 @@ pub fn field_row<L: Locals>(
 ) -> Result<Outcome, Stop>
     requires locals { All (IsLive (extent_of w.old.heap)) (L.items l.now) }
     requires args { All (IsLive (extent_of w.old.heap)) args.now }
-    ensures row { Gives w.old w.new (L.items l.now) (field_row (laid_out layout) (map (value_in (extent_of w.old.heap)) args.now)) result }
+    ensures row { Gives w.old w.new (L.items l.now)
+        (field_row (laid_out layout) (map (value_in (extent_of w.old.heap)) args.now)) result }
     ensures live { IsLiveGiven (reach_of w.new (L.items l.now)) result }
     ensures locals { All (IsLive (extent_of w.new.heap)) (L.items l.now) }
     ensures kept { KeepsItems (reach_of w.old (L.items l.now)) (reach_of w.new (L.items l.now)) }
@@ -63,7 +64,9 @@ pub fn field_row<L: Locals>(
 fn checked_width(heap: &Heap, args: &[Val]) -> Result<u64, Stop>
     requires { All (IsLive (extent_of heap.now)) args.now }
     ensures field { IfOk result (IsField (map (value_in (extent_of heap.now)) args.now)) }
-    ensures stops { IfErr result (λ stop. (layout : LayoutData) (setting : Setting) → StopsRow (extent_of heap.now) (field_row (laid_out layout) (map (value_in (extent_of heap.now)) args.now)) setting stop) }
+    ensures stops { IfErr result
+        (λ stop. (layout : LayoutData) (setting : Setting) → StopsRow (extent_of heap.now)
+        (field_row (laid_out layout) (map (value_in (extent_of heap.now)) args.now)) setting stop) }
     ensures live { IfErr result (IsLiveStop (extent_of heap.now)) }
 {
     let val = arg(args, 0);
@@ -91,7 +94,8 @@ fn checked_width(heap: &Heap, args: &[Val]) -> Result<u64, Stop>
 pub fn map_row<L: Locals>(w: &mut World, l: &L, args: &[Val]) -> Result<Outcome, Stop>
     requires locals { All (IsLive (extent_of w.old.heap)) (L.items l.now) }
     requires args { All (IsLive (extent_of w.old.heap)) args.now }
-    ensures row { Gives w.old w.new (L.items l.now) (map_row (map (value_in (extent_of w.old.heap)) args.now)) result }
+    ensures row { Gives w.old w.new (L.items l.now)
+        (map_row (map (value_in (extent_of w.old.heap)) args.now)) result }
     ensures live { IsLiveGiven (reach_of w.new (L.items l.now)) result }
     ensures locals { All (IsLive (extent_of w.new.heap)) (L.items l.now) }
     ensures kept { KeepsItems (reach_of w.old (L.items l.now)) (reach_of w.new (L.items l.now)) }
@@ -119,7 +123,8 @@ pub fn map_row<L: Locals>(w: &mut World, l: &L, args: &[Val]) -> Result<Outcome,
 fn checked_mapping(heap: &Heap, args: &[Val]) -> Result<(), Stop>
     requires { All (IsLive (extent_of heap.now)) args.now }
     ensures mapping { OnOk result (IsMapping (map (value_in (extent_of heap.now)) args.now)) }
-    ensures stops { IfErr result (λ stop. (setting : Setting) → StopsRow (extent_of heap.now) (map_row (map (value_in (extent_of heap.now)) args.now)) setting stop) }
+    ensures stops { IfErr result (λ stop. (setting : Setting) → StopsRow (extent_of heap.now)
+        (map_row (map (value_in (extent_of heap.now)) args.now)) setting stop) }
     ensures live { IfErr result (IsLiveStop (extent_of heap.now)) }
 {
     let val = arg(args, 0);

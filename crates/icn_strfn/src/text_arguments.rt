@@ -63,7 +63,8 @@ impl TextArgument {
 
 // Whether a value has no text.
 pub fn lacks_text(val: Val) -> bool
-    ensures { (all : Extent) → MatchBool result (text_of (value_in all val) ≡ None) (HasText (value_in all val)) }
+    ensures { (all : Extent)
+        → MatchBool result (text_of (value_in all val) ≡ None) (HasText (value_in all val)) }
 {
     match val {
         Val::Integer(_) | Val::Text(_) | Val::Chars(_) => false,
@@ -73,8 +74,10 @@ pub fn lacks_text(val: Val) -> bool
 
 // Whether a value that is not null has no text.
 pub fn lacks_argument(val: Val, default: DefaultText) -> bool
-    ensures text { (all : Extent) → MatchBool result (text_of (or_default default (value_in all val)) ≡ None) (HasText (or_default default (value_in all val))) }
-    ensures value { (all : Extent) → MatchBool result (or_default default (value_in all val) ≡ value_in all val) ⊤ }
+    ensures text { (all : Extent) → MatchBool result (text_of (or_default default (value_in all val)) ≡ None)
+        (HasText (or_default default (value_in all val))) }
+    ensures value { (all : Extent)
+        → MatchBool result (or_default default (value_in all val) ≡ value_in all val) ⊤ }
 {
     match val {
         Val::Null => false,
@@ -118,9 +121,12 @@ pub fn text_argument<L: Locals>(
     requires live { IsLive (extent_of w.old.heap) val }
     requires has { HasText (or_default default (value_in (extent_of w.old.heap) val)) }
     ensures live { IfOk result (IsArgument (extent_of w.new.heap)) }
-    ensures text { IfOk result (λ text. argument_bytes (extent_of w.new.heap) text ≡ the_text (or_default default (value_in (extent_of w.old.heap) val))) }
+    ensures text { IfOk result (λ text. argument_bytes (extent_of w.new.heap) text
+        ≡ the_text (or_default default (value_in (extent_of w.old.heap) val))) }
     ensures stops { IfErr result (IsLiveStop (extent_of w.new.heap)) }
-    ensures step { (outside : Outside) → Passed (extent_of w.new.heap) (costs_text (value_in (extent_of w.old.heap) val)) (setting_of outside w.old (L.items l.now)) (setting_of outside w.new (L.items l.now)) result }
+    ensures step { (outside : Outside)
+        → Passed (extent_of w.new.heap) (costs_text (value_in (extent_of w.old.heap) val))
+        (setting_of outside w.old (L.items l.now)) (setting_of outside w.new (L.items l.now)) result }
     ensures locals { All (IsLive (extent_of w.new.heap)) (L.items l.now) }
     ensures kept { KeepsItems (reach_of w.old (L.items l.now)) (reach_of w.new (L.items l.now)) }
 {
@@ -148,10 +154,14 @@ pub fn two_texts<L: Locals>(
     requires second_has { HasText (or_default default (value_in (extent_of w.old.heap) other)) }
     ensures first_live { IfOk result (λ two. IsText (extent_of w.new.heap) two.0) }
     ensures second_live { IfOk result (λ two. IsArgument (extent_of w.new.heap) two.1) }
-    ensures first_text { IfOk result (λ two. text_in (extent_of w.new.heap) two.0 ≡ the_text (value_in (extent_of w.old.heap) val)) }
-    ensures second_text { IfOk result (λ two. argument_bytes (extent_of w.new.heap) two.1 ≡ the_text (or_default default (value_in (extent_of w.old.heap) other))) }
+    ensures first_text { IfOk result
+        (λ two. text_in (extent_of w.new.heap) two.0 ≡ the_text (value_in (extent_of w.old.heap) val)) }
+    ensures second_text { IfOk result (λ two. argument_bytes (extent_of w.new.heap) two.1
+        ≡ the_text (or_default default (value_in (extent_of w.old.heap) other))) }
     ensures stops { IfErr result (IsLiveStop (extent_of w.new.heap)) }
-    ensures step { (outside : Outside) → Passed (extent_of w.new.heap) (costs_texts (value_in (extent_of w.old.heap) val ∷ value_in (extent_of w.old.heap) other ∷ [])) (setting_of outside w.old (L.items l.now)) (setting_of outside w.new (L.items l.now)) result }
+    ensures step { (outside : Outside) → Passed (extent_of w.new.heap)
+        (costs_texts (value_in (extent_of w.old.heap) val ∷ value_in (extent_of w.old.heap) other ∷ []))
+        (setting_of outside w.old (L.items l.now)) (setting_of outside w.new (L.items l.now)) result }
     ensures locals { All (IsLive (extent_of w.new.heap)) (L.items l.now) }
     ensures kept { KeepsItems (reach_of w.old (L.items l.now)) (reach_of w.new (L.items l.now)) }
 {

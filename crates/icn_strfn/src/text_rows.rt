@@ -23,7 +23,8 @@ use icn_vars::{Locals, Outcome, Stop, World};
 pub fn string_row<L: Locals>(w: &mut World, l: &L, args: &[Val]) -> Result<Outcome, Stop>
     requires locals { All (IsLive (extent_of w.old.heap)) (L.items l.now) }
     requires args { All (IsLive (extent_of w.old.heap)) args.now }
-    ensures row { Gives w.old w.new (L.items l.now) (string_row (map (value_in (extent_of w.old.heap)) args.now)) result }
+    ensures row { Gives w.old w.new (L.items l.now)
+        (string_row (map (value_in (extent_of w.old.heap)) args.now)) result }
     ensures live { IsLiveGiven (reach_of w.new (L.items l.now)) result }
     ensures locals { All (IsLive (extent_of w.new.heap)) (L.items l.now) }
     ensures kept { KeepsItems (reach_of w.old (L.items l.now)) (reach_of w.new (L.items l.now)) }
@@ -42,7 +43,8 @@ pub fn string_row<L: Locals>(w: &mut World, l: &L, args: &[Val]) -> Result<Outco
 pub fn ord_row<L: Locals>(w: &mut World, l: &L, args: &[Val]) -> Result<Outcome, Stop>
     requires locals { All (IsLive (extent_of w.old.heap)) (L.items l.now) }
     requires args { All (IsLive (extent_of w.old.heap)) args.now }
-    ensures row { Gives w.old w.new (L.items l.now) (ord_row (map (value_in (extent_of w.old.heap)) args.now)) result }
+    ensures row { Gives w.old w.new (L.items l.now)
+        (ord_row (map (value_in (extent_of w.old.heap)) args.now)) result }
     ensures live { IsLiveGiven (reach_of w.new (L.items l.now)) result }
     ensures locals { All (IsLive (extent_of w.new.heap)) (L.items l.now) }
     ensures kept { KeepsItems (reach_of w.old (L.items l.now)) (reach_of w.new (L.items l.now)) }
@@ -64,7 +66,8 @@ pub fn ord_row<L: Locals>(w: &mut World, l: &L, args: &[Val]) -> Result<Outcome,
 pub fn reverse_row<L: Locals>(w: &mut World, l: &L, args: &[Val]) -> Result<Outcome, Stop>
     requires locals { All (IsLive (extent_of w.old.heap)) (L.items l.now) }
     requires args { All (IsLive (extent_of w.old.heap)) args.now }
-    ensures row { Gives w.old w.new (L.items l.now) (reverse_row (map (value_in (extent_of w.old.heap)) args.now)) result }
+    ensures row { Gives w.old w.new (L.items l.now)
+        (reverse_row (map (value_in (extent_of w.old.heap)) args.now)) result }
     ensures live { IsLiveGiven (reach_of w.new (L.items l.now)) result }
     ensures locals { All (IsLive (extent_of w.new.heap)) (L.items l.now) }
     ensures kept { KeepsItems (reach_of w.old (L.items l.now)) (reach_of w.new (L.items l.now)) }
@@ -87,7 +90,8 @@ pub fn reverse_row<L: Locals>(w: &mut World, l: &L, args: &[Val]) -> Result<Outc
 pub fn repl_row<L: Locals>(w: &mut World, l: &L, args: &[Val]) -> Result<Outcome, Stop>
     requires locals { All (IsLive (extent_of w.old.heap)) (L.items l.now) }
     requires args { All (IsLive (extent_of w.old.heap)) args.now }
-    ensures row { Gives w.old w.new (L.items l.now) (repl_row (map (value_in (extent_of w.old.heap)) args.now)) result }
+    ensures row { Gives w.old w.new (L.items l.now)
+        (repl_row (map (value_in (extent_of w.old.heap)) args.now)) result }
     ensures live { IsLiveGiven (reach_of w.new (L.items l.now)) result }
     ensures locals { All (IsLive (extent_of w.new.heap)) (L.items l.now) }
     ensures kept { KeepsItems (reach_of w.old (L.items l.now)) (reach_of w.new (L.items l.now)) }
@@ -118,7 +122,8 @@ pub fn repl_row<L: Locals>(w: &mut World, l: &L, args: &[Val]) -> Result<Outcome
 pub fn trim_row<L: Locals>(w: &mut World, l: &L, args: &[Val]) -> Result<Outcome, Stop>
     requires locals { All (IsLive (extent_of w.old.heap)) (L.items l.now) }
     requires args { All (IsLive (extent_of w.old.heap)) args.now }
-    ensures row { Gives w.old w.new (L.items l.now) (trim_row (map (value_in (extent_of w.old.heap)) args.now)) result }
+    ensures row { Gives w.old w.new (L.items l.now)
+        (trim_row (map (value_in (extent_of w.old.heap)) args.now)) result }
     ensures live { IsLiveGiven (reach_of w.new (L.items l.now)) result }
     ensures locals { All (IsLive (extent_of w.new.heap)) (L.items l.now) }
     ensures kept { KeepsItems (reach_of w.old (L.items l.now)) (reach_of w.new (L.items l.now)) }

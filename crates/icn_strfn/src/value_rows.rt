@@ -23,7 +23,8 @@ use icn_vars::{Locals, Outcome, Stop, World};
 /// `cset(x)`: the cset that a value converts to; it fails where there is none.
 pub fn cset_row<L: Locals>(w: &World, l: &L, args: &[Val]) -> Result<Outcome, Stop>
     requires { All (IsLive (extent_of w.now.heap)) args.now }
-    ensures row { Gives w.now w.now (L.items l.now) (cset_row (map (value_in (extent_of w.now.heap)) args.now)) result }
+    ensures row { Gives w.now w.now (L.items l.now)
+        (cset_row (map (value_in (extent_of w.now.heap)) args.now)) result }
     ensures live { IsLiveGiven (reach_of w.now (L.items l.now)) result }
 {
     match to_cset(&w.heap, arg(args, 0)) {
@@ -37,7 +38,8 @@ pub fn cset_row<L: Locals>(w: &World, l: &L, args: &[Val]) -> Result<Outcome, St
 pub fn char_row<L: Locals>(w: &mut World, l: &L, args: &[Val]) -> Result<Outcome, Stop>
     requires locals { All (IsLive (extent_of w.old.heap)) (L.items l.now) }
     requires args { All (IsLive (extent_of w.old.heap)) args.now }
-    ensures row { Gives w.old w.new (L.items l.now) (char_row (map (value_in (extent_of w.old.heap)) args.now)) result }
+    ensures row { Gives w.old w.new (L.items l.now)
+        (char_row (map (value_in (extent_of w.old.heap)) args.now)) result }
     ensures live { IsLiveGiven (reach_of w.new (L.items l.now)) result }
     ensures locals { All (IsLive (extent_of w.new.heap)) (L.items l.now) }
     ensures kept { KeepsItems (reach_of w.old (L.items l.now)) (reach_of w.new (L.items l.now)) }
@@ -66,7 +68,8 @@ pub fn image_row<N: Names, L: Locals>(
     requires args { All (IsLive (extent_of w.old.heap)) args.now }
     requires named { All (IsNamed (N.known names.now)) args.now }
     requires records { AreRecordsNamed (N.known names.now) (heap_of w.old.heap) }
-    ensures row { Gives w.old w.new (L.items l.now) (image_row (N.known names.now) (map (value_in (extent_of w.old.heap)) args.now)) result }
+    ensures row { Gives w.old w.new (L.items l.now)
+        (image_row (N.known names.now) (map (value_in (extent_of w.old.heap)) args.now)) result }
     ensures live { IsLiveGiven (reach_of w.new (L.items l.now)) result }
     ensures locals { All (IsLive (extent_of w.new.heap)) (L.items l.now) }
     ensures kept { KeepsItems (reach_of w.old (L.items l.now)) (reach_of w.new (L.items l.now)) }
@@ -86,7 +89,8 @@ pub fn type_row<N: Names, L: Locals>(
     requires locals { All (IsLive (extent_of w.old.heap)) (L.items l.now) }
     requires args { All (IsLive (extent_of w.old.heap)) args.now }
     requires records { AreRecordsNamed (N.known names.now) (heap_of w.old.heap) }
-    ensures row { Gives w.old w.new (L.items l.now) (type_row (N.known names.now) (map (value_in (extent_of w.old.heap)) args.now)) result }
+    ensures row { Gives w.old w.new (L.items l.now)
+        (type_row (N.known names.now) (map (value_in (extent_of w.old.heap)) args.now)) result }
     ensures live { IsLiveGiven (reach_of w.new (L.items l.now)) result }
     ensures locals { All (IsLive (extent_of w.new.heap)) (L.items l.now) }
     ensures kept { KeepsItems (reach_of w.old (L.items l.now)) (reach_of w.new (L.items l.now)) }
@@ -109,7 +113,8 @@ fn first_argument(args: &[Val]) -> Val
 fn type_name<'a, N: Names>(heap: &Heap, names: &'a N, val: Val) -> &'a [u8]
     requires live { IsLive (extent_of heap.now) val }
     requires records { AreRecordsNamed (N.known names.now) (heap_of heap.now) }
-    ensures { result.now ≡ type_name (N.known names.now) (heap_of heap.now) (value_in (extent_of heap.now) val) }
+    ensures { result.now
+        ≡ type_name (N.known names.now) (heap_of heap.now) (value_in (extent_of heap.now) val) }
 {
     match val {
         Val::Null => b"null",

@@ -15,8 +15,10 @@ pub fn append_both(
     requires first_within { first.end ≤ vec_len bytes.old }
     requires second_ordered { second.start ≤ second.end }
     requires second_within { second.end ≤ vec_len bytes.old }
-    ensures ok { OnOk result (bytes.new.items ≡ bytes.old.items ++ (slice_range bytes.old.items first.start first.end ++ slice_range bytes.old.items second.start second.end)) }
-    ensures len { OnOk result (vec_len bytes.new ≡ vec_len bytes.old + ((first.end - first.start) + (second.end - second.start))) }
+    ensures ok { OnOk result (bytes.new.items ≡ bytes.old.items ++ (slice_range bytes.old.items first.start
+        first.end ++ slice_range bytes.old.items second.start second.end)) }
+    ensures len { OnOk result
+        (vec_len bytes.new ≡ vec_len bytes.old + ((first.end - first.start) + (second.end - second.start))) }
     ensures err { OnErr result (bytes.new.items ≡ bytes.old.items) }
 {
     bytes.reserve((first.end - first.start) + (second.end - second.start))?;

@@ -20,7 +20,8 @@ pub fn part_of_place(region: &Region, part: Place, whole: Place)
     requires of { IsOf region.now whole }
     requires part { IsPart part whole }
     ensures of { IsOf region.now part }
-    ensures bytes { bytes_of region.now part ≡ take part.len (drop (part.place - whole.place) (bytes_of region.now whole)) }
+    ensures bytes { bytes_of region.now part
+        ≡ take part.len (drop (part.place - whole.place) (bytes_of region.now whole)) }
 {}
 
 /// A place of a region has as many bytes as it says.

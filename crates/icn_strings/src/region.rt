@@ -52,8 +52,10 @@ impl Region {
         ensures within { sum_of self.new ≤ limit_of self.new }
         ensures kept { Keeps self.old self.new }
 
-        ensures full { result ≡ Err (Full.Strings (sum_of self.old) (limit_of self.old)) ↔ (limit_of self.old < sum_of self.old + length bytes.now) }
-        ensures memory { sum_of self.old + length bytes.now ≤ limit_of self.old → OnErr result (result ≡ Err Full.NoMemory) }
+        ensures full { result ≡ Err (Full.Strings (sum_of self.old) (limit_of self.old))
+            ↔ (limit_of self.old < sum_of self.old + length bytes.now) }
+        ensures memory { sum_of self.old + length bytes.now ≤ limit_of self.old
+            → OnErr result (result ≡ Err Full.NoMemory) }
         ensures err { OnErr result (IsUnchanged self.old self.new) }
     {
         let len = bytes.len() as u64;
@@ -75,13 +77,16 @@ impl Region {
         requires second { IsOf self.old b }
         ensures of { IfOk result (IsOf self.new) }
         ensures len { IfOk result (λ place. place.len ≡ a.len + b.len) }
-        ensures bytes { IfOk result (λ place. bytes_of self.new place ≡ bytes_of self.old a ++ bytes_of self.old b) }
+        ensures bytes { IfOk result
+            (λ place. bytes_of self.new place ≡ bytes_of self.old a ++ bytes_of self.old b) }
         ensures sum { OnOk result (sum_of self.new ≡ sum_of self.old + (a.len + b.len)) }
         ensures within { sum_of self.new ≤ limit_of self.new }
         ensures kept { Keeps self.old self.new }
 
-        ensures full { result ≡ Err (Full.Strings (sum_of self.old) (limit_of self.old)) ↔ (limit_of self.old < sum_of self.old + (a.len + b.len)) }
-        ensures memory { sum_of self.old + (a.len + b.len) ≤ limit_of self.old → OnErr result (result ≡ Err Full.NoMemory) }
+        ensures full { result ≡ Err (Full.Strings (sum_of self.old) (limit_of self.old))
+            ↔ (limit_of self.old < sum_of self.old + (a.len + b.len)) }
+        ensures memory { sum_of self.old + (a.len + b.len) ≤ limit_of self.old
+            → OnErr result (result ≡ Err Full.NoMemory) }
         ensures err { OnErr result (IsUnchanged self.old self.new) }
     {
         // One after the other, so that the sum of the two lengths cannot overflow.
@@ -150,7 +155,8 @@ impl Region {
         requires fits { a.len + b.len < 2 ^ 64 }
         ensures of { IfOk result (IsOf self.new) }
         ensures len { IfOk result (λ place. place.len ≡ a.len + b.len) }
-        ensures bytes { IfOk result (λ place. bytes_of self.new place ≡ bytes_of self.old a ++ bytes_of self.old b) }
+        ensures bytes { IfOk result
+            (λ place. bytes_of self.new place ≡ bytes_of self.old a ++ bytes_of self.old b) }
         ensures sum { sum_of self.new ≡ sum_of self.old }
         ensures kept { Keeps self.old self.new }
         ensures err { OnErr result (IsUnchanged self.old self.new) }

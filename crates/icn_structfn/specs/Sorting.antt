@@ -39,8 +39,10 @@ order_of n = Unknown
 -- a new list of what a table holds, in an order: 205 for what is none
 abbrev pub sorted_pairs : Names → Heap → List (Value × Value) → TableOrder → Value → Finds Value
 sorted_pairs names heap pairs ListsByKey chosen next = list_of_pairs (sorted (key_cmp names heap) pairs) next
-sorted_pairs names heap pairs ListsByValue chosen next = list_of_pairs (sorted (entry_cmp names heap) pairs) next
-sorted_pairs names heap pairs TurnByKey chosen next = new_list_of (in_turn (sorted (key_cmp names heap) pairs)) next
+sorted_pairs names heap pairs ListsByValue chosen next =
+    list_of_pairs (sorted (entry_cmp names heap) pairs) next
+sorted_pairs names heap pairs TurnByKey chosen next =
+    new_list_of (in_turn (sorted (key_cmp names heap) pairs)) next
 sorted_pairs names heap pairs TurnByValue chosen next =
     new_list_of (in_turn (sorted (entry_cmp names heap) pairs)) next
 sorted_pairs names heap pairs Unknown chosen next = wrong 205 (Some chosen)

@@ -23,7 +23,8 @@ use icn_vars::{Halt, Locals, Outcome, Stop, World};
 pub fn put<L: Locals>(w: &mut World, l: &L, args: &[Val]) -> Result<Outcome, Halt>
     requires locals { All (IsLive (extent_of w.old.heap)) (L.items l.now) }
     requires args { All (IsLive (extent_of w.old.heap)) args.now }
-    ensures row { Answers w.old (L.items l.now) w.new (L.items l.now) (put_row (map (value_in (extent_of w.old.heap)) args.now)) result }
+    ensures row { Answers w.old (L.items l.now) w.new (L.items l.now)
+        (put_row (map (value_in (extent_of w.old.heap)) args.now)) result }
     ensures live { IsLiveAnswer (reach_of w.new (L.items l.now)) result }
     ensures locals { All (IsLive (extent_of w.new.heap)) (L.items l.now) }
     ensures kept { KeepsItems (reach_of w.old (L.items l.now)) (reach_of w.new (L.items l.now)) }
@@ -45,7 +46,9 @@ fn add_right<L: Locals>(w: &mut World, l: &L, list: u32, vals: &[Val]) -> Result
     requires list { IsLive (extent_of w.old.heap) (List list) }
     requires vals { All (IsLive (extent_of w.old.heap)) vals.now }
     ensures stops { IfErr result (IsLiveStop (extent_of w.new.heap)) }
-    ensures step { (outside : Outside) → Passed (extent_of w.new.heap) (adds with_right list (map (value_in (extent_of w.old.heap)) vals.now)) (setting_of outside w.old (L.items l.now)) (setting_of outside w.new (L.items l.now)) result }
+    ensures step { (outside : Outside) → Passed (extent_of w.new.heap)
+        (adds with_right list (map (value_in (extent_of w.old.heap)) vals.now))
+        (setting_of outside w.old (L.items l.now)) (setting_of outside w.new (L.items l.now)) result }
     ensures locals { All (IsLive (extent_of w.new.heap)) (L.items l.now) }
     ensures kept { KeepsItems (reach_of w.old (L.items l.now)) (reach_of w.new (L.items l.now)) }
 {
@@ -59,7 +62,8 @@ fn put_each(heap: &mut Heap, list: u32, vals: &[Val]) -> Result<(), Full>
     requires list { IsLive (extent_of heap.old) (List list) }
     requires vals { All (IsLive (extent_of heap.old)) vals.now }
     requires room { (heap_of heap.old).cells + length vals.now ≤ (heap_of heap.old).bounds.cells }
-    ensures step { OnOk result (heap_of heap.new ≡ added_to with_right list (map (value_in (extent_of heap.old)) vals.now) (heap_of heap.old)) }
+    ensures step { OnOk result (heap_of heap.new
+        ≡ added_to with_right list (map (value_in (extent_of heap.old)) vals.now) (heap_of heap.old)) }
     ensures error { IfErr result (λ full. full ≡ NoMemory) }
     ensures kept { Keeps (extent_of heap.old) (extent_of heap.new) }
     ensures records { (heap_of heap.new).records ≡ (heap_of heap.old).records }
@@ -76,7 +80,8 @@ fn put_each(heap: &mut Heap, list: u32, vals: &[Val]) -> Result<(), Full>
 pub fn push<L: Locals>(w: &mut World, l: &L, args: &[Val]) -> Result<Outcome, Halt>
     requires locals { All (IsLive (extent_of w.old.heap)) (L.items l.now) }
     requires args { All (IsLive (extent_of w.old.heap)) args.now }
-    ensures row { Answers w.old (L.items l.now) w.new (L.items l.now) (push_row (map (value_in (extent_of w.old.heap)) args.now)) result }
+    ensures row { Answers w.old (L.items l.now) w.new (L.items l.now)
+        (push_row (map (value_in (extent_of w.old.heap)) args.now)) result }
     ensures live { IsLiveAnswer (reach_of w.new (L.items l.now)) result }
     ensures locals { All (IsLive (extent_of w.new.heap)) (L.items l.now) }
     ensures kept { KeepsItems (reach_of w.old (L.items l.now)) (reach_of w.new (L.items l.now)) }
@@ -98,7 +103,9 @@ fn add_left<L: Locals>(w: &mut World, l: &L, list: u32, vals: &[Val]) -> Result<
     requires list { IsLive (extent_of w.old.heap) (List list) }
     requires vals { All (IsLive (extent_of w.old.heap)) vals.now }
     ensures stops { IfErr result (IsLiveStop (extent_of w.new.heap)) }
-    ensures step { (outside : Outside) → Passed (extent_of w.new.heap) (adds with_left list (map (value_in (extent_of w.old.heap)) vals.now)) (setting_of outside w.old (L.items l.now)) (setting_of outside w.new (L.items l.now)) result }
+    ensures step { (outside : Outside)
+        → Passed (extent_of w.new.heap) (adds with_left list (map (value_in (extent_of w.old.heap)) vals.now))
+        (setting_of outside w.old (L.items l.now)) (setting_of outside w.new (L.items l.now)) result }
     ensures locals { All (IsLive (extent_of w.new.heap)) (L.items l.now) }
     ensures kept { KeepsItems (reach_of w.old (L.items l.now)) (reach_of w.new (L.items l.now)) }
 {
@@ -112,7 +119,8 @@ fn push_each(heap: &mut Heap, list: u32, vals: &[Val]) -> Result<(), Full>
     requires list { IsLive (extent_of heap.old) (List list) }
     requires vals { All (IsLive (extent_of heap.old)) vals.now }
     requires room { (heap_of heap.old).cells + length vals.now ≤ (heap_of heap.old).bounds.cells }
-    ensures step { OnOk result (heap_of heap.new ≡ added_to with_left list (map (value_in (extent_of heap.old)) vals.now) (heap_of heap.old)) }
+    ensures step { OnOk result (heap_of heap.new
+        ≡ added_to with_left list (map (value_in (extent_of heap.old)) vals.now) (heap_of heap.old)) }
     ensures error { IfErr result (λ full. full ≡ NoMemory) }
     ensures kept { Keeps (extent_of heap.old) (extent_of heap.new) }
     ensures records { (heap_of heap.new).records ≡ (heap_of heap.old).records }
@@ -127,7 +135,8 @@ fn push_each(heap: &mut Heap, list: u32, vals: &[Val]) -> Result<(), Full>
 
 // The arguments behind the first, or null where there are none.
 fn added(args: &[Val]) -> &[Val]
-    ensures value { (all : Extent) → map (value_in all) result.now ≡ or_null (drop 1 (map (value_in all) args.now)) }
+    ensures value { (all : Extent)
+        → map (value_in all) result.now ≡ or_null (drop 1 (map (value_in all) args.now)) }
     ensures live { (all : Extent) → All (IsLive all) args.now → All (IsLive all) result.now }
 {
     match args {

@@ -34,7 +34,8 @@ pub fn first<L: Locals, N: Names>(
     requires func { is_of_structures func ≡ true }
     requires named { func ≡ Sort → HeapNamed (N.known names.now) (heap_of w.old.heap) }
     requires args { All (IsLive (extent_of w.old.heap)) args.now }
-    ensures row { Answers w.old (L.items l.now) w.new (L.items l.now) (function_of (N.known names.now) func (map (value_in (extent_of w.old.heap)) args.now)) result }
+    ensures row { Answers w.old (L.items l.now) w.new (L.items l.now)
+        (function_of (N.known names.now) func (map (value_in (extent_of w.old.heap)) args.now)) result }
     ensures live { IsLiveAnswer (reach_of w.new (L.items l.now)) result }
     ensures locals { All (IsLive (extent_of w.new.heap)) (L.items l.now) }
     ensures kept { KeepsItems (reach_of w.old (L.items l.now)) (reach_of w.new (L.items l.now)) }

@@ -18,7 +18,8 @@ use icn_vars::{Halt, Locals, Outcome, World};
 pub fn get<L: Locals>(w: &mut World, l: &L, args: &[Val]) -> Result<Outcome, Halt>
     requires locals { All (IsLive (extent_of w.old.heap)) (L.items l.now) }
     requires args { All (IsLive (extent_of w.old.heap)) args.now }
-    ensures row { Answers w.old (L.items l.now) w.new (L.items l.now) (get_row (map (value_in (extent_of w.old.heap)) args.now)) result }
+    ensures row { Answers w.old (L.items l.now) w.new (L.items l.now)
+        (get_row (map (value_in (extent_of w.old.heap)) args.now)) result }
     ensures live { IsLiveAnswer (reach_of w.new (L.items l.now)) result }
     ensures locals { All (IsLive (extent_of w.new.heap)) (L.items l.now) }
     ensures kept { KeepsItems (reach_of w.old (L.items l.now)) (reach_of w.new (L.items l.now)) }
@@ -38,7 +39,8 @@ pub fn get<L: Locals>(w: &mut World, l: &L, args: &[Val]) -> Result<Outcome, Hal
 pub fn pull<L: Locals>(w: &mut World, l: &L, args: &[Val]) -> Result<Outcome, Halt>
     requires locals { All (IsLive (extent_of w.old.heap)) (L.items l.now) }
     requires args { All (IsLive (extent_of w.old.heap)) args.now }
-    ensures row { Answers w.old (L.items l.now) w.new (L.items l.now) (pull_row (map (value_in (extent_of w.old.heap)) args.now)) result }
+    ensures row { Answers w.old (L.items l.now) w.new (L.items l.now)
+        (pull_row (map (value_in (extent_of w.old.heap)) args.now)) result }
     ensures live { IsLiveAnswer (reach_of w.new (L.items l.now)) result }
     ensures locals { All (IsLive (extent_of w.new.heap)) (L.items l.now) }
     ensures kept { KeepsItems (reach_of w.old (L.items l.now)) (reach_of w.new (L.items l.now)) }

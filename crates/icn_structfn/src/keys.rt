@@ -24,7 +24,8 @@ use std::alloc::AllocError;
 pub fn member<L: Locals>(w: &World, l: &L, args: &[Val]) -> Result<Outcome, Halt>
     requires locals { All (IsLive (extent_of w.now.heap)) (L.items l.now) }
     requires args { All (IsLive (extent_of w.now.heap)) args.now }
-    ensures row { Answers w.now (L.items l.now) w.now (L.items l.now) (member_row (map (value_in (extent_of w.now.heap)) args.now)) result }
+    ensures row { Answers w.now (L.items l.now) w.now (L.items l.now)
+        (member_row (map (value_in (extent_of w.now.heap)) args.now)) result }
     ensures live { IsLiveAnswer (reach_of w.now (L.items l.now)) result }
 {
     let kept = arg(args, 0);
@@ -43,7 +44,8 @@ pub fn member<L: Locals>(w: &World, l: &L, args: &[Val]) -> Result<Outcome, Halt
 fn has(heap: &Heap, kept: Val, key: Val) -> Result<Option<bool>, AllocError>
     requires kept { IsLive (extent_of heap.now) kept }
     requires key { IsLive (extent_of heap.now) key }
-    ensures { IfOk result (λ has. has ≡ option_map (λ keeper. has_key (heap_of heap.now) keeper (value_in (extent_of heap.now) key)) (keeper_of (value_in (extent_of heap.now) kept))) }
+    ensures { IfOk result (λ has. has ≡ option_map (λ keeper. has_key (heap_of heap.now) keeper
+        (value_in (extent_of heap.now) key)) (keeper_of (value_in (extent_of heap.now) kept))) }
 {
     match kept {
         Val::Set(set) => Ok(Some(heap.has(set, key)?)),
@@ -56,7 +58,8 @@ fn has(heap: &Heap, kept: Val, key: Val) -> Result<Option<bool>, AllocError>
 pub fn insert<L: Locals>(w: &mut World, l: &L, args: &[Val]) -> Result<Outcome, Halt>
     requires locals { All (IsLive (extent_of w.old.heap)) (L.items l.now) }
     requires args { All (IsLive (extent_of w.old.heap)) args.now }
-    ensures row { Answers w.old (L.items l.now) w.new (L.items l.now) (insert_row (map (value_in (extent_of w.old.heap)) args.now)) result }
+    ensures row { Answers w.old (L.items l.now) w.new (L.items l.now)
+        (insert_row (map (value_in (extent_of w.old.heap)) args.now)) result }
     ensures live { IsLiveAnswer (reach_of w.new (L.items l.now)) result }
     ensures locals { All (IsLive (extent_of w.new.heap)) (L.items l.now) }
     ensures kept { KeepsItems (reach_of w.old (L.items l.now)) (reach_of w.new (L.items l.now)) }
@@ -74,7 +77,10 @@ fn insert_into<L: Locals>(w: &mut World, l: &L, kept: Val, key: Val, val: Val) -
     requires key { IsLive (extent_of w.old.heap) key }
     requires val { IsLive (extent_of w.old.heap) val }
     ensures stops { IfErr result (IsLiveStop (extent_of w.new.heap)) }
-    ensures step { (outside : Outside) → Passed (extent_of w.new.heap) (inserts_in (value_in (extent_of w.old.heap) kept) (value_in (extent_of w.old.heap) key) (value_in (extent_of w.old.heap) val)) (setting_of outside w.old (L.items l.now)) (setting_of outside w.new (L.items l.now)) result }
+    ensures step { (outside : Outside)
+        → Passed (extent_of w.new.heap) (inserts_in (value_in (extent_of w.old.heap) kept)
+        (value_in (extent_of w.old.heap) key) (value_in (extent_of w.old.heap) val))
+        (setting_of outside w.old (L.items l.now)) (setting_of outside w.new (L.items l.now)) result }
     ensures locals { All (IsLive (extent_of w.new.heap)) (L.items l.now) }
     ensures kept { KeepsItems (reach_of w.old (L.items l.now)) (reach_of w.new (L.items l.now)) }
 {
@@ -90,7 +96,8 @@ fn insert_into<L: Locals>(w: &mut World, l: &L, kept: Val, key: Val, val: Val) -
 pub fn delete<L: Locals>(w: &mut World, l: &L, args: &[Val]) -> Result<Outcome, Halt>
     requires locals { All (IsLive (extent_of w.old.heap)) (L.items l.now) }
     requires args { All (IsLive (extent_of w.old.heap)) args.now }
-    ensures row { Answers w.old (L.items l.now) w.new (L.items l.now) (delete_row (map (value_in (extent_of w.old.heap)) args.now)) result }
+    ensures row { Answers w.old (L.items l.now) w.new (L.items l.now)
+        (delete_row (map (value_in (extent_of w.old.heap)) args.now)) result }
     ensures live { IsLiveAnswer (reach_of w.new (L.items l.now)) result }
     ensures locals { All (IsLive (extent_of w.new.heap)) (L.items l.now) }
     ensures kept { KeepsItems (reach_of w.old (L.items l.now)) (reach_of w.new (L.items l.now)) }
@@ -116,7 +123,8 @@ fn is_keeper(val: Val) -> bool
 pub fn key<L: Locals>(w: &World, l: &L, args: &[Val]) -> Result<Outcome, Halt>
     requires locals { All (IsLive (extent_of w.now.heap)) (L.items l.now) }
     requires args { All (IsLive (extent_of w.now.heap)) args.now }
-    ensures row { Answers w.now (L.items l.now) w.now (L.items l.now) (key_row (map (value_in (extent_of w.now.heap)) args.now)) result }
+    ensures row { Answers w.now (L.items l.now) w.now (L.items l.now)
+        (key_row (map (value_in (extent_of w.now.heap)) args.now)) result }
     ensures live { IsLiveAnswer (reach_of w.now (L.items l.now)) result }
 {
     let table = arg(args, 0);
@@ -129,7 +137,8 @@ pub fn key<L: Locals>(w: &World, l: &L, args: &[Val]) -> Result<Outcome, Halt>
 /// Gives the next key of a table, where `key` was resumed.
 pub fn key_again<L: Locals>(w: &World, l: &L, table: u32, place: u64) -> Outcome
     requires { IsLive (extent_of w.now.heap) (Table table) }
-    ensures row { (outside : Outside) → table_keys_from table place (setting_of outside w.now (L.items l.now)) ≡ outcome_in (extent_of w.now.heap) result (setting_of outside w.now (L.items l.now)) }
+    ensures row { (outside : Outside) → table_keys_from table place (setting_of outside w.now (L.items l.now))
+        ≡ outcome_in (extent_of w.now.heap) result (setting_of outside w.now (L.items l.now)) }
     ensures live { IsLiveOutcome (reach_of w.now (L.items l.now)) result }
 {
     few_pairs(&w.heap, table);

@@ -23,7 +23,10 @@ pub fn filled_list<L: Locals>(w: &mut World, l: &L, count: u64, fill: Val) -> Re
     requires fill { IsLive (extent_of w.old.heap) fill }
     ensures live { IfOk result (IsLive (extent_of w.new.heap)) }
     ensures stops { IfErr result (IsLiveStop (extent_of w.new.heap)) }
-    ensures found { (outside : Outside) → Found (extent_of w.new.heap) (new_list_of (replicate count (value_in (extent_of w.old.heap) fill))) (setting_of outside w.old (L.items l.now)) (setting_of outside w.new (L.items l.now)) (value_in (extent_of w.new.heap)) result }
+    ensures found { (outside : Outside)
+        → Found (extent_of w.new.heap) (new_list_of (replicate count (value_in (extent_of w.old.heap) fill)))
+        (setting_of outside w.old (L.items l.now)) (setting_of outside w.new (L.items l.now))
+        (value_in (extent_of w.new.heap)) result }
     ensures locals { All (IsLive (extent_of w.new.heap)) (L.items l.now) }
     ensures kept { KeepsItems (reach_of w.old (L.items l.now)) (reach_of w.new (L.items l.now)) }
 {
@@ -37,7 +40,9 @@ pub fn new_set<L: Locals>(w: &mut World, l: &L, vals: &[Val]) -> Result<Val, Sto
     requires vals { All (IsLive (extent_of w.old.heap)) vals.now }
     ensures live { IfOk result (IsLive (extent_of w.new.heap)) }
     ensures stops { IfErr result (IsLiveStop (extent_of w.new.heap)) }
-    ensures found { (outside : Outside) → Found (extent_of w.new.heap) (new_set_of (fold with_member [] (map (value_in (extent_of w.old.heap)) vals.now))) (setting_of outside w.old (L.items l.now)) (setting_of outside w.new (L.items l.now)) (value_in (extent_of w.new.heap)) result }
+    ensures found { (outside : Outside) → Found (extent_of w.new.heap) (new_set_of (fold with_member []
+        (map (value_in (extent_of w.old.heap)) vals.now))) (setting_of outside w.old (L.items l.now))
+        (setting_of outside w.new (L.items l.now)) (value_in (extent_of w.new.heap)) result }
     ensures locals { All (IsLive (extent_of w.new.heap)) (L.items l.now) }
     ensures kept { KeepsItems (reach_of w.old (L.items l.now)) (reach_of w.new (L.items l.now)) }
 {
@@ -51,7 +56,9 @@ pub fn set_like<L: Locals>(w: &mut World, l: &L, set: u32) -> Result<Val, Stop>
     requires set { IsLive (extent_of w.old.heap) (Set set) }
     ensures live { IfOk result (IsLive (extent_of w.new.heap)) }
     ensures stops { IfErr result (IsLiveStop (extent_of w.new.heap)) }
-    ensures found { (outside : Outside) → Found (extent_of w.new.heap) (new_set_of (set_at (heap_of w.old.heap) set)) (setting_of outside w.old (L.items l.now)) (setting_of outside w.new (L.items l.now)) (value_in (extent_of w.new.heap)) result }
+    ensures found { (outside : Outside) → Found (extent_of w.new.heap)
+        (new_set_of (set_at (heap_of w.old.heap) set)) (setting_of outside w.old (L.items l.now))
+        (setting_of outside w.new (L.items l.now)) (value_in (extent_of w.new.heap)) result }
     ensures locals { All (IsLive (extent_of w.new.heap)) (L.items l.now) }
     ensures kept { KeepsItems (reach_of w.old (L.items l.now)) (reach_of w.new (L.items l.now)) }
 {
@@ -65,7 +72,10 @@ pub fn new_table<L: Locals>(w: &mut World, l: &L, default: Val) -> Result<Val, S
     requires default { IsLive (extent_of w.old.heap) default }
     ensures live { IfOk result (IsLive (extent_of w.new.heap)) }
     ensures stops { IfErr result (IsLiveStop (extent_of w.new.heap)) }
-    ensures found { (outside : Outside) → Found (extent_of w.new.heap) (new_table_of (record { default = value_in (extent_of w.old.heap) default; pairs = [] })) (setting_of outside w.old (L.items l.now)) (setting_of outside w.new (L.items l.now)) (value_in (extent_of w.new.heap)) result }
+    ensures found { (outside : Outside) → Found (extent_of w.new.heap)
+        (new_table_of (record { default = value_in (extent_of w.old.heap) default; pairs = [] }))
+        (setting_of outside w.old (L.items l.now)) (setting_of outside w.new (L.items l.now))
+        (value_in (extent_of w.new.heap)) result }
     ensures locals { All (IsLive (extent_of w.new.heap)) (L.items l.now) }
     ensures kept { KeepsItems (reach_of w.old (L.items l.now)) (reach_of w.new (L.items l.now)) }
 {
@@ -79,7 +89,9 @@ pub fn table_like<L: Locals>(w: &mut World, l: &L, table: u32) -> Result<Val, St
     requires table { IsLive (extent_of w.old.heap) (Table table) }
     ensures live { IfOk result (IsLive (extent_of w.new.heap)) }
     ensures stops { IfErr result (IsLiveStop (extent_of w.new.heap)) }
-    ensures found { (outside : Outside) → Found (extent_of w.new.heap) (new_table_of (table_at (heap_of w.old.heap) table)) (setting_of outside w.old (L.items l.now)) (setting_of outside w.new (L.items l.now)) (value_in (extent_of w.new.heap)) result }
+    ensures found { (outside : Outside) → Found (extent_of w.new.heap)
+        (new_table_of (table_at (heap_of w.old.heap) table)) (setting_of outside w.old (L.items l.now))
+        (setting_of outside w.new (L.items l.now)) (value_in (extent_of w.new.heap)) result }
     ensures locals { All (IsLive (extent_of w.new.heap)) (L.items l.now) }
     ensures kept { KeepsItems (reach_of w.old (L.items l.now)) (reach_of w.new (L.items l.now)) }
 {
@@ -93,7 +105,10 @@ pub fn new_record<L: Locals>(w: &mut World, l: &L, kind: u16, fields: &[Val]) ->
     requires fields { All (IsLive (extent_of w.old.heap)) fields.now }
     ensures live { IfOk result (IsLive (extent_of w.new.heap)) }
     ensures stops { IfErr result (IsLiveStop (extent_of w.new.heap)) }
-    ensures found { (outside : Outside) → Found (extent_of w.new.heap) (new_record_of (record { kind = kind; fields = map (value_in (extent_of w.old.heap)) fields.now })) (setting_of outside w.old (L.items l.now)) (setting_of outside w.new (L.items l.now)) (value_in (extent_of w.new.heap)) result }
+    ensures found { (outside : Outside) → Found (extent_of w.new.heap)
+        (new_record_of (record { kind = kind; fields = map (value_in (extent_of w.old.heap)) fields.now }))
+        (setting_of outside w.old (L.items l.now)) (setting_of outside w.new (L.items l.now))
+        (value_in (extent_of w.new.heap)) result }
     ensures locals { All (IsLive (extent_of w.new.heap)) (L.items l.now) }
     ensures kept { KeepsItems (reach_of w.old (L.items l.now)) (reach_of w.new (L.items l.now)) }
 {

@@ -30,7 +30,8 @@ pub fn in_order<N: Names>(
     requires live { All (IsLive (extent_of heap.now)) vals.now }
     requires named { All (ValueNamed (N.known names.now)) (map (value_in (extent_of heap.now)) vals.now) }
     requires heap { HeapNamed (N.known names.now) (heap_of heap.now) }
-    ensures order { IfOk result (λ found. map (value_in (extent_of heap.now)) found.items ≡ sorted (value_cmp (N.known names.now) (heap_of heap.now)) (map (value_in (extent_of heap.now)) vals.now)) }
+    ensures order { IfOk result (λ found. map (value_in (extent_of heap.now)) found.items ≡ sorted
+        (value_cmp (N.known names.now) (heap_of heap.now)) (map (value_in (extent_of heap.now)) vals.now)) }
     ensures live { IfOk result (λ found. All (IsLive (extent_of heap.now)) found.items) }
 {
     let places = places_by_value(alloc, heap, names, vals)?;
@@ -48,7 +49,8 @@ pub fn by_key<N: Names>(
     requires named { All (PairNamed (N.known names.now)) (map (values_in (extent_of heap.now)) pairs.now) }
     requires heap { HeapNamed (N.known names.now) (heap_of heap.now) }
     requires differ { KeysDiffer same (map (values_in (extent_of heap.now)) pairs.now) }
-    ensures order { IfOk result (λ found. map (values_in (extent_of heap.now)) found.items ≡ sorted (key_cmp (N.known names.now) (heap_of heap.now)) (map (values_in (extent_of heap.now)) pairs.now)) }
+    ensures order { IfOk result (λ found. map (values_in (extent_of heap.now)) found.items ≡ sorted
+        (key_cmp (N.known names.now) (heap_of heap.now)) (map (values_in (extent_of heap.now)) pairs.now)) }
     ensures live { IfOk result (λ found. All (AreLive (extent_of heap.now)) found.items) }
 {
     let places = places_by_key(alloc, heap, names, pairs)?;
@@ -65,7 +67,8 @@ pub fn by_entry<N: Names>(
     requires live { All (AreLive (extent_of heap.now)) pairs.now }
     requires named { All (PairNamed (N.known names.now)) (map (values_in (extent_of heap.now)) pairs.now) }
     requires heap { HeapNamed (N.known names.now) (heap_of heap.now) }
-    ensures order { IfOk result (λ found. map (values_in (extent_of heap.now)) found.items ≡ sorted (entry_cmp (N.known names.now) (heap_of heap.now)) (map (values_in (extent_of heap.now)) pairs.now)) }
+    ensures order { IfOk result (λ found. map (values_in (extent_of heap.now)) found.items ≡ sorted
+        (entry_cmp (N.known names.now) (heap_of heap.now)) (map (values_in (extent_of heap.now)) pairs.now)) }
     ensures live { IfOk result (λ found. All (AreLive (extent_of heap.now)) found.items) }
 {
     let places = places_by_entry(alloc, heap, names, pairs)?;
@@ -83,16 +86,22 @@ fn places_by_value<N: Names>(
     requires live { All (IsLive (extent_of heap.now)) vals.now }
     requires named { All (ValueNamed (N.known names.now)) (map (value_in (extent_of heap.now)) vals.now) }
     requires heap { HeapNamed (N.known names.now) (heap_of heap.now) }
-    ensures permutation { IfOk result (λ places. IsPermutation (range_with_len 0 (length vals.now)) places.items) }
-    ensures sorted { IfOk result (λ places. IsSorted (λ i j. value_cmp (N.known names.now) (heap_of heap.now) (arg (map (value_in (extent_of heap.now)) vals.now) i) (arg (map (value_in (extent_of heap.now)) vals.now) j)) places.items) }
+    ensures permutation { IfOk result
+        (λ places. IsPermutation (range_with_len 0 (length vals.now)) places.items) }
+    ensures sorted { IfOk result (λ places. IsSorted (λ i j. value_cmp (N.known names.now)
+        (heap_of heap.now) (arg (map (value_in (extent_of heap.now)) vals.now) i)
+        (arg (map (value_in (extent_of heap.now)) vals.now) j)) places.items) }
 {
     let mut places = all_places(alloc, vals.len())?;
     places.sort_by(
         |i: &usize, j: &usize|
             requires live { All (IsLive (extent_of heap.now)) vals.now }
-            requires named { All (ValueNamed (N.known names.now)) (map (value_in (extent_of heap.now)) vals.now) }
+            requires named { All (ValueNamed (N.known names.now))
+                (map (value_in (extent_of heap.now)) vals.now) }
             requires heap { HeapNamed (N.known names.now) (heap_of heap.now) }
-            ensures { result ≡ value_cmp (N.known names.entry.now) (heap_of heap.entry.now) (arg (map (value_in (extent_of heap.entry.now)) vals.entry.now) i.entry.now) (arg (map (value_in (extent_of heap.entry.now)) vals.entry.now) j.entry.now) }
+            ensures { result ≡ value_cmp (N.known names.entry.now) (heap_of heap.entry.now)
+                (arg (map (value_in (extent_of heap.entry.now)) vals.entry.now) i.entry.now)
+                (arg (map (value_in (extent_of heap.entry.now)) vals.entry.now) j.entry.now) }
         { compare_at(heap, names, vals, *i, *j) },
     )?;
     Ok(places)
@@ -108,16 +117,22 @@ fn places_by_key<N: Names>(
     requires live { All (AreLive (extent_of heap.now)) pairs.now }
     requires named { All (PairNamed (N.known names.now)) (map (values_in (extent_of heap.now)) pairs.now) }
     requires heap { HeapNamed (N.known names.now) (heap_of heap.now) }
-    ensures permutation { IfOk result (λ places. IsPermutation (range_with_len 0 (length pairs.now)) places.items) }
-    ensures sorted { IfOk result (λ places. IsSorted (λ i j. key_cmp (N.known names.now) (heap_of heap.now) (pair_at (map (values_in (extent_of heap.now)) pairs.now) i) (pair_at (map (values_in (extent_of heap.now)) pairs.now) j)) places.items) }
+    ensures permutation { IfOk result
+        (λ places. IsPermutation (range_with_len 0 (length pairs.now)) places.items) }
+    ensures sorted { IfOk result (λ places. IsSorted (λ i j. key_cmp (N.known names.now)
+        (heap_of heap.now) (pair_at (map (values_in (extent_of heap.now)) pairs.now) i)
+        (pair_at (map (values_in (extent_of heap.now)) pairs.now) j)) places.items) }
 {
     let mut places = all_places(alloc, pairs.len())?;
     places.sort_by(
         |i: &usize, j: &usize|
             requires live { All (AreLive (extent_of heap.now)) pairs.now }
-            requires named { All (PairNamed (N.known names.now)) (map (values_in (extent_of heap.now)) pairs.now) }
+            requires named { All (PairNamed (N.known names.now))
+                (map (values_in (extent_of heap.now)) pairs.now) }
             requires heap { HeapNamed (N.known names.now) (heap_of heap.now) }
-            ensures { result ≡ key_cmp (N.known names.entry.now) (heap_of heap.entry.now) (pair_at (map (values_in (extent_of heap.entry.now)) pairs.entry.now) i.entry.now) (pair_at (map (values_in (extent_of heap.entry.now)) pairs.entry.now) j.entry.now) }
+            ensures { result ≡ key_cmp (N.known names.entry.now) (heap_of heap.entry.now)
+                (pair_at (map (values_in (extent_of heap.entry.now)) pairs.entry.now) i.entry.now)
+                (pair_at (map (values_in (extent_of heap.entry.now)) pairs.entry.now) j.entry.now) }
         { compare_keys_at(heap, names, pairs, *i, *j) },
     )?;
     Ok(places)
@@ -133,16 +148,22 @@ fn places_by_entry<N: Names>(
     requires live { All (AreLive (extent_of heap.now)) pairs.now }
     requires named { All (PairNamed (N.known names.now)) (map (values_in (extent_of heap.now)) pairs.now) }
     requires heap { HeapNamed (N.known names.now) (heap_of heap.now) }
-    ensures permutation { IfOk result (λ places. IsPermutation (range_with_len 0 (length pairs.now)) places.items) }
-    ensures sorted { IfOk result (λ places. IsSorted (λ i j. entry_cmp (N.known names.now) (heap_of heap.now) (pair_at (map (values_in (extent_of heap.now)) pairs.now) i) (pair_at (map (values_in (extent_of heap.now)) pairs.now) j)) places.items) }
+    ensures permutation { IfOk result
+        (λ places. IsPermutation (range_with_len 0 (length pairs.now)) places.items) }
+    ensures sorted { IfOk result (λ places. IsSorted (λ i j. entry_cmp (N.known names.now)
+        (heap_of heap.now) (pair_at (map (values_in (extent_of heap.now)) pairs.now) i)
+        (pair_at (map (values_in (extent_of heap.now)) pairs.now) j)) places.items) }
 {
     let mut places = all_places(alloc, pairs.len())?;
     places.sort_by(
         |i: &usize, j: &usize|
             requires live { All (AreLive (extent_of heap.now)) pairs.now }
-            requires named { All (PairNamed (N.known names.now)) (map (values_in (extent_of heap.now)) pairs.now) }
+            requires named { All (PairNamed (N.known names.now))
+                (map (values_in (extent_of heap.now)) pairs.now) }
             requires heap { HeapNamed (N.known names.now) (heap_of heap.now) }
-            ensures { result ≡ entry_cmp (N.known names.entry.now) (heap_of heap.entry.now) (pair_at (map (values_in (extent_of heap.entry.now)) pairs.entry.now) i.entry.now) (pair_at (map (values_in (extent_of heap.entry.now)) pairs.entry.now) j.entry.now) }
+            ensures { result ≡ entry_cmp (N.known names.entry.now) (heap_of heap.entry.now)
+                (pair_at (map (values_in (extent_of heap.entry.now)) pairs.entry.now) i.entry.now)
+                (pair_at (map (values_in (extent_of heap.entry.now)) pairs.entry.now) j.entry.now) }
         { compare_entries_at(heap, names, pairs, *i, *j) },
     )?;
     Ok(places)
@@ -160,7 +181,9 @@ fn compare_at<N: Names>(heap: &Heap, names: &N, vals: &[Val], i: usize, j: usize
     requires live { All (IsLive (extent_of heap.now)) vals.now }
     requires named { All (ValueNamed (N.known names.now)) (map (value_in (extent_of heap.now)) vals.now) }
     requires heap { HeapNamed (N.known names.now) (heap_of heap.now) }
-    ensures { result ≡ value_cmp (N.known names.now) (heap_of heap.now) (arg (map (value_in (extent_of heap.now)) vals.now) i) (arg (map (value_in (extent_of heap.now)) vals.now) j) }
+    ensures { result ≡ value_cmp (N.known names.now)
+        (heap_of heap.now) (arg (map (value_in (extent_of heap.now)) vals.now) i)
+        (arg (map (value_in (extent_of heap.now)) vals.now) j) }
 {
     compare(heap, names, arg(vals, i), arg(vals, j))
 }
@@ -176,7 +199,9 @@ fn compare_keys_at<N: Names>(
     requires live { All (AreLive (extent_of heap.now)) pairs.now }
     requires named { All (PairNamed (N.known names.now)) (map (values_in (extent_of heap.now)) pairs.now) }
     requires heap { HeapNamed (N.known names.now) (heap_of heap.now) }
-    ensures { result ≡ key_cmp (N.known names.now) (heap_of heap.now) (pair_at (map (values_in (extent_of heap.now)) pairs.now) i) (pair_at (map (values_in (extent_of heap.now)) pairs.now) j) }
+    ensures { result ≡ key_cmp (N.known names.now) (heap_of heap.now)
+        (pair_at (map (values_in (extent_of heap.now)) pairs.now) i)
+        (pair_at (map (values_in (extent_of heap.now)) pairs.now) j) }
 {
     let first = pair_at(pairs, i);
     let second = pair_at(pairs, j);
@@ -194,7 +219,9 @@ fn compare_entries_at<N: Names>(
     requires live { All (AreLive (extent_of heap.now)) pairs.now }
     requires named { All (PairNamed (N.known names.now)) (map (values_in (extent_of heap.now)) pairs.now) }
     requires heap { HeapNamed (N.known names.now) (heap_of heap.now) }
-    ensures { result ≡ entry_cmp (N.known names.now) (heap_of heap.now) (pair_at (map (values_in (extent_of heap.now)) pairs.now) i) (pair_at (map (values_in (extent_of heap.now)) pairs.now) j) }
+    ensures { result ≡ entry_cmp (N.known names.now)
+        (heap_of heap.now) (pair_at (map (values_in (extent_of heap.now)) pairs.now) i)
+        (pair_at (map (values_in (extent_of heap.now)) pairs.now) j) }
 {
     let first = pair_at(pairs, i);
     let second = pair_at(pairs, j);
@@ -211,8 +238,10 @@ fn pair_at(pairs: &[(Val, Val)], place: usize) -> (Val, Val)
 
 // The values at these places.
 fn values_at(alloc: Global, vals: &[Val], places: &[usize]) -> Result<Vec<Val>, AllocError>
-    ensures values { IfOk result (λ found. (all : Extent) → map (value_in all) found.items ≡ map (arg (map (value_in all) vals.now)) places.now) }
-    ensures live { IfOk result (λ found. (all : Extent) → All (IsLive all) vals.now → All (IsLive all) found.items) }
+    ensures values { IfOk result (λ found. (all : Extent)
+        → map (value_in all) found.items ≡ map (arg (map (value_in all) vals.now)) places.now) }
+    ensures live { IfOk result
+        (λ found. (all : Extent) → All (IsLive all) vals.now → All (IsLive all) found.items) }
 {
     let mut found = Vec::new(alloc);
     let mut rest = places;
@@ -229,8 +258,10 @@ fn pairs_at(
     pairs: &[(Val, Val)],
     places: &[usize],
 ) -> Result<Vec<(Val, Val)>, AllocError>
-    ensures values { IfOk result (λ found. (all : Extent) → map (values_in all) found.items ≡ map (pair_at (map (values_in all) pairs.now)) places.now) }
-    ensures live { IfOk result (λ found. (all : Extent) → All (AreLive all) pairs.now → All (AreLive all) found.items) }
+    ensures values { IfOk result (λ found. (all : Extent)
+        → map (values_in all) found.items ≡ map (pair_at (map (values_in all) pairs.now)) places.now) }
+    ensures live { IfOk result
+        (λ found. (all : Extent) → All (AreLive all) pairs.now → All (AreLive all) found.items) }
 {
     let mut found = Vec::new(alloc);
     let mut rest = places;

@@ -37,7 +37,8 @@ pub fn sort<L: Locals, N: Names>(
     requires locals { All (IsLive (extent_of w.old.heap)) (L.items l.now) }
     requires args { All (IsLive (extent_of w.old.heap)) args.now }
     requires named { HeapNamed (N.known names.now) (heap_of w.old.heap) }
-    ensures row { Answers w.old (L.items l.now) w.new (L.items l.now) (sort_row (N.known names.now) (map (value_in (extent_of w.old.heap)) args.now)) result }
+    ensures row { Answers w.old (L.items l.now) w.new (L.items l.now)
+        (sort_row (N.known names.now) (map (value_in (extent_of w.old.heap)) args.now)) result }
     ensures live { IsLiveAnswer (reach_of w.new (L.items l.now)) result }
     ensures locals { All (IsLive (extent_of w.new.heap)) (L.items l.now) }
     ensures kept { KeepsItems (reach_of w.old (L.items l.now)) (reach_of w.new (L.items l.now)) }
@@ -62,7 +63,10 @@ fn sorted_list<L: Locals, N: Names>(
     requires named { HeapNamed (N.known names.now) (heap_of w.old.heap) }
     ensures live { IfOk result (IsLive (extent_of w.new.heap)) }
     ensures stops { IfErr result (IsLiveStop (extent_of w.new.heap)) }
-    ensures found { (outside : Outside) → Found (extent_of w.new.heap) (sorted_value (N.known names.now) n (value_in (extent_of w.old.heap) chosen) (value_in (extent_of w.old.heap) val)) (setting_of outside w.old (L.items l.now)) (setting_of outside w.new (L.items l.now)) (value_in (extent_of w.new.heap)) result }
+    ensures found { (outside : Outside) → Found (extent_of w.new.heap) (sorted_value (N.known names.now) n
+        (value_in (extent_of w.old.heap) chosen) (value_in (extent_of w.old.heap) val))
+        (setting_of outside w.old (L.items l.now)) (setting_of outside w.new (L.items l.now))
+        (value_in (extent_of w.new.heap)) result }
     ensures locals { All (IsLive (extent_of w.new.heap)) (L.items l.now) }
     ensures kept { KeepsItems (reach_of w.old (L.items l.now)) (reach_of w.new (L.items l.now)) }
 {
@@ -97,11 +101,15 @@ fn list_in_order<L: Locals, N: Names>(
 ) -> Result<Val, Stop>
     requires locals { All (IsLive (extent_of w.old.heap)) (L.items l.now) }
     requires vals { All (IsLive (extent_of w.old.heap)) vals.now }
-    requires vals_named { All (ValueNamed (N.known names.now)) (map (value_in (extent_of w.old.heap)) vals.now) }
+    requires vals_named { All (ValueNamed (N.known names.now))
+        (map (value_in (extent_of w.old.heap)) vals.now) }
     requires named { HeapNamed (N.known names.now) (heap_of w.old.heap) }
     ensures live { IfOk result (IsLive (extent_of w.new.heap)) }
     ensures stops { IfErr result (IsLiveStop (extent_of w.new.heap)) }
-    ensures found { (outside : Outside) → Found (extent_of w.new.heap) (new_list_of (sorted (value_cmp (N.known names.now) (heap_of w.old.heap)) (map (value_in (extent_of w.old.heap)) vals.now))) (setting_of outside w.old (L.items l.now)) (setting_of outside w.new (L.items l.now)) (value_in (extent_of w.new.heap)) result }
+    ensures found { (outside : Outside) → Found (extent_of w.new.heap)
+        (new_list_of (sorted (value_cmp (N.known names.now) (heap_of w.old.heap))
+        (map (value_in (extent_of w.old.heap)) vals.now))) (setting_of outside w.old (L.items l.now))
+        (setting_of outside w.new (L.items l.now)) (value_in (extent_of w.new.heap)) result }
     ensures locals { All (IsLive (extent_of w.new.heap)) (L.items l.now) }
     ensures kept { KeepsItems (reach_of w.old (L.items l.now)) (reach_of w.new (L.items l.now)) }
 {
@@ -149,11 +157,16 @@ fn sorted_table<L: Locals, N: Names>(
     requires pairs { All (AreLive (extent_of w.old.heap)) pairs.now }
     requires differ { KeysDiffer same (map (values_in (extent_of w.old.heap)) pairs.now) }
     requires chosen { IsLive (extent_of w.old.heap) chosen }
-    requires pairs_named { All (PairNamed (N.known names.now)) (map (values_in (extent_of w.old.heap)) pairs.now) }
+    requires pairs_named { All (PairNamed (N.known names.now))
+        (map (values_in (extent_of w.old.heap)) pairs.now) }
     requires named { HeapNamed (N.known names.now) (heap_of w.old.heap) }
     ensures live { IfOk result (IsLive (extent_of w.new.heap)) }
     ensures stops { IfErr result (IsLiveStop (extent_of w.new.heap)) }
-    ensures found { (outside : Outside) → Found (extent_of w.new.heap) (sorted_pairs (N.known names.now) (heap_of w.old.heap) (map (values_in (extent_of w.old.heap)) pairs.now) order (value_in (extent_of w.old.heap) chosen)) (setting_of outside w.old (L.items l.now)) (setting_of outside w.new (L.items l.now)) (value_in (extent_of w.new.heap)) result }
+    ensures found { (outside : Outside)
+        → Found (extent_of w.new.heap) (sorted_pairs (N.known names.now) (heap_of w.old.heap)
+        (map (values_in (extent_of w.old.heap)) pairs.now) order (value_in (extent_of w.old.heap) chosen))
+        (setting_of outside w.old (L.items l.now)) (setting_of outside w.new (L.items l.now))
+        (value_in (extent_of w.new.heap)) result }
     ensures locals { All (IsLive (extent_of w.new.heap)) (L.items l.now) }
     ensures kept { KeepsItems (reach_of w.old (L.items l.now)) (reach_of w.new (L.items l.now)) }
 {
@@ -185,7 +198,10 @@ fn list_of_lists<L: Locals>(w: &mut World, l: &L, pairs: &[(Val, Val)]) -> Resul
     requires pairs { All (AreLive (extent_of w.old.heap)) pairs.now }
     ensures live { IfOk result (IsLive (extent_of w.new.heap)) }
     ensures stops { IfErr result (IsLiveStop (extent_of w.new.heap)) }
-    ensures found { (outside : Outside) → Found (extent_of w.new.heap) (list_of_pairs (map (values_in (extent_of w.old.heap)) pairs.now)) (setting_of outside w.old (L.items l.now)) (setting_of outside w.new (L.items l.now)) (value_in (extent_of w.new.heap)) result }
+    ensures found { (outside : Outside)
+        → Found (extent_of w.new.heap) (list_of_pairs (map (values_in (extent_of w.old.heap)) pairs.now))
+        (setting_of outside w.old (L.items l.now)) (setting_of outside w.new (L.items l.now))
+        (value_in (extent_of w.new.heap)) result }
     ensures locals { All (IsLive (extent_of w.new.heap)) (L.items l.now) }
     ensures kept { KeepsItems (reach_of w.old (L.items l.now)) (reach_of w.new (L.items l.now)) }
 {
@@ -199,7 +215,10 @@ fn lists_of<L: Locals>(w: &mut World, l: &L, pairs: &[(Val, Val)]) -> Result<Vec
     requires pairs { All (AreLive (extent_of w.old.heap)) pairs.now }
     ensures live { IfOk result (λ lists. All (IsLive (extent_of w.new.heap)) lists.items) }
     ensures stops { IfErr result (IsLiveStop (extent_of w.new.heap)) }
-    ensures found { (outside : Outside) → Found (extent_of w.new.heap) (pair_lists (map (values_in (extent_of w.old.heap)) pairs.now)) (setting_of outside w.old (L.items l.now)) (setting_of outside w.new (L.items l.now)) (λ lists. map (value_in (extent_of w.new.heap)) lists.items) result }
+    ensures found { (outside : Outside)
+        → Found (extent_of w.new.heap) (pair_lists (map (values_in (extent_of w.old.heap)) pairs.now))
+        (setting_of outside w.old (L.items l.now)) (setting_of outside w.new (L.items l.now))
+        (λ lists. map (value_in (extent_of w.new.heap)) lists.items) result }
     ensures locals { All (IsLive (extent_of w.new.heap)) (L.items l.now) }
     ensures kept { KeepsItems (reach_of w.old (L.items l.now)) (reach_of w.new (L.items l.now)) }
 {
@@ -219,7 +238,9 @@ fn list_in_turn<L: Locals>(w: &mut World, l: &L, pairs: &[(Val, Val)]) -> Result
     requires pairs { All (AreLive (extent_of w.old.heap)) pairs.now }
     ensures live { IfOk result (IsLive (extent_of w.new.heap)) }
     ensures stops { IfErr result (IsLiveStop (extent_of w.new.heap)) }
-    ensures found { (outside : Outside) → Found (extent_of w.new.heap) (new_list_of (in_turn (map (values_in (extent_of w.old.heap)) pairs.now))) (setting_of outside w.old (L.items l.now)) (setting_of outside w.new (L.items l.now)) (value_in (extent_of w.new.heap)) result }
+    ensures found { (outside : Outside) → Found (extent_of w.new.heap)
+        (new_list_of (in_turn (map (values_in (extent_of w.old.heap)) pairs.now))) (setting_of outside w.old
+        (L.items l.now)) (setting_of outside w.new (L.items l.now)) (value_in (extent_of w.new.heap)) result }
     ensures locals { All (IsLive (extent_of w.new.heap)) (L.items l.now) }
     ensures kept { KeepsItems (reach_of w.old (L.items l.now)) (reach_of w.new (L.items l.now)) }
 {
@@ -229,8 +250,10 @@ fn list_in_turn<L: Locals>(w: &mut World, l: &L, pairs: &[(Val, Val)]) -> Result
 
 // Keys and values in turn.
 fn turned(alloc: Global, pairs: &[(Val, Val)]) -> Result<Vec<Val>, AllocError>
-    ensures values { IfOk result (λ vals. (all : Extent) → map (value_in all) vals.items ≡ in_turn (map (values_in all) pairs.now)) }
-    ensures live { IfOk result (λ vals. (all : Extent) → All (AreLive all) pairs.now → All (IsLive all) vals.items) }
+    ensures values { IfOk result
+        (λ vals. (all : Extent) → map (value_in all) vals.items ≡ in_turn (map (values_in all) pairs.now)) }
+    ensures live { IfOk result
+        (λ vals. (all : Extent) → All (AreLive all) pairs.now → All (IsLive all) vals.items) }
 {
     let mut vals = Vec::new(alloc);
     let mut rest = pairs;

@@ -32,7 +32,8 @@ module _ {T : Type 0} (list : Numbered T) where
 
   -- the list with another item under this number, if an item has it
   abbrev pub with_numbered : ℤ → T → Numbered T
-  with_numbered number item = record { items = items_with list.items (number -ℤ list.number) item; number = list.number }
+  with_numbered number item =
+      record { items = items_with list.items (number -ℤ list.number) item; number = list.number }
 
   -- the list with one more item at the right
   abbrev pub with_right : T → Numbered T

@@ -6,17 +6,28 @@ ghost use Rattle.icn_structs.specs.PairLists.{value_of, stored, without, KeysDif
 /// The numbers of a list follow without a gap, and an item's number stays with it, whatever joins, leaves or is set beside
 /// it.
 pub fn numbers_stay<T>()
-    ensures follow { (list : Numbered T) (place : ℕ) → item_numbered list (list.number +ℤ pos place) ≡ slice_get list.items place }
-    ensures joins_left { (list : Numbered T) (item : T) (n : ℤ) → list.number ≤ℤ n → item_numbered (with_left list item) n ≡ item_numbered list n }
-    ensures joins_right { (list : Numbered T) (item : T) (n : ℤ) → n ≢ number_after list → item_numbered (with_right list item) n ≡ item_numbered list n }
-    ensures leaves_left { (list : Numbered T) (n : ℤ) → list.number <ℤ n → item_numbered (without_left list) n ≡ item_numbered list n }
-    ensures leaves_right { (list : Numbered T) (n : ℤ) → (n +ℤ pos 1) ≢ number_after list → item_numbered (without_right list) n ≡ item_numbered list n }
-    ensures set { (list : Numbered T) (item : T) (n : ℤ) → IsSome (item_numbered list n) → item_numbered (with_numbered list n item) n ≡ Some item }
-    ensures set_alone { (list : Numbered T) (item : T) (n m : ℤ) → m ≢ n → item_numbered (with_numbered list n item) m ≡ item_numbered list m }
+    ensures follow { (list : Numbered T) (place : ℕ)
+        → item_numbered list (list.number +ℤ pos place) ≡ slice_get list.items place }
+    ensures joins_left { (list : Numbered T) (item : T) (n : ℤ) → list.number ≤ℤ n
+        → item_numbered (with_left list item) n ≡ item_numbered list n }
+    ensures joins_right { (list : Numbered T) (item : T) (n : ℤ) → n ≢ number_after list
+        → item_numbered (with_right list item) n ≡ item_numbered list n }
+    ensures leaves_left { (list : Numbered T) (n : ℤ) → list.number <ℤ n
+        → item_numbered (without_left list) n ≡ item_numbered list n }
+    ensures leaves_right { (list : Numbered T) (n : ℤ) → (n +ℤ pos 1) ≢ number_after list
+        → item_numbered (without_right list) n ≡ item_numbered list n }
+    ensures set { (list : Numbered T) (item : T) (n : ℤ) → IsSome (item_numbered list n)
+        → item_numbered (with_numbered list n item) n ≡ Some item }
+    ensures set_alone { (list : Numbered T) (item : T) (n m : ℤ) → m ≢ n
+        → item_numbered (with_numbered list n item) m ≡ item_numbered list m }
 {}
 
 /// A value stays at its key, whatever is stored at another key or removed there.
 pub fn values_stay<K: Eq, V>()
-    ensures stored { (pairs : List (K × V)) (key other : K) (value : V) → value_of K.eq (stored K.eq pairs key value) other ≡ (if K.eq key other then Some value else value_of K.eq pairs other) }
-    ensures removed { (pairs : List (K × V)) (key other : K) → KeysDiffer K.eq pairs → value_of K.eq (without K.eq pairs key) other ≡ (if K.eq key other then None else value_of K.eq pairs other) }
+    ensures stored { (pairs : List (K × V)) (key other : K) (value : V)
+        → value_of K.eq (stored K.eq pairs key value) other ≡ (if K.eq key other
+        then Some value else value_of K.eq pairs other) }
+    ensures removed { (pairs : List (K × V)) (key other : K)
+        → KeysDiffer K.eq pairs → value_of K.eq (without K.eq pairs key) other ≡ (if K.eq key other
+        then None else value_of K.eq pairs other) }
 {}

@@ -25,8 +25,10 @@ pub record IsDigits (radix : ℕ) (text : List ℕ) : Type 0 where
 -- decimal digits; or a radix from 2 to 36 in decimal digits, its mark, and digits of that radix
 pub data WritesNumeral : List ℕ → ℕ → Type 0 where
   decimal : (digits : List ℕ) → IsDigits 10 digits → WritesNumeral digits (digits_value 10 digits)
-  radix : (radix digits : List ℕ) (mark : ℕ) → IsDigits 10 radix → 2 ≤ digits_value 10 radix → digits_value 10 radix ≤ 36 → is_radix_mark mark ≡ true
-      → IsDigits (digits_value 10 radix) digits → WritesNumeral (radix ++ mark ∷ digits) (digits_value (digits_value 10 radix) digits)
+  radix : (radix digits : List ℕ) (mark : ℕ) → IsDigits 10 radix → 2 ≤ digits_value 10 radix
+      → digits_value 10 radix ≤ 36 → is_radix_mark mark ≡ true
+      → IsDigits (digits_value 10 radix) digits
+      → WritesNumeral (radix ++ mark ∷ digits) (digits_value (digits_value 10 radix) digits)
 
 abbrev pub signed : Bool → ℕ → ℤ
 signed is_negative n = if is_negative then neg_ℤ (pos n) else pos n

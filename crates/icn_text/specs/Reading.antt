@@ -13,7 +13,8 @@ in_64_bits n = if nat_lt n (2 ^ 64) then Some n else None
 -- digits of the radix, behind which white space alone stands
 abbrev pub digits_read : ℕ → List ℕ → Option ℕ
 digits_read radix text = let count = prefix_len (is_digit_of radix) text in
-    if nat_lt 0 count && list_all is_space (drop count text) then Some (digits_value radix (take count text)) else None
+    if nat_lt 0 count && list_all is_space (drop count text) then Some (digits_value radix (take count text))
+    else None
 
 -- what stands behind a radix and its mark
 abbrev pub radix_read : ℕ → List ℕ → Option ℕ
@@ -22,17 +23,20 @@ radix_read radix text = if nat_le 2 radix && nat_le radix 36 then digits_read ra
 -- a numeral by what stands behind its first digits
 abbrev pub numeral_by : List ℕ → List ℕ → List ℕ → Option ℕ
 numeral_by text digits [] = digits_read 10 text
-numeral_by text digits (mark ∷ rest) = if is_radix_mark mark then radix_read (digits_value 10 digits) rest else digits_read 10 text
+numeral_by text digits (mark ∷ rest) =
+    if is_radix_mark mark then radix_read (digits_value 10 digits) rest else digits_read 10 text
 
 abbrev pub numeral_read : List ℕ → Option ℕ
-numeral_read text = let count = prefix_len (is_digit_of 10) text in numeral_by text (take count text) (drop count text)
+numeral_read text =
+    let count = prefix_len (is_digit_of 10) text in numeral_by text (take count text) (drop count text)
 
 -- whether a sign makes it negative, and its magnitude
 abbrev pub signed_read : List ℕ → Option (Bool × ℕ)
 signed_read [] = None
 signed_read (sign ∷ rest) =
     if sign == 45 then option_map (λ n. (true, n)) (numeral_read rest)
-    else (if sign == 43 then option_map (λ n. (false, n)) (numeral_read rest) else option_map (λ n. (false, n)) (numeral_read (sign ∷ rest)))
+    else (if sign == 43 then option_map (λ n. (false, n)) (numeral_read rest)
+    else option_map (λ n. (false, n)) (numeral_read (sign ∷ rest)))
 
 abbrev pub integer_read : List ℕ → Option (Bool × ℕ)
 integer_read text = signed_read (drop (prefix_len is_space text) text)

@@ -22,7 +22,13 @@ draft ▹ step = step draft
 
 -- one more instruction
 unfoldable pub put : UnitInstr → Draft → Draft
-put instr d = record { instrs = d.instrs ++ instr ∷ []; labels = d.labels; names = d.names; loops = d.loops; cases = d.cases }
+put instr d = record {
+  instrs = d.instrs ++ instr ∷ [];
+  labels = d.labels;
+  names = d.names;
+  loops = d.loops;
+  cases = d.cases;
+}
 
 -- the next number of a label, and that it is given
 unfoldable pub next_label : Draft → ℕ
@@ -30,7 +36,8 @@ next_label d = suc d.labels
 
 -- the next number of a label is given
 unfoldable pub with_label : Draft → Draft
-with_label d = record { instrs = d.instrs; labels = suc d.labels; names = d.names; loops = d.loops; cases = d.cases }
+with_label d =
+    record { instrs = d.instrs; labels = suc d.labels; names = d.names; loops = d.loops; cases = d.cases }
 
 -- the number of a label, which may have been mentioned
 abbrev pub number_of : Option ℕ → Draft → ℕ
@@ -55,7 +62,13 @@ name_place names name = position_or_len (bytes_eq name) names
 
 -- the variable of a name
 unfoldable pub put_variable : List ℕ → Draft → Draft
-put_variable name d = record { instrs = d.instrs ++ Var (name_place d.names name) ∷ []; labels = d.labels; names = with_name d.names name; loops = d.loops; cases = d.cases }
+put_variable name d = record {
+  instrs = d.instrs ++ Var (name_place d.names name) ∷ [];
+  labels = d.labels;
+  names = with_name d.names name;
+  loops = d.loops;
+  cases = d.cases;
+}
 
 -- Loops
 
@@ -77,11 +90,18 @@ innermost d = first_ways d.loops
 
 -- in one more loop with these labels, and outside the innermost one
 unfoldable pub in_loop : Ways → Draft → Draft
-in_loop ways d = record { instrs = d.instrs; labels = d.labels; names = d.names; loops = ways ∷ d.loops; cases = d.cases }
+in_loop ways d =
+    record { instrs = d.instrs; labels = d.labels; names = d.names; loops = ways ∷ d.loops; cases = d.cases }
 
 -- outside the innermost loop
 unfoldable pub outside_loop : Draft → Draft
-outside_loop d = record { instrs = d.instrs; labels = d.labels; names = d.names; loops = other_ways d.loops; cases = d.cases }
+outside_loop d = record {
+  instrs = d.instrs;
+  labels = d.labels;
+  names = d.names;
+  loops = other_ways d.loops;
+  cases = d.cases;
+}
 
 -- outside the innermost loop for a step
 abbrev pub aside : (Draft → Draft) → Draft → Draft
@@ -93,7 +113,8 @@ next_number d = number_of (innermost d).next (outside_loop d)
 
 -- the label that `next` goes to is mentioned, and has its number
 abbrev pub with_next : Draft → Draft
-with_next d = d ▹ outside_loop ▹ numbered (innermost d).next ▹ in_loop (record { next = Some (next_number d); last = (innermost d).last })
+with_next d = d ▹ outside_loop ▹ numbered (innermost d).next
+    ▹ in_loop (record { next = Some (next_number d); last = (innermost d).last })
 
 -- an instruction with that label
 abbrev pub put_next : (ℕ → UnitInstr) → Draft → Draft
@@ -105,7 +126,8 @@ last_number d = number_of (innermost d).last (outside_loop d)
 
 -- the label that `break` goes to is mentioned, and has its number
 abbrev pub with_last : Draft → Draft
-with_last d = d ▹ outside_loop ▹ numbered (innermost d).last ▹ in_loop (record { next = (innermost d).next; last = Some (last_number d) })
+with_last d = d ▹ outside_loop ▹ numbered (innermost d).last
+    ▹ in_loop (record { next = (innermost d).next; last = Some (last_number d) })
 
 -- an instruction with the label that `break` goes to
 abbrev pub put_last : (ℕ → UnitInstr) → Draft → Draft
@@ -127,11 +149,18 @@ case_end d = first_end d.cases
 
 -- in one more case with this last label, if that was mentioned
 unfoldable pub in_case : Option ℕ → Draft → Draft
-in_case label d = record { instrs = d.instrs; labels = d.labels; names = d.names; loops = d.loops; cases = label ∷ d.cases }
+in_case label d =
+    record { instrs = d.instrs; labels = d.labels; names = d.names; loops = d.loops; cases = label ∷ d.cases }
 
 -- outside the innermost case
 unfoldable pub outside_case : Draft → Draft
-outside_case d = record { instrs = d.instrs; labels = d.labels; names = d.names; loops = d.loops; cases = other_ends d.cases }
+outside_case d = record {
+  instrs = d.instrs;
+  labels = d.labels;
+  names = d.names;
+  loops = d.loops;
+  cases = other_ends d.cases;
+}
 
 -- the same of that label
 abbrev pub end_number : Draft → ℕ

@@ -39,4 +39,5 @@ unit_decls declarations = flat_map lines_in declarations
 
 -- The unit of a file with this base name: its procedures and its declarations, in their order.
 abbrev pub translated_unit : List ℕ → List Declaration → UnitRead
-translated_unit name declarations = record { name = name; procs = proc_codes declarations; decls = unit_decls declarations }
+translated_unit name declarations =
+    record { name = name; procs = proc_codes declarations; decls = unit_decls declarations }

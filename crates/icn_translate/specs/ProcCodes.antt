@@ -33,14 +33,21 @@ local_texts locals = texts_of locals.names
 
 -- the parameters, and then locals and statics as they are declared
 abbrev pub declared_entries : Procedure → List UnitName
-declared_entries procedure = map (λ name. entry_of Parameter name.text) procedure.parameters ++ flat_map local_entries procedure.locals
+declared_entries procedure =
+    map (λ name. entry_of Parameter name.text) procedure.parameters ++ flat_map local_entries procedure.locals
 
 abbrev pub declared_texts : Procedure → List (List ℕ)
 declared_texts procedure = texts_of procedure.parameters ++ flat_map local_texts procedure.locals
 
 -- The draft before the first instruction. Rules of names see to it that each stands there once.
 abbrev pub first_draft : Procedure → Draft
-first_draft procedure = record { instrs = []; labels = 0; names = with_names [] (declared_texts procedure); loops = []; cases = [] }
+first_draft procedure = record {
+  instrs = [];
+  labels = 0;
+  names = with_names [] (declared_texts procedure);
+  loops = [];
+  cases = [];
+}
 
 -- the draft of the whole procedure
 abbrev pub draft_of : Procedure → Draft

@@ -46,7 +46,8 @@ bounded_code step d = d ▹ put_mark ▹ step ▹ put I.Unmark ▹ put (I.Lab (n
 
 -- the body of a co-expression in what makes it, where its second label is this
 abbrev pub created_behind : ℕ → (Draft → Draft) → Draft → Draft
-created_behind outer body d = d ▹ put_mark ▹ body ▹ put I.Coret ▹ put I.Efail ▹ put (I.Lab (next_label d)) ▹ put I.Cofail ▹ put (I.Lab outer)
+created_behind outer body d = d ▹ put_mark ▹ body ▹ put I.Coret ▹ put I.Efail ▹ put (I.Lab (next_label d))
+    ▹ put I.Cofail ▹ put (I.Lab outer)
 
 abbrev pub create_code : (Draft → Draft) → Draft → Draft
 create_code body d = d ▹ with_label ▹ put (I.Create (next_label d)) ▹ created_behind (next_label d) body
@@ -62,7 +63,8 @@ unless_empty e step d = elim (is_empty e) as (λ is. Draft) [ true ↦ d | false
 
 -- a branch behind `goto` with a new label, which stands behind it, where the label before it is this
 abbrev pub alternative : (Draft → Draft) → ℕ → Draft → Draft
-alternative branch label d = d ▹ with_label ▹ put (I.Goto (next_label d)) ▹ put (I.Lab label) ▹ branch ▹ put (I.Lab (next_label d))
+alternative branch label d =
+    d ▹ with_label ▹ put (I.Goto (next_label d)) ▹ put (I.Lab label) ▹ branch ▹ put (I.Lab (next_label d))
 
 -- `until`, behind its first label
 abbrev pub until_part : (Draft → Draft) → Draft → Draft
@@ -70,8 +72,10 @@ until_part control d = d ▹ put_mark ▹ control ▹ put I.Unmark ▹ put I.Efa
 
 -- a loop with its control expression, before its `do` part
 abbrev pub control_part : LoopKind → (Draft → Draft) → Draft → Draft
-control_part While control d = d ▹ with_label ▹ put (I.Lab (next_label d)) ▹ in_loop unmentioned ▹ put I.Mark0 ▹ control ▹ put I.Unmark
-control_part Until control d = d ▹ with_label ▹ put (I.Lab (next_label d)) ▹ in_loop unmentioned ▹ until_part control
+control_part While control d =
+    d ▹ with_label ▹ put (I.Lab (next_label d)) ▹ in_loop unmentioned ▹ put I.Mark0 ▹ control ▹ put I.Unmark
+control_part Until control d =
+    d ▹ with_label ▹ put (I.Lab (next_label d)) ▹ in_loop unmentioned ▹ until_part control
 control_part Every control d = d ▹ in_loop unmentioned ▹ put I.Mark0 ▹ control ▹ put I.Pop
 
 -- what is open in the control expression of a loop: of `every` its mark stays for the next pass
@@ -124,7 +128,8 @@ update instr left right d = d ▹ left ▹ put I.Dup ▹ right ▹ put instr ▹
 -- an operator with `:=` behind it; `|` and `\` never have that
 abbrev pub augmented_form : InfixForm → (left right : Draft → Draft) → Draft → Draft
 augmented_form Both left right d = d ▹ left ▹ right ▹ put (I.Op O.Assign)
-augmented_form Scanning left right d = d ▹ left ▹ put I.Dup ▹ put I.Bscan ▹ right ▹ put I.Escan ▹ put (I.Op O.Assign)
+augmented_form Scanning left right d =
+    d ▹ left ▹ put I.Dup ▹ put I.Bscan ▹ right ▹ put I.Escan ▹ put (I.Op O.Assign)
 augmented_form Either left right d = d
 augmented_form Limiting left right d = d
 augmented_form Activating left right d = d ▹ update I.Coact left right
@@ -150,15 +155,20 @@ abbrev mutual
   translate o (Listing place es) d = d ▹ arguments o es ▹ put (I.Llist (elements es))
   translate o (Compound place es) d = d ▹ compound o es
   translate o (Call place f es) d = d ▹ translate o f ▹ arguments o es ▹ put (I.Invoke (elements es))
-  translate o (CoCall place f es) d = d ▹ translate o f ▹ creations es ▹ put (I.Llist (elements es)) ▹ put (I.Invoke 1)
+  translate o (CoCall place f es) d =
+      d ▹ translate o f ▹ creations es ▹ put (I.Llist (elements es)) ▹ put (I.Invoke 1)
   translate o (Subscript place x is) d = d ▹ translate o x ▹ subscripts o is
-  translate o (Section place kind x i j) d = d ▹ translate o x ▹ translate o i ▹ translate o j ▹ put (I.Op (section_op kind))
+  translate o (Section place kind x i j) d =
+      d ▹ translate o x ▹ translate o i ▹ translate o j ▹ put (I.Op (section_op kind))
   translate o (Field place x name) d = d ▹ translate o x ▹ put (I.Field name.text)
-  translate o (Prefix place operator x) d = d ▹ prefix_by (prefix_form operator) (translate o x) (translate (Marked o) x)
+  translate o (Prefix place operator x) d =
+      d ▹ prefix_by (prefix_form operator) (translate o x) (translate (Marked o) x)
   translate o (Not place x) d = d ▹ put_mark ▹ translate (Marked o) x ▹ put I.Unmark ▹ put I.Efail
       ▹ put (I.Lab (next_label d)) ▹ put I.Pnull
-  translate o (Binary place (Plain operator) a b) d = d ▹ plain_form (infix_form operator) (translate o a) (translate (Marked o) a) (translate o b)
-  translate o (Binary place (Augmented operator) a b) d = d ▹ augmented_form (infix_form operator) (translate o a) (translate o b)
+  translate o (Binary place (Plain operator) a b) d =
+      d ▹ plain_form (infix_form operator) (translate o a) (translate (Marked o) a) (translate o b)
+  translate o (Binary place (Augmented operator) a b) d =
+      d ▹ augmented_form (infix_form operator) (translate o a) (translate o b)
   translate o (To place a b by) d = d ▹ translate o a ▹ translate o b ▹ to_step o by ▹ put (I.Op O.ToBy)
   translate o (If place c a b) d = d ▹ if_mark b ▹ translate (Marked o) c ▹ put I.Unmark ▹ translate o a
       ▹ otherwise o b (next_label d)
@@ -201,7 +211,9 @@ abbrev mutual
   -- each expression but the last is bounded; where it is empty it has no code
   pub compound : Open → Trees → Draft → Draft
   compound o NoTrees d = d
-  compound o (More e es) d = d ▹ either_step (is_nothing es) (translate o e) (unless_empty e (bounded_code (translate (Marked o) e))) ▹ compound o es
+  compound o (More e es) d =
+      d ▹ either_step (is_nothing es) (translate o e) (unless_empty e (bounded_code (translate (Marked o) e)))
+      ▹ compound o es
 
   -- a co-expression of each element
   pub creations : Trees → Draft → Draft
@@ -245,7 +257,8 @@ abbrev mutual
 
   pub guarded_clause : Open → Clause → Draft → Draft
   guarded_clause o (Default place e) d = d
-  guarded_clause o (Guarded place s b) d = d ▹ put_mark ▹ put I.Ccase ▹ translate (Marked o) s ▹ put (I.Op O.Equivalent)
+  guarded_clause o (Guarded place s b) d =
+      d ▹ put_mark ▹ put I.Ccase ▹ translate (Marked o) s ▹ put (I.Op O.Equivalent)
       ▹ put I.Unmark ▹ put I.Pop ▹ translate o b ▹ put_end I.Goto ▹ put (I.Lab (next_label d))
 
   -- the first default, or `efail`

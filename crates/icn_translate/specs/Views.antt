@@ -15,4 +15,10 @@ open_of (Kept.Each' p outer) = Each (open_of outer)
 
 -- the code that is written so far, as definitions see it
 unfoldable pub draft_of : Builder → Draft
-draft_of b = record { instrs = b.instrs.items; labels = b.labels; names = map (λ name. name.now) b.names.keys; loops = b.loops.items; cases = b.cases.items }
+draft_of b = record {
+  instrs = b.instrs.items;
+  labels = b.labels;
+  names = map (λ name. name.now) b.names.keys;
+  loops = b.loops.items;
+  cases = b.cases.items;
+}

@@ -56,7 +56,13 @@ impl<'a> Builder<'a> {
     /// No instructions yet, with these names.
     #[tactic(auto, unfolding(crate::specs::Views::draft_of))]
     pub fn new(alloc: Global, names: IndexSet<&'a [u8]>) -> Self
-        ensures { draft_of result ≡ record { instrs = []; labels = 0; names = map (λ name. name.now) names.entry.keys; loops = []; cases = [] } }
+        ensures { draft_of result ≡ record {
+          instrs = [];
+          labels = 0;
+          names = map (λ name. name.now) names.entry.keys;
+          loops = [];
+          cases = [];
+        } }
     {
         Builder {
             alloc,
@@ -244,7 +250,8 @@ impl<'a> Builder<'a> {
 
     /// Writes `unmark` for each mark that was opened in the innermost loop.
     pub fn put_unmarks_for_break(&mut self, within: Open<'_>) -> Result<(), AllocError>
-        ensures { OnOk result (draft_of self.new ≡ unmarks_for_break (open_of within.entry) (draft_of self.old)) }
+        ensures { OnOk result
+            (draft_of self.new ≡ unmarks_for_break (open_of within.entry) (draft_of self.old)) }
     {
         match within {
             Open::Outermost | Open::Loop(_) => Ok(()),
@@ -258,7 +265,8 @@ impl<'a> Builder<'a> {
 
     /// Writes `unmark` for each mark that was opened since the place that `next` goes to was last passed.
     pub fn put_unmarks_for_next(&mut self, within: Open<'_>) -> Result<(), AllocError>
-        ensures { OnOk result (draft_of self.new ≡ unmarks_for_next (open_of within.entry) (draft_of self.old)) }
+        ensures { OnOk result
+            (draft_of self.new ≡ unmarks_for_next (open_of within.entry) (draft_of self.old)) }
     {
         match within {
             Open::Outermost | Open::Loop(_) | Open::Each(_) => Ok(()),
@@ -272,7 +280,8 @@ impl<'a> Builder<'a> {
     /// Writes a new label at its place.
     pub fn put_label(&mut self) -> Result<u32, AllocError>
         ensures number { IfOk result (λ label. label ≡ next_label (draft_of self.old)) }
-        ensures draft { OnOk result (draft_of self.new ≡ (draft_of self.old ▹ with_label ▹ put (LabInstr (next_label (draft_of self.old))))) }
+        ensures draft { OnOk result (draft_of self.new ≡ (draft_of self.old ▹ with_label
+            ▹ put (LabInstr (next_label (draft_of self.old))))) }
     {
         let label = self.label()?;
         self.put(UnitInstr::Lab(label))?;
@@ -282,7 +291,8 @@ impl<'a> Builder<'a> {
     /// Begins a loop with its first label, and gives the instruction that goes back there.
     pub fn begin_loop(&mut self) -> Result<UnitInstr, AllocError>
         ensures back { IfOk result (λ back. back ≡ LoopInstr (next_label (draft_of self.old))) }
-        ensures draft { OnOk result (draft_of self.new ≡ (draft_of self.old ▹ with_label ▹ put (LabInstr (next_label (draft_of self.old))) ▹ in_loop unmentioned)) }
+        ensures draft { OnOk result (draft_of self.new ≡ (draft_of self.old ▹ with_label
+            ▹ put (LabInstr (next_label (draft_of self.old))) ▹ in_loop unmentioned)) }
     {
         let start = self.put_label()?;
         self.enter_loop(UNMENTIONED)?;
@@ -347,7 +357,8 @@ impl<'a> Builder<'a> {
     /// Writes `goto` with a new label, and a label at its place.
     pub fn put_goto(&mut self, label: u32) -> Result<u32, AllocError>
         ensures number { IfOk result (λ end. end ≡ next_label (draft_of self.old)) }
-        ensures draft { OnOk result (draft_of self.new ≡ (draft_of self.old ▹ with_label ▹ put (GotoInstr (next_label (draft_of self.old))) ▹ put (LabInstr label))) }
+        ensures draft { OnOk result (draft_of self.new ≡ (draft_of self.old ▹ with_label
+            ▹ put (GotoInstr (next_label (draft_of self.old))) ▹ put (LabInstr label))) }
     {
         let end = self.label()?;
         self.put_two(UnitInstr::Goto(end), UnitInstr::Lab(label))?;
@@ -357,7 +368,8 @@ impl<'a> Builder<'a> {
     /// Writes `create` with a new label.
     pub fn put_create(&mut self) -> Result<u32, AllocError>
         ensures number { IfOk result (λ label. label ≡ next_label (draft_of self.old)) }
-        ensures draft { OnOk result (draft_of self.new ≡ (draft_of self.old ▹ with_label ▹ put (CreateInstr (next_label (draft_of self.old))))) }
+        ensures draft { OnOk result (draft_of self.new ≡ (draft_of self.old ▹ with_label
+            ▹ put (CreateInstr (next_label (draft_of self.old))))) }
     {
         let label = self.label()?;
         self.put(UnitInstr::Create(label))?;
@@ -366,7 +378,8 @@ impl<'a> Builder<'a> {
 
     /// Writes what ends a create body, whose marks have these labels.
     pub fn end_created(&mut self, inner: u32, outer: u32) -> Result<(), AllocError>
-        ensures { OnOk result (draft_of self.new ≡ (draft_of self.old ▹ put Coret ▹ put Efail ▹ put (LabInstr inner) ▹ put Cofail ▹ put (LabInstr outer))) }
+        ensures { OnOk result (draft_of self.new ≡ (draft_of self.old ▹ put Coret ▹ put Efail
+            ▹ put (LabInstr inner) ▹ put Cofail ▹ put (LabInstr outer))) }
     {
         self.put_two(UnitInstr::Coret, UnitInstr::Efail)?;
         self.put_two(UnitInstr::Lab(inner), UnitInstr::Cofail)?;
@@ -382,8 +395,10 @@ pub const UNMENTIONED: Ways = Ways {
 
 /// The place of a name among names, which it joins where it is new.
 pub fn enter_name<'a>(names: &mut IndexSet<&'a [u8]>, name: &'a [u8]) -> Result<u32, AllocError>
-    ensures place { IfOk result (λ place. place ≡ name_place (map (λ name. name.now) names.old.keys) name.now) }
-    ensures names { OnOk result (map (λ name. name.now) names.new.keys ≡ with_name (map (λ name. name.now) names.old.keys) name.now) }
+    ensures place { IfOk result
+        (λ place. place ≡ name_place (map (λ name. name.now) names.old.keys) name.now) }
+    ensures names { OnOk result
+        (map (λ name. name.now) names.new.keys ≡ with_name (map (λ name. name.now) names.old.keys) name.now) }
 {
     let (place, _) = names.insert_full(name)?;
     let number = counted(place)?;

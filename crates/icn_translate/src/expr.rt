@@ -18,7 +18,8 @@ impl<'a> Builder<'a> {
     /// Writes the code of an expression, with these marks and loops open.
     #[cycle(translate)]
     pub fn put_expr(&mut self, expr: &'a Expr, within: Open<'_>) -> Result<(), AllocError>
-        ensures { OnOk result (draft_of self.new ≡ translate (open_of within.entry) (tree_of expr.now) (draft_of self.old)) }
+        ensures { OnOk result
+            (draft_of self.new ≡ translate (open_of within.entry) (tree_of expr.now) (draft_of self.old)) }
     {
         match expr {
             Expr::Empty => self.put(UnitInstr::Pnull),
@@ -272,7 +273,9 @@ impl<'a> Builder<'a> {
         form: PrefixForm,
         within: Open<'_>,
     ) -> Result<(), AllocError>
-        ensures { OnOk result (draft_of self.new ≡ prefix_by form (translate (open_of within.entry) (tree_of operand.now)) (translate (Marked (open_of within.entry)) (tree_of operand.now)) (draft_of self.old)) }
+        ensures { OnOk result
+            (draft_of self.new ≡ prefix_by form (translate (open_of within.entry) (tree_of operand.now))
+            (translate (Marked (open_of within.entry)) (tree_of operand.now)) (draft_of self.old)) }
     {
         match form {
             PrefixForm::Activation => {
@@ -301,7 +304,8 @@ impl<'a> Builder<'a> {
         label: u32,
         within: Open<'_>,
     ) -> Result<(), AllocError>
-        ensures { OnOk result (draft_of self.new ≡ alternative (translate (open_of within.entry) (tree_of branch.now)) label (draft_of self.old)) }
+        ensures { OnOk result (draft_of self.new
+            ≡ alternative (translate (open_of within.entry) (tree_of branch.now)) label (draft_of self.old)) }
     {
         let end = self.put_goto(label)?;
         self.put_expr(branch, within)?;
@@ -311,7 +315,8 @@ impl<'a> Builder<'a> {
     /// Writes the code of an expression in a mark with a new label, where this is open in that mark.
     #[cycle(translate)]
     pub fn put_bounded(&mut self, expr: &'a Expr, marked: Open<'_>) -> Result<(), AllocError>
-        ensures { OnOk result (draft_of self.new ≡ bounded_code (translate (open_of marked.entry) (tree_of expr.now)) (draft_of self.old)) }
+        ensures { OnOk result (draft_of self.new
+            ≡ bounded_code (translate (open_of marked.entry) (tree_of expr.now)) (draft_of self.old)) }
     {
         let label = self.put_mark()?;
         self.put_expr(expr, marked)?;
@@ -327,7 +332,8 @@ impl<'a> Builder<'a> {
         within: Open<'_>,
     ) -> Result<UnitInstr, AllocError>
         ensures back { IfOk result (λ instr. instr ≡ back kind (next_label (draft_of self.old))) }
-        ensures draft { OnOk result (draft_of self.new ≡ control_part kind (translate (in_control kind (open_of within.entry)) (tree_of control.now)) (draft_of self.old)) }
+        ensures draft { OnOk result (draft_of self.new ≡ control_part kind
+            (translate (in_control kind (open_of within.entry)) (tree_of control.now)) (draft_of self.old)) }
     {
         let looped = Open::Loop(&within);
         let marked = Open::Mark(&looped);
@@ -365,7 +371,9 @@ impl<'a> Builder<'a> {
         kind: LoopKind,
         within: Open<'_>,
     ) -> Result<(), AllocError>
-        ensures { OnOk result (draft_of self.new ≡ looped_body (translate (Marked (in_body kind (open_of within.entry))) (tree_of body.now)) (draft_of self.old)) }
+        ensures { OnOk result (draft_of self.new
+            ≡ looped_body (translate (Marked (in_body kind (open_of within.entry))) (tree_of body.now))
+            (draft_of self.old)) }
     {
         let looped = in_body(kind, &within);
         self.put_next_mark()?;
@@ -376,7 +384,8 @@ impl<'a> Builder<'a> {
     // A co-expression.
     #[cycle(translate)]
     fn put_created(&mut self, body: &'a Expr) -> Result<(), AllocError>
-        ensures { OnOk result (draft_of self.new ≡ create_code (translate OutermostOpen (tree_of body.now)) (draft_of self.old)) }
+        ensures { OnOk result (draft_of self.new
+            ≡ create_code (translate OutermostOpen (tree_of body.now)) (draft_of self.old)) }
     {
         let outer = self.put_create()?;
         let inner = self.put_mark()?;
@@ -387,7 +396,8 @@ impl<'a> Builder<'a> {
     // Operands in a row.
     #[cycle(translate)]
     fn put_operands(&mut self, exprs: &'a [Expr], within: Open<'_>) -> Result<(), AllocError>
-        ensures { OnOk result (draft_of self.new ≡ operands (open_of within.entry) (all_of exprs.now) (draft_of self.old)) }
+        ensures { OnOk result
+            (draft_of self.new ≡ operands (open_of within.entry) (all_of exprs.now) (draft_of self.old)) }
     {
         for expr in exprs {
             self.put_expr(expr, within)?;
@@ -399,7 +409,8 @@ impl<'a> Builder<'a> {
     #[cycle(translate)]
     fn put_arguments(&mut self, exprs: &'a [Expr], within: Open<'_>) -> Result<u32, AllocError>
         ensures count { IfOk result (λ count. count ≡ elements (all_of exprs.now)) }
-        ensures draft { OnOk result (draft_of self.new ≡ arguments (open_of within.entry) (all_of exprs.now) (draft_of self.old)) }
+        ensures draft { OnOk result
+            (draft_of self.new ≡ arguments (open_of within.entry) (all_of exprs.now) (draft_of self.old)) }
     {
         if is_no_element(exprs) {
             return Ok(0);
@@ -437,7 +448,8 @@ impl<'a> Builder<'a> {
     // Expressions with `pop` between them.
     #[cycle(translate)]
     fn put_conjunction(&mut self, exprs: &'a [Expr], within: Open<'_>) -> Result<(), AllocError>
-        ensures { OnOk result (draft_of self.new ≡ conjunction (open_of within.entry) (all_of exprs.now) (draft_of self.old)) }
+        ensures { OnOk result
+            (draft_of self.new ≡ conjunction (open_of within.entry) (all_of exprs.now) (draft_of self.old)) }
     {
         let Some((first, others)) = exprs.split_first() else {
             return Ok(());
@@ -453,7 +465,8 @@ impl<'a> Builder<'a> {
     // The expressions of a compound.
     #[cycle(translate)]
     fn put_compound(&mut self, exprs: &'a [Expr], within: Open<'_>) -> Result<(), AllocError>
-        ensures { OnOk result (draft_of self.new ≡ compound (open_of within.entry) (all_of exprs.now) (draft_of self.old)) }
+        ensures { OnOk result
+            (draft_of self.new ≡ compound (open_of within.entry) (all_of exprs.now) (draft_of self.old)) }
     {
         for (place, expr) in exprs.iter().enumerate() {
             self.put_part(expr, place + 1 == exprs.len(), within)?;
@@ -469,7 +482,10 @@ impl<'a> Builder<'a> {
         is_last: bool,
         within: Open<'_>,
     ) -> Result<(), AllocError>
-        ensures { OnOk result (draft_of self.new ≡ either_step is_last (translate (open_of within.entry) (tree_of expr.now)) (unless_empty (tree_of expr.now) (bounded_code (translate (Marked (open_of within.entry)) (tree_of expr.now)))) (draft_of self.old)) }
+        ensures { OnOk result (draft_of self.new ≡ either_step is_last
+            (translate (open_of within.entry) (tree_of expr.now)) (unless_empty (tree_of expr.now)
+            (bounded_code (translate (Marked (open_of within.entry)) (tree_of expr.now))))
+            (draft_of self.old)) }
     {
         if is_last {
             return self.put_expr(expr, within);
@@ -483,7 +499,8 @@ impl<'a> Builder<'a> {
     // Subscripts in a row.
     #[cycle(translate)]
     fn put_subscripts(&mut self, exprs: &'a [Expr], within: Open<'_>) -> Result<(), AllocError>
-        ensures { OnOk result (draft_of self.new ≡ subscripts (open_of within.entry) (all_of exprs.now) (draft_of self.old)) }
+        ensures { OnOk result
+            (draft_of self.new ≡ subscripts (open_of within.entry) (all_of exprs.now) (draft_of self.old)) }
     {
         for expr in exprs {
             self.put_expr(expr, within)?;
@@ -495,7 +512,9 @@ impl<'a> Builder<'a> {
     // The clauses of a `case`, behind its subject.
     #[cycle(translate)]
     fn put_clauses(&mut self, clauses: &'a [Clause], within: Open<'_>) -> Result<(), AllocError>
-        ensures { OnOk result (draft_of self.new ≡ case_of (guarded (open_of within.entry) (all_clauses_of clauses.now)) (default_part (open_of within.entry) (all_clauses_of clauses.now)) (draft_of self.old)) }
+        ensures { OnOk result
+            (draft_of self.new ≡ case_of (guarded (open_of within.entry) (all_clauses_of clauses.now))
+            (default_part (open_of within.entry) (all_clauses_of clauses.now)) (draft_of self.old)) }
     {
         self.enter_case(None)?;
         self.put_guarded(clauses, within)?;
@@ -507,7 +526,8 @@ impl<'a> Builder<'a> {
     // The clauses but the default.
     #[cycle(translate)]
     fn put_guarded(&mut self, clauses: &'a [Clause], within: Open<'_>) -> Result<(), AllocError>
-        ensures { OnOk result (draft_of self.new ≡ guarded (open_of within.entry) (all_clauses_of clauses.now) (draft_of self.old)) }
+        ensures { OnOk result (draft_of self.new
+            ≡ guarded (open_of within.entry) (all_clauses_of clauses.now) (draft_of self.old)) }
     {
         for clause in clauses {
             self.put_guarded_clause(clause, within)?;
@@ -517,7 +537,8 @@ impl<'a> Builder<'a> {
 
     #[cycle(translate)]
     fn put_guarded_clause(&mut self, clause: &'a Clause, within: Open<'_>) -> Result<(), AllocError>
-        ensures { OnOk result (draft_of self.new ≡ guarded_clause (open_of within.entry) (clause_of clause.now) (draft_of self.old)) }
+        ensures { OnOk result (draft_of self.new
+            ≡ guarded_clause (open_of within.entry) (clause_of clause.now) (draft_of self.old)) }
     {
         match clause {
             Clause::Default { .. } => Ok(()),
@@ -537,7 +558,8 @@ impl<'a> Builder<'a> {
     // The first default, or `efail`.
     #[cycle(translate)]
     fn put_default(&mut self, clauses: &'a [Clause], within: Open<'_>) -> Result<(), AllocError>
-        ensures { OnOk result (draft_of self.new ≡ default_part (open_of within.entry) (all_clauses_of clauses.now) (draft_of self.old)) }
+        ensures { OnOk result (draft_of self.new
+            ≡ default_part (open_of within.entry) (all_clauses_of clauses.now) (draft_of self.old)) }
     {
         for clause in clauses {
             if let Clause::Default { value, .. } = clause {

@@ -24,7 +24,8 @@ pub fn proc_codes(alloc: Global, decls: &[Decl]) -> Result<Vec<ProcCode>, AllocE
 
 #[tactic(auto, using(crate::proofs::Entries::seen_more))]
 fn put_codes(codes: &mut Vec<ProcCode>, alloc: Global, decl: &Decl) -> Result<(), AllocError>
-    ensures { OnOk result (map proc_seen codes.new.items ≡ map proc_seen codes.old.items ++ codes_in (declaration_of decl.now)) }
+    ensures { OnOk result (map proc_seen codes.new.items ≡ map proc_seen codes.old.items
+        ++ codes_in (declaration_of decl.now)) }
 {
     match decl {
         Decl::Global { .. } | Decl::Link { .. } | Decl::Invocable { .. } | Decl::Record { .. } =>
@@ -50,7 +51,8 @@ pub fn unit_decls(alloc: Global, decls: &[Decl]) -> Result<Vec<UnitDecl>, AllocE
 }
 
 fn put_lines(lines: &mut Vec<UnitDecl>, alloc: Global, decl: &Decl) -> Result<(), AllocError>
-    ensures { OnOk result (map decl_seen lines.new.items ≡ map decl_seen lines.old.items ++ lines_in (declaration_of decl.now)) }
+    ensures { OnOk result (map decl_seen lines.new.items ≡ map decl_seen lines.old.items
+        ++ lines_in (declaration_of decl.now)) }
 {
     match decl {
         Decl::Global { names, .. } => put_globals(lines, alloc, names),
@@ -62,7 +64,8 @@ fn put_lines(lines: &mut Vec<UnitDecl>, alloc: Global, decl: &Decl) -> Result<()
 }
 
 fn put_globals(lines: &mut Vec<UnitDecl>, alloc: Global, names: &[Name]) -> Result<(), AllocError>
-    ensures { OnOk result (map decl_seen lines.new.items ≡ map decl_seen lines.old.items ++ map (λ name. GlobalLine name.text) names.now) }
+    ensures { OnOk result (map decl_seen lines.new.items ≡ map decl_seen lines.old.items
+        ++ map (λ name. GlobalLine name.text) names.now) }
 {
     for name in names {
         put_global(lines, alloc, name)?;
@@ -72,7 +75,8 @@ fn put_globals(lines: &mut Vec<UnitDecl>, alloc: Global, names: &[Name]) -> Resu
 
 #[tactic(auto, using(crate::proofs::Entries::seen_more))]
 fn put_global(lines: &mut Vec<UnitDecl>, alloc: Global, name: &Name) -> Result<(), AllocError>
-    ensures { OnOk result (map decl_seen lines.new.items ≡ map decl_seen lines.old.items ++ GlobalLine name.now.text ∷ []) }
+    ensures { OnOk result
+        (map decl_seen lines.new.items ≡ map decl_seen lines.old.items ++ GlobalLine name.now.text ∷ []) }
 {
     let name = Bytes::from_slice(alloc, name.text.as_slice())?;
     lines.push(UnitDecl::Global(name))?;
@@ -80,7 +84,8 @@ fn put_global(lines: &mut Vec<UnitDecl>, alloc: Global, name: &Name) -> Result<(
 }
 
 fn put_links(lines: &mut Vec<UnitDecl>, alloc: Global, items: &[Item]) -> Result<(), AllocError>
-    ensures { OnOk result (map decl_seen lines.new.items ≡ map decl_seen lines.old.items ++ map (λ item. LinkLine (item_text item)) items.now) }
+    ensures { OnOk result (map decl_seen lines.new.items ≡ map decl_seen lines.old.items
+        ++ map (λ item. LinkLine (item_text item)) items.now) }
 {
     for item in items {
         put_link(lines, alloc, item)?;
@@ -90,7 +95,8 @@ fn put_links(lines: &mut Vec<UnitDecl>, alloc: Global, items: &[Item]) -> Result
 
 #[tactic(auto, using(crate::proofs::Entries::seen_more))]
 fn put_link(lines: &mut Vec<UnitDecl>, alloc: Global, item: &Item) -> Result<(), AllocError>
-    ensures { OnOk result (map decl_seen lines.new.items ≡ map decl_seen lines.old.items ++ LinkLine (item_text item.now) ∷ []) }
+    ensures { OnOk result (map decl_seen lines.new.items ≡ map decl_seen lines.old.items
+        ++ LinkLine (item_text item.now) ∷ []) }
 {
     let text = Bytes::from_slice(alloc, item_text(item))?;
     lines.push(UnitDecl::Link(text))?;
@@ -112,7 +118,8 @@ fn put_record(
     name: &Name,
     fields: &[Name],
 ) -> Result<(), AllocError>
-    ensures { OnOk result (map decl_seen lines.new.items ≡ map decl_seen lines.old.items ++ RecordLine name.now.text (texts_of fields.now) ∷ []) }
+    ensures { OnOk result (map decl_seen lines.new.items ≡ map decl_seen lines.old.items
+        ++ RecordLine name.now.text (texts_of fields.now) ∷ []) }
 {
     let fields = copies(alloc, fields)?;
     let name = Bytes::from_slice(alloc, name.text.as_slice())?;
@@ -134,7 +141,8 @@ fn copies(alloc: Global, names: &[Name]) -> Result<Vec<Bytes>, AllocError>
 
 #[tactic(auto, using(crate::proofs::Entries::seen_more))]
 fn put_procedure(lines: &mut Vec<UnitDecl>, alloc: Global, name: &Name) -> Result<(), AllocError>
-    ensures { OnOk result (map decl_seen lines.new.items ≡ map decl_seen lines.old.items ++ ProcedureLine name.now.text ∷ []) }
+    ensures { OnOk result
+        (map decl_seen lines.new.items ≡ map decl_seen lines.old.items ++ ProcedureLine name.now.text ∷ []) }
 {
     let name = Bytes::from_slice(alloc, name.text.as_slice())?;
     lines.push(UnitDecl::Proc(name))?;

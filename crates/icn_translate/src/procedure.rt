@@ -54,7 +54,8 @@ fn declared_names<'a>(
     alloc: Global,
     procedure: &'a Procedure,
 ) -> Result<IndexSet<&'a [u8]>, AllocError>
-    ensures { IfOk result (λ names. map (λ name. name.now) names.keys ≡ with_names [] (declared_texts (procedure_of procedure.now))) }
+    ensures { IfOk result (λ names. map (λ name. name.now) names.keys
+        ≡ with_names [] (declared_texts (procedure_of procedure.now))) }
 {
     let mut names = IndexSet::new(alloc);
     enter_names(&mut names, &procedure.parameters)?;
@@ -63,7 +64,8 @@ fn declared_names<'a>(
 }
 
 fn enter_locals<'a>(names: &mut IndexSet<&'a [u8]>, locals: &'a [Locals]) -> Result<(), AllocError>
-    ensures { OnOk result (map (λ name. name.now) names.new.keys ≡ with_names (map (λ name. name.now) names.old.keys) (flat_map local_texts (map locals_of locals.now))) }
+    ensures { OnOk result (map (λ name. name.now) names.new.keys ≡ with_names
+        (map (λ name. name.now) names.old.keys) (flat_map local_texts (map locals_of locals.now))) }
 {
     for local in locals {
         enter_names(names, &local.names)?;
@@ -72,7 +74,8 @@ fn enter_locals<'a>(names: &mut IndexSet<&'a [u8]>, locals: &'a [Locals]) -> Res
 }
 
 fn enter_names<'a>(names: &mut IndexSet<&'a [u8]>, entries: &'a [Name]) -> Result<(), AllocError>
-    ensures { OnOk result (map (λ name. name.now) names.new.keys ≡ with_names (map (λ name. name.now) names.old.keys) (texts_of entries.now)) }
+    ensures { OnOk result (map (λ name. name.now) names.new.keys
+        ≡ with_names (map (λ name. name.now) names.old.keys) (texts_of entries.now)) }
 {
     for entry in entries {
         enter_name(names, entry.text.as_slice())?;
@@ -82,7 +85,9 @@ fn enter_names<'a>(names: &mut IndexSet<&'a [u8]>, entries: &'a [Name]) -> Resul
 
 // Writes the instructions of a procedure.
 fn put_procedure<'a>(builder: &mut Builder<'a>, procedure: &'a Procedure) -> Result<(), AllocError>
-    ensures { OnOk result (draft_of builder.new ≡ (draft_of builder.old ▹ initially (initial_of procedure.now.initial) ▹ body (all_of procedure.now.body.items) ▹ put Pfail)) }
+    ensures { OnOk result
+        (draft_of builder.new ≡ (draft_of builder.old ▹ initially (initial_of procedure.now.initial)
+        ▹ body (all_of procedure.now.body.items) ▹ put Pfail)) }
 {
     put_initial(builder, &procedure.initial)?;
     put_body(builder, &procedure.body)?;
@@ -117,7 +122,8 @@ fn put_body<'a>(builder: &mut Builder<'a>, exprs: &'a [Expr]) -> Result<(), Allo
 
 // An expression of a body. An empty one has no code.
 fn put_bounded<'a>(builder: &mut Builder<'a>, expr: &'a Expr) -> Result<(), AllocError>
-    ensures { OnOk result (draft_of builder.new ≡ unless_empty (tree_of expr.now) (bounded_code (translate OutermostOpen (tree_of expr.now))) (draft_of builder.old)) }
+    ensures { OnOk result (draft_of builder.new ≡ unless_empty (tree_of expr.now)
+        (bounded_code (translate OutermostOpen (tree_of expr.now))) (draft_of builder.old)) }
 {
     if is_empty(expr) {
         return Ok(());
@@ -145,7 +151,8 @@ fn put_locals(
     alloc: Global,
     locals: &[Locals],
 ) -> Result<(), AllocError>
-    ensures { OnOk result (entries.new.items ≡ entries.old.items ++ flat_map local_entries (map locals_of locals.now)) }
+    ensures { OnOk result
+        (entries.new.items ≡ entries.old.items ++ flat_map local_entries (map locals_of locals.now)) }
 {
     for local in locals {
         put_entries(entries, alloc, kind_of(local.kind), &local.names)?;
@@ -159,7 +166,8 @@ fn put_entries(
     kind: NameKind,
     names: &[Name],
 ) -> Result<(), AllocError>
-    ensures { OnOk result (entries.new.items ≡ entries.old.items ++ map (λ name. entry_of kind name.text) names.now) }
+    ensures { OnOk result
+        (entries.new.items ≡ entries.old.items ++ map (λ name. entry_of kind name.text) names.now) }
 {
     for name in names {
         put_entry(entries, alloc, kind, name.text.as_slice())?;
@@ -196,7 +204,8 @@ fn put_undeclared(
     names: &[&[u8]],
     declared: usize,
 ) -> Result<(), AllocError>
-    ensures { OnOk result (entries.new.items ≡ entries.old.items ++ map (entry_of Undeclared) (drop declared (map (λ name. name.now) names.now))) }
+    ensures { OnOk result (entries.new.items ≡ entries.old.items
+        ++ map (entry_of Undeclared) (drop declared (map (λ name. name.now) names.now))) }
 {
     if names.len() < declared {
         return Ok(());

@@ -51,12 +51,14 @@ local_word Static = Words.Static
 -- local ID , ID ; and so with static, any number of them
 abbrev pub SpellsLocals : List Locals → Phrase
 SpellsLocals [] = nothing
-SpellsLocals (locals ∷ others) = word_at locals.place (local_word locals.kind) ⨾ SpellsNames locals.names ⨾ mark Semicolon ⨾ SpellsLocals others
+SpellsLocals (locals ∷ others) = word_at locals.place (local_word locals.kind) ⨾ SpellsNames locals.names
+    ⨾ mark Semicolon ⨾ SpellsLocals others
 
 -- none, or initial e ;
 abbrev pub SpellsInitial : Initial → Phrase
 SpellsInitial NoInitial = nothing
-SpellsInitial (Initially place value) = word_at place Words.Initial ⨾ Part 1 value (Spells value) ⨾ mark Semicolon
+SpellsInitial (Initially place value) =
+    word_at place Words.Initial ⨾ Part 1 value (Spells value) ⨾ mark Semicolon
 
 -- n ; n ;
 abbrev pub SpellsBody : Trees → Phrase
@@ -72,9 +74,12 @@ SpellsDeclaration (Link place items) = word_at place Words.Link ⨾ WithCommas S
 -- invocable item , item
 SpellsDeclaration (Invocable place items) = word_at place Words.Invocable ⨾ WithCommas SpellsItem items
 -- record ID ( ID , ID )
-SpellsDeclaration (Record place name fields) = word_at place Words.Record ⨾ identifier name ⨾ mark OpenParenthesis ⨾ SpellsMaybeNames fields ⨾ mark CloseParenthesis
+SpellsDeclaration (Record place name fields) = word_at place Words.Record ⨾ identifier name
+    ⨾ mark OpenParenthesis ⨾ SpellsMaybeNames fields ⨾ mark CloseParenthesis
 -- procedure ID ( parameters ) ; locals initial body end
-SpellsDeclaration (ProcedureOf p) = word_at p.place Words.Procedure ⨾ identifier p.name ⨾ mark OpenParenthesis ⨾ SpellsParameters p.parameters p.is_variadic ⨾ mark CloseParenthesis ⨾ mark Semicolon ⨾ SpellsLocals p.locals ⨾ SpellsInitial p.initial ⨾ SpellsBody p.body ⨾ word Words.End
+SpellsDeclaration (ProcedureOf p) = word_at p.place Words.Procedure ⨾ identifier p.name ⨾ mark OpenParenthesis
+    ⨾ SpellsParameters p.parameters p.is_variadic ⨾ mark CloseParenthesis ⨾ mark Semicolon
+    ⨾ SpellsLocals p.locals ⨾ SpellsInitial p.initial ⨾ SpellsBody p.body ⨾ word Words.End
 
 -- the tokens of a file: those of its declarations, one behind the other
 abbrev pub SpellsFile : List Declaration → Phrase

@@ -55,7 +55,8 @@ identifier name = sign_at name.place (IdentifierKind name.text)
 
 -- what stands after `&` in a keyword: an identifier, or the word `fail`
 abbrev pub keyword : Name → Phrase
-keyword name here after = identifier name here after ⊎ ((name.text ≡ codes "fail") × sign_at name.place (WordKind Words.Fail) here after)
+keyword name here after = identifier name here after
+    ⊎ ((name.text ≡ codes "fail") × sign_at name.place (WordKind Words.Fail) here after)
 
 -- an operator that stands between two operands
 abbrev pub infix_sign : Infix → Phrase
@@ -113,38 +114,55 @@ abbrev mutual
   -- & ID, & fail
   Spells (Keyword place name) = sign_at place (OperatorKind Ampersand) ⨾ keyword name
   -- ( n , n )
-  Spells (Parentheses place elements) = mark_at place OpenParenthesis ⨾ SpellsList ByComma elements ⨾ mark CloseParenthesis
+  Spells (Parentheses place elements) =
+      mark_at place OpenParenthesis ⨾ SpellsList ByComma elements ⨾ mark CloseParenthesis
   -- [ n , n ]
-  Spells (Listing place elements) = mark_at place OpenBracket ⨾ SpellsList ByComma elements ⨾ mark CloseBracket
+  Spells (Listing place elements) =
+      mark_at place OpenBracket ⨾ SpellsList ByComma elements ⨾ mark CloseBracket
   -- { n ; n }
   Spells (Compound place exprs) = mark_at place OpenBrace ⨾ SpellsList BySemicolon exprs ⨾ mark CloseBrace
   -- e13 ( n , n )
-  Spells (Call place callee arguments) = starts_at place (Part 13 callee (Spells callee) ⨾ mark OpenParenthesis ⨾ SpellsList ByComma arguments ⨾ mark CloseParenthesis)
+  Spells (Call place callee arguments) = starts_at place (Part 13 callee (Spells callee)
+      ⨾ mark OpenParenthesis ⨾ SpellsList ByComma arguments ⨾ mark CloseParenthesis)
   -- e13 { n , n }
-  Spells (CoCall place callee arguments) = starts_at place (Part 13 callee (Spells callee) ⨾ mark OpenBrace ⨾ SpellsList ByComma arguments ⨾ mark CloseBrace)
+  Spells (CoCall place callee arguments) = starts_at place (Part 13 callee (Spells callee) ⨾ mark OpenBrace
+      ⨾ SpellsList ByComma arguments ⨾ mark CloseBrace)
   -- e13 [ n , n ]
-  Spells (Subscript place subject subscripts) = starts_at place (Part 13 subject (Spells subject) ⨾ mark OpenBracket ⨾ SpellsList ByComma subscripts ⨾ mark CloseBracket)
+  Spells (Subscript place subject subscripts) = starts_at place (Part 13 subject (Spells subject)
+      ⨾ mark OpenBracket ⨾ SpellsList ByComma subscripts ⨾ mark CloseBracket)
   -- e13 [ e : e ], e13 [ e +: e ], e13 [ e -: e ]
-  Spells (Section place kind subject from to) = starts_at place (Part 13 subject (Spells subject) ⨾ mark OpenBracket ⨾ Part 1 from (Spells from) ⨾ mark (section_sign kind) ⨾ Part 1 to (Spells to) ⨾ mark CloseBracket)
+  Spells (Section place kind subject from to) =
+      starts_at place (Part 13 subject (Spells subject) ⨾ mark OpenBracket ⨾ Part 1 from (Spells from)
+      ⨾ mark (section_sign kind) ⨾ Part 1 to (Spells to) ⨾ mark CloseBracket)
   -- e13 . ID
-  Spells (Field place subject name) = starts_at place (Part 13 subject (Spells subject) ⨾ sign (OperatorKind Dot) ⨾ identifier name)
+  Spells (Field place subject name) =
+      starts_at place (Part 13 subject (Spells subject) ⨾ sign (OperatorKind Dot) ⨾ identifier name)
   -- PREFIX e12
   Spells (Prefix place operator operand) = IsPrefix place operator ⨾ Part 12 operand (Spells operand)
   -- not e12
   Spells (Not place operand) = word_at place Words.Not ⨾ Part 12 operand (Spells operand)
   -- operators between two operands, a level each
-  Spells (Binary place operator left right) = starts_at place (Part (left_level (infix_level operator)) left (Spells left) ⨾ infix_sign operator ⨾ Part (right_level (infix_level operator)) right (Spells right))
+  Spells (Binary place operator left right) =
+      starts_at place (Part (left_level (infix_level operator)) left (Spells left) ⨾ infix_sign operator
+      ⨾ Part (right_level (infix_level operator)) right (Spells right))
   -- e4 to e5, e4 to e5 by e5
-  Spells (To place from to Absent) = starts_at place (Part 4 from (Spells from) ⨾ word Words.To ⨾ Part 5 to (Spells to))
-  Spells (To place from to (Present by)) = starts_at place (Part 4 from (Spells from) ⨾ word Words.To ⨾ Part 5 to (Spells to) ⨾ word Words.By ⨾ Part 5 by (Spells by))
+  Spells (To place from to Absent) =
+      starts_at place (Part 4 from (Spells from) ⨾ word Words.To ⨾ Part 5 to (Spells to))
+  Spells (To place from to (Present by)) = starts_at place (Part 4 from (Spells from) ⨾ word Words.To
+      ⨾ Part 5 to (Spells to) ⨾ word Words.By ⨾ Part 5 by (Spells by))
   -- if e then e, if e then e else e
-  Spells (If place condition first Absent) = word_at place Words.If ⨾ Part 1 condition (Spells condition) ⨾ word Words.Then ⨾ Part 1 first (Spells first)
-  Spells (If place condition first (Present other)) = word_at place Words.If ⨾ Part 1 condition (Spells condition) ⨾ word Words.Then ⨾ Part 1 first (Spells first) ⨾ word Words.Else ⨾ Part 1 other (Spells other)
+  Spells (If place condition first Absent) = word_at place Words.If ⨾ Part 1 condition (Spells condition)
+      ⨾ word Words.Then ⨾ Part 1 first (Spells first)
+  Spells (If place condition first (Present other)) =
+      word_at place Words.If ⨾ Part 1 condition (Spells condition) ⨾ word Words.Then
+      ⨾ Part 1 first (Spells first) ⨾ word Words.Else ⨾ Part 1 other (Spells other)
   -- case e of { clause ; clause }
-  Spells (Case place subject clauses) = word_at place Words.Case ⨾ Part 1 subject (Spells subject) ⨾ word Words.Of ⨾ mark OpenBrace ⨾ SpellsClauses clauses ⨾ mark CloseBrace
+  Spells (Case place subject clauses) = word_at place Words.Case ⨾ Part 1 subject (Spells subject)
+      ⨾ word Words.Of ⨾ mark OpenBrace ⨾ SpellsClauses clauses ⨾ mark CloseBrace
   -- while e, while e do e, and so with until and every
   Spells (Loop place kind control Absent) = word_at place (loop_word kind) ⨾ Part 1 control (Spells control)
-  Spells (Loop place kind control (Present body)) = word_at place (loop_word kind) ⨾ Part 1 control (Spells control) ⨾ word Words.Do ⨾ Part 1 body (Spells body)
+  Spells (Loop place kind control (Present body)) = word_at place (loop_word kind)
+      ⨾ Part 1 control (Spells control) ⨾ word Words.Do ⨾ Part 1 body (Spells body)
   -- repeat e
   Spells (Repeat place body) = word_at place Words.Repeat ⨾ Part 1 body (Spells body)
   -- create e
@@ -158,7 +176,8 @@ abbrev mutual
   Spells (Return place value) = word_at place Words.Return ⨾ Part 0 value (Spells value)
   -- suspend n, suspend n do e
   Spells (Suspend place value Absent) = word_at place Words.Suspend ⨾ Part 0 value (Spells value)
-  Spells (Suspend place value (Present body)) = word_at place Words.Suspend ⨾ Part 0 value (Spells value) ⨾ word Words.Do ⨾ Part 1 body (Spells body)
+  Spells (Suspend place value (Present body)) =
+      word_at place Words.Suspend ⨾ Part 0 value (Spells value) ⨾ word Words.Do ⨾ Part 1 body (Spells body)
 
   -- n , n or n ; n
   pub SpellsList : Separator → Trees → Phrase
@@ -173,7 +192,8 @@ abbrev mutual
   -- default : e, e : e
   pub SpellsClause : Clause → Phrase
   SpellsClause (Default place value) = word_at place Words.Default ⨾ mark Colon ⨾ Part 1 value (Spells value)
-  SpellsClause (Guarded place guard value) = starts_at place (Part 1 guard (Spells guard) ⨾ mark Colon ⨾ Part 1 value (Spells value))
+  SpellsClause (Guarded place guard value) =
+      starts_at place (Part 1 guard (Spells guard) ⨾ mark Colon ⨾ Part 1 value (Spells value))
 
   -- clause ; clause
   pub SpellsClauses : Clauses → Phrase
@@ -183,4 +203,5 @@ abbrev mutual
   -- further clauses, each behind a semicolon
   pub SpellsMoreClauses : Clauses → Phrase
   SpellsMoreClauses NoClauses = nothing
-  SpellsMoreClauses (MoreClauses clause clauses) = mark Semicolon ⨾ SpellsClause clause ⨾ SpellsMoreClauses clauses
+  SpellsMoreClauses (MoreClauses clause clauses) =
+      mark Semicolon ⨾ SpellsClause clause ⨾ SpellsMoreClauses clauses

@@ -28,11 +28,13 @@ literal_kind quote bytes = if quote == 39 then Cset (members_of bytes) else Text
 
 -- one to three octal digits, as many as there are, of a value up to 255
 abbrev pub octal_escape : List ℕ → Option (ℕ × ℕ)
-octal_escape bytes = let count = min (prefix_len is_octal bytes) 3 in let value = number_in 8 (take count bytes) in if nat_le value 255 then Some (value, count) else None
+octal_escape bytes = let count = min (prefix_len is_octal bytes) 3 in
+    let value = number_in 8 (take count bytes) in if nat_le value 255 then Some (value, count) else None
 
 -- behind an `x`, one or two hexadecimal digits
 abbrev pub hexadecimal_escape : List ℕ → Option (ℕ × ℕ)
-hexadecimal_escape bytes = let count = min (prefix_len is_hexadecimal bytes) 2 in if nat_lt 0 count then Some (number_in 16 (take count bytes), count + 1) else None
+hexadecimal_escape bytes = let count = min (prefix_len is_hexadecimal bytes) 2 in
+    if nat_lt 0 count then Some (number_in 16 (take count bytes), count + 1) else None
 
 -- behind a `^`, the low five bits of any byte
 abbrev pub control_escape : List ℕ → Option (ℕ × ℕ)
@@ -42,11 +44,14 @@ control_escape (b ∷ rest) = Some (b % 32, 2)
 -- `\b \d \e \f \l \n \r \t \v`; any other byte stands for itself
 abbrev pub escaped_byte : ℕ → ℕ
 escaped_byte b =
-    if b == 98 then 8 else (if b == 100 then 127 else (if b == 101 then 27 else (if b == 102 then 12 else (if b == 108 then 10
-    else (if b == 110 then 10 else (if b == 114 then 13 else (if b == 116 then 9 else (if b == 118 then 11 else b))))))))
+    if b == 98 then 8
+    else (if b == 100 then 127 else (if b == 101 then 27 else (if b == 102 then 12 else (if b == 108 then 10
+    else (if b == 110 then 10
+    else (if b == 114 then 13 else (if b == 116 then 9 else (if b == 118 then 11 else b))))))))
 
 -- the byte that an escape means, by the bytes behind its backslash, and how many of these it takes; or that it is none
 unfoldable pub escape_of : List ℕ → Option (ℕ × ℕ)
 escape_of [] = None
 escape_of (b ∷ rest) =
-    if is_octal b then octal_escape (b ∷ rest) else (if b == 120 then hexadecimal_escape rest else (if b == 94 then control_escape rest else Some (escaped_byte b, 1)))
+    if is_octal b then octal_escape (b ∷ rest) else (if b == 120 then hexadecimal_escape rest
+    else (if b == 94 then control_escape rest else Some (escaped_byte b, 1)))

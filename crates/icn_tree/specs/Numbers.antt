@@ -43,14 +43,16 @@ are_digits radix digits = not (is_nothing digits) && list_all (λ b. nat_lt (dig
 
 -- the integer that digits write in a radix from 2 to 36
 abbrev pub integer : ℕ → List ℕ → Result Kind Rule
-integer radix digits = if is_between 2 36 radix && are_digits radix digits then integer_kind (number_in radix digits) else Err L5
+integer radix digits =
+    if is_between 2 36 radix && are_digits radix digits then integer_kind (number_in radix digits) else Err L5
 
 -- What decimal digits and the bytes behind them are as one literal: a number, or a radix with its digits. With the first
 -- byte of a fraction or an exponent they are one that is not whole.
 abbrev pub number_by : List ℕ → List ℕ → Option (Result Kind Rule)
 number_by digits [] = Some (sized digits (integer_kind (number_in 10 digits)))
 number_by digits (mark ∷ rest) =
-    if is_radix_mark mark && list_all is_alphanumeric rest then Some (sized (digits ++ mark ∷ rest) (integer (number_in 10 digits) rest))
+    if is_radix_mark mark && list_all is_alphanumeric rest
+    then Some (sized (digits ++ mark ∷ rest) (integer (number_in 10 digits) rest))
     else (if is_real_mark mark && is_nothing rest then Some (Err L6) else None)
 
 -- what bytes that begin with a digit are as one literal

@@ -34,4 +34,5 @@ in_front token (piece ∷ others) = (token ∷ piece) ∷ others
 -- the tokens cut directly before each word that begins a declaration
 abbrev pub pieces : List Token → List (List Token)
 pieces [] = []
-pieces (token ∷ tokens) = if is_cut (next tokens) then (token ∷ []) ∷ pieces tokens else in_front token (pieces tokens)
+pieces (token ∷ tokens) =
+    if is_cut (next tokens) then (token ∷ []) ∷ pieces tokens else in_front token (pieces tokens)

@@ -23,12 +23,14 @@ words_of b =
     if b == 101 then (codes "else", Else) ∷ (codes "end", End) ∷ (codes "every", Every) ∷ [] else (
     if b == 102 then (codes "fail", Fail) ∷ [] else (
     if b == 103 then (codes "global", Global) ∷ [] else (
-    if b == 105 then (codes "if", If) ∷ (codes "initial", Initial) ∷ (codes "invocable", Invocable) ∷ [] else (
+    if b == 105 then (codes "if", If) ∷ (codes "initial", Initial) ∷ (codes "invocable", Invocable) ∷ []
+    else (
     if b == 108 then (codes "link", Link) ∷ (codes "local", Local) ∷ [] else (
     if b == 110 then (codes "next", Next) ∷ (codes "not", Not) ∷ [] else (
     if b == 111 then (codes "of", Of) ∷ [] else (
     if b == 112 then (codes "procedure", Procedure) ∷ [] else (
-    if b == 114 then (codes "record", Record) ∷ (codes "repeat", Repeat) ∷ (codes "return", Return) ∷ [] else (
+    if b == 114 then (codes "record", Record) ∷ (codes "repeat", Repeat) ∷ (codes "return", Return) ∷ []
+    else (
     if b == 115 then (codes "static", Static) ∷ (codes "suspend", Suspend) ∷ [] else (
     if b == 116 then (codes "then", Then) ∷ (codes "to", To) ∷ [] else (
     if b == 117 then (codes "until", Until) ∷ [] else (
@@ -48,21 +50,37 @@ name_of text = unwrap_or (option_map WordKind (word_of text)) (Identifier text)
 unfoldable pub marks_of : ℕ → List (List ℕ × Kind)
 marks_of b =
     if b == 33 then (codes "!", Operator Bang) ∷ [] else (
-    if b == 36 then (codes "$<", Punctuation OpenBracket) ∷ (codes "$>", Punctuation CloseBracket) ∷ (codes "$(", Punctuation OpenBrace) ∷ (codes "$)", Punctuation CloseBrace) ∷ [] else (
+    if b == 36 then (codes "$<", Punctuation OpenBracket) ∷ (codes "$>", Punctuation CloseBracket)
+    ∷ (codes "$(", Punctuation OpenBrace) ∷ (codes "$)", Punctuation CloseBrace) ∷ [] else (
     if b == 37 then (codes "%:=", Augmented Percent) ∷ (codes "%", Operator Percent) ∷ [] else (
     if b == 38 then (codes "&:=", Augmented Ampersand) ∷ (codes "&", Operator Ampersand) ∷ [] else (
     if b == 40 then (codes "(", Punctuation OpenParenthesis) ∷ [] else (
     if b == 41 then (codes ")", Punctuation CloseParenthesis) ∷ [] else (
-    if b == 42 then (codes "**:=", Augmented StarStar) ∷ (codes "*:=", Augmented Star) ∷ (codes "**", Operator StarStar) ∷ (codes "*", Operator Star) ∷ [] else (
-    if b == 43 then (codes "++:=", Augmented PlusPlus) ∷ (codes "+:=", Augmented Plus) ∷ (codes "++", Operator PlusPlus) ∷ (codes "+:", Punctuation PlusColon) ∷ (codes "+", Operator Plus) ∷ [] else (
+    if b == 42 then (codes "**:=", Augmented StarStar) ∷ (codes "*:=", Augmented Star)
+    ∷ (codes "**", Operator StarStar) ∷ (codes "*", Operator Star) ∷ [] else (
+    if b == 43 then (codes "++:=", Augmented PlusPlus) ∷ (codes "+:=", Augmented Plus)
+    ∷ (codes "++", Operator PlusPlus) ∷ (codes "+:", Punctuation PlusColon) ∷ (codes "+", Operator Plus)
+    ∷ [] else (
     if b == 44 then (codes ",", Punctuation Comma) ∷ [] else (
-    if b == 45 then (codes "--:=", Augmented MinusMinus) ∷ (codes "-:=", Augmented Minus) ∷ (codes "--", Operator MinusMinus) ∷ (codes "-:", Punctuation MinusColon) ∷ (codes "-", Operator Minus) ∷ [] else (
+    if b == 45 then (codes "--:=", Augmented MinusMinus) ∷ (codes "-:=", Augmented Minus)
+    ∷ (codes "--", Operator MinusMinus) ∷ (codes "-:", Punctuation MinusColon)
+    ∷ (codes "-", Operator Minus) ∷ [] else (
     if b == 47 then (codes "/:=", Augmented Slash) ∷ (codes "/", Operator Slash) ∷ [] else (
-    if b == 58 then (codes ":=:", Operator Swap) ∷ (codes ":=", Operator Assign) ∷ (codes ":", Punctuation Colon) ∷ [] else (
+    if b == 58 then (codes ":=:", Operator Swap) ∷ (codes ":=", Operator Assign)
+    ∷ (codes ":", Punctuation Colon) ∷ [] else (
     if b == 59 then (codes ";", Punctuation Semicolon) ∷ [] else (
-    if b == 60 then (codes "<<=:=", Augmented LessLessEqual) ∷ (codes "<=:=", Augmented LessEqual) ∷ (codes "<<:=", Augmented LessLess) ∷ (codes "<<=", Operator LessLessEqual) ∷ (codes "<->", Operator ReversibleSwap) ∷ (codes "<:=", Augmented Less) ∷ (codes "<=", Operator LessEqual) ∷ (codes "<<", Operator LessLess) ∷ (codes "<-", Operator ReversibleAssign) ∷ (codes "<", Operator Less) ∷ [] else (
-    if b == 61 then (codes "===:=", Augmented EqualEqualEqual) ∷ (codes "==:=", Augmented EqualEqual) ∷ (codes "===", Operator EqualEqualEqual) ∷ (codes "=:=", Augmented Equal) ∷ (codes "==", Operator EqualEqual) ∷ (codes "=", Operator Equal) ∷ [] else (
-    if b == 62 then (codes ">>=:=", Augmented GreaterGreaterEqual) ∷ (codes ">=:=", Augmented GreaterEqual) ∷ (codes ">>:=", Augmented GreaterGreater) ∷ (codes ">>=", Operator GreaterGreaterEqual) ∷ (codes ">:=", Augmented Greater) ∷ (codes ">=", Operator GreaterEqual) ∷ (codes ">>", Operator GreaterGreater) ∷ (codes ">", Operator Greater) ∷ [] else (
+    if b == 60 then (codes "<<=:=", Augmented LessLessEqual)
+    ∷ (codes "<=:=", Augmented LessEqual) ∷ (codes "<<:=", Augmented LessLess)
+    ∷ (codes "<<=", Operator LessLessEqual) ∷ (codes "<->", Operator ReversibleSwap)
+    ∷ (codes "<:=", Augmented Less) ∷ (codes "<=", Operator LessEqual) ∷ (codes "<<", Operator LessLess)
+    ∷ (codes "<-", Operator ReversibleAssign) ∷ (codes "<", Operator Less) ∷ [] else (
+    if b == 61 then (codes "===:=", Augmented EqualEqualEqual) ∷ (codes "==:=", Augmented EqualEqual)
+    ∷ (codes "===", Operator EqualEqualEqual) ∷ (codes "=:=", Augmented Equal)
+    ∷ (codes "==", Operator EqualEqual) ∷ (codes "=", Operator Equal) ∷ [] else (
+    if b == 62 then (codes ">>=:=", Augmented GreaterGreaterEqual) ∷ (codes ">=:=", Augmented GreaterEqual)
+    ∷ (codes ">>:=", Augmented GreaterGreater) ∷ (codes ">>=", Operator GreaterGreaterEqual)
+    ∷ (codes ">:=", Augmented Greater) ∷ (codes ">=", Operator GreaterEqual)
+    ∷ (codes ">>", Operator GreaterGreater) ∷ (codes ">", Operator Greater) ∷ [] else (
     if b == 63 then (codes "?:=", Augmented Question) ∷ (codes "?", Operator Question) ∷ [] else (
     if b == 64 then (codes "@:=", Augmented At) ∷ (codes "@", Operator At) ∷ [] else (
     if b == 91 then (codes "[", Punctuation OpenBracket) ∷ [] else (
@@ -70,6 +88,11 @@ marks_of b =
     if b == 93 then (codes "]", Punctuation CloseBracket) ∷ [] else (
     if b == 94 then (codes "^:=", Augmented Caret) ∷ (codes "^", Operator Caret) ∷ [] else (
     if b == 123 then (codes "{", Punctuation OpenBrace) ∷ [] else (
-    if b == 124 then (codes "|||:=", Augmented BarBarBar) ∷ (codes "||:=", Augmented BarBar) ∷ (codes "|||", Operator BarBarBar) ∷ (codes "||", Operator BarBar) ∷ (codes "|", Operator Bar) ∷ [] else (
+    if b == 124 then (codes "|||:=", Augmented BarBarBar) ∷ (codes "||:=", Augmented BarBar)
+    ∷ (codes "|||", Operator BarBarBar) ∷ (codes "||", Operator BarBar) ∷ (codes "|", Operator Bar) ∷ []
+    else (
     if b == 125 then (codes "}", Punctuation CloseBrace) ∷ [] else (
-    if b == 126 then (codes "~===:=", Augmented NotEqualEqualEqual) ∷ (codes "~==:=", Augmented NotEqualEqual) ∷ (codes "~===", Operator NotEqualEqualEqual) ∷ (codes "~=:=", Augmented NotEqual) ∷ (codes "~==", Operator NotEqualEqual) ∷ (codes "~=", Operator NotEqual) ∷ (codes "~", Operator Tilde) ∷ [] else [])))))))))))))))))))))))))
+    if b == 126 then (codes "~===:=", Augmented NotEqualEqualEqual) ∷ (codes "~==:=", Augmented NotEqualEqual)
+    ∷ (codes "~===", Operator NotEqualEqualEqual) ∷ (codes "~=:=", Augmented NotEqual)
+    ∷ (codes "~==", Operator NotEqualEqual) ∷ (codes "~=", Operator NotEqual)
+    ∷ (codes "~", Operator Tilde) ∷ [] else [])))))))))))))))))))))))))

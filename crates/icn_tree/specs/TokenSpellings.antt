@@ -18,10 +18,12 @@ quoted (b ∷ rest) = (if is_special b then 92 ∷ b ∷ [] else b ∷ []) ++ qu
 pub data Spells : Kind → List ℕ → Type 0 where
   bare : (kind : Kind) (text : List ℕ) → spelled text ≡ Some (Ok kind) → Spells kind text
   string : (bytes : List ℕ) → length bytes ≤ 65535 → Spells (Text bytes) (34 ∷ (quoted bytes ++ 34 ∷ []))
-  cset : (bytes : List ℕ) → length bytes ≤ 65535 → Spells (Cset (members_of bytes)) (39 ∷ (quoted bytes ++ 39 ∷ []))
+  cset : (bytes : List ℕ) → length bytes ≤ 65535
+      → Spells (Cset (members_of bytes)) (39 ∷ (quoted bytes ++ 39 ∷ []))
 
 -- texts of tokens with one blank behind each but the last
 pub data SpellsAll : List Kind → List ℕ → Type 0 where
   nothing : SpellsAll [] []
   last : (kind : Kind) (text : List ℕ) → Spells kind text → SpellsAll (kind ∷ []) text
-  more : (kind next : Kind) (kinds : List Kind) (text rest : List ℕ) → Spells kind text → SpellsAll (next ∷ kinds) rest → SpellsAll (kind ∷ next ∷ kinds) (text ++ 32 ∷ rest)
+  more : (kind next : Kind) (kinds : List Kind) (text rest : List ℕ) → Spells kind text
+      → SpellsAll (next ∷ kinds) rest → SpellsAll (kind ∷ next ∷ kinds) (text ++ 32 ∷ rest)

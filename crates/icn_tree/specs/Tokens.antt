@@ -19,7 +19,8 @@ use Rattle.icn_tree.specs.Spellings.{lookup_text, name_of, marks_of}
 
 -- a letter or an underscore and what goes on with it
 abbrev pub name : ℕ → List ℕ → Option (Result Kind Rule)
-name b rest = if list_all continues_identifier rest then Some (sized (b ∷ rest) (Ok (name_of (b ∷ rest)))) else None
+name b rest =
+    if list_all continues_identifier rest then Some (sized (b ∷ rest) (Ok (name_of (b ∷ rest)))) else None
 
 -- a dot, which with a digit behind it begins a number that is not whole
 abbrev pub dot_number : List ℕ → Option (Result Kind Rule)
@@ -39,7 +40,8 @@ spelled (b ∷ rest) =
     else (if is_digit b then number (b ∷ rest) else (if b == 46 then dot_number rest else mark b rest))
 
 -- this one where it is there, with its length; else the shorter one
-abbrev pub longer : Option (Result Kind Rule) → ℕ → Option (Result Kind Rule × ℕ) → Option (Result Kind Rule × ℕ)
+abbrev pub longer : Option (Result Kind Rule) → ℕ → Option (Result Kind Rule × ℕ)
+    → Option (Result Kind Rule × ℕ)
 longer (Some sense) count shorter = Some (sense, count)
 longer None count shorter = shorter
 
@@ -72,7 +74,8 @@ before piece (Broken rule line file) = Broken rule line file
 
 -- a token that begins on a line
 abbrev pub piece_on : SourceLine → Bool → Kind → Piece
-piece_on line is_first kind = record { token = record { kind = kind; line = line.number; file = line.file }; is_first = is_first }
+piece_on line is_first kind =
+    record { token = record { kind = kind; line = line.number; file = line.file }; is_first = is_first }
 
 -- a token, and what the bytes behind it give
 abbrev pub token_then : SourceLine → Bool → Result (Kind × ℕ) Rule → (ℕ → Scan) → Scan
@@ -81,7 +84,8 @@ token_then line is_first (Err rule) later = Broken rule line.number line.file
 
 -- a literal that begins with a quote on a line
 abbrev pub open_literal : SourceLine → Bool → ℕ → Literal
-open_literal line is_first quote = record { quote = quote; bytes = []; line = line.number; file = line.file; is_first = is_first }
+open_literal line is_first quote =
+    record { quote = quote; bytes = []; line = line.number; file = line.file; is_first = is_first }
 
 -- a literal that is not closed before the end of the file
 abbrev pub unclosed_literal : Literal → Scan
@@ -89,11 +93,16 @@ unclosed_literal literal = Broken L2 literal.line literal.file
 
 -- the piece of a literal that is closed
 abbrev pub literal_piece : Literal → Piece
-literal_piece literal = record { token = record { kind = literal_kind literal.quote literal.bytes; line = literal.line; file = literal.file }; is_first = literal.is_first }
+literal_piece literal = record {
+  token =
+      record { kind = literal_kind literal.quote literal.bytes; line = literal.line; file = literal.file };
+  is_first = literal.is_first;
+}
 
 -- a literal at its closing quote, and what the bytes behind it give
 abbrev pub closed_then : Literal → Scan → Scan
-closed_then literal later = if nat_le (length literal.bytes) 65535 then before (literal_piece literal) later else Broken L7 literal.line literal.file
+closed_then literal later = if nat_le (length literal.bytes) 65535 then before (literal_piece literal) later
+    else Broken L7 literal.line literal.file
 
 -- an escape by the bytes behind its backslash, and what the bytes behind it give
 abbrev pub escape_found : SourceLine → Option (ℕ × ℕ) → (ℕ → ℕ → Scan) → Scan
@@ -120,10 +129,12 @@ bytes_from later line (Between is_first) zero (b ∷ rest) =
     if is_space b then bytes_from later line (Between is_first) zero rest
     else (if begins_comment b then later None
     else (if is_quote b then bytes_from later line (Inside (open_literal line is_first b)) zero rest
-    else token_then line is_first (first_of (b ∷ rest)) (λ count. bytes_from later line (Between false) (count - 1) rest)))
+    else token_then line is_first (first_of (b ∷ rest))
+    (λ count. bytes_from later line (Between false) (count - 1) rest)))
 bytes_from later line (Inside literal) zero (b ∷ rest) =
     if b == literal.quote then closed_then literal (bytes_from later line (Between false) zero rest)
-    else (if b == 92 then escape_then line literal rest (λ byte count. bytes_from later line (Inside (with_byte literal byte)) count rest)
+    else (if b == 92 then escape_then line literal rest
+    (λ byte count. bytes_from later line (Inside (with_byte literal byte)) count rest)
     else (if b == 95 && is_nothing rest then later (Some literal)
     else bytes_from later line (Inside (with_byte literal b)) zero rest))
 

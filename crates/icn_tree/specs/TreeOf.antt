@@ -26,14 +26,17 @@ abbrev mutual
   tree_of (E.Compound' place shape exprs) = Compound place (trees_of exprs)
   tree_of (E.Call' place p callee shape arguments) = Call place (tree_of callee) (trees_of arguments)
   tree_of (E.CoCall' place p callee shape arguments) = CoCall place (tree_of callee) (trees_of arguments)
-  tree_of (E.Subscript' place p subject shape subscripts) = Subscript place (tree_of subject) (trees_of subscripts)
-  tree_of (E.Section' place kind p subject q from r to) = Section place kind (tree_of subject) (tree_of from) (tree_of to)
+  tree_of (E.Subscript' place p subject shape subscripts) =
+      Subscript place (tree_of subject) (trees_of subscripts)
+  tree_of (E.Section' place kind p subject q from r to) =
+      Section place kind (tree_of subject) (tree_of from) (tree_of to)
   tree_of (E.Field' place p subject name) = Field place (tree_of subject) name
   tree_of (E.Prefix' place operator p operand) = Prefix place operator (tree_of operand)
   tree_of (E.Not' place p operand) = Not place (tree_of operand)
   tree_of (E.Binary' place operator p left q right) = Binary place operator (tree_of left) (tree_of right)
   tree_of (E.To' place p from q to by) = To place (tree_of from) (tree_of to) (maybe_of by)
-  tree_of (E.If' place p condition q first other) = If place (tree_of condition) (tree_of first) (maybe_of other)
+  tree_of (E.If' place p condition q first other) =
+      If place (tree_of condition) (tree_of first) (maybe_of other)
   tree_of (E.Case' place p subject shape clauses) = Case place (tree_of subject) (clauses_of clauses)
   tree_of (E.Loop' place kind p control body) = Loop place kind (tree_of control) (maybe_of body)
   tree_of (E.Repeat' place p body) = Repeat place (tree_of body)
@@ -85,7 +88,15 @@ initial_of (Some initial) = Initially initial.place (tree_of initial.value)
 
 -- a procedure of the program, as definitions see it
 abbrev pub procedure_of : ProcedureItem → Procedure
-procedure_of p = record { place = p.place; name = p.name; parameters = p.parameters.items; is_variadic = p.is_variadic; locals = map locals_of p.locals.items; initial = initial_of p.initial; body = all_of p.body.items }
+procedure_of p = record {
+  place = p.place;
+  name = p.name;
+  parameters = p.parameters.items;
+  is_variadic = p.is_variadic;
+  locals = map locals_of p.locals.items;
+  initial = initial_of p.initial;
+  body = all_of p.body.items;
+}
 
 -- a declaration of the program, as definitions see it
 abbrev pub declaration_of : Decl → Declaration

@@ -59,7 +59,8 @@ fn members(alloc: Global, bytes: &[u8]) -> Result<Vec<u8>, AllocError>
 
 // Of each byte, whether it stands in a list.
 fn present(bytes: &[u8]) -> [bool; 256]
-    ensures { (byte : ℕ) → byte < 256 → slice_index_or result byte false ≡ list_any (λ b. b == byte) bytes.now }
+    ensures { (byte : ℕ) → byte < 256
+        → slice_index_or result byte false ≡ list_any (λ b. b == byte) bytes.now }
 {
     let mut present = [false; 256];
     for byte in bytes {

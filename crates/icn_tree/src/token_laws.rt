@@ -15,27 +15,38 @@ ghost use Rattle.icn_tree.specs.Tokens.{Fault, Scanned, tokens_of};
 /// No semicolon comes in before a token that can begin no expression, as `then`, `do`, `of` and `to`, and none behind one
 /// that can end none: such neighbours are cut apart with nothing between them.
 pub fn semicolons_inserted()
-    ensures before { (front rest : List Piece) (a b : Piece) → is_beginner b.token.kind ≡ false → with_semicolons (front ++ a ∷ b ∷ rest) ≡ with_semicolons (front ++ a ∷ []) ++ with_semicolons (b ∷ rest) }
-    ensures behind { (front rest : List Piece) (a b : Piece) → is_ender a.token.kind ≡ false → with_semicolons (front ++ a ∷ b ∷ rest) ≡ with_semicolons (front ++ a ∷ []) ++ with_semicolons (b ∷ rest) }
+    ensures before { (front rest : List Piece) (a b : Piece) → is_beginner b.token.kind ≡ false
+        → with_semicolons (front ++ a ∷ b ∷ rest)
+        ≡ with_semicolons (front ++ a ∷ []) ++ with_semicolons (b ∷ rest) }
+    ensures behind { (front rest : List Piece) (a b : Piece) → is_ender a.token.kind ≡ false
+        → with_semicolons (front ++ a ∷ b ∷ rest)
+        ≡ with_semicolons (front ++ a ∷ []) ++ with_semicolons (b ∷ rest) }
     ensures words { All (λ word. is_beginner (WordKind word) ≡ false) (Then ∷ Do ∷ Of ∷ To ∷ By ∷ Else ∷ []) }
 {}
 
 /// The rule that lines break is one of tokens.
 pub fn scan_rules()
-    ensures { (lines : List SourceLine) (rule : Rule) (file line : ℕ) → tokens_of lines ≡ Fault rule file line → IsScanRule rule }
+    ensures { (lines : List SourceLine) (rule : Rule) (file line : ℕ) → tokens_of lines ≡ Fault rule file line
+        → IsScanRule rule }
 {}
 
 /// Lines have no more tokens than bytes, with their newlines, and each token is within its bounds: an identifier is a name and no
 /// reserved word, the members of a cset ascend, and an augmented operator is one of the twenty-eight.
 pub fn tokens_bounded()
-    ensures count { (lines : List SourceLine) (tokens : List Token) → tokens_of lines ≡ Scanned tokens → length tokens ≤ joined_len lines }
-    ensures sized { (lines : List SourceLine) (tokens : List Token) → tokens_of lines ≡ Scanned tokens → All (λ token. IsSized token.kind) tokens }
-    ensures formed { (lines : List SourceLine) (tokens : List Token) → tokens_of lines ≡ Scanned tokens → All (λ token. IsFormed token.kind) tokens }
+    ensures count { (lines : List SourceLine) (tokens : List Token) → tokens_of lines ≡ Scanned tokens
+        → length tokens ≤ joined_len lines }
+    ensures sized { (lines : List SourceLine) (tokens : List Token) → tokens_of lines ≡ Scanned tokens
+        → All (λ token. IsSized token.kind) tokens }
+    ensures formed { (lines : List SourceLine) (tokens : List Token) → tokens_of lines ≡ Scanned tokens
+        → All (λ token. IsFormed token.kind) tokens }
 {}
 
 /// Tokens that are spelled on one line, with one blank between them, are the same tokens again; and the tokens of lines can
 /// be spelled so.
 pub fn tokens_spelled_again()
-    ensures again { (kinds : List Kind) (line : SourceLine) → SpellsAll kinds line.bytes → tokens_of (line ∷ []) ≡ Scanned (map (λ kind. record { kind = kind; line = line.number; file = line.file }) kinds) }
-    ensures always { (lines : List SourceLine) (tokens : List Token) → tokens_of lines ≡ Scanned tokens → (text : List ℕ) × SpellsAll (map (λ token. token.kind) tokens) text }
+    ensures again { (kinds : List Kind) (line : SourceLine) → SpellsAll kinds line.bytes
+        → tokens_of (line ∷ [])
+        ≡ Scanned (map (λ kind. record { kind = kind; line = line.number; file = line.file }) kinds) }
+    ensures always { (lines : List SourceLine) (tokens : List Token) → tokens_of lines ≡ Scanned tokens
+        → (text : List ℕ) × SpellsAll (map (λ token. token.kind) tokens) text }
 {}

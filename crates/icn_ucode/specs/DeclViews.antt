@@ -22,7 +22,8 @@ stage_seen DeclaringRead = Declaring
 stage_seen EndedRead = Ended
 
 abbrev pub reading_seen : DeclReading → DeclsRead
-reading_seen reading = record { decls = map decl_seen reading.decls.decls.items; stage = stage_seen reading.stage }
+reading_seen reading =
+    record { decls = map decl_seen reading.decls.decls.items; stage = stage_seen reading.stage }
 
 -- a line leads there, or breaks this rule
 abbrev pub LineIs : Result DeclReading Stop → Result DeclsRead Rule → Type 0
@@ -36,7 +37,11 @@ DeclsAre (Err stop) found = StopIs stop found
 
 -- the outcome that an answer of the reader tells: none where memory ran out
 abbrev pub outcome_of : Result UnitCode UcodeFault → Option UnitOutcome
-outcome_of (Ok unit) = Some (Whole (record { name = unit.name; procs = map proc_seen unit.procs.items; decls = map decl_seen unit.decls.items }))
+outcome_of (Ok unit) = Some (Whole (record {
+  name = unit.name;
+  procs = map proc_seen unit.procs.items;
+  decls = map decl_seen unit.decls.items;
+}))
 outcome_of (Err (Broken rule second)) = Some (Faulty rule second)
 outcome_of (Err NoMemory) = None
 
@@ -44,4 +49,5 @@ outcome_of (Err NoMemory) = None
 abbrev pub procs_behind : List ProcCode → List (List ℕ) → Option (List ProcCode)
 procs_behind procs [] = Some procs
 procs_behind [] (name ∷ names) = None
-procs_behind (proc ∷ procs) (name ∷ names) = if bytes_eq proc.name name then procs_behind procs names else None
+procs_behind (proc ∷ procs) (name ∷ names) =
+    if bytes_eq proc.name name then procs_behind procs names else None

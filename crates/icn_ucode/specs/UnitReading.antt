@@ -27,8 +27,11 @@ then_step (Err rule) more = Err rule
 
 -- a text line by line, with the bytes of the line that is begun: a last line that does not end in a newline is bad, where it breaks no other rule
 abbrev pub each_line : {S : Type 0} → (S → List ℕ → Result S Rule) → S → List ℕ → List ℕ → Result S Rule
-each_line step state line [] = if is_nothing line then Ok state else then_step (step state line) (λ next. Err U3)
-each_line step state line (b ∷ rest) = if b == 10 then then_step (step state line) (λ next. each_line step next [] rest) else each_line step state (line ++ b ∷ []) rest
+each_line step state line [] =
+    if is_nothing line then Ok state else then_step (step state line) (λ next. Err U3)
+each_line step state line (b ∷ rest) =
+    if b == 10 then then_step (step state line) (λ next. each_line step next [] rest)
+    else each_line step state (line ++ b ∷ []) rest
 
 -- a line that begins with a blank is bad wherever it stands
 abbrev pub is_indented : List ℕ → Bool
@@ -46,10 +49,13 @@ or_bad (Some value) more = more value
 abbrev pub operand_instr : InstrWord → List ℕ → ℕ → Option UnitInstr
 operand_instr WordInt text names = option_map (λ n. Int (pos n)) (number_of 9223372036854775807 text)
 operand_instr WordStr text names = option_map (λ bytes. Str bytes) (bytes_of text)
-operand_instr WordCset text names = option_and_then (λ bytes. if ascends bytes then Some (Cset (members_of bytes)) else None) (bytes_of text)
-operand_instr WordVar text names = option_and_then (λ n. if nat_lt n names then Some (Var n) else None) (number_of 4294967295 text)
+operand_instr WordCset text names =
+    option_and_then (λ bytes. if ascends bytes then Some (Cset (members_of bytes)) else None) (bytes_of text)
+operand_instr WordVar text names =
+    option_and_then (λ n. if nat_lt n names then Some (Var n) else None) (number_of 4294967295 text)
 operand_instr WordKeywd text names = option_map (λ keyword. Keywd keyword) (keyword_of text)
-operand_instr WordOp text names = option_and_then (λ n. option_map (λ op. Op op) (op_of n)) (number_of 4294967295 text)
+operand_instr WordOp text names =
+    option_and_then (λ n. option_map (λ op. Op op) (op_of n)) (number_of 4294967295 text)
 operand_instr WordField text names = if is_name text then Some (Field text) else None
 operand_instr WordLlist text names = option_map (λ n. Llist n) (number_of 4294967295 text)
 operand_instr WordInvoke text names = option_map (λ n. Invoke n) (number_of 4294967295 text)
@@ -62,7 +68,8 @@ instr_of word (Some text) names = operand_instr word text names
 
 -- the place of a label that has one
 abbrev pub is_repeated : List UnitInstr → UnitInstr → Bool
-is_repeated instrs instr = option_map_or (λ label. has_label (placed_labels instrs) label) (own_label instr) false
+is_repeated instrs instr =
+    option_map_or (λ label. has_label (placed_labels instrs) label) (own_label instr) false
 
 -- Procedures
 
@@ -72,15 +79,19 @@ pub record Head : Type 0 where
   pub collects : Bool
 
 abbrev pub flag_of : List ℕ → Option Bool
-flag_of text = if bytes_eq text (codes "0") then Some false else (if bytes_eq text (codes "1") then Some true else None)
+flag_of text =
+    if bytes_eq text (codes "0") then Some false else (if bytes_eq text (codes "1") then Some true else None)
 
 -- a last parameter collects only where there is one
 abbrev pub head_by : List ℕ → ℕ → Bool → Option Head
-head_by name params collects = if is_name name && (not collects || nat_lt 0 params) then Some (record { name = name; params = params; collects = collects }) else None
+head_by name params collects = if is_name name && (not collects || nat_lt 0 params)
+    then Some (record { name = name; params = params; collects = collects }) else None
 
 abbrev pub collects_read : List ℕ → List ℕ → Option (List ℕ) → Option Head
 collects_read name params None = None
-collects_read name params (Some collects) = option_and_then (λ p. option_and_then (λ c. head_by name p c) (flag_of collects)) (number_of 4294967295 params)
+collects_read name params (Some collects) =
+    option_and_then (λ p. option_and_then (λ c. head_by name p c) (flag_of collects))
+    (number_of 4294967295 params)
 
 abbrev pub params_read : List ℕ → Option (List ℕ) → Option Head
 params_read name None = None
@@ -92,14 +103,17 @@ head_read None = None
 head_read (Some text) = let words = first_field text in params_read words.0 words.1
 
 abbrev pub kind_of : List ℕ → Option NameKind
-kind_of (b ∷ []) = if b == 112 then Some Parameter else (if b == 108 then Some Local else (if b == 115 then Some Static else (if b == 117 then Some Undeclared else None)))
+kind_of (b ∷ []) = if b == 112 then Some Parameter else (if b == 108 then Some Local
+    else (if b == 115 then Some Static else (if b == 117 then Some Undeclared else None)))
 kind_of _ = None
 
 abbrev pub last_rank : List UnitName → ℕ
 last_rank names = option_map_or (λ name. rank name.kind) (slice_get names (length names - 1)) 0
 
 abbrev pub entry_by : List UnitName → NameKind → List ℕ → Option UnitName
-entry_by names kind name = if is_name name && nat_le (last_rank names) (rank kind) && not (has_name (entry_names names) name) then Some (record { kind = kind; name = name }) else None
+entry_by names kind name =
+    if is_name name && nat_le (last_rank names) (rank kind) && not (has_name (entry_names names) name)
+    then Some (record { kind = kind; name = name }) else None
 
 abbrev pub entry_named : List UnitName → List ℕ → Option (List ℕ) → Option UnitName
 entry_named names kind None = None
@@ -127,11 +141,14 @@ empty_proc head = record { name = head.name; collects = head.collects; names = [
 
 abbrev pub outside_line : List Proc → List ℕ → Option (List ℕ) → Result ProcsRead Rule
 outside_line procs word operand =
-    if bytes_eq word (codes "proc") then or_bad (head_read operand) (λ head. if has_name (proc_names procs) head.name then Err U3 else Ok (record { procs = procs; stage = Naming head.params (empty_proc head) }))
+    if bytes_eq word (codes "proc")
+    then or_bad (head_read operand) (λ head. if has_name (proc_names procs) head.name then Err U3
+    else Ok (record { procs = procs; stage = Naming head.params (empty_proc head) }))
     else Err U1
 
 abbrev pub code_line : List Proc → ℕ → Proc → Option (List ℕ) → Result ProcsRead Rule
-code_line procs params proc None = if params_in proc.names == params then Ok (record { procs = procs; stage = Coding proc }) else Err U3
+code_line procs params proc None =
+    if params_in proc.names == params then Ok (record { procs = procs; stage = Coding proc }) else Err U3
 code_line procs params proc (Some text) = Err U3
 
 -- the procedure with one name more
@@ -140,11 +157,13 @@ with_entry proc entry = record proc { names = proc.names ++ entry ∷ [] }
 
 abbrev pub naming_line : List Proc → ℕ → Proc → List ℕ → Option (List ℕ) → Result ProcsRead Rule
 naming_line procs params proc word operand =
-    if bytes_eq word (codes "name") then or_bad (entry_read proc.names operand) (λ entry. Ok (record { procs = procs; stage = Naming params (with_entry proc entry) }))
+    if bytes_eq word (codes "name") then or_bad (entry_read proc.names operand)
+    (λ entry. Ok (record { procs = procs; stage = Naming params (with_entry proc entry) }))
     else (if bytes_eq word (codes "code") then code_line procs params proc operand else Err U1)
 
 abbrev pub end_line : List Proc → Proc → Option (List ℕ) → Result ProcsRead Rule
-end_line procs proc None = if labels_placed proc.instrs then Ok (record { procs = procs ++ proc ∷ []; stage = Outside }) else Err U4
+end_line procs proc None =
+    if labels_placed proc.instrs then Ok (record { procs = procs ++ proc ∷ []; stage = Outside }) else Err U4
 end_line procs proc (Some text) = Err U3
 
 -- the procedure with one instruction more
@@ -154,10 +173,12 @@ with_instr proc instr = record proc { instrs = proc.instrs ++ instr ∷ [] }
 abbrev pub instr_line : List Proc → Proc → Option InstrWord → Option (List ℕ) → Result ProcsRead Rule
 instr_line procs proc None operand = Err U2
 instr_line procs proc (Some word) operand =
-    or_bad (instr_of word operand (length proc.names)) (λ instr. if is_repeated proc.instrs instr then Err U5 else Ok (record { procs = procs; stage = Coding (with_instr proc instr) }))
+    or_bad (instr_of word operand (length proc.names)) (λ instr. if is_repeated proc.instrs instr then Err U5
+    else Ok (record { procs = procs; stage = Coding (with_instr proc instr) }))
 
 abbrev pub coding_line : List Proc → Proc → List ℕ → Option (List ℕ) → Result ProcsRead Rule
-coding_line procs proc word operand = if bytes_eq word (codes "end") then end_line procs proc operand else instr_line procs proc (instr_word_of word) operand
+coding_line procs proc word operand = if bytes_eq word (codes "end") then end_line procs proc operand
+    else instr_line procs proc (instr_word_of word) operand
 
 -- nothing stands behind a word
 abbrev pub alone : {B : Type 0} → Option (List ℕ) → B → Result B Rule
@@ -169,9 +190,11 @@ abbrev pub with_heading : {B : Type 0} → List ℕ → List ℕ → Option (Lis
 with_heading heading word operand value = if bytes_eq word heading then alone operand value else Err U1
 
 abbrev pub stage_line : List Proc → Stage → List ℕ → Result ProcsRead Rule
-stage_line procs Heading line = let words = first_field line in with_heading (codes "U9.1") words.0 words.1 (record { procs = procs; stage = Outside })
+stage_line procs Heading line = let words = first_field line in
+    with_heading (codes "U9.1") words.0 words.1 (record { procs = procs; stage = Outside })
 stage_line procs Outside line = let words = first_field line in outside_line procs words.0 words.1
-stage_line procs (Naming params proc) line = let words = first_field line in naming_line procs params proc words.0 words.1
+stage_line procs (Naming params proc) line =
+    let words = first_field line in naming_line procs params proc words.0 words.1
 stage_line procs (Coding proc) line = let words = first_field line in coding_line procs proc words.0 words.1
 
 unfoldable pub procs_line : ProcsRead → List ℕ → Result ProcsRead Rule
@@ -195,11 +218,14 @@ procs_of text = then_step (each_line procs_line (record { procs = []; stage = He
 
 -- names with blanks between them, which differ
 abbrev pub with_field : List (List ℕ) → List ℕ → Option (List (List ℕ))
-with_field fields name = if is_name name && not (has_name fields name) then Some (fields ++ name ∷ []) else None
+with_field fields name =
+    if is_name name && not (has_name fields name) then Some (fields ++ name ∷ []) else None
 
 abbrev pub fields_from : List (List ℕ) → List ℕ → List ℕ → Option (List (List ℕ))
 fields_from fields word [] = with_field fields word
-fields_from fields word (b ∷ rest) = if b == 32 then option_and_then (λ more. fields_from more [] rest) (with_field fields word) else fields_from fields (word ++ b ∷ []) rest
+fields_from fields word (b ∷ rest) =
+    if b == 32 then option_and_then (λ more. fields_from more [] rest) (with_field fields word)
+    else fields_from fields (word ++ b ∷ []) rest
 
 abbrev pub fields_read : Option (List ℕ) → Option (List (List ℕ))
 fields_read None = Some []
@@ -220,7 +246,9 @@ abbrev pub link_read : Option (List ℕ) → Option Decl
 link_read operand = option_map (λ bytes. Link bytes) (bytes_read operand)
 
 abbrev pub record_by : List (List ℕ) → List Decl → List ℕ → Option (List ℕ) → Option Decl
-record_by procs decls name rest = if is_name name && not (has_name procs name) && not (has_name (owned_names decls) name) then option_map (λ fields. Record name fields) (fields_read rest) else None
+record_by procs decls name rest =
+    if is_name name && not (has_name procs name) && not (has_name (owned_names decls) name)
+    then option_map (λ fields. Record name fields) (fields_read rest) else None
 
 -- `NAME` and its fields, where procedures have names
 abbrev pub record_read : List (List ℕ) → List Decl → Option (List ℕ) → Option Decl
@@ -228,7 +256,9 @@ record_read procs decls None = None
 record_read procs decls (Some text) = let words = first_field text in record_by procs decls words.0 words.1
 
 abbrev pub procedure_read : List Decl → Option (List ℕ) → Option Decl
-procedure_read decls operand = option_and_then (λ name. if has_name (owned_names decls) name then None else Some (Procedure name)) (name_read operand)
+procedure_read decls operand =
+    option_and_then (λ name. if has_name (owned_names decls) name then None else Some (Procedure name))
+    (name_read operand)
 
 pub data DeclStage : Type 0 where
   DeclHeading : DeclStage
@@ -255,13 +285,16 @@ declaring_line procs decls word operand =
     else (if bytes_eq word (codes "end") then ended_line decls operand else Err U1))))
 
 abbrev pub decl_stage_line : List (List ℕ) → List Decl → DeclStage → List ℕ → Result DeclsRead Rule
-decl_stage_line procs decls DeclHeading line = let words = first_field line in with_heading (codes "U9.2") words.0 words.1 (record { decls = decls; stage = Declaring })
-decl_stage_line procs decls Declaring line = let words = first_field line in declaring_line procs decls words.0 words.1
+decl_stage_line procs decls DeclHeading line = let words = first_field line in
+    with_heading (codes "U9.2") words.0 words.1 (record { decls = decls; stage = Declaring })
+decl_stage_line procs decls Declaring line =
+    let words = first_field line in declaring_line procs decls words.0 words.1
 decl_stage_line procs decls Ended line = Err U1
 
 -- a line, where the procedures of the first text have these names
 unfoldable pub decls_line : List (List ℕ) → DeclsRead → List ℕ → Result DeclsRead Rule
-decls_line procs read line = if is_indented line then Err U3 else decl_stage_line procs read.decls read.stage line
+decls_line procs read line =
+    if is_indented line then Err U3 else decl_stage_line procs read.decls read.stage line
 
 abbrev pub decl_stage_end : List Decl → DeclStage → Result (List Decl) Rule
 decl_stage_end decls DeclHeading = Err U1
@@ -273,7 +306,8 @@ decls_end read = decl_stage_end read.decls read.stage
 
 -- the declarations of a second text, beside these procedures; or the rule of its first fault
 unfoldable pub decls_of : List (List ℕ) → List ℕ → Result (List Decl) Rule
-decls_of procs text = then_step (each_line (decls_line procs) (record { decls = []; stage = DeclHeading }) [] text) decls_end
+decls_of procs text =
+    then_step (each_line (decls_line procs) (record { decls = []; stage = DeclHeading }) [] text) decls_end
 
 -- Units
 
@@ -283,7 +317,8 @@ pub data UnitOutcome : Type 0 where
   Faulty : Rule → Bool → UnitOutcome
 
 abbrev pub matched_unit : List ℕ → List Proc → List Decl → UnitOutcome
-matched_unit name procs decls = if same_names procs decls then Whole (record { name = name; procs = procs; decls = decls }) else Faulty U7 true
+matched_unit name procs decls = if same_names procs decls
+    then Whole (record { name = name; procs = procs; decls = decls }) else Faulty U7 true
 
 abbrev pub with_decls : List ℕ → List Proc → Result (List Decl) Rule → UnitOutcome
 with_decls name procs (Err rule) = Faulty rule true

@@ -33,7 +33,8 @@ stage_seen (NamingRead begun) = Naming begun.params (proc_seen begun.proc)
 stage_seen (CodingRead begun) = Coding (proc_seen begun.proc)
 
 abbrev pub reading_seen : Reading → ProcsRead
-reading_seen reading = record { procs = map proc_seen reading.procs.procs.items; stage = stage_seen reading.stage }
+reading_seen reading =
+    record { procs = map proc_seen reading.procs.procs.items; stage = stage_seen reading.stage }
 
 abbrev pub StopIs : {A : Type 0} → Stop → Result A Rule → Type 0
 StopIs (StopBroken rule) found = found ≡ Err rule

@@ -39,7 +39,8 @@ fn read_bytes(alloc: Global, operand: Option<&[u8]>) -> Result<Option<Bytes>, Al
 
 // The fields of a record: names with blanks between them, which differ.
 fn read_fields(alloc: Global, operand: Option<&[u8]>) -> Result<Option<Vec<Bytes>>, AllocError>
-    ensures { IfOk result (λ found. option_map (λ v. v.items) found ≡ fields_read (option_copied operand.entry)) }
+    ensures { IfOk result
+        (λ found. option_map (λ v. v.items) found ≡ fields_read (option_copied operand.entry)) }
 {
     let mut fields = Fields::new(alloc);
     let mut rest = operand;
@@ -67,7 +68,8 @@ fn global_line<'a>(
     decls: Decls<'a>,
     operand: Option<&[u8]>,
 ) -> Result<DeclReading<'a>, Stop>
-    ensures { LineIs result (or_bad (global_read (option_copied operand.entry)) (with_decl (map decl_seen decls.entry.decls.items))) }
+    ensures { LineIs result (or_bad (global_read (option_copied operand.entry))
+        (with_decl (map decl_seen decls.entry.decls.items))) }
 {
     let Some(name) = read_name(alloc, operand)? else {
         return Err(Stop::Broken(Rule::U3));
@@ -81,7 +83,8 @@ fn link_line<'a>(
     decls: Decls<'a>,
     operand: Option<&[u8]>,
 ) -> Result<DeclReading<'a>, Stop>
-    ensures { LineIs result (or_bad (link_read (option_copied operand.entry)) (with_decl (map decl_seen decls.entry.decls.items))) }
+    ensures { LineIs result (or_bad (link_read (option_copied operand.entry))
+        (with_decl (map decl_seen decls.entry.decls.items))) }
 {
     let Some(bytes) = read_bytes(alloc, operand)? else {
         return Err(Stop::Broken(Rule::U3));
@@ -95,7 +98,8 @@ fn proc_line<'a>(
     decls: Decls<'a>,
     operand: Option<&'a [u8]>,
 ) -> Result<DeclReading<'a>, Stop>
-    ensures { LineIs result (or_bad (procedure_read (map decl_seen decls.entry.decls.items) (option_copied operand.entry)) (with_decl (map decl_seen decls.entry.decls.items))) }
+    ensures { LineIs result (or_bad (procedure_read (map decl_seen decls.entry.decls.items)
+        (option_copied operand.entry)) (with_decl (map decl_seen decls.entry.decls.items))) }
 {
     match operand {
         Some(name) if is_name(name) && !decls.has(name) => {
@@ -113,7 +117,9 @@ fn record_line<'a>(
     decls: Decls<'a>,
     operand: Option<&'a [u8]>,
 ) -> Result<DeclReading<'a>, Stop>
-    ensures { LineIs result (or_bad (record_read (proc_names (map proc_seen procs.now.procs.items)) (map decl_seen decls.entry.decls.items) (option_copied operand.entry)) (with_decl (map decl_seen decls.entry.decls.items))) }
+    ensures { LineIs result (or_bad (record_read (proc_names (map proc_seen procs.now.procs.items))
+        (map decl_seen decls.entry.decls.items) (option_copied operand.entry))
+        (with_decl (map decl_seen decls.entry.decls.items))) }
 {
     let Some(text) = operand else {
         return Err(Stop::Broken(Rule::U3));
@@ -146,7 +152,8 @@ fn decl_line<'a>(
     decls: Decls<'a>,
     line: &'a [u8],
 ) -> Result<DeclReading<'a>, Stop>
-    ensures { LineIs result (decl_stage_line (proc_names (map proc_seen procs.now.procs.items)) (map decl_seen decls.entry.decls.items) Declaring line.now) }
+    ensures { LineIs result (decl_stage_line (proc_names (map proc_seen procs.now.procs.items))
+        (map decl_seen decls.entry.decls.items) Declaring line.now) }
 {
     let (word, operand) = cut(line);
     if word == b"global".as_slice() {
@@ -165,7 +172,8 @@ fn decl_line<'a>(
 }
 
 fn end<'a>(decls: Decls<'a>, operand: Option<&[u8]>) -> Result<DeclReading<'a>, Stop>
-    ensures { LineIs result (ended_line (map decl_seen decls.entry.decls.items) (option_copied operand.entry)) }
+    ensures { LineIs result
+        (ended_line (map decl_seen decls.entry.decls.items) (option_copied operand.entry)) }
 {
     match operand {
         None => Ok(DeclReading {
@@ -177,7 +185,8 @@ fn end<'a>(decls: Decls<'a>, operand: Option<&[u8]>) -> Result<DeclReading<'a>, 
 }
 
 fn heading<'a>(decls: Decls<'a>, line: &[u8]) -> Result<DeclReading<'a>, Stop>
-    ensures { LineIs result (with_heading (codes "U9.2") (first_field line.now).0 (first_field line.now).1 (record { decls = map decl_seen decls.entry.decls.items; stage = Declaring })) }
+    ensures { LineIs result (with_heading (codes "U9.2") (first_field line.now).0 (first_field line.now).1
+        (record { decls = map decl_seen decls.entry.decls.items; stage = Declaring })) }
 {
     let (word, operand) = cut(line);
     if word != b"U9.2".as_slice() {
@@ -197,7 +206,8 @@ fn take_line<'a>(
     reading: DeclReading<'a>,
     line: &'a [u8],
 ) -> Result<DeclReading<'a>, Stop>
-    ensures { LineIs result (decls_line (proc_names (map proc_seen procs.now.procs.items)) (reading_seen reading.entry) line.now) }
+    ensures { LineIs result (decls_line (proc_names (map proc_seen procs.now.procs.items))
+        (reading_seen reading.entry) line.now) }
 {
     if is_indented(line) {
         return Err(Stop::Broken(Rule::U3));
@@ -235,7 +245,8 @@ pub fn read_decls<'a>(
 }
 
 fn finish(reading: DeclReading<'_>) -> Result<Vec<UnitDecl>, Stop>
-    ensures { DeclsAre result (decl_stage_end (map decl_seen reading.entry.decls.decls.items) (stage_seen reading.entry.stage)) }
+    ensures { DeclsAre result
+        (decl_stage_end (map decl_seen reading.entry.decls.decls.items) (stage_seen reading.entry.stage)) }
 {
     match reading.stage {
         DeclStage::Heading => Err(Stop::Broken(Rule::U1)),

@@ -74,7 +74,8 @@ impl<'a> Begun<'a> {
         collects: bool,
     ) -> Result<Self, AllocError>
         ensures params { IfOk result (λ made. made.params ≡ params) }
-        ensures procedure { IfOk result (λ made. proc_seen made.proc ≡ empty_proc (record { name = name.now; params = params; collects = collects })) }
+        ensures procedure { IfOk result (λ made. proc_seen made.proc
+            ≡ empty_proc (record { name = name.now; params = params; collects = collects })) }
     {
         let proc = ProcCode {
             name: Bytes::from_slice(alloc, name)?,
@@ -99,7 +100,8 @@ impl<'a> Begun<'a> {
     // One more name.
     pub fn with(self, alloc: Global, kind: NameKind, name: &'a [u8]) -> Result<Self, AllocError>
         ensures params { IfOk result (λ more. more.params ≡ self.entry.params) }
-        ensures procedure { IfOk result (λ more. proc_seen more.proc ≡ with_entry (proc_seen self.entry.proc) (record { kind = kind; name = name.now })) }
+        ensures procedure { IfOk result (λ more. proc_seen more.proc
+            ≡ with_entry (proc_seen self.entry.proc) (record { kind = kind; name = name.now })) }
     {
         let Begun {
             params,

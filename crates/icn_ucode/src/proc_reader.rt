@@ -142,7 +142,8 @@ fn heading<'a>(line: &[u8]) -> Result<Stage<'a>, Stop>
 
 // A line behind the heading or a procedure begins one.
 fn outside<'a>(alloc: Global, procs: &Procs<'a>, line: &'a [u8]) -> Result<Stage<'a>, Stop>
-    ensures { StageIs (map proc_seen procs.now.procs.items) result (stage_line (map proc_seen procs.now.procs.items) Outside line.now) }
+    ensures { StageIs (map proc_seen procs.now.procs.items) result
+        (stage_line (map proc_seen procs.now.procs.items) Outside line.now) }
 {
     let (word, operand) = cut(line);
     if word != b"proc".as_slice() {
@@ -160,7 +161,8 @@ fn outside<'a>(alloc: Global, procs: &Procs<'a>, line: &'a [u8]) -> Result<Stage
 
 // A line in front of a procedure's code is a name, or the begin of the code.
 fn naming<'a>(alloc: Global, begun: Begun<'a>, line: &'a [u8]) -> Result<Stage<'a>, Stop>
-    ensures { (procs : List Proc) → StageIs procs result (stage_line procs (Naming begun.entry.params (proc_seen begun.entry.proc)) line.now) }
+    ensures { (procs : List Proc) → StageIs procs result
+        (stage_line procs (Naming begun.entry.params (proc_seen begun.entry.proc)) line.now) }
 {
     let (word, operand) = cut(line);
     if word == b"name".as_slice() {
@@ -186,7 +188,8 @@ fn coding<'a>(
     coded: Coded<'a>,
     line: &'a [u8],
 ) -> Result<Reading<'a>, Stop>
-    ensures { LineIs result (stage_line (map proc_seen procs.entry.procs.items) (Coding (proc_seen coded.entry.proc)) line.now) }
+    ensures { LineIs result
+        (stage_line (map proc_seen procs.entry.procs.items) (Coding (proc_seen coded.entry.proc)) line.now) }
 {
     let (word, operand) = cut(line);
     if word == b"end".as_slice() {
@@ -198,7 +201,8 @@ fn coding<'a>(
 }
 
 fn end<'a>(procs: Procs<'a>, coded: Coded<'a>, operand: Option<&[u8]>) -> Result<Reading<'a>, Stop>
-    ensures { LineIs result (end_line (map proc_seen procs.entry.procs.items) (proc_seen coded.entry.proc) (option_copied operand.entry)) }
+    ensures { LineIs result (end_line (map proc_seen procs.entry.procs.items) (proc_seen coded.entry.proc)
+        (option_copied operand.entry)) }
 {
     if operand.is_some() {
         return Err(Stop::Broken(Rule::U3));
@@ -219,7 +223,8 @@ fn instr_line<'a>(
     word: &[u8],
     operand: Option<&[u8]>,
 ) -> Result<Stage<'a>, Stop>
-    ensures { (procs : List Proc) → StageIs procs result (instr_line procs (proc_seen coded.entry.proc) (instr_word_of word.now) (option_copied operand.entry)) }
+    ensures { (procs : List Proc) → StageIs procs result (instr_line procs (proc_seen coded.entry.proc)
+        (instr_word_of word.now) (option_copied operand.entry)) }
 {
     let Some(word) = word_named(word) else {
         return Err(Stop::Broken(Rule::U2));
@@ -254,7 +259,8 @@ pub fn read_procs<'a>(alloc: Global, text: &'a [u8]) -> Result<Procs<'a>, Stop>
 }
 
 fn finish(reading: Reading<'_>) -> Result<Procs<'_>, Stop>
-    ensures { ProcsAre result (stage_end (map proc_seen reading.entry.procs.procs.items) (stage_seen reading.entry.stage)) }
+    ensures { ProcsAre result
+        (stage_end (map proc_seen reading.entry.procs.procs.items) (stage_seen reading.entry.stage)) }
 {
     match reading.stage {
         Stage::Heading => Err(Stop::Broken(Rule::U1)),

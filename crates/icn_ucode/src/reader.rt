@@ -21,7 +21,8 @@ pub fn read_unit<'a>(
     u1: &'a [u8],
     u2: &'a [u8],
 ) -> Result<Unit, UcodeFault>
-    ensures exact { (result ≡ Err UcodeFault.NoMemory) ⊎ (outcome_of result ≡ Some (unit_read name.now u1.now u2.now)) }
+    ensures exact { (result ≡ Err UcodeFault.NoMemory)
+        ⊎ (outcome_of result ≡ Some (unit_read name.now u1.now u2.now)) }
 {
     let procs = match read_procs(alloc, u1) {
         Ok(procs) => procs,

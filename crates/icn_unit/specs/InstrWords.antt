@@ -50,17 +50,22 @@ unfoldable pub instr_words : ℕ → List (List ℕ × InstrWord)
 instr_words b =
     if b == 97 then (codes "appl", Appl) ∷ [] else (
     if b == 98 then (codes "bscan", Bscan) ∷ [] else (
-    if b == 99 then (codes "cset", Cset) ∷ (codes "chfail", Chfail) ∷ (codes "ccase", Ccase) ∷ (codes "create", Create) ∷ (codes "coact", Coact) ∷ (codes "coret", Coret) ∷ (codes "cofail", Cofail) ∷ [] else (
+    if b == 99 then (codes "cset", Cset) ∷ (codes "chfail", Chfail) ∷ (codes "ccase", Ccase)
+    ∷ (codes "create", Create) ∷ (codes "coact", Coact) ∷ (codes "coret", Coret)
+    ∷ (codes "cofail", Cofail) ∷ [] else (
     if b == 100 then (codes "dup", Dup) ∷ [] else (
-    if b == 101 then (codes "eret", Eret) ∷ (codes "esusp", Esusp) ∷ (codes "efail", Efail) ∷ (codes "escan", Escan) ∷ [] else (
+    if b == 101 then (codes "eret", Eret) ∷ (codes "esusp", Esusp) ∷ (codes "efail", Efail)
+    ∷ (codes "escan", Escan) ∷ [] else (
     if b == 102 then (codes "field", Field) ∷ [] else (
     if b == 103 then (codes "goto", Goto) ∷ [] else (
     if b == 105 then (codes "int", Int) ∷ (codes "invoke", Invoke) ∷ (codes "init", Init) ∷ [] else (
     if b == 107 then (codes "keywd", Keywd) ∷ [] else (
-    if b == 108 then (codes "llist", Llist) ∷ (codes "limit", Limit) ∷ (codes "lsusp", Lsusp) ∷ (codes "loop", Loop) ∷ (codes "lab", Lab) ∷ [] else (
+    if b == 108 then (codes "llist", Llist) ∷ (codes "limit", Limit) ∷ (codes "lsusp", Lsusp)
+    ∷ (codes "loop", Loop) ∷ (codes "lab", Lab) ∷ [] else (
     if b == 109 then (codes "mark", Mark) ∷ (codes "mark0", Mark0) ∷ [] else (
     if b == 111 then (codes "op", Op) ∷ [] else (
-    if b == 112 then (codes "pnull", Pnull) ∷ (codes "pop", Pop) ∷ (codes "psusp", Psusp) ∷ (codes "pret", Pret) ∷ (codes "pfail", Pfail) ∷ [] else (
+    if b == 112 then (codes "pnull", Pnull) ∷ (codes "pop", Pop) ∷ (codes "psusp", Psusp)
+    ∷ (codes "pret", Pret) ∷ (codes "pfail", Pfail) ∷ [] else (
     if b == 115 then (codes "str", Str) ∷ [] else (
     if b == 117 then (codes "unmark", Unmark) ∷ [] else (
     if b == 118 then (codes "var", Var) ∷ [] else [])))))))))))))))

@@ -13,7 +13,8 @@ abbrev pub value_limited : List ℕ → Option ℕ
 value_limited text = within_limit (value_from 0 text)
 
 abbrev pub byte_item : ℕ → ℕ → Option ℕ
-byte_item a b = if is_hexadecimal a && is_hexadecimal b then Some (hexadecimal_value a * 16 + hexadecimal_value b) else None
+byte_item a b = if is_hexadecimal a && is_hexadecimal b
+    then Some (hexadecimal_value a * 16 + hexadecimal_value b) else None
 
 abbrev pub below_first : ℕ → List ℕ → Bool
 below_first b [] = true

@@ -30,7 +30,8 @@ value_from n (b ∷ rest) = value_from (n * 10 + (b - 48)) rest
 
 -- a number up to a greatest one is its decimal: digits without a leading zero
 abbrev pub number_of : ℕ → List ℕ → Option ℕ
-number_of greatest text = let n = value_from 0 text in if nat_le n greatest && bytes_eq (decimal n) text then Some n else None
+number_of greatest text =
+    let n = value_from 0 text in if nat_le n greatest && bytes_eq (decimal n) text then Some n else None
 
 -- `L` and the number of a label
 abbrev pub label_of : List ℕ → Option ℕ
@@ -53,7 +54,8 @@ hexadecimal_value b = if is_digit b then b - 48 else b - 87
 abbrev pub hexadecimal_bytes : List ℕ → Option (List ℕ)
 hexadecimal_bytes [] = Some []
 hexadecimal_bytes (a ∷ []) = None
-hexadecimal_bytes (a ∷ b ∷ rest) = if is_hexadecimal a && is_hexadecimal b then option_map (λ bytes. (hexadecimal_value a * 16 + hexadecimal_value b) ∷ bytes) (hexadecimal_bytes rest) else None
+hexadecimal_bytes (a ∷ b ∷ rest) = if is_hexadecimal a && is_hexadecimal b then option_map (λ bytes.
+    (hexadecimal_value a * 16 + hexadecimal_value b) ∷ bytes) (hexadecimal_bytes rest) else None
 
 -- at most 65535 bytes in hexadecimal, or `-` where there are none
 abbrev pub bytes_of : List ℕ → Option (List ℕ)
@@ -68,7 +70,8 @@ ascends (a ∷ []) = true
 ascends (a ∷ b ∷ rest) = nat_lt a b && ascends (b ∷ rest)
 
 abbrev pub keywords : List Keyword
-keywords = Ascii ∷ Cset ∷ Current ∷ Digits ∷ Errout ∷ Fail ∷ Input ∷ Lcase ∷ Letters ∷ Level ∷ Main ∷ Null ∷ Output ∷ Pos ∷ Random ∷ Source ∷ Subject ∷ Ucase ∷ []
+keywords = Ascii ∷ Cset ∷ Current ∷ Digits ∷ Errout ∷ Fail ∷ Input ∷ Lcase ∷ Letters ∷ Level ∷ Main ∷ Null
+    ∷ Output ∷ Pos ∷ Random ∷ Source ∷ Subject ∷ Ucase ∷ []
 
 -- the keyword of this name, if there is one
 unfoldable pub keyword_of : List ℕ → Option Keyword

@@ -97,14 +97,16 @@ label_in (Create label) = Some label
 label_in _ = None
 
 abbrev pub label_placed : List UnitInstr → UnitInstr → Bool
-label_placed instrs instr = option_map_or (λ label. has_label (placed_labels instrs) label) (label_in instr) true
+label_placed instrs instr =
+    option_map_or (λ label. has_label (placed_labels instrs) label) (label_in instr) true
 
 -- each label that an instruction goes to has its place
 abbrev pub labels_placed : List UnitInstr → Bool
 labels_placed instrs = list_all (λ instr. label_placed instrs instr) instrs
 
 abbrev pub keeps_code : ℕ → List UnitInstr → Bool
-keeps_code names instrs = list_all (λ instr. keeps_operand names instr) instrs && labels_differ (placed_labels instrs) && labels_placed instrs
+keeps_code names instrs = list_all (λ instr. keeps_operand names instr) instrs
+    && labels_differ (placed_labels instrs) && labels_placed instrs
 
 -- Procedures
 
@@ -129,7 +131,8 @@ abbrev pub keeps_head : List ℕ → ℕ → Bool → Bool
 keeps_head name params collects = is_name name && is_number params && (not collects || nat_lt 0 params)
 
 abbrev pub keeps_proc : Proc → Bool
-keeps_proc proc = keeps_head proc.name (params_in proc.names) proc.collects && keeps_names proc.names && keeps_code (length proc.names) proc.instrs
+keeps_proc proc = keeps_head proc.name (params_in proc.names) proc.collects && keeps_names proc.names
+    && keeps_code (length proc.names) proc.instrs
 
 abbrev pub keeps_procs : List Proc → Bool
 keeps_procs procs = list_all keeps_proc procs && names_differ (proc_names procs)

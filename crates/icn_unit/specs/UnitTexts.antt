@@ -68,10 +68,12 @@ flag_text false = codes "0"
 flag_text true = codes "1"
 
 abbrev pub head_text : Proc → List ℕ
-head_text proc = codes "proc " ++ proc.name ++ 32 ∷ decimal (params_in proc.names) ++ 32 ∷ flag_text proc.collects ++ 10 ∷ []
+head_text proc = codes "proc " ++ proc.name ++ 32 ∷ decimal (params_in proc.names) ++ 32
+    ∷ flag_text proc.collects ++ 10 ∷ []
 
 abbrev pub proc_text : Proc → List ℕ
-proc_text proc = head_text proc ++ flat_map name_text proc.names ++ codes "code" ++ 10 ∷ flat_map instr_text proc.instrs ++ codes "end" ++ 10 ∷ []
+proc_text proc = head_text proc ++ flat_map name_text proc.names ++ codes "code" ++ 10
+    ∷ flat_map instr_text proc.instrs ++ codes "end" ++ 10 ∷ []
 
 -- the first text
 abbrev pub procs_text : List Proc → List ℕ

@@ -6,7 +6,12 @@ use Rattle.icn_unit.specs.PlainUnits.{Proc, Decl, Global, Procedure, Link, Recor
 
 -- the code of a procedure, as plain lists
 abbrev pub proc_seen : ProcCode → Proc
-proc_seen proc = record { name = proc.name; collects = proc.collects; names = proc.names.items; instrs = proc.instrs.items }
+proc_seen proc = record {
+  name = proc.name;
+  collects = proc.collects;
+  names = proc.names.items;
+  instrs = proc.instrs.items;
+}
 
 -- a declaration of a unit, as plain lists
 abbrev pub decl_seen : UnitDecl → Decl

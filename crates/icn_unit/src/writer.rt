@@ -23,8 +23,10 @@ pub struct UnitText {
 
 /// The texts of a unit. An error is want of memory.
 pub fn write_unit(alloc: Global, unit: &Unit) -> Result<UnitText, AllocError>
-    ensures procedures { IfOk result (λ text. text.u1.items ≡ procs_text (map proc_seen unit.now.procs.items)) }
-    ensures declarations { IfOk result (λ text. text.u2.items ≡ decls_text (map decl_seen unit.now.decls.items)) }
+    ensures procedures { IfOk result
+        (λ text. text.u1.items ≡ procs_text (map proc_seen unit.now.procs.items)) }
+    ensures declarations { IfOk result
+        (λ text. text.u2.items ≡ decls_text (map decl_seen unit.now.decls.items)) }
 {
     Ok(UnitText {
         u1: write_procs(alloc, &unit.procs)?,

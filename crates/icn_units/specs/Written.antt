@@ -39,14 +39,18 @@ abbrev mutual
   tree_fits passes (Compound place exprs) = trees_fit passes exprs
   tree_fits passes (Call place callee arguments) = tree_fits passes callee && trees_fit passes arguments
   tree_fits passes (CoCall place callee arguments) = tree_fits passes callee && trees_fit passes arguments
-  tree_fits passes (Subscript place subject subscripts) = tree_fits passes subject && trees_fit passes subscripts
-  tree_fits passes (Section place kind subject from to) = tree_fits passes subject && (tree_fits passes from && tree_fits passes to)
+  tree_fits passes (Subscript place subject subscripts) =
+      tree_fits passes subject && trees_fit passes subscripts
+  tree_fits passes (Section place kind subject from to) =
+      tree_fits passes subject && (tree_fits passes from && tree_fits passes to)
   tree_fits passes (Field place subject name) = tree_fits passes subject && name_fits name
   tree_fits passes (Prefix place operator operand) = tree_fits passes operand
   tree_fits passes (Not place operand) = tree_fits passes operand
   tree_fits passes (Binary place operator first second) = tree_fits passes first && tree_fits passes second
-  tree_fits passes (To place from to by) = tree_fits passes from && (tree_fits passes to && maybe_fits passes by)
-  tree_fits passes (If place condition first second) = tree_fits passes condition && (tree_fits passes first && maybe_fits passes second)
+  tree_fits passes (To place from to by) =
+      tree_fits passes from && (tree_fits passes to && maybe_fits passes by)
+  tree_fits passes (If place condition first second) =
+      tree_fits passes condition && (tree_fits passes first && maybe_fits passes second)
   tree_fits passes (Case place subject clauses) = tree_fits passes subject && clauses_fit passes clauses
   tree_fits passes (Loop place kind control body) = tree_fits passes control && maybe_fits passes body
   tree_fits passes (Repeat place body) = tree_fits passes body

@@ -37,9 +37,12 @@ pub fn names_stand_once()
 /// The procedures and the records of a file that breaks no context rule differ by their names in its unit, so do the fields of a
 /// record, and the procedures are those that the declarations name, in their order.
 pub fn file_names_differ()
-    ensures procedures { (file : List Declaration) → context_faults file ≡ [] → names_differ (proc_names (proc_codes file)) ≡ true }
-    ensures owners { (file : List Declaration) → context_faults file ≡ [] → names_differ (owned_names (unit_decls file)) ≡ true }
-    ensures fields { (file : List Declaration) → context_faults file ≡ [] → list_all fields_differ (unit_decls file) ≡ true }
+    ensures procedures { (file : List Declaration) → context_faults file ≡ []
+        → names_differ (proc_names (proc_codes file)) ≡ true }
+    ensures owners { (file : List Declaration) → context_faults file ≡ []
+        → names_differ (owned_names (unit_decls file)) ≡ true }
+    ensures fields { (file : List Declaration) → context_faults file ≡ []
+        → list_all fields_differ (unit_decls file) ≡ true }
     ensures same { (file : List Declaration) → same_names (proc_codes file) (unit_decls file) ≡ true }
 {}
 
@@ -47,21 +50,28 @@ pub fn file_names_differ()
 /// last parameter of a procedure collects only where there is one. Where the texts of its tokens hold bytes, so do its own.
 pub fn names_and_literals_fit()
     ensures short { (file : List Declaration) → IsSpelled file → file_fits is_short file ≡ true }
-    ensures bytes { (file : List Declaration) (spelled : IsSpelled file) → All (λ token. HasBytes token.kind) spelled.tokens
+    ensures bytes { (file : List Declaration) (spelled : IsSpelled file)
+        → All (λ token. HasBytes token.kind) spelled.tokens
         → file_fits is_byte_text file ≡ true }
 {}
 
 /// Where the names and the literals of a procedure are such, so are those of its code, for any test of texts.
 pub fn code_texts_fit()
-    ensures names { (passes : List ℕ → Bool) (met : NameTest) (procedure : Procedure) → procedure_faults met procedure ≡ []
-        → procedure_fits passes procedure ≡ true → list_all is_name (entry_names (proc_code procedure).names) ≡ true }
-    ensures operands { (passes : List ℕ → Bool) (met : NameTest) (procedure : Procedure) → procedure_faults met procedure ≡ []
-        → procedure_fits passes procedure ≡ true → list_all (operand_fits passes) (proc_code procedure).instrs ≡ true }
+    ensures names { (passes : List ℕ → Bool) (met : NameTest) (procedure : Procedure)
+        → procedure_faults met procedure ≡ []
+        → procedure_fits passes procedure ≡ true
+        → list_all is_name (entry_names (proc_code procedure).names) ≡ true }
+    ensures operands { (passes : List ℕ → Bool) (met : NameTest) (procedure : Procedure)
+        → procedure_faults met procedure ≡ []
+        → procedure_fits passes procedure ≡ true
+        → list_all (operand_fits passes) (proc_code procedure).instrs ≡ true }
 {}
 
 /// The unit of a text that breaks no rule keeps the rules of units, where the numbers of its instructions have 32 bits and the
 /// bytes of its strings are bytes.
 pub fn units_keep_rules()
-    ensures { (file : List Declaration) → IsSpelled file → context_faults file ≡ [] → list_all numbers_fit (proc_codes file) ≡ true
-        → list_all bytes_fit (unit_decls file) ≡ true → keeps_rules (proc_codes file) (unit_decls file) ≡ true }
+    ensures { (file : List Declaration) → IsSpelled file → context_faults file ≡ []
+        → list_all numbers_fit (proc_codes file) ≡ true
+        → list_all bytes_fit (unit_decls file) ≡ true
+        → keeps_rules (proc_codes file) (unit_decls file) ≡ true }
 {}

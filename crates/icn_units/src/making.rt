@@ -18,7 +18,8 @@ use std::alloc::{AllocError, Global};
 ///
 /// Want of memory.
 pub fn unit(alloc: Global, name: &[u8], file: &Checked) -> Result<Unit, AllocError>
-    ensures { IfOk result (λ unit. unit_seen unit ≡ translated_unit name.now (declarations_of file.now.text)) }
+    ensures { IfOk result
+        (λ unit. unit_seen unit ≡ translated_unit name.now (declarations_of file.now.text)) }
 {
     let text = file.file();
     let procs = proc_codes(alloc, &text.decls)?;

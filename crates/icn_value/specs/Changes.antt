@@ -30,12 +30,15 @@ LimitsFirst change result = (full : Full) → change ≡ Err full → result ≡
 -- string bytes, where the sum stays within the limit
 unfoldable pub charged_strings : Heap → ℕ → ChangedHeap
 charged_strings heap count =
-    if nat_le (heap.strings + count) heap.bounds.strings then Ok (record heap { strings = heap.strings + count }) else Err (Strings heap.strings heap.bounds.strings)
+    if nat_le (heap.strings + count) heap.bounds.strings
+    then Ok (record heap { strings = heap.strings + count })
+    else Err (Strings heap.strings heap.bounds.strings)
 
 -- cells, where the sum stays within the limit
 unfoldable pub charged_cells : Heap → ℕ → ChangedHeap
 charged_cells heap count =
-    if nat_le (heap.cells + count) heap.bounds.cells then Ok (record heap { cells = heap.cells + count }) else Err (Cells heap.cells heap.bounds.cells)
+    if nat_le (heap.cells + count) heap.bounds.cells then Ok (record heap { cells = heap.cells + count })
+    else Err (Cells heap.cells heap.bounds.cells)
 
 -- a cell for what is new
 abbrev pub charged_unless : Bool → Heap → ChangedHeap
@@ -59,18 +62,21 @@ abbrev pub made_set : Heap → ChangedHeap
 made_set heap = and_then (charged_cells heap 1) (λ paid. Ok (having_set paid))
 
 abbrev pub having_table : Value → Heap → Heap
-having_table default heap = record heap { tables = heap.tables ++ record { default = default; pairs = [] } ∷ [] }
+having_table default heap =
+    record heap { tables = heap.tables ++ record { default = default; pairs = [] } ∷ [] }
 
 -- an empty table with this default is charged and made, or refused
 abbrev pub made_table : Heap → Value → ChangedHeap
 made_table heap default = and_then (charged_cells heap 1) (λ paid. Ok (having_table default paid))
 
 abbrev pub having_record : ℕ → List Value → Heap → Heap
-having_record kind fields heap = record heap { records = heap.records ++ record { kind = kind; fields = fields } ∷ [] }
+having_record kind fields heap =
+    record heap { records = heap.records ++ record { kind = kind; fields = fields } ∷ [] }
 
 -- a record of this kind with these fields is charged and made, or refused
 abbrev pub made_record : Heap → ℕ → List Value → ChangedHeap
-made_record heap kind fields = and_then (charged_cells heap (1 + length fields)) (λ paid. Ok (having_record kind fields paid))
+made_record heap kind fields =
+    and_then (charged_cells heap (1 + length fields)) (λ paid. Ok (having_record kind fields paid))
 
 abbrev pub having_coexp : Heap → Heap
 having_coexp heap = record heap { coexps = heap.coexps ++ 0 ∷ [] }
@@ -103,29 +109,34 @@ next_coexp heap = ACoexp (length heap.coexps)
 
 -- a list with one more item at the right, or at the left, which costs a cell
 abbrev pub put_on : Heap → ℕ → Value → ChangedHeap
-put_on heap id value = and_then (charged_cells heap 1) (λ paid. Ok (with_list id (with_right (list_at paid id) value) paid))
+put_on heap id value =
+    and_then (charged_cells heap 1) (λ paid. Ok (with_list id (with_right (list_at paid id) value) paid))
 
 -- a value is charged and put at the left end of a list, or refused
 abbrev pub pushed_on : Heap → ℕ → Value → ChangedHeap
-pushed_on heap id value = and_then (charged_cells heap 1) (λ paid. Ok (with_list id (with_left (list_at paid id) value) paid))
+pushed_on heap id value =
+    and_then (charged_cells heap 1) (λ paid. Ok (with_list id (with_left (list_at paid id) value) paid))
 
 -- the value at a key of a table, if the key is there
 abbrev pub value_at_key : Heap → ℕ → Value → Option Value
 value_at_key heap id key = value_of same (table_at heap id).pairs key
 
 abbrev pub with_pair : ℕ → Value → Value → Heap → Heap
-with_pair id key value heap = with_table id (record (table_at heap id) { pairs = stored same (table_at heap id).pairs key value }) heap
+with_pair id key value heap =
+    with_table id (record (table_at heap id) { pairs = stored same (table_at heap id).pairs key value }) heap
 
 -- a table with a value at a key; a new key costs a cell
 abbrev pub stored_in : Heap → ℕ → Value → Value → ChangedHeap
-stored_in heap id key value = and_then (charged_unless (is_some (value_at_key heap id key)) heap) (λ paid. Ok (with_pair id key value paid))
+stored_in heap id key value = and_then (charged_unless (is_some (value_at_key heap id key)) heap)
+    (λ paid. Ok (with_pair id key value paid))
 
 abbrev pub having_member : ℕ → Value → Heap → Heap
 having_member id value heap = with_set id (with_member (set_at heap id) value) heap
 
 -- a set with a member; a new one costs a cell
 abbrev pub added_in : Heap → ℕ → Value → ChangedHeap
-added_in heap id value = and_then (charged_unless (has_value (set_at heap id) value) heap) (λ paid. Ok (having_member id value paid))
+added_in heap id value = and_then (charged_unless (has_value (set_at heap id) value) heap)
+    (λ paid. Ok (having_member id value paid))
 
 -- whether a set or a table has a member or a key
 abbrev pub has_key : Heap → Value → Value → Bool
@@ -136,12 +147,14 @@ has_key heap other key = false
 -- a set or a table without a member or a key
 abbrev pub without_key : Value → Value → Heap → Heap
 without_key (ASet id) key heap = with_set id (filter (λ member. not (same key member)) (set_at heap id)) heap
-without_key (ATable id) key heap = with_table id (record (table_at heap id) { pairs = without same (table_at heap id).pairs key }) heap
+without_key (ATable id) key heap =
+    with_table id (record (table_at heap id) { pairs = without same (table_at heap id).pairs key }) heap
 without_key other key heap = heap
 
 -- a field of a record has another value
 abbrev pub with_field : ℕ → ℕ → Value → Heap → Heap
-with_field id place value heap = with_record id (record (record_at heap id) { fields = slice_set (record_at heap id).fields place value }) heap
+with_field id place value heap = with_record id
+    (record (record_at heap id) { fields = slice_set (record_at heap id).fields place value }) heap
 
 -- one more result of a co-expression
 abbrev pub with_result : ℕ → Heap → Heap

@@ -32,7 +32,8 @@ shape_of (ARecord id) = record { rank = 10; text = []; number = pos id }
 
 -- by the rank, then by the text, then by the number
 abbrev pub shape_cmp : Shape → Shape → Ordering
-shape_cmp a b = ordering_then (nat_cmp a.rank b.rank) (ordering_then (slice_cmp nat_cmp a.text b.text) (int_cmp a.number b.number))
+shape_cmp a b = ordering_then (nat_cmp a.rank b.rank)
+    (ordering_then (slice_cmp nat_cmp a.text b.text) (int_cmp a.number b.number))
 
 -- `===`: the same type and the same value, structures by their identity
 abbrev pub same : Value → Value → Bool

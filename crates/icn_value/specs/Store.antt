@@ -63,7 +63,12 @@ outside_of input = record { left = input; output = []; errors = []; readings = [
 abbrev pub with_reading : Request → Outside → Outside
 with_reading asked outside =
     let seen : Reading =
-    record { asked = asked; left = outside.left; output = length outside.output; errors = length outside.errors } in
+    record {
+      asked = asked;
+      left = outside.left;
+      output = length outside.output;
+      errors = length outside.errors;
+    } in
     record outside { readings = seen ∷ outside.readings }
 
 -- what an operation is applied in: the world, the locals of the activation at hand, and the outside

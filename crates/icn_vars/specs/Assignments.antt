@@ -22,25 +22,32 @@ use Rattle.icn_vars.specs.Worlds.{IsLiveVariable, IsShort, Reach, variable_in}
 
 -- A part of a row that may be refused goes on; or it is refused, whatever that is; or it stops.
 abbrev pub RootAssigned : Extent → (Row → Row → Row) → Setting → Setting → Result Bool Stop → Type 0
-RootAssigned all assigns before after (Ok true) = (refused next : Row) → assigns refused next before ≡ next after
-RootAssigned all assigns before after (Ok false) = (refused next : Row) → assigns refused next before ≡ refused after
-RootAssigned all assigns before after (Err stop) = (refused : Row) → StopsPassing all (assigns refused) before after stop
+RootAssigned all assigns before after (Ok true) =
+    (refused next : Row) → assigns refused next before ≡ next after
+RootAssigned all assigns before after (Ok false) =
+    (refused next : Row) → assigns refused next before ≡ refused after
+RootAssigned all assigns before after (Err stop) =
+    (refused : Row) → StopsPassing all (assigns refused) before after stop
 
 -- The variable is assigned, and the row goes on with what it is then; or the position is out of range, and the
 -- row is refused, whatever that is; or it stops.
 abbrev pub AssignsAs : Extent → (Row → Finds Variable) → Setting → Setting → Result Assignment Stop → Type 0
-AssignsAs all assigns before after (Ok (Done now)) = (refused : Row) → GoesOn (assigns refused) before (variable_in all now) after
+AssignsAs all assigns before after (Ok (Done now)) =
+    (refused : Row) → GoesOn (assigns refused) before (variable_in all now) after
 AssignsAs all assigns before after (Ok OutOfRange) =
     (refused : Row) (next : Variable → Row) → assigns refused next before ≡ refused after
-AssignsAs all assigns before after (Err stop) = (refused : Row) → StopsFinding all (assigns refused) before after stop
+AssignsAs all assigns before after (Err stop) =
+    (refused : Row) → StopsFinding all (assigns refused) before after stop
 
 -- The same of two variables that are assigned.
-abbrev pub ExchangesAs : Extent → (Row → Finds (Variable × Variable)) → Setting → Setting → Result Exchange Stop → Type 0
+abbrev pub ExchangesAs : Extent → (Row → Finds (Variable × Variable)) → Setting → Setting
+    → Result Exchange Stop → Type 0
 ExchangesAs all assigns before after (Ok (ExchangeDone left right)) =
     (refused : Row) → GoesOn (assigns refused) before (variable_in all left, variable_in all right) after
 ExchangesAs all assigns before after (Ok ExchangeOutOfRange) =
     (refused : Row) (next : Variable × Variable → Row) → assigns refused next before ≡ refused after
-ExchangesAs all assigns before after (Err stop) = (refused : Row) → StopsFinding all (assigns refused) before after stop
+ExchangesAs all assigns before after (Err stop) =
+    (refused : Row) → StopsFinding all (assigns refused) before after stop
 
 -- what is left of an exchange once the left side is assigned
 abbrev pub assigns_right : Row → Mover → Variable → Variable → Value → Finds (Variable × Variable)
@@ -90,9 +97,11 @@ IsBehind new (HeldPart root place len) = 2 ^ 64 ≤ place + new
 -- a part that was moved is this one; or would begin before its text; or begins behind every text
 abbrev pub MovesTo : ℕ → ℕ → VarRef → Moved → Type 0
 MovesTo old new variable (MovedTo now) =
-    (all : Extent) (setting : Setting) → GoesOn (move_part old new (variable_in all variable)) setting (variable_in all now) setting
+    (all : Extent) (setting : Setting)
+    → GoesOn (move_part old new (variable_in all variable)) setting (variable_in all now) setting
 MovesTo old new variable BeforeText =
-    (all : Extent) (setting : Setting) → ComesTo (move_part old new (variable_in all variable)) setting (ErrorOutcome 205 None setting)
+    (all : Extent) (setting : Setting)
+    → ComesTo (move_part old new (variable_in all variable)) setting (ErrorOutcome 205 None setting)
 MovesTo old new variable BehindTexts = IsBehind new variable
 
 -- a part that was moved is of the world
@@ -111,7 +120,8 @@ HoldsShort setting (Part root place size) =
 
 -- the variable can hold afterwards what it could hold before
 abbrev pub HoldsAlike : Extent → Variable → Result Assignment Stop → Type 0
-HoldsAlike all variable (Ok (Done now)) = (value : Value) → can_hold (variable_in all now) value ≡ can_hold variable value
+HoldsAlike all variable (Ok (Done now)) =
+    (value : Value) → can_hold (variable_in all now) value ≡ can_hold variable value
 HoldsAlike all variable (Ok OutOfRange) = ⊤
 HoldsAlike all variable (Err stop) = ⊤
 
@@ -125,7 +135,8 @@ HoldAlike all x y (Err stop) = ⊤
 
 -- the same of a part that is moved
 abbrev pub HoldsMoved : VarRef → Moved → Type 0
-HoldsMoved variable (MovedTo now) = (all : Extent) (value : Value) → can_hold (variable_in all now) value ≡ can_hold (variable_in all variable) value
+HoldsMoved variable (MovedTo now) = (all : Extent) (value : Value)
+    → can_hold (variable_in all now) value ≡ can_hold (variable_in all variable) value
 HoldsMoved variable BeforeText = ⊤
 HoldsMoved variable BehindTexts = ⊤
 

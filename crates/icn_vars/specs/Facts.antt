@@ -19,5 +19,6 @@ pub record IsSoundWorld (all : Extent) (pair : Pair) (random : ℕ) (globals sta
 IsText-prop : (all : Extent) (pair : Pair) → IsProp (IsText all pair.subject)
 IsText-prop all pair = hlevel IsOf-prop
 
-pub IsSoundWorld-prop : (all : Extent) (pair : Pair) (random : ℕ) (globals statics : List Val) → IsProp (IsSoundWorld all pair random globals statics)
+pub IsSoundWorld-prop : (all : Extent) (pair : Pair) (random : ℕ) (globals statics : List Val)
+    → IsProp (IsSoundWorld all pair random globals statics)
 IsSoundWorld-prop all pair random globals statics = hlevel (IsLive-prop, IsText-prop, props)

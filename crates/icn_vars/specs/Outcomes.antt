@@ -40,7 +40,8 @@ residual_in all (HeldRecordFields rec place) = RecordFields rec place
 residual_in all HeldInputLines = InputLines
 residual_in all (HeldUndoAssign variable old) = UndoAssign (variable_in all variable) (value_in all old)
 residual_in all (HeldUndoExchange mover left right old_left old_right) =
-    UndoExchange (mover_of mover) (variable_in all left) (variable_in all right) (value_in all old_left) (value_in all old_right)
+    UndoExchange (mover_of mover) (variable_in all left) (variable_in all right) (value_in all old_left)
+    (value_in all old_right)
 residual_in all (HeldUndoPosition old) = UndoPosition old
 residual_in all (HeldCounting given last step) = Counting given last step
 residual_in all (HeldSequence given step) = Sequence given step
@@ -85,7 +86,8 @@ ResidualBy reach (HeldUndoPosition old) = 1 ≤ old
 ResidualBy reach (HeldCounting given last step) = ⊤
 ResidualBy reach (HeldSequence given step) = ⊤
 ResidualBy reach (HeldBalanced wanted opening closing text place last) = IsSearch reach.extent text place last
-ResidualBy reach (HeldFound wanted text place last) = IsText reach.extent wanted × IsSearch reach.extent text place last
+ResidualBy reach (HeldFound wanted text place last) =
+    IsText reach.extent wanted × IsSearch reach.extent text place last
 ResidualBy reach (HeldAmong wanted text place last) = IsSearch reach.extent text place last
 
 -- what a residual names is of the world

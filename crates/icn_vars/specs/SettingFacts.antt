@@ -12,6 +12,7 @@ use Rattle.icn_vars.specs.Worlds.{IsLiveItem, reach_of}
 -- The world is sound, and what the locals and the items name is of it. The type of a world keeps the first, a call says the second of the
 -- locals that it leaves, and by what it keeps of items the third stays.
 pub record IsSoundSetting (world : World) (locals : List Val) (items : List Item) : Type 0 where
-  pub sound : IsSoundWorld (extent_of world.heap) world.pair world.random world.globals.items world.statics.items
+  pub sound : IsSoundWorld
+      (extent_of world.heap) world.pair world.random world.globals.items world.statics.items
   pub live_locals : All (IsLive (extent_of world.heap)) locals
   pub live_items : All (IsLiveItem (reach_of world locals)) items

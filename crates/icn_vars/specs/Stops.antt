@@ -30,10 +30,12 @@ IsLiveStop all NoMemory = ⊤
 
 -- what is looked for comes to this error, or memory was wanting
 abbrev pub StopsFinding : {A : Type 0} → Extent → Finds A → Setting → Setting → Stop → Type 0
-StopsFinding all find before after (Error number offending) = ComesTo find before (ErrorOutcome number (option_map (value_in all) offending) after)
+StopsFinding all find before after (Error number offending) =
+    ComesTo find before (ErrorOutcome number (option_map (value_in all) offending) after)
 StopsFinding all find before after NoMemory = ⊤
 
 -- the part of a row comes to this error, or memory was wanting
 abbrev pub StopsPassing : Extent → (Row → Row) → Setting → Setting → Stop → Type 0
-StopsPassing all part before after (Error number offending) = Halts part before (ErrorOutcome number (option_map (value_in all) offending) after)
+StopsPassing all part before after (Error number offending) =
+    Halts part before (ErrorOutcome number (option_map (value_in all) offending) after)
 StopsPassing all part before after NoMemory = ⊤

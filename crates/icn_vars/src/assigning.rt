@@ -33,11 +33,15 @@ pub fn assign<L: Locals>(
     requires locals { All (IsLive (extent_of w.old.heap)) (L.items l.old) }
     requires variable { IsLiveVariable (reach_of w.old (L.items l.old)) variable }
     requires value { IsLive (extent_of w.old.heap) val }
-    ensures assigned { (outside : Outside) → AssignsAs (extent_of w.new.heap) (λ refused. assigns_or refused (variable_in (extent_of w.old.heap) variable) (value_in (extent_of w.old.heap) val)) (setting_of outside w.old (L.items l.old)) (setting_of outside w.new (L.items l.new)) result }
+    ensures assigned { (outside : Outside) → AssignsAs (extent_of w.new.heap) (λ refused. assigns_or refused
+        (variable_in (extent_of w.old.heap) variable) (value_in (extent_of w.old.heap) val))
+        (setting_of outside w.old (L.items l.old)) (setting_of outside w.new (L.items l.new)) result }
     ensures live { IsLiveAssignment (reach_of w.new (L.items l.new)) result }
     ensures short { IsShortAssignment variable result }
     ensures holds { HoldsAlike (extent_of w.new.heap) (variable_in (extent_of w.old.heap) variable) result }
-    ensures memory { takes_no_memory (variable_in (extent_of w.old.heap) variable) ≡ true → can_hold (variable_in (extent_of w.old.heap) variable) (value_in (extent_of w.old.heap) val) ≡ true → IfErr result IsError }
+    ensures memory { takes_no_memory (variable_in (extent_of w.old.heap) variable) ≡ true
+        → can_hold (variable_in (extent_of w.old.heap) variable) (value_in (extent_of w.old.heap) val) ≡ true
+        → IfErr result IsError }
     ensures locals { All (IsLive (extent_of w.new.heap)) (L.items l.new) }
     ensures kept { KeepsItems (reach_of w.old (L.items l.old)) (reach_of w.new (L.items l.new)) }
 {
@@ -66,10 +70,13 @@ fn assign_part<L: Locals>(
     requires root { IsLiveRoot (reach_of w.old (L.items l.old)) root }
     requires place { 1 ≤ place }
     requires value { IsLive (extent_of w.old.heap) val }
-    ensures assigned { (outside : Outside) → AssignsAs (extent_of w.new.heap) (λ refused. assigns_or refused (Part (root_in (extent_of w.old.heap) root) place len) (value_in (extent_of w.old.heap) val)) (setting_of outside w.old (L.items l.old)) (setting_of outside w.new (L.items l.new)) result }
+    ensures assigned { (outside : Outside) → AssignsAs (extent_of w.new.heap) (λ refused. assigns_or refused
+        (Part (root_in (extent_of w.old.heap) root) place len) (value_in (extent_of w.old.heap) val))
+        (setting_of outside w.old (L.items l.old)) (setting_of outside w.new (L.items l.new)) result }
     ensures live { IsLiveAssignment (reach_of w.new (L.items l.new)) result }
     ensures short { IsShortAssignment (HeldPart root place len) result }
-    ensures holds { HoldsAlike (extent_of w.new.heap) (Part (root_in (extent_of w.old.heap) root) place len) result }
+    ensures holds { HoldsAlike (extent_of w.new.heap)
+        (Part (root_in (extent_of w.old.heap) root) place len) result }
     ensures locals { All (IsLive (extent_of w.new.heap)) (L.items l.new) }
     ensures kept { KeepsItems (reach_of w.old (L.items l.old)) (reach_of w.new (L.items l.new)) }
 {

@@ -37,9 +37,14 @@ pub fn exchange<L: Locals>(
     requires right { IsLiveVariable (reach_of w.old (L.items l.old)) right }
     requires of_left { IsLive (extent_of w.old.heap) of_left }
     requires of_right { IsLive (extent_of w.old.heap) of_right }
-    ensures exchanged { (outside : Outside) → ExchangesAs (extent_of w.new.heap) (λ refused. exchange_of refused (variable_in (extent_of w.old.heap) left) (variable_in (extent_of w.old.heap) right) (value_in (extent_of w.old.heap) of_left) (value_in (extent_of w.old.heap) of_right)) (setting_of outside w.old (L.items l.old)) (setting_of outside w.new (L.items l.new)) result }
+    ensures exchanged { (outside : Outside)
+        → ExchangesAs (extent_of w.new.heap) (λ refused. exchange_of refused
+        (variable_in (extent_of w.old.heap) left) (variable_in (extent_of w.old.heap) right)
+        (value_in (extent_of w.old.heap) of_left) (value_in (extent_of w.old.heap) of_right))
+        (setting_of outside w.old (L.items l.old)) (setting_of outside w.new (L.items l.new)) result }
     ensures live { IsLiveExchange (reach_of w.new (L.items l.new)) result }
-    ensures holds { HoldAlike (extent_of w.new.heap) (variable_in (extent_of w.old.heap) left) (variable_in (extent_of w.old.heap) right) result }
+    ensures holds { HoldAlike (extent_of w.new.heap) (variable_in (extent_of w.old.heap) left)
+        (variable_in (extent_of w.old.heap) right) result }
     ensures locals { All (IsLive (extent_of w.new.heap)) (L.items l.new) }
     ensures kept { KeepsItems (reach_of w.old (L.items l.old)) (reach_of w.new (L.items l.new)) }
 {
@@ -62,9 +67,14 @@ pub fn assign_both<L: Locals>(
     requires right { IsLiveVariable (reach_of w.old (L.items l.old)) right }
     requires to_left { IsLive (extent_of w.old.heap) to_left }
     requires to_right { IsLive (extent_of w.old.heap) to_right }
-    ensures exchanged { (outside : Outside) → ExchangesAs (extent_of w.new.heap) (λ refused. assigns_both refused (mover_of mover) (variable_in (extent_of w.old.heap) left) (variable_in (extent_of w.old.heap) right) (value_in (extent_of w.old.heap) to_left) (value_in (extent_of w.old.heap) to_right)) (setting_of outside w.old (L.items l.old)) (setting_of outside w.new (L.items l.new)) result }
+    ensures exchanged { (outside : Outside)
+        → ExchangesAs (extent_of w.new.heap) (λ refused. assigns_both refused
+        (mover_of mover) (variable_in (extent_of w.old.heap) left) (variable_in (extent_of w.old.heap) right)
+        (value_in (extent_of w.old.heap) to_left) (value_in (extent_of w.old.heap) to_right))
+        (setting_of outside w.old (L.items l.old)) (setting_of outside w.new (L.items l.new)) result }
     ensures live { IsLiveExchange (reach_of w.new (L.items l.new)) result }
-    ensures holds { HoldAlike (extent_of w.new.heap) (variable_in (extent_of w.old.heap) left) (variable_in (extent_of w.old.heap) right) result }
+    ensures holds { HoldAlike (extent_of w.new.heap) (variable_in (extent_of w.old.heap) left)
+        (variable_in (extent_of w.old.heap) right) result }
     ensures locals { All (IsLive (extent_of w.new.heap)) (L.items l.new) }
     ensures kept { KeepsItems (reach_of w.old (L.items l.old)) (reach_of w.new (L.items l.new)) }
 {
@@ -93,9 +103,13 @@ fn assign_moved<L: Locals>(
     requires short { IsShort left }
     requires old { old < 2 ^ 63 }
     requires to_right { IsLive (extent_of w.old.heap) to_right }
-    ensures exchanged { (outside : Outside) → ExchangesAs (extent_of w.new.heap) (λ refused. assigns_moved refused old (variable_in (extent_of w.old.heap) left) (variable_in (extent_of w.old.heap) right) (value_in (extent_of w.old.heap) to_right)) (setting_of outside w.old (L.items l.old)) (setting_of outside w.new (L.items l.new)) result }
+    ensures exchanged { (outside : Outside) → ExchangesAs (extent_of w.new.heap)
+        (λ refused. assigns_moved refused old (variable_in (extent_of w.old.heap) left)
+        (variable_in (extent_of w.old.heap) right) (value_in (extent_of w.old.heap) to_right))
+        (setting_of outside w.old (L.items l.old)) (setting_of outside w.new (L.items l.new)) result }
     ensures live { IsLiveExchange (reach_of w.new (L.items l.new)) result }
-    ensures holds { HoldAlike (extent_of w.new.heap) (variable_in (extent_of w.old.heap) left) (variable_in (extent_of w.old.heap) right) result }
+    ensures holds { HoldAlike (extent_of w.new.heap) (variable_in (extent_of w.old.heap) left)
+        (variable_in (extent_of w.old.heap) right) result }
     ensures locals { All (IsLive (extent_of w.new.heap)) (L.items l.new) }
     ensures kept { KeepsItems (reach_of w.old (L.items l.old)) (reach_of w.new (L.items l.new)) }
 {
@@ -123,9 +137,13 @@ fn assign_right<L: Locals>(
     requires right { IsLiveVariable (reach_of w.old (L.items l.old)) right }
     requires short { IsShort left }
     requires to_right { IsLive (extent_of w.old.heap) to_right }
-    ensures exchanged { (outside : Outside) → ExchangesAs (extent_of w.new.heap) (λ refused. assigns_right refused (mover_of mover) (variable_in (extent_of w.old.heap) left) (variable_in (extent_of w.old.heap) right) (value_in (extent_of w.old.heap) to_right)) (setting_of outside w.old (L.items l.old)) (setting_of outside w.new (L.items l.new)) result }
+    ensures exchanged { (outside : Outside) → ExchangesAs (extent_of w.new.heap)
+        (λ refused. assigns_right refused (mover_of mover) (variable_in (extent_of w.old.heap) left)
+        (variable_in (extent_of w.old.heap) right) (value_in (extent_of w.old.heap) to_right))
+        (setting_of outside w.old (L.items l.old)) (setting_of outside w.new (L.items l.new)) result }
     ensures live { IsLiveExchange (reach_of w.new (L.items l.new)) result }
-    ensures holds { HoldAlike (extent_of w.new.heap) (variable_in (extent_of w.old.heap) left) (variable_in (extent_of w.old.heap) right) result }
+    ensures holds { HoldAlike (extent_of w.new.heap) (variable_in (extent_of w.old.heap) left)
+        (variable_in (extent_of w.old.heap) right) result }
     ensures locals { All (IsLive (extent_of w.new.heap)) (L.items l.new) }
     ensures kept { KeepsItems (reach_of w.old (L.items l.old)) (reach_of w.new (L.items l.new)) }
 {
@@ -147,7 +165,8 @@ fn assign_right<L: Locals>(
 fn short_held<L: Locals>(w: &World, l: &L, variable: VarRef) -> Result<(), Stop>
     requires locals { All (IsLive (extent_of w.now.heap)) (L.items l.now) }
     requires live { IsLiveVariable (reach_of w.now (L.items l.now)) variable }
-    ensures short { OnOk result ((outside : Outside) → HoldsShort (setting_of outside w.now (L.items l.now)) (variable_in (extent_of w.now.heap) variable)) }
+    ensures short { OnOk result ((outside : Outside) → HoldsShort (setting_of outside w.now (L.items l.now))
+        (variable_in (extent_of w.now.heap) variable)) }
     ensures memory { IfErr result (λ stop. stop ≡ NoMemory) }
 {
     match variable {

@@ -29,9 +29,12 @@ pub fn assign_keyword<L: Locals>(
 ) -> Result<bool, Stop>
     requires locals { All (IsLive (extent_of w.old.heap)) (L.items l.now) }
     requires value { IsLive (extent_of w.old.heap) val }
-    ensures assigned { (outside : Outside) → RootAssigned (extent_of w.new.heap) (λ refused. assigns_keyword refused (word_of word) (value_in (extent_of w.old.heap) val)) (setting_of outside w.old (L.items l.now)) (setting_of outside w.new (L.items l.now)) result }
+    ensures assigned { (outside : Outside) → RootAssigned (extent_of w.new.heap)
+        (λ refused. assigns_keyword refused (word_of word) (value_in (extent_of w.old.heap) val))
+        (setting_of outside w.old (L.items l.now)) (setting_of outside w.new (L.items l.now)) result }
     ensures stops { IfErr result (IsLiveStop (extent_of w.new.heap)) }
-    ensures memory { word_holds (word_of word) (value_in (extent_of w.old.heap) val) ≡ true → IfErr result IsError }
+    ensures memory { word_holds (word_of word) (value_in (extent_of w.old.heap) val) ≡ true
+        → IfErr result IsError }
     ensures locals { All (IsLive (extent_of w.new.heap)) (L.items l.now) }
     ensures kept { KeepsItems (reach_of w.old (L.items l.now)) (reach_of w.new (L.items l.now)) }
 {
@@ -47,7 +50,9 @@ pub fn assign_keyword<L: Locals>(
 fn assign_subject<L: Locals>(w: &mut World, l: &L, val: Val) -> Result<bool, Stop>
     requires locals { All (IsLive (extent_of w.old.heap)) (L.items l.now) }
     requires value { IsLive (extent_of w.old.heap) val }
-    ensures assigned { (outside : Outside) → RootAssigned (extent_of w.new.heap) (λ refused. assigns_keyword refused SubjectWord (value_in (extent_of w.old.heap) val)) (setting_of outside w.old (L.items l.now)) (setting_of outside w.new (L.items l.now)) result }
+    ensures assigned { (outside : Outside) → RootAssigned (extent_of w.new.heap)
+        (λ refused. assigns_keyword refused SubjectWord (value_in (extent_of w.old.heap) val))
+        (setting_of outside w.old (L.items l.now)) (setting_of outside w.new (L.items l.now)) result }
     ensures stops { IfErr result (IsLiveStop (extent_of w.new.heap)) }
     ensures memory { is_some (held_text (value_in (extent_of w.old.heap) val)) ≡ true → IfErr result IsError }
     ensures locals { All (IsLive (extent_of w.new.heap)) (L.items l.now) }
@@ -78,7 +83,9 @@ fn assign_subject<L: Locals>(w: &mut World, l: &L, val: Val) -> Result<bool, Sto
 fn assign_position<L: Locals>(w: &mut World, l: &L, val: Val) -> Result<bool, Stop>
     requires locals { All (IsLive (extent_of w.old.heap)) (L.items l.now) }
     requires value { IsLive (extent_of w.old.heap) val }
-    ensures assigned { (outside : Outside) → RootAssigned (extent_of w.new.heap) (λ refused. assigns_keyword refused PositionWord (value_in (extent_of w.old.heap) val)) (setting_of outside w.old (L.items l.now)) (setting_of outside w.new (L.items l.now)) result }
+    ensures assigned { (outside : Outside) → RootAssigned (extent_of w.new.heap)
+        (λ refused. assigns_keyword refused PositionWord (value_in (extent_of w.old.heap) val))
+        (setting_of outside w.old (L.items l.now)) (setting_of outside w.new (L.items l.now)) result }
     ensures stops { IfErr result (IsLiveStop (extent_of w.new.heap)) }
     ensures memory { IfErr result IsError }
     ensures locals { All (IsLive (extent_of w.new.heap)) (L.items l.now) }
@@ -103,7 +110,9 @@ fn assign_position<L: Locals>(w: &mut World, l: &L, val: Val) -> Result<bool, St
 fn assign_random<L: Locals>(w: &mut World, l: &L, val: Val) -> Result<bool, Stop>
     requires locals { All (IsLive (extent_of w.old.heap)) (L.items l.now) }
     requires value { IsLive (extent_of w.old.heap) val }
-    ensures assigned { (outside : Outside) → RootAssigned (extent_of w.new.heap) (λ refused. assigns_keyword refused RandomWord (value_in (extent_of w.old.heap) val)) (setting_of outside w.old (L.items l.now)) (setting_of outside w.new (L.items l.now)) result }
+    ensures assigned { (outside : Outside) → RootAssigned (extent_of w.new.heap)
+        (λ refused. assigns_keyword refused RandomWord (value_in (extent_of w.old.heap) val))
+        (setting_of outside w.old (L.items l.now)) (setting_of outside w.new (L.items l.now)) result }
     ensures stops { IfErr result (IsLiveStop (extent_of w.new.heap)) }
     ensures memory { IfErr result IsError }
     ensures locals { All (IsLive (extent_of w.new.heap)) (L.items l.now) }

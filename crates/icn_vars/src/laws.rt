@@ -18,23 +18,37 @@ ghost use Rattle.icn_vars.specs.Worlds.{KeepsFields, KeepsItems, field_counts, r
 
 /// The row of a new co-expression makes the change that `charge_coexp` of a heap makes, and is error 307 where that is refused.
 pub fn coexpressions_are_made()
-    ensures made { (locals : ℕ) (setting : Setting) (heap : DefinedHeap) → made_coexp setting.world.heap locals ≡ Ok heap → coexpression_row locals setting ≡ Gives (ItemVal (next_coexp setting.world.heap)) (having_heap (λ old. heap) setting) }
-    ensures refused { (locals : ℕ) (setting : Setting) (full : FullData) → made_coexp setting.world.heap locals ≡ Err full → coexpression_row locals setting ≡ ErrorOutcome 307 None setting }
+    ensures made { (locals : ℕ) (setting : Setting) (heap : DefinedHeap)
+        → made_coexp setting.world.heap locals ≡ Ok heap → coexpression_row locals setting
+        ≡ Gives (ItemVal (next_coexp setting.world.heap)) (having_heap (λ old. heap) setting) }
+    ensures refused { (locals : ℕ) (setting : Setting) (full : FullData)
+        → made_coexp setting.world.heap locals ≡ Err full
+        → coexpression_row locals setting ≡ ErrorOutcome 307 None setting }
 {}
 
 /// A row that assigns to a field makes the change that `set_field` of a heap makes.
 pub fn fields_are_assigned()
-    ensures { (refused next : Row) (id place : ℕ) (value : Value) (setting : Setting) → assigns_root refused (Field id place) value next setting ≡ next (having_heap (with_field id place value) setting) }
+    ensures { (refused next : Row) (id place : ℕ) (value : Value) (setting : Setting)
+        → assigns_root refused (Field id place) value next setting
+        ≡ next (having_heap (with_field id place value) setting) }
 {}
 
 /// One more result of a co-expression is what `count` of a heap makes: its count is one more, and nothing else differs.
 pub fn results_are_counted()
-    ensures { (id : ℕ) (heap : DefinedHeap) → with_result id heap ≡ (let counted : DefinedHeap = record heap { coexps = slice_set heap.coexps id (suc (slice_index heap.coexps id)) } in counted) }
+    ensures { (id : ℕ) (heap : DefinedHeap) → with_result id heap ≡ (let counted : DefinedHeap =
+        record heap { coexps = slice_set heap.coexps id (suc (slice_index heap.coexps id)) } in counted) }
 {}
 
 /// What holds of a world, its locals and the items at hand stays where a call keeps the items and leaves locals that are live, and where a
 /// heap grows.
 pub fn settings_stay()
-    ensures kept { (old new : WorldData) (before after : List ValData) (items : List ItemData) → KeepsItems (reach_of old before) (reach_of new after) → All (IsLive (extent_of new.heap)) after → IsSoundSetting old before items → IsSoundSetting new after items }
-    ensures grown { (old new : WorldData) (locals : List ValData) (items : List ItemData) → Keeps (extent_of old.heap) (extent_of new.heap) → KeepsFields (field_counts (heap_of old.heap)) (field_counts (heap_of new.heap)) → length new.globals.items ≡ length old.globals.items → length new.statics.items ≡ length old.statics.items → IsSoundSetting old locals items → IsSoundSetting new locals items }
+    ensures kept { (old new : WorldData) (before after : List ValData) (items : List ItemData)
+        → KeepsItems (reach_of old before) (reach_of new after) → All (IsLive (extent_of new.heap)) after
+        → IsSoundSetting old before items → IsSoundSetting new after items }
+    ensures grown { (old new : WorldData) (locals : List ValData) (items : List ItemData)
+        → Keeps (extent_of old.heap) (extent_of new.heap)
+        → KeepsFields (field_counts (heap_of old.heap)) (field_counts (heap_of new.heap))
+        → length new.globals.items ≡ length old.globals.items
+        → length new.statics.items ≡ length old.statics.items → IsSoundSetting old locals items
+        → IsSoundSetting new locals items }
 {}

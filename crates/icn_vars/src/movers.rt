@@ -18,7 +18,8 @@ use icn_value::{KeywordVariable, Mover, Root, Val, VarRef};
 pub fn mover_of<L: Locals>(w: &World, l: &L, left: VarRef, right: VarRef) -> Mover
     requires left { IsLiveVariable (reach_of w.now (L.items l.now)) left }
     requires right { IsLiveVariable (reach_of w.now (L.items l.now)) right }
-    ensures { mover_of result ≡ defined_mover (variable_in (extent_of w.now.heap) left) (variable_in (extent_of w.now.heap) right) }
+    ensures { mover_of result
+        ≡ defined_mover (variable_in (extent_of w.now.heap) left) (variable_in (extent_of w.now.heap) right) }
 {
     match left {
         VarRef::Whole(_) => Mover::Neither,

@@ -29,7 +29,11 @@ pub fn deref<L: Locals>(w: &World, l: &L, item: Item) -> Result<Val, Stop>
     ensures live { IfOk result (IsLive (extent_of w.now.heap)) }
     ensures stops { IfErr result (IsLiveStop (extent_of w.now.heap)) }
     ensures short { OnOk result (IsShortItem item) }
-    ensures value { (outside : Outside) → MatchResult result (λ val. GoesOn (the_value (item_in (extent_of w.now.heap) item)) (setting_of outside w.now (L.items l.now)) (value_in (extent_of w.now.heap) val) (setting_of outside w.now (L.items l.now))) (StopsFinding (extent_of w.now.heap) (the_value (item_in (extent_of w.now.heap) item)) (setting_of outside w.now (L.items l.now)) (setting_of outside w.now (L.items l.now))) }
+    ensures value { (outside : Outside) → MatchResult result (λ val.
+        GoesOn (the_value (item_in (extent_of w.now.heap) item)) (setting_of outside w.now (L.items l.now))
+        (value_in (extent_of w.now.heap) val) (setting_of outside w.now (L.items l.now)))
+        (StopsFinding (extent_of w.now.heap) (the_value (item_in (extent_of w.now.heap) item))
+        (setting_of outside w.now (L.items l.now)) (setting_of outside w.now (L.items l.now))) }
 {
     match item {
         Item::Val(val) => Ok(val),
@@ -44,7 +48,11 @@ fn read<L: Locals>(w: &World, l: &L, variable: VarRef) -> Result<Val, Stop>
     ensures live { IfOk result (IsLive (extent_of w.now.heap)) }
     ensures stops { IfErr result (IsLiveStop (extent_of w.now.heap)) }
     ensures short { OnOk result (IsShort variable) }
-    ensures value { (outside : Outside) → MatchResult result (λ val. GoesOn (reads (variable_in (extent_of w.now.heap) variable)) (setting_of outside w.now (L.items l.now)) (value_in (extent_of w.now.heap) val) (setting_of outside w.now (L.items l.now))) (StopsFinding (extent_of w.now.heap) (reads (variable_in (extent_of w.now.heap) variable)) (setting_of outside w.now (L.items l.now)) (setting_of outside w.now (L.items l.now))) }
+    ensures value { (outside : Outside) → MatchResult result
+        (λ val. GoesOn (reads (variable_in (extent_of w.now.heap) variable)) (setting_of outside w.now
+        (L.items l.now)) (value_in (extent_of w.now.heap) val) (setting_of outside w.now (L.items l.now)))
+        (StopsFinding (extent_of w.now.heap) (reads (variable_in (extent_of w.now.heap) variable))
+        (setting_of outside w.now (L.items l.now)) (setting_of outside w.now (L.items l.now))) }
 {
     match variable {
         VarRef::Whole(root) => read_root(w, l, root),
@@ -70,7 +78,11 @@ pub fn read_text<L: Locals>(
     ensures live { IfOk result (IsText (extent_of w.now.heap)) }
     ensures stops { IfErr result (IsLiveStop (extent_of w.now.heap)) }
     ensures within { IfOk result (λ text. place - 1 + len ≤ length (text_in (extent_of w.now.heap) text)) }
-    ensures value { (outside : Outside) → MatchResult result (λ text. GoesOn (reads_text (root_in (extent_of w.now.heap) root) place len) (setting_of outside w.now (L.items l.now)) (text_in (extent_of w.now.heap) text) (setting_of outside w.now (L.items l.now))) (StopsFinding (extent_of w.now.heap) (reads_text (root_in (extent_of w.now.heap) root) place len) (setting_of outside w.now (L.items l.now)) (setting_of outside w.now (L.items l.now))) }
+    ensures value { (outside : Outside) → MatchResult result
+        (λ text. GoesOn (reads_text (root_in (extent_of w.now.heap) root) place len) (setting_of outside w.now
+        (L.items l.now)) (text_in (extent_of w.now.heap) text) (setting_of outside w.now (L.items l.now)))
+        (StopsFinding (extent_of w.now.heap) (reads_text (root_in (extent_of w.now.heap) root) place len)
+        (setting_of outside w.now (L.items l.now)) (setting_of outside w.now (L.items l.now))) }
 {
     match read_root(w, l, root)? {
         Val::Text(text) => {
@@ -91,7 +103,10 @@ pub fn read_root<L: Locals>(w: &World, l: &L, root: Root) -> Result<Val, Stop>
     requires live { IsLiveRoot (reach_of w.now (L.items l.now)) root }
     ensures live { IfOk result (IsLive (extent_of w.now.heap)) }
     ensures stops { IfErr result (IsLiveStop (extent_of w.now.heap)) }
-    ensures value { MatchResult result (λ val. root_value (setting_of (outside_of []) w.now (L.items l.now)) (root_in (extent_of w.now.heap) root) ≡ Some (value_in (extent_of w.now.heap) val)) (IsGone (root_value (setting_of (outside_of []) w.now (L.items l.now)) (root_in (extent_of w.now.heap) root))) }
+    ensures value { MatchResult result (λ val. root_value (setting_of (outside_of []) w.now (L.items l.now))
+        (root_in (extent_of w.now.heap) root) ≡ Some (value_in (extent_of w.now.heap) val))
+        (IsGone (root_value (setting_of (outside_of []) w.now (L.items l.now))
+        (root_in (extent_of w.now.heap) root))) }
 {
     match root {
         Root::Global(place) => Ok(w.globals[place as usize]),
@@ -108,7 +123,8 @@ pub fn read_root<L: Locals>(w: &World, l: &L, root: Root) -> Result<Val, Stop>
 #[tactic(auto, using(crate::proofs::ReadValues::element_read, crate::proofs::ReadValues::element_live))]
 fn element(w: &World, list: u32, number: i64) -> Option<Val>
     requires { IsLive (extent_of w.now.heap) (ListVal list) }
-    ensures item { option_map (value_in (extent_of w.now.heap)) result ≡ item_numbered (list_at (heap_of w.now.heap) list) number }
+    ensures item { option_map (value_in (extent_of w.now.heap)) result
+        ≡ item_numbered (list_at (heap_of w.now.heap) list) number }
     ensures live { IfSome result (IsLive (extent_of w.now.heap)) }
 {
     w.heap.list(list).by_number(number)
@@ -119,7 +135,9 @@ fn read_key(w: &World, table: u32, key: Val) -> Result<Val, Stop>
     requires table { IsLive (extent_of w.now.heap) (TableVal table) }
     requires key { IsLive (extent_of w.now.heap) key }
     ensures live { IfOk result (IsLive (extent_of w.now.heap)) }
-    ensures value { MatchResult result (λ val. value_in (extent_of w.now.heap) val ≡ table_value (table_at (heap_of w.now.heap) table) (value_in (extent_of w.now.heap) key)) (λ stop. stop ≡ NoMemory) }
+    ensures value { MatchResult result (λ val. value_in (extent_of w.now.heap) val
+        ≡ table_value (table_at (heap_of w.now.heap) table) (value_in (extent_of w.now.heap) key))
+        (λ stop. stop ≡ NoMemory) }
 {
     match w.heap.look(table, key)? {
         Some(val) => Ok(val),
@@ -130,7 +148,8 @@ fn read_key(w: &World, table: u32, key: Val) -> Result<Val, Stop>
 // The value of a keyword.
 fn read_keyword(w: &World, word: KeywordVariable) -> Val
     ensures live { IsLive (extent_of w.now.heap) result }
-    ensures value { (outside : Outside) (locals : List Val) → value_in (extent_of w.now.heap) result ≡ keyword_value (setting_of outside w.now locals) (word_of word) }
+    ensures value { (outside : Outside) (locals : List Val) → value_in (extent_of w.now.heap) result
+        ≡ keyword_value (setting_of outside w.now locals) (word_of word) }
 {
     match word {
         KeywordVariable::Subject => Val::Text(w.pair.subject),

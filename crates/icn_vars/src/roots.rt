@@ -24,9 +24,13 @@ pub fn assign_root<L: Locals>(w: &mut World, l: &mut L, root: Root, val: Val) ->
     requires locals { All (IsLive (extent_of w.old.heap)) (L.items l.old) }
     requires root { IsLiveRoot (reach_of w.old (L.items l.old)) root }
     requires value { IsLive (extent_of w.old.heap) val }
-    ensures assigned { (outside : Outside) → RootAssigned (extent_of w.new.heap) (λ refused. assigns_root refused (root_in (extent_of w.old.heap) root) (value_in (extent_of w.old.heap) val)) (setting_of outside w.old (L.items l.old)) (setting_of outside w.new (L.items l.new)) result }
+    ensures assigned { (outside : Outside) → RootAssigned (extent_of w.new.heap) (λ refused.
+        assigns_root refused (root_in (extent_of w.old.heap) root) (value_in (extent_of w.old.heap) val))
+        (setting_of outside w.old (L.items l.old)) (setting_of outside w.new (L.items l.new)) result }
     ensures stops { IfErr result (IsLiveStop (extent_of w.new.heap)) }
-    ensures memory { is_in_place (root_in (extent_of w.old.heap) root) ≡ true → root_holds (root_in (extent_of w.old.heap) root) (value_in (extent_of w.old.heap) val) ≡ true → IfErr result IsError }
+    ensures memory { is_in_place (root_in (extent_of w.old.heap) root) ≡ true
+        → root_holds (root_in (extent_of w.old.heap) root) (value_in (extent_of w.old.heap) val) ≡ true
+        → IfErr result IsError }
     ensures locals { All (IsLive (extent_of w.new.heap)) (L.items l.new) }
     ensures kept { KeepsItems (reach_of w.old (L.items l.old)) (reach_of w.new (L.items l.new)) }
 {
@@ -65,7 +69,9 @@ fn assign_element<L: Locals>(
     requires locals { All (IsLive (extent_of w.old.heap)) (L.items l.now) }
     requires list { IsLive (extent_of w.old.heap) (ListVal list) }
     requires value { IsLive (extent_of w.old.heap) val }
-    ensures assigned { (outside : Outside) → RootAssigned (extent_of w.new.heap) (λ refused. assigns_root refused (Element list number) (value_in (extent_of w.old.heap) val)) (setting_of outside w.old (L.items l.now)) (setting_of outside w.new (L.items l.now)) result }
+    ensures assigned { (outside : Outside) → RootAssigned (extent_of w.new.heap)
+        (λ refused. assigns_root refused (Element list number) (value_in (extent_of w.old.heap) val))
+        (setting_of outside w.old (L.items l.now)) (setting_of outside w.new (L.items l.now)) result }
     ensures stops { IfErr result (IsLiveStop (extent_of w.new.heap)) }
     ensures memory { IfErr result IsError }
     ensures locals { All (IsLive (extent_of w.new.heap)) (L.items l.now) }
@@ -85,7 +91,10 @@ fn assign_key<L: Locals>(w: &mut World, l: &L, table: u32, key: Val, val: Val) -
     requires table { IsLive (extent_of w.old.heap) (TableVal table) }
     requires key { IsLive (extent_of w.old.heap) key }
     requires value { IsLive (extent_of w.old.heap) val }
-    ensures assigned { (outside : Outside) → RootAssigned (extent_of w.new.heap) (λ refused. assigns_root refused (Key table (value_in (extent_of w.old.heap) key)) (value_in (extent_of w.old.heap) val)) (setting_of outside w.old (L.items l.now)) (setting_of outside w.new (L.items l.now)) result }
+    ensures assigned { (outside : Outside)
+        → RootAssigned (extent_of w.new.heap) (λ refused. assigns_root refused
+        (Key table (value_in (extent_of w.old.heap) key)) (value_in (extent_of w.old.heap) val))
+        (setting_of outside w.old (L.items l.now)) (setting_of outside w.new (L.items l.now)) result }
     ensures stops { IfErr result (IsLiveStop (extent_of w.new.heap)) }
     ensures locals { All (IsLive (extent_of w.new.heap)) (L.items l.now) }
     ensures kept { KeepsItems (reach_of w.old (L.items l.now)) (reach_of w.new (L.items l.now)) }

@@ -33,8 +33,13 @@ pub fn made_text<L: Locals>(w: &mut World, l: &L, val: Val) -> Result<Span, Stop
     requires live { IsLive (extent_of w.old.heap) val }
     requires has { is_some (text_of (value_in (extent_of w.old.heap) val)) ≡ true }
     ensures live { IfOk result (IsText (extent_of w.new.heap)) }
-    ensures text { IfOk result (λ span. text_of (value_in (extent_of w.old.heap) val) ≡ Some (text_in (extent_of w.new.heap) span)) }
-    ensures passes { (outside : Outside) → MatchResult result (λ _. Passes (costs_text (value_in (extent_of w.old.heap) val)) (setting_of outside w.old (L.items l.now)) (setting_of outside w.new (L.items l.now))) (StopsPassing (extent_of w.new.heap) (costs_text (value_in (extent_of w.old.heap) val)) (setting_of outside w.old (L.items l.now)) (setting_of outside w.new (L.items l.now))) }
+    ensures text { IfOk result
+        (λ span. text_of (value_in (extent_of w.old.heap) val) ≡ Some (text_in (extent_of w.new.heap) span)) }
+    ensures passes { (outside : Outside)
+        → MatchResult result (λ _. Passes (costs_text (value_in (extent_of w.old.heap) val))
+        (setting_of outside w.old (L.items l.now)) (setting_of outside w.new (L.items l.now)))
+        (StopsPassing (extent_of w.new.heap) (costs_text (value_in (extent_of w.old.heap) val))
+        (setting_of outside w.old (L.items l.now)) (setting_of outside w.new (L.items l.now))) }
     ensures stops { IfErr result (IsLiveStop (extent_of w.new.heap)) }
     ensures locals { All (IsLive (extent_of w.new.heap)) (L.items l.now) }
     ensures kept { KeepsItems (reach_of w.old (L.items l.now)) (reach_of w.new (L.items l.now)) }
@@ -81,8 +86,14 @@ pub fn replace<L: Locals>(
     requires place { 1 ≤ place }
     requires within { place - 1 + len ≤ length (text_in (extent_of w.old.heap) whole) }
     ensures live { IfOk result (IsText (extent_of w.new.heap)) }
-    ensures text { IfOk result (λ span. text_in (extent_of w.new.heap) span ≡ replaced (text_in (extent_of w.old.heap) whole) place len (text_in (extent_of w.old.heap) new)) }
-    ensures passes { (outside : Outside) → MatchResult result (λ _. Passes (costs_bytes (length (replaced (text_in (extent_of w.old.heap) whole) place len (text_in (extent_of w.old.heap) new)))) (setting_of outside w.old (L.items l.now)) (setting_of outside w.new (L.items l.now))) (StopsPassing (extent_of w.new.heap) (costs_bytes (length (replaced (text_in (extent_of w.old.heap) whole) place len (text_in (extent_of w.old.heap) new)))) (setting_of outside w.old (L.items l.now)) (setting_of outside w.new (L.items l.now))) }
+    ensures text { IfOk result (λ span. text_in (extent_of w.new.heap) span
+        ≡ replaced (text_in (extent_of w.old.heap) whole) place len (text_in (extent_of w.old.heap) new)) }
+    ensures passes { (outside : Outside) → MatchResult result (λ _. Passes (costs_bytes (length
+        (replaced (text_in (extent_of w.old.heap) whole) place len (text_in (extent_of w.old.heap) new))))
+        (setting_of outside w.old (L.items l.now)) (setting_of outside w.new (L.items l.now)))
+        (StopsPassing (extent_of w.new.heap) (costs_bytes (length
+        (replaced (text_in (extent_of w.old.heap) whole) place len (text_in (extent_of w.old.heap) new))))
+        (setting_of outside w.old (L.items l.now)) (setting_of outside w.new (L.items l.now))) }
     ensures stops { IfErr result (IsLiveStop (extent_of w.new.heap)) }
     ensures locals { All (IsLive (extent_of w.new.heap)) (L.items l.now) }
     ensures kept { KeepsItems (reach_of w.old (L.items l.now)) (reach_of w.new (L.items l.now)) }

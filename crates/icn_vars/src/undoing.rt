@@ -24,8 +24,14 @@ use icn_value::{Mover, Val, VarRef};
 pub fn undo<L: Locals>(w: &mut World, l: &mut L, variable: VarRef, old: Val) -> Result<(), Stop>
     requires locals { All (IsLive (extent_of w.old.heap)) (L.items l.old) }
     requires old { IsOld (reach_of w.old (L.items l.old)) variable old }
-    ensures undone { (outside : Outside) → MatchResult result (λ _. Passes (undoes (variable_in (extent_of w.old.heap) variable) (value_in (extent_of w.old.heap) old)) (setting_of outside w.old (L.items l.old)) (setting_of outside w.new (L.items l.new))) (StopsPassing (extent_of w.new.heap) (undoes (variable_in (extent_of w.old.heap) variable) (value_in (extent_of w.old.heap) old)) (setting_of outside w.old (L.items l.old)) (setting_of outside w.new (L.items l.new))) }
-    ensures memory { takes_no_memory (variable_in (extent_of w.old.heap) variable) ≡ true → IfErr result IsError }
+    ensures undone { (outside : Outside) → MatchResult result (λ _.
+        Passes (undoes (variable_in (extent_of w.old.heap) variable) (value_in (extent_of w.old.heap) old))
+        (setting_of outside w.old (L.items l.old)) (setting_of outside w.new (L.items l.new)))
+        (StopsPassing (extent_of w.new.heap)
+        (undoes (variable_in (extent_of w.old.heap) variable) (value_in (extent_of w.old.heap) old))
+        (setting_of outside w.old (L.items l.old)) (setting_of outside w.new (L.items l.new))) }
+    ensures memory { takes_no_memory (variable_in (extent_of w.old.heap) variable) ≡ true
+        → IfErr result IsError }
     ensures stops { IfErr result (IsLiveStop (extent_of w.new.heap)) }
     ensures locals { All (IsLive (extent_of w.new.heap)) (L.items l.new) }
     ensures kept { KeepsItems (reach_of w.old (L.items l.old)) (reach_of w.new (L.items l.new)) }
@@ -50,7 +56,14 @@ pub fn undo_exchange<L: Locals>(
     requires locals { All (IsLive (extent_of w.old.heap)) (L.items l.old) }
     requires left { IsOld (reach_of w.old (L.items l.old)) left old_left }
     requires right { IsOld (reach_of w.old (L.items l.old)) right old_right }
-    ensures undone { (outside : Outside) → MatchResult result (λ _. Passes (undoes_exchange (mover_of mover) (variable_in (extent_of w.old.heap) left) (variable_in (extent_of w.old.heap) right) (value_in (extent_of w.old.heap) old_left) (value_in (extent_of w.old.heap) old_right)) (setting_of outside w.old (L.items l.old)) (setting_of outside w.new (L.items l.new))) (StopsPassing (extent_of w.new.heap) (undoes_exchange (mover_of mover) (variable_in (extent_of w.old.heap) left) (variable_in (extent_of w.old.heap) right) (value_in (extent_of w.old.heap) old_left) (value_in (extent_of w.old.heap) old_right)) (setting_of outside w.old (L.items l.old)) (setting_of outside w.new (L.items l.new))) }
+    ensures undone { (outside : Outside) → MatchResult result (λ _. Passes (undoes_exchange (mover_of mover)
+        (variable_in (extent_of w.old.heap) left) (variable_in (extent_of w.old.heap) right)
+        (value_in (extent_of w.old.heap) old_left) (value_in (extent_of w.old.heap) old_right))
+        (setting_of outside w.old (L.items l.old)) (setting_of outside w.new (L.items l.new)))
+        (StopsPassing (extent_of w.new.heap) (undoes_exchange (mover_of mover)
+        (variable_in (extent_of w.old.heap) left) (variable_in (extent_of w.old.heap) right)
+        (value_in (extent_of w.old.heap) old_left) (value_in (extent_of w.old.heap) old_right))
+        (setting_of outside w.old (L.items l.old)) (setting_of outside w.new (L.items l.new))) }
     ensures stops { IfErr result (IsLiveStop (extent_of w.new.heap)) }
     ensures locals { All (IsLive (extent_of w.new.heap)) (L.items l.new) }
     ensures kept { KeepsItems (reach_of w.old (L.items l.old)) (reach_of w.new (L.items l.new)) }

@@ -19,7 +19,8 @@ pub struct World {
     pub globals: Vec<Val>,
     /// The values of its statics.
     pub statics: Vec<Val>,
-    pub ghost sound: { IsSoundWorld (extent_of heap) pair random globals.items statics.items } by { IsSoundWorld-prop (extent_of heap) pair random globals.items statics.items },
+    pub ghost sound: { IsSoundWorld (extent_of heap) pair random globals.items
+        statics.items } by { IsSoundWorld-prop (extent_of heap) pair random globals.items statics.items },
 }
 
 impl World {
@@ -42,7 +43,9 @@ impl World {
         ensures globals { result.globals.items ≡ globals.items }
         ensures statics { result.statics.items ≡ statics.items }
         ensures world { world_of result ≡ new_world heap globals.items statics.items }
-        ensures first { (bounds : Bounds) (count : ℕ) → heap_of heap ≡ first_heap bounds → statics.items ≡ replicate count Null → world_of result ≡ first_world bounds (map (value_in (extent_of heap)) globals.items) count }
+        ensures first { (bounds : Bounds) (count : ℕ)
+            → heap_of heap ≡ first_heap bounds → statics.items ≡ replicate count Null
+            → world_of result ≡ first_world bounds (map (value_in (extent_of heap)) globals.items) count }
     {
         let subject = Span { place: 0, len: 0 };
         empty_text(&heap, subject);

@@ -81,7 +81,8 @@ number_of _ = 0
 -- the rule is broken at the place of these instructions, and none before it
 pub record IsFirstOf (instrs : List Instr) (rule : Rule) (place : ℕ) : Type 0 where
   pub breaks : Breaks instrs place rule
-  pub first : (place' : ℕ) (rule' : Rule) → Breaks instrs place' rule' → (place' < place) ⊎ ((place' ≡ place) × (number_of rule' < number_of rule)) → ⊥
+  pub first : (place' : ℕ) (rule' : Rule) → Breaks instrs place' rule'
+      → (place' < place) ⊎ ((place' ≡ place) × (number_of rule' < number_of rule)) → ⊥
 
 -- no rule is broken at any place of these instructions
 abbrev pub IsSound : List Instr → Type 0
@@ -100,4 +101,5 @@ pub record IsFirstFault (procs : List Proc) (rule : Rule) (number : ℕ) (place 
   pub proc : Proc
   pub stands : slice_get procs number ≡ Some proc
   pub here : IsFirstOf proc.instrs rule place
-  pub earlier : (number' : ℕ) (proc' : Proc) → number' < number → slice_get procs number' ≡ Some proc' → IsSound proc'.instrs
+  pub earlier : (number' : ℕ) (proc' : Proc) → number' < number → slice_get procs number' ≡ Some proc'
+      → IsSound proc'.instrs

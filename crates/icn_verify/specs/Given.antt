@@ -7,7 +7,8 @@ use Rattle.icn_verify.specs.Rows.{fits, next, forward, back}
 
 -- an instruction stands at the place, finds what it takes and asks for in the shape, and each place to which it leads has the
 -- shape that it leaves there
-pub record IsFine (instrs : List Instr) (shapes : ℕ → Option PlainShape) (place : ℕ) (shape : PlainShape) : Type 0 where
+pub record IsFine (instrs : List Instr) (shapes : ℕ → Option PlainShape) (place : ℕ)
+    (shape : PlainShape) : Type 0 where
   pub instr : Instr
   pub stands : slice_get instrs place ≡ Some instr
   pub fit : fits shape instr ≡ true
@@ -22,4 +23,5 @@ pub record HasShapes (instrs : List Instr) (shapes : ℕ → Option PlainShape) 
 
 -- each procedure has shapes
 abbrev pub HaveShapes : Tables → Type 0
-HaveShapes tables = (number : ℕ) (proc : Proc) → slice_get tables.procs number ≡ Some proc → (shapes : ℕ → Option PlainShape) × HasShapes proc.instrs shapes
+HaveShapes tables = (number : ℕ) (proc : Proc) → slice_get tables.procs number ≡ Some proc
+    → (shapes : ℕ → Option PlainShape) × HasShapes proc.instrs shapes

@@ -12,16 +12,19 @@ use Rattle.icn_verify.specs.Given.{HaveShapes}
 
 -- at most one shape reaches a place where two shapes or a missing one break no rule
 abbrev pub HaveOneShape : Type 0
-HaveOneShape = (instrs : List Instr) (place : ℕ) → (Breaks instrs place V2 → ⊥) → (one other : PlainShape) → Reaches instrs place one → Reaches instrs place other → one ≡ other
+HaveOneShape = (instrs : List Instr) (place : ℕ) → (Breaks instrs place V2 → ⊥) → (one other : PlainShape)
+    → Reaches instrs place one → Reaches instrs place other → one ≡ other
 
 -- shapes hold at the start, and are carried on
 pub record AreClosed (instrs : List Instr) (holds : ℕ → PlainShape → Bool) : Type 0 where
   pub start : holds 0 (start_shape false) ≡ true
-  pub on : (place : ℕ) (shape : PlainShape) (to : ℕ) (carried : PlainShape) → holds place shape ≡ true → Carries instrs place shape to carried → holds to carried ≡ true
+  pub on : (place : ℕ) (shape : PlainShape) (to : ℕ) (carried : PlainShape) → holds place shape ≡ true
+      → Carries instrs place shape to carried → holds to carried ≡ true
 
 -- the shapes that reach are the least such
 abbrev pub AreLeast : Type 0
-AreLeast = (instrs : List Instr) (holds : ℕ → PlainShape → Bool) → AreClosed instrs holds → (place : ℕ) (shape : PlainShape) → Reaches instrs place shape → holds place shape ≡ true
+AreLeast = (instrs : List Instr) (holds : ℕ → PlainShape → Bool) → AreClosed instrs holds
+    → (place : ℕ) (shape : PlainShape) → Reaches instrs place shape → holds place shape ≡ true
 
 -- procedures have at most one first fault
 pub record IsSameFault (rule : Rule) (number place : ℕ) (rule' : Rule) (number' place' : ℕ) : Type 0 where
@@ -31,15 +34,19 @@ pub record IsSameFault (rule : Rule) (number place : ℕ) (rule' : Rule) (number
 
 -- procedures have at most one first fault
 abbrev pub HaveOneFault : Type 0
-HaveOneFault = (procs : List Proc) (rule : Rule) (number place : ℕ) (rule' : Rule) (number' place' : ℕ) → IsFirstFault procs rule number place → IsFirstFault procs rule' number' place' → IsSameFault rule number place rule' number' place'
+HaveOneFault = (procs : List Proc) (rule : Rule) (number place : ℕ) (rule' : Rule) (number' place' : ℕ)
+    → IsFirstFault procs rule number place → IsFirstFault procs rule' number' place'
+    → IsSameFault rule number place rule' number' place'
 
 -- and sound ones have none
 abbrev pub HaveNoFault : Type 0
-HaveNoFault = (procs : List Proc) (rule : Rule) (number place : ℕ) → AreSound procs → IsFirstFault procs rule number place → ⊥
+HaveNoFault = (procs : List Proc) (rule : Rule) (number place : ℕ) → AreSound procs
+    → IsFirstFault procs rule number place → ⊥
 
 -- procedures break no rule, or one of them is the first that they break, at one place of one of them
 abbrev pub IsSoundOrBroken : List Proc → Type 0
-IsSoundOrBroken procs = AreSound procs ⊎ ((rule : Rule) × (number : ℕ) × (place : ℕ) × IsFirstFault procs rule number place)
+IsSoundOrBroken procs =
+    AreSound procs ⊎ ((rule : Rule) × (number : ℕ) × (place : ℕ) × IsFirstFault procs rule number place)
 
 -- the tables of a code do so
 abbrev pub AreSoundOrBroken : Type 0

@@ -29,7 +29,8 @@ pub data Arrival : Type 0 where
 -- with one more shape
 abbrev pub with_shape : Arrival → PlainShape → Arrival
 with_shape unseen shape = one shape
-with_shape (one before) shape = if same_shape before shape then one before else several (min before.inner.operands shape.inner.operands)
+with_shape (one before) shape =
+    if same_shape before shape then one before else several (min before.inner.operands shape.inner.operands)
 with_shape (several fewest) shape = several (min fewest shape.inner.operands)
 
 abbrev pub seen_at : List Arrival → ℕ → Arrival
@@ -68,7 +69,8 @@ rule_at table place instr (several fewest) = Some (if nat_lt fewest (row_of inst
 -- the table with what goes out of a place
 abbrev pub pass_on : List Arrival → ℕ → Instr → Arrival → List Arrival
 pass_on table place instr unseen = table
-pass_on table place instr (one shape) = with_arrival (with_arrival table (next instr place shape)) (forward instr shape)
+pass_on table place instr (one shape) =
+    with_arrival (with_arrival table (next instr place shape)) (forward instr shape)
 pass_on table place instr (several fewest) = table
 
 abbrev pub rule_at_end : Arrival → Option Rule
@@ -88,7 +90,8 @@ first_placed place (Some rule) rest = Some (rule, place)
 abbrev pub first_fault : List Arrival → ℕ → List Instr → Option (Rule × ℕ)
 first_fault table place [] = at_address place (rule_at_end (seen_at table place))
 first_fault table place (instr ∷ instrs) =
-    first_placed place (rule_at table place instr (seen_at table place)) (first_fault (pass_on table place instr (seen_at table place)) (place + 1) instrs)
+    first_placed place (rule_at table place instr (seen_at table place))
+    (first_fault (pass_on table place instr (seen_at table place)) (place + 1) instrs)
 
 -- the table at the start: the base alone came to the first place
 abbrev pub first_table : ℕ → List Arrival

@@ -6,7 +6,8 @@ use Rattle.icn_verify.specs.Rows.{fits, next, forward, is_within}
 
 -- a shape at a place is carried by the instruction there to another place: to the next instruction, or to a label that lies
 -- after it. A label that leads back carries nothing, and neither does an instruction that doesn't fit.
-pub record Carries (instrs : List Instr) (place : ℕ) (shape : PlainShape) (to : ℕ) (carried : PlainShape) : Type 0 where
+pub record Carries (instrs : List Instr) (place : ℕ) (shape : PlainShape) (to : ℕ)
+    (carried : PlainShape) : Type 0 where
   pub instr : Instr
   pub stands : slice_get instrs place ≡ Some instr
   pub fit : fits shape instr ≡ true
@@ -16,8 +17,10 @@ pub record Carries (instrs : List Instr) (place : ℕ) (shape : PlainShape) (to 
 -- the least shapes that hold at the start and are carried on
 pub data Reaches (instrs : List Instr) : ℕ → PlainShape → Type 0 where
   starts : Reaches instrs 0 (start_shape false)
-  goes : (place : ℕ) (shape : PlainShape) (to : ℕ) (carried : PlainShape) → Reaches instrs place shape → Carries instrs place shape to carried → Reaches instrs to carried
+  goes : (place : ℕ) (shape : PlainShape) (to : ℕ) (carried : PlainShape) → Reaches instrs place shape
+      → Carries instrs place shape to carried → Reaches instrs to carried
 
 -- each label is a place of the instructions, or their end
 pub record AreWithin (instrs : List Instr) : Type 0 where
-  pub each : (place : ℕ) (instr : Instr) → slice_get instrs place ≡ Some instr → is_within (length instrs) instr ≡ true
+  pub each : (place : ℕ) (instr : Instr) → slice_get instrs place ≡ Some instr
+      → is_within (length instrs) instr ≡ true

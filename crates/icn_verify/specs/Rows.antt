@@ -23,11 +23,13 @@ works takes leaves = record { takes = takes; leaves = leaves; asks = Nothing; ch
 
 -- the same, where something is asked for
 abbrev pub work_where : Asks → ℕ → ℕ → Row
-work_where asks takes leaves = record { takes = takes; leaves = leaves; asks = asks; change = Keeps; way = On }
+work_where asks takes leaves =
+    record { takes = takes; leaves = leaves; asks = asks; change = Keeps; way = On }
 
 -- the same, with a change of the levels
 abbrev pub work_changing : Asks → Change → ℕ → ℕ → Row
-work_changing asks change takes leaves = record { takes = takes; leaves = leaves; asks = asks; change = change; way = On }
+work_changing asks change takes leaves =
+    record { takes = takes; leaves = leaves; asks = asks; change = change; way = On }
 
 -- an instruction that goes on in another way, and takes and leaves no operand
 abbrev pub way_only : Asks → Way → Row

@@ -44,12 +44,14 @@ without_scan shape = record shape { inner = record shape.inner { scans = shape.i
 
 -- the shape with an empty mark of this kind inside its innermost level
 abbrev pub with_mark : LevelKind → PlainShape → PlainShape
-with_mark kind shape = record { in_create = shape.in_create; inner = empty_level kind; outer = shape.inner ∷ shape.outer }
+with_mark kind shape =
+    record { in_create = shape.in_create; inner = empty_level kind; outer = shape.inner ∷ shape.outer }
 
 -- the levels without the innermost, which is a mark; a base alone has none
 abbrev pub shape_outside : Bool → List Level → Option PlainShape
 shape_outside in_create [] = None
-shape_outside in_create (level ∷ levels) = Some (record { in_create = in_create; inner = level; outer = levels })
+shape_outside in_create (level ∷ levels) =
+    Some (record { in_create = in_create; inner = level; outer = levels })
 
 -- the shape before the innermost mark
 abbrev pub before_mark : PlainShape → Option PlainShape

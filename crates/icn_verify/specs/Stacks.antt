@@ -16,7 +16,8 @@ stack_at stacks number = slice_index_or stacks number []
 -- each entry is a level on an earlier stack
 abbrev pub stacked : List (List Level) → List Entry → List (List Level)
 stacked stacks [] = stacks
-stacked stacks (entry ∷ entries) = stacked (stacks ++ (entry.level ∷ stack_at stacks entry.outer) ∷ []) entries
+stacked stacks (entry ∷ entries) =
+    stacked (stacks ++ (entry.level ∷ stack_at stacks entry.outer) ∷ []) entries
 
 -- the stacks of these entries by their numbers, the empty one first
 abbrev pub stacks_of : List Entry → List (List Level)
@@ -24,8 +25,10 @@ stacks_of entries = stacked ([] ∷ []) entries
 
 -- each stack is there once, and each entry's own stack is where it says
 pub record IsOnce (entries : List Entry) : Type 0 where
-  pub differ : (i j : ℕ) → i < length (stacks_of entries) → j < length (stacks_of entries) → stack_at (stacks_of entries) i ≡ stack_at (stacks_of entries) j → i ≡ j
-  pub built : (k : ℕ) (entry : Entry) → slice_get entries k ≡ Some entry → (entry.outer < k + 1) × (stack_at (stacks_of entries) (k + 1) ≡ entry.level ∷ stack_at (stacks_of entries) entry.outer)
+  pub differ : (i j : ℕ) → i < length (stacks_of entries) → j < length (stacks_of entries)
+      → stack_at (stacks_of entries) i ≡ stack_at (stacks_of entries) j → i ≡ j
+  pub built : (k : ℕ) (entry : Entry) → slice_get entries k ≡ Some entry → (entry.outer < k + 1)
+      × (stack_at (stacks_of entries) (k + 1) ≡ entry.level ∷ stack_at (stacks_of entries) entry.outer)
 
 -- more stacks may have come; those that were there are as they were
 pub record Grows (old new : List (List Level)) : Type 0 where
@@ -35,7 +38,8 @@ pub record Grows (old new : List (List Level)) : Type 0 where
 module _ (stacks : List (List Level)) where
   -- a shape whose outer levels are the stack of its number
   abbrev pub shape_in : Flat → PlainShape
-  shape_in flat = record { in_create = flat.in_create; inner = flat.inner; outer = stack_at stacks flat.outer }
+  shape_in flat =
+      record { in_create = flat.in_create; inner = flat.inner; outer = stack_at stacks flat.outer }
 
   -- the number of its stack is one
   abbrev pub IsHeld : Flat → Type 0

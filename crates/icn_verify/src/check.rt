@@ -18,7 +18,8 @@ fn first_fault(alloc: Global, instrs: &[Instr]) -> Result<Option<(Rule, usize)>,
     requires short { length instrs.now < 2 ^ 32 }
     requires labels { AreWithin instrs.now }
     ensures within { IfOk result (λ found. IfSome found (λ f. f.1 ≤ length instrs.now)) }
-    ensures first { IfOk result (λ found. MatchOption found (IsSound instrs.now) (λ f. IsFirstOf instrs.now f.0 f.1)) }
+    ensures first { IfOk result
+        (λ found. MatchOption found (IsSound instrs.now) (λ f. IsFirstOf instrs.now f.0 f.1)) }
 {
     fault_of(alloc, instrs)
 }

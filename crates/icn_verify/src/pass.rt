@@ -24,7 +24,8 @@ fn with_mark(arena: &mut Arena, kind: LevelKind, flat: Flat) -> Result<Flat, All
     ensures grows { OnOk result (Grows arena.old arena.new) }
     ensures more { OnOk result (length arena.new ≤ length arena.old + 1) }
     ensures held { IfOk result (λ marked. IsHeld arena.new marked) }
-    ensures shape { IfOk result (λ marked. shape_in arena.new marked ≡ with_mark kind (shape_in arena.old flat)) }
+    ensures shape { IfOk result
+        (λ marked. shape_in arena.new marked ≡ with_mark kind (shape_in arena.old flat)) }
 {
     let outer = arena.nest(flat.inner, flat.outer)?;
     Ok(Flat {
@@ -66,7 +67,8 @@ fn changed(arena: &mut Arena, change: Change, flat: Flat) -> Result<Flat, AllocE
     ensures grows { OnOk result (Grows arena.old arena.new) }
     ensures more { OnOk result (length arena.new ≤ length arena.old + 1) }
     ensures held { IfOk result (λ left. IsHeld arena.new left) }
-    ensures shape { IfOk result (λ left. shape_in arena.new left ≡ change_levels change (shape_in arena.old flat)) }
+    ensures shape { IfOk result
+        (λ left. shape_in arena.new left ≡ change_levels change (shape_in arena.old flat)) }
 {
     match change {
         Change::Keeps => Ok(flat),
@@ -112,8 +114,10 @@ fn next_by(arena: &Arena, way: Way, place: usize, left: Flat) -> Option<(usize, 
 
 // The label to which the code goes forward, if there is one, and the shape there.
 fn forward_by(way: Way, flat: Flat, left: Flat) -> Option<(usize, Flat)>
-    ensures to { (stacks : List (List OneLevel)) → sent_in stacks result ≡ forward_by way (shape_in stacks flat) (shape_in stacks left) }
-    ensures held { (stacks : List (List OneLevel)) → IsHeld stacks flat → IsHeld stacks left → ForSome result (λ p. IsHeld stacks p.1) }
+    ensures to { (stacks : List (List OneLevel))
+        → sent_in stacks result ≡ forward_by way (shape_in stacks flat) (shape_in stacks left) }
+    ensures held { (stacks : List (List OneLevel)) → IsHeld stacks flat → IsHeld stacks left
+        → ForSome result (λ p. IsHeld stacks p.1) }
 {
     match way {
         Way::Fails(label) => Some((label as usize, flat)),
@@ -193,7 +197,8 @@ fn rule_of_one(
 // The least rule that is broken at a place, where what came before is known.
 fn rule_at(arena: &Arena, slots: &[Slot], place: usize, instr: Instr) -> Option<Rule>
     requires { AreKept arena.now slots.now }
-    ensures { result ≡ rule_at (table_in arena.now slots.now) place instr (seen_at (table_in arena.now slots.now) place) }
+    ensures { result
+        ≡ rule_at (table_in arena.now slots.now) place instr (seen_at (table_in arena.now slots.now) place) }
 {
     match slot_at(slots, place) {
         Slot::Free => None,
@@ -222,7 +227,8 @@ fn send_one(
     requires few { length arena.old < 2 ^ 32 }
     requires counts { HasRoom (row_of instr) (shape_in arena.old flat) }
     ensures more { OnOk result (length arena.new ≤ length arena.old + 1) }
-    ensures table { OnOk result (table_in arena.new slots.new ≡ pass_on (table_in arena.old slots.old) place instr (one (shape_in arena.old flat))) }
+    ensures table { OnOk result (table_in arena.new slots.new
+        ≡ pass_on (table_in arena.old slots.old) place instr (one (shape_in arena.old flat))) }
     ensures kept { OnOk result (AreKept arena.new slots.new) }
 {
     let row = row_of(instr);
@@ -239,7 +245,8 @@ fn send(arena: &mut Arena, slots: &mut [Slot], place: usize, instr: Instr) -> Re
     requires few { length arena.old < 2 ^ 32 }
     requires counts { FindsRoom instr (seen_at (table_in arena.old slots.old) place) }
     ensures more { OnOk result (length arena.new ≤ length arena.old + 1) }
-    ensures table { OnOk result (table_in arena.new slots.new ≡ pass_on (table_in arena.old slots.old) place instr (seen_at (table_in arena.old slots.old) place)) }
+    ensures table { OnOk result (table_in arena.new slots.new
+        ≡ pass_on (table_in arena.old slots.old) place instr (seen_at (table_in arena.old slots.old) place)) }
     ensures kept { OnOk result (AreKept arena.new slots.new) }
 {
     match slot_at(slots, place) {

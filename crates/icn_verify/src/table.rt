@@ -46,7 +46,8 @@ fn joined(arena: &Arena, slot: Slot, flat: Flat) -> Slot
 pub fn arrive(arena: &Arena, slots: &mut [Slot], to: Option<(usize, Flat)>)
     requires kept { AreKept arena.now slots.old }
     requires held { ForSome to (λ p. IsHeld arena.now p.1) }
-    ensures table { table_in arena.now slots.new ≡ with_arrival (table_in arena.now slots.old) (sent_in arena.now to) }
+    ensures table { table_in arena.now slots.new
+        ≡ with_arrival (table_in arena.now slots.old) (sent_in arena.now to) }
     ensures kept { AreKept arena.now slots.new }
 {
     if let Some((place, flat)) = to {

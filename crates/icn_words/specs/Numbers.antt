@@ -16,4 +16,5 @@ within low high n = if nat_le low n && nat_le n high then Some n else None
 -- a number from one to another: one or more decimal digits
 abbrev pub number_within : ℕ → ℕ → List ℕ → Option ℕ
 number_within low high [] = None
-number_within low high (b ∷ rest) = if list_all is_digit (b ∷ rest) then within low high (value_from 0 (b ∷ rest)) else None
+number_within low high (b ∷ rest) =
+    if list_all is_digit (b ∷ rest) then within low high (value_from 0 (b ∷ rest)) else None

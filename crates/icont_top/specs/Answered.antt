@@ -19,7 +19,8 @@ pub data IsAnswered (words : List (List ℕ)) (files : FileMap) : Answer → Typ
   fault : (answer : Answer) → IsFault answer → IsAnswered words files answer
   refused : (answer : Answer) → Refuses words files answer → IsAnswered words files answer
   translated : (members : List Member) → IsTranslated words files (Ok members) → IsAnswered words files Wrote
-  wrote : (plan : Plan) (members : List Member) (tables : Tables) → IsPlanned words files plan members tables → plan.run ≡ None
+  wrote : (plan : Plan) (members : List Member) (tables : Tables) → IsPlanned words files plan members tables
+      → plan.run ≡ None
       → IsAnswered words files Wrote
   ran : (plan : Plan) (members : List Member) (tables : Tables) (run : Run) (ending : Ending)
       → IsPlanned words files plan members tables → plan.run ≡ Some run → IsAnswered words files (Ran ending)

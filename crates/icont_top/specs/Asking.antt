@@ -31,14 +31,20 @@ words_answer WordsFaults.NoMemory = NoMemory
 
 -- these are the texts of the units of these names' sources, or what refuses one is answered, or a fault
 abbrev pub AreTranslated : {Z : Type 0} → FileMap → List (List ℕ) → Result (Vec Text Z) Answer → Type 0
-AreTranslated files names (Ok texts) = (members : List Member) × (Come files (sources_in (files_named names)) (Ok members)
+AreTranslated files names (Ok texts) =
+    (members : List Member) × (Come files (sources_in (files_named names)) (Ok members)
     × ((texts_seen texts.items ≡ ucode_files members) × All IsReadBack members))
-AreTranslated files names (Err answer) = IsFault answer ⊎ Come files (sources_in (files_named names)) (Err answer)
+AreTranslated files names (Err answer) =
+    IsFault answer ⊎ Come files (sources_in (files_named names)) (Err answer)
 
 -- Programs
 
 abbrev pub plan_seen : PlanHeld → Plan
-plan_seen plan = record { image = option_map (λ name. name.now) plan.image; run = option_map run_seen plan.run; number = plan.number }
+plan_seen plan = record {
+  image = option_map (λ name. name.now) plan.image;
+  run = option_map run_seen plan.run;
+  number = plan.number;
+}
 
 -- the program of these units, and the name of its image where none is said
 pub record IsProgram (members : List Member) (program : Program) : Type 0 where
@@ -47,15 +53,18 @@ pub record IsProgram (members : List Member) (program : Program) : Type 0 where
 
 -- where the first linked file is not there, a count tells so, or its name is no text
 abbrev pub IsTold : Type 0 → List Member → Type 0
-IsTold rose members = (unit : ℕ) (name : List ℕ) → missing (units_of members) ≡ Some (K2 unit name) → rose ⊎ (is_utf8 name ≡ false)
+IsTold rose members = (unit : ℕ) (name : List ℕ) → missing (units_of members) ≡ Some (K2 unit name)
+    → rose ⊎ (is_utf8 name ≡ false)
 
 -- What comes to these units is this program; or what refuses it is answered, or a fault.
 abbrev pub IsProgramOf : (Result (List Member) Answer → Type 0) → Type 0 → Result Program Answer → Type 0
-IsProgramOf Comes rose (Ok program) = (members : List Member) × (Comes (Ok members) × (IsTold rose members × IsProgram members program))
+IsProgramOf Comes rose (Ok program) =
+    (members : List Member) × (Comes (Ok members) × (IsTold rose members × IsProgram members program))
 IsProgramOf Comes rose (Err answer) = IsFault answer ⊎ (Comes (Err answer)
     ⊎ ((members : List Member) × (Comes (Ok members) × (IsTold rose members × Links members (Err answer)))))
 
 -- the words ask for this program, and the code has it
-pub record IsReady (words : List (List ℕ)) (files : FileMap) (members : List Member) (plan : PlanHeld) (program : Program) : Type 0 where
+pub record IsReady (words : List (List ℕ)) (files : FileMap) (members : List Member) (plan : PlanHeld)
+    (program : Program) : Type 0 where
   pub plans : Plans words files (plan_seen plan) (Ok members)
   pub is : IsProgram members program

@@ -33,7 +33,8 @@ pub record Job : Type 0 where
 
 -- nothing is done but to put the answer's own line
 abbrev pub refusal : List ℕ → Answer → Job
-refusal left answer = record { answer = answer; written = []; left = left; output = []; errors = line_of usage [] answer }
+refusal left answer =
+    record { answer = answer; written = []; left = left; output = []; errors = line_of usage [] answer }
 
 -- files were written, and nothing else was done
 abbrev pub files_job : List WrittenFile → List ℕ → Job
@@ -102,20 +103,26 @@ behind (Some number) ending = sizes_behind number ending
 
 -- The words ask for a program, and these are its units; or what refuses them.
 pub data Plans (words : List (List ℕ)) (files : FileMap) : Plan → Result (List Member) Answer → Type 0 where
-  of_files : (names : List (List ℕ)) (image : Option (List ℕ)) (run : Option Run) (result : Result (List Member) Answer)
+  of_files : (names : List (List ℕ)) (image : Option (List ℕ)) (run : Option Run)
+      (result : Result (List Member) Answer)
       → WordsComeTo words (Asks (Link names image run)) → Load files (files_named names) result
       → Plans words files (record { image = image; run = run; number = None }) result
-  of_number : (number turns : ℕ) (result : Result (List Member) Answer) → WordsComeTo words (Asks (Generate number turns))
+  of_number : (number turns : ℕ) (result : Result (List Member) Answer)
+      → WordsComeTo words (Asks (Generate number turns))
       → GeneratedComes number result
-      → Plans words files (record { image = None; run = Some (record { arguments = []; turns = turns }); number = Some number }) result
+      → Plans words files
+      (record { image = None; run = Some (record { arguments = []; turns = turns }); number = Some number })
+      result
 
 -- the words ask for a program, and it is one: its units, its code and its image
-pub record IsPlanned (words : List (List ℕ)) (files : FileMap) (plan : Plan) (members : List Member) (tables : Tables) : Type 0 where
+pub record IsPlanned (words : List (List ℕ)) (files : FileMap) (plan : Plan) (members : List Member)
+    (tables : Tables) : Type 0 where
   pub plans : Plans words files plan (Ok members)
   pub links : Links members (Ok tables)
 
 -- the words ask for units, and these are they
-pub record IsTranslated (words : List (List ℕ)) (files : FileMap) (result : Result (List Member) Answer) : Type 0 where
+pub record IsTranslated (words : List (List ℕ)) (files : FileMap)
+    (result : Result (List Member) Answer) : Type 0 where
   pub names : List (List ℕ)
   pub asks : WordsComeTo words (Asks (Translate names))
   pub come : Come files (sources_in (files_named names)) result
@@ -124,7 +131,8 @@ pub record IsTranslated (words : List (List ℕ)) (files : FileMap) (result : Re
 pub data Refuses (words : List (List ℕ)) (files : FileMap) : Answer → Type 0 where
   wrong_words : (kind : ℕ) → WordsComeTo words (Faulty kind) → Refuses words files (Command kind)
   no_units : (answer : Answer) → IsTranslated words files (Err answer) → Refuses words files answer
-  no_members : (plan : Plan) (answer : Answer) → Plans words files plan (Err answer) → Refuses words files answer
+  no_members : (plan : Plan) (answer : Answer) → Plans words files plan (Err answer)
+      → Refuses words files answer
   no_program : (plan : Plan) (members : List Member) (answer : Answer) → Plans words files plan (Ok members)
       → Links members (Err answer) → Refuses words files answer
 
@@ -133,8 +141,11 @@ pub data IsJob (words : List (List ℕ)) (files : FileMap) (left : List ℕ) : J
   refuses : (answer : Answer) → Refuses words files answer → IsJob words files left (refusal left answer)
   translates : (members : List Member) → IsTranslated words files (Ok members)
       → IsJob words files left (files_job (ucode_files members) left)
-  writes : (plan : Plan) (members : List Member) (tables : Tables) → IsPlanned words files plan members tables → plan.run ≡ None
+  writes : (plan : Plan) (members : List Member) (tables : Tables) → IsPlanned words files plan members tables
+      → plan.run ≡ None
       → IsJob words files left (files_job (image_file plan.image members tables ∷ []) left)
   runs : (plan : Plan) (members : List Member) (tables : Tables) (run : Run) (seen : Observed)
-      → IsPlanned words files plan members tables → plan.run ≡ Some run → Behaves members (run_launch run left) seen
-      → IsJob words files left (run_job (image_file plan.image members tables) seen (behind plan.number seen.ending))
+      → IsPlanned words files plan members tables → plan.run ≡ Some run
+      → Behaves members (run_launch run left) seen
+      → IsJob words files left
+      (run_job (image_file plan.image members tables) seen (behind plan.number seen.ending))

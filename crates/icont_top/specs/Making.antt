@@ -23,7 +23,8 @@ pub record IsMade (members : List Member) (made : Made) : Type 0 where
   pub code : tables_of made.code.code ≡ linked_code members
   pub bytes : made.image.items ≡ image_of (linked_code members)
   pub links : Links members (Ok (linked_code members))
-  pub joins : (files : List (List Declaration)) → files_of members ≡ Some files → IsLinked files (linked_code members)
+  pub joins : (files : List (List Declaration)) → files_of members ≡ Some files
+      → IsLinked files (linked_code members)
 
 -- a program was made, or what refuses it is answered, or that memory was wanting
 abbrev pub Makes : List Member → Result Made Answer → Type 0
@@ -32,12 +33,15 @@ Makes members (Err answer) = (answer ≡ NoMemory) ⊎ Links members (Err answer
 
 -- the answer where units are not linked: the first rule that they break, or that memory was wanting
 abbrev pub RefusesLink : List UnitRead → Answer → Type 0
-RefusesLink units answer = (answer ≡ NoMemory) ⊎ (option_and_then (link_answer units) (first_fault units) ≡ Some answer)
+RefusesLink units answer =
+    (answer ≡ NoMemory) ⊎ (option_and_then (link_answer units) (first_fault units) ≡ Some answer)
 
 -- the answer where code breaks a rule of verified code: told of the unit at this place, or that memory was wanting
-pub data RefusesCode (units : List UnitRead) (place : Option ℕ) (tables : Tables) (answer : Answer) : Type 0 where
+pub data RefusesCode (units : List UnitRead) (place : Option ℕ) (tables : Tables)
+    (answer : Answer) : Type 0 where
   wants : answer ≡ NoMemory → RefusesCode units place tables answer
-  breaks : (first : ℕ) (rule : Rule) (number at : ℕ) → place ≡ Some first → IsFirstFault tables.procs rule number at
+  breaks : (first : ℕ) (rule : Rule) (number at : ℕ) → place ≡ Some first
+      → IsFirstFault tables.procs rule number at
       → answer ≡ BadUcode (first_name (unit_named units first)) rule → RefusesCode units place tables answer
 
 -- an answer to units that were there: no file is told not to be there

@@ -60,16 +60,19 @@ pub record Completes (job : Job) (answer : Answer) (before after : Told) : Type 
 
 -- What the words ask to be written, of files that break no rule
 pub data AreWritten (words : List (List ℕ)) (files : FileMap) : List WrittenFile → Type 0 where
-  ucode : (members : List Member) → IsTranslated words files (Ok members) → AreWritten words files (ucode_files members)
+  ucode : (members : List Member) → IsTranslated words files (Ok members)
+      → AreWritten words files (ucode_files members)
   image : (plan : Plan) (members : List Member) (tables : Tables) → IsPlanned words files plan members tables
       → AreWritten words files (image_file plan.image members tables ∷ [])
 
 -- the line of a job that writes no file was not begun, or a part of it was put
 abbrev pub Begins : (Job → Type 0) → SinkState → SinkState → Type 0
-Begins IsJobOf before between = (between ≡ before) ⊎ ((job : Job) × IsJobOf job × (job.written ≡ []) × Stops before between job.errors)
+Begins IsJobOf before between =
+    (between ≡ before) ⊎ ((job : Job) × IsJobOf job × (job.written ≡ []) × Stops before between job.errors)
 
 -- What a fault leaves of a program that is run with this input: all is said of what is observed of it, as each program comes to an end.
-pub record BrokenOff (members : List Member) (run : Run) (left : List ℕ) (fault : RunFault) (before after : CallStreams) : Type 0 where
+pub record BrokenOff (members : List Member) (run : Run) (left : List ℕ) (fault : RunFault)
+    (before after : CallStreams) : Type 0 where
   pub seen : Observed
   pub behaves : Behaves members (run_launch run left) seen
   pub leaves : LeavesBy fault left seen before after
@@ -85,11 +88,13 @@ pub record LeavesBehind (number : ℕ) (seen : Observed) (before after : CallStr
   pub done : seen.ending ≡ Done
   pub input : after.left ≡ Some seen.outside.left
   pub count : ℕ
-  pub output : Gains before.output.held after.output.held (seen.outside.output ++ take count (sizes_line number))
+  pub output : Gains before.output.held after.output.held
+      (seen.outside.output ++ take count (sizes_line number))
   pub errors : Gains before.errors.held after.errors.held seen.outside.errors
 
 -- The program of a number was done, and the line of its sizes was put in part behind its output.
-pub record BrokenBehind (members : List Member) (run : Run) (number : ℕ) (left : List ℕ) (before after : CallStreams) : Type 0 where
+pub record BrokenBehind (members : List Member) (run : Run) (number : ℕ) (left : List ℕ)
+    (before after : CallStreams) : Type 0 where
   pub seen : Observed
   pub behaves : Behaves members (run_launch run left) seen
   pub leaves : LeavesBehind number seen before after
@@ -97,32 +102,41 @@ pub record BrokenBehind (members : List Member) (run : Run) (number : ℕ) (left
 -- What a fault leaves, with its own line behind, as far as the error output took it. Nothing was done but that a refusal's line may be
 -- begun; or a file could not be written whole; or the image was written, and the program was broken off as it ran, or the line behind
 -- its output was.
-pub data Faults (words : List (List ℕ)) (files : FileMap) (left : List ℕ) (answer : Answer) (before after : Told) : Type 0 where
+pub data Faults (words : List (List ℕ)) (files : FileMap) (left : List ℕ) (answer : Answer)
+    (before after : Told) : Type 0 where
   idle : (between : SinkState) → after.files ≡ before.files → after.streams.left ≡ before.streams.left
       → after.streams.output.held ≡ before.streams.output.held
       → Begins (IsJob words files left) before.streams.errors between
       → Puts between after.streams.errors (fault_line answer) → Faults words files left answer before after
-  torn : (written : List WrittenFile) → AreWritten words files written → WritesPart before.files after.files written
+  torn : (written : List WrittenFile) → AreWritten words files written
+      → WritesPart before.files after.files written
       → after.streams.left ≡ before.streams.left
       → after.streams.output.held ≡ before.streams.output.held
-      → Puts before.streams.errors after.streams.errors (fault_line answer) → Faults words files left answer before after
-  broke : (plan : Plan) (members : List Member) (tables : Tables) (run : Run) (fault : RunFault) (between : SinkState)
+      → Puts before.streams.errors after.streams.errors (fault_line answer)
+      → Faults words files left answer before after
+  broke : (plan : Plan) (members : List Member) (tables : Tables) (run : Run) (fault : RunFault)
+      (between : SinkState)
       → IsPlanned words files plan members tables → plan.run ≡ Some run
       → WritesAll before.files after.files (image_file plan.image members tables ∷ []) → answer ≡ of_run fault
       → EndsAtFirst {A = Ending} (Err fault) before.streams (with_errors between after.streams)
       → BrokenOff members run left fault before.streams (with_errors between after.streams)
       → Puts between after.streams.errors (fault_line answer) → Faults words files left answer before after
-  broke_behind : (plan : Plan) (members : List Member) (tables : Tables) (run : Run) (number : ℕ) (fault : RunFault) (between : SinkState)
+  broke_behind : (plan : Plan) (members : List Member) (tables : Tables) (run : Run) (number : ℕ)
+      (fault : RunFault) (between : SinkState)
       → IsPlanned words files plan members tables → plan.run ≡ Some run → plan.number ≡ Some number
-      → WritesAll before.files after.files (image_file plan.image members tables ∷ []) → StopsPut fault → answer ≡ of_run fault
+      → WritesAll before.files after.files (image_file plan.image members tables ∷ []) → StopsPut fault
+      → answer ≡ of_run fault
       → EndsAtFirst {A = Ending} (Err fault) before.streams (with_errors between after.streams)
       → BrokenBehind members run number left before.streams (with_errors between after.streams)
       → Puts between after.streams.errors (fault_line answer) → Faults words files left answer before after
 
 -- the job was done, or a fault is answered
-pub data Outcome (words : List (List ℕ)) (files : FileMap) (left : List ℕ) (answer : Answer) (before after : Told) : Type 0 where
-  done : (job : Job) → IsJob words files left job → Completes job answer before after → Outcome words files left answer before after
-  fault : IsFault answer → Faults words files left answer before after → Outcome words files left answer before after
+pub data Outcome (words : List (List ℕ)) (files : FileMap) (left : List ℕ) (answer : Answer)
+    (before after : Told) : Type 0 where
+  done : (job : Job) → IsJob words files left job → Completes job answer before after
+      → Outcome words files left answer before after
+  fault : IsFault answer → Faults words files left answer before after
+      → Outcome words files left answer before after
 
 -- an answer that files were written
 abbrev pub HasWritten : Answer → Type 0
@@ -132,11 +146,14 @@ HasWritten answer = ⊥
 
 -- What a call leaves of the files, whatever the input tells: they are as they were, where nothing was written; or all that is asked for
 -- was written; or, where a fault is answered, some first ones were, and perhaps a part of the next.
-pub data LeavesFiles (words : List (List ℕ)) (files : FileMap) (answer : Answer) (before after : Option FileMap) : Type 0 where
+pub data LeavesFiles (words : List (List ℕ)) (files : FileMap) (answer : Answer)
+    (before after : Option FileMap) : Type 0 where
   left_alone : (HasWritten answer → ⊥) → after ≡ before → LeavesFiles words files answer before after
-  all_written : (written : List WrittenFile) → AreWritten words files written → HasWritten answer ⊎ IsFault answer → WritesAll before after written
+  all_written : (written : List WrittenFile) → AreWritten words files written
+      → HasWritten answer ⊎ IsFault answer → WritesAll before after written
       → LeavesFiles words files answer before after
-  part_written : (written : List WrittenFile) → AreWritten words files written → IsFault answer → WritesPart before after written
+  part_written : (written : List WrittenFile) → AreWritten words files written → IsFault answer
+      → WritesPart before after written
       → LeavesFiles words files answer before after
 
 -- some first bytes of the input were taken
@@ -145,7 +162,8 @@ LosesSome left after = (count : ℕ) × (after ≡ Some (drop count left))
 
 -- where the words and the files ask for files to be written, they were, or a fault is answered
 abbrev pub IsComplete : List (List ℕ) → FileMap → Answer → Type 0
-IsComplete words files answer = (written : List WrittenFile) → AreWritten words files written → IsFault answer ⊎ HasWritten answer
+IsComplete words files answer =
+    (written : List WrittenFile) → AreWritten words files written → IsFault answer ⊎ HasWritten answer
 
 -- These bytes are the image of a code that `iconx` reads and verifies, and its run is, with all words, limits and inputs, what the
 -- program is: what its files mean, where all are sources.
@@ -159,7 +177,9 @@ pub record IsImage (members : List Member) (bytes : List ℕ) : Type 0 where
 
 -- the two texts of each unit are read as that unit
 abbrev pub IsReadBack : Member → Type 0
-IsReadBack member = unit_read (unit_of member).name (procs_text (unit_of member).procs) (decls_text (unit_of member).decls) ≡ Whole (unit_of member)
+IsReadBack member =
+    unit_read (unit_of member).name (procs_text (unit_of member).procs) (decls_text (unit_of member).decls)
+    ≡ Whole (unit_of member)
 
 -- the name holds these bytes
 abbrev pub HoldsNow : Option FileMap → WrittenFile → Type 0
@@ -168,7 +188,9 @@ HoldsNow after written = (held : FileMap) × (after ≡ Some held) × (held writ
 -- What an answer that files were written says: the texts of each unit are there; or the image of the program is.
 pub data HoldsWritten (words : List (List ℕ)) (files : FileMap) (after : Option FileMap) : Type 0 where
   ucode : (members : List Member) → IsTranslated words files (Ok members)
-      → WritesAll (Some files) after (ucode_files members) → All IsReadBack members → HoldsWritten words files after
+      → WritesAll (Some files) after (ucode_files members) → All IsReadBack members
+      → HoldsWritten words files after
   image : (plan : Plan) (members : List Member) (tables : Tables) → IsPlanned words files plan members tables
-      → HoldsNow after (image_file plan.image members tables) → IsImage members (image_file plan.image members tables).bytes
+      → HoldsNow after (image_file plan.image members tables)
+      → IsImage members (image_file plan.image members tables).bytes
       → HoldsWritten words files after

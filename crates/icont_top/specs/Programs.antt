@@ -47,7 +47,8 @@ pub data Links (members : List Member) : Result Tables Answer → Type 0 where
   unverified : (base : List ℕ) (rule : Rule) (number place : ℕ) → first_fault (units_of members) ≡ None
       → first_ucode members ≡ Some base → IsFirstFault (linked_code members).procs rule number place
       → Links members (Err (BadUcode (first_name base) rule))
-  is_program : first_fault (units_of members) ≡ None → IsVerified (linked_code members) → Links members (Ok (linked_code members))
+  is_program : first_fault (units_of members) ≡ None → IsVerified (linked_code members)
+      → Links members (Ok (linked_code members))
 
 -- A program of sources alone runs as its files mean, any other as its code.
 abbrev pub RunsBy : Option (List (List Declaration)) → Tables → Launch → Observed → Type 0

@@ -38,7 +38,8 @@ ucode_members members = map (λ member. FromUcode (unit_of member)) members
 
 -- two stores have the same texts of all units but those of these members
 abbrev pub HoldTheOthers : List Member → FileMap → FileMap → Type 0
-HoldTheOthers members before after = (base : List ℕ) → is_there members base ≡ false → texts_held after base ≡ texts_held before base
+HoldTheOthers members before after =
+    (base : List ℕ) → is_there members base ≡ false → texts_held after base ≡ texts_held before base
 
 -- the units of members stand in a later store, and all others as they did
 pub record StandAgain (members : List Member) (before after : FileMap) : Type 0 where
@@ -46,13 +47,15 @@ pub record StandAgain (members : List Member) (before after : FileMap) : Type 0 
   pub others : HoldTheOthers members before after
 
 -- these members gather others of the same units as more
-pub record GathersAlike (files : FileMap) (members : List Member) (mentioned : List (List ℕ)) (more : List Member) : Type 0 where
+pub record GathersAlike (files : FileMap) (members : List Member) (mentioned : List (List ℕ))
+    (more : List Member) : Type 0 where
   pub others : List Member
   pub gathers : Gather files members mentioned (Ok others)
   pub units : units_of others ≡ units_of more
 
 -- from the ucode of their units the same program comes as from the files themselves
-pub record LinksAlike (files : FileMap) (named : List File) (members : List Member) (tables : Tables) : Type 0 where
+pub record LinksAlike (files : FileMap) (named : List File) (members : List Member)
+    (tables : Tables) : Type 0 where
   pub others : List Member
   pub loads : Load files named (Ok others)
   pub links : Links others (Ok tables)

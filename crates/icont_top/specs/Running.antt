@@ -25,12 +25,14 @@ use Rattle.icont_top.specs.Job.{behind}
 use Rattle.icont_top.specs.Outcomes.{LeavesBehind, StopsPut}
 
 -- the run ended, or it was broken off, and a fault is answered whose line was put behind
-pub data IsRanOrBroken (tables : Tables) (launch : Launch) (answer : Answer) (before after : CallStreams) : Type 0 where
+pub data IsRanOrBroken (tables : Tables) (launch : Launch) (answer : Answer)
+    (before after : CallStreams) : Type 0 where
   ran : (ending : Ending) → answer ≡ Ran ending → RunsTo tables launch (ending_seen ending) before after
       → IsRanOrBroken tables launch answer before after
   broken : (fault : RunFault) (between : SinkState) → answer ≡ of_run fault
       → EndsAtFirst {A = Ending} (Err fault) before (with_errors between after)
-      → IsBrokenOff tables launch fault before (with_errors between after) → Puts between after.errors (fault_line answer)
+      → IsBrokenOff tables launch fault before (with_errors between after)
+      → Puts between after.errors (fault_line answer)
       → IsRanOrBroken tables launch answer before after
 
 -- The program of a number
@@ -59,21 +61,28 @@ put_answer Faults.NoMemory = NoMemory
 
 -- the line of the sizes was put on the output, or a part of it, and a fault is answered whose line was put on the error output
 pub data PutsSizes (number : ℕ) (answer : Answer) (out out' err err' : SinkState) : Type 0 where
-  sizes_put : answer ≡ Ran Endings.Done → PutsAll out out' (sizes_line number) → err' ≡ err → PutsSizes number answer out out' err err'
-  sizes_broken : (fault : Fault) → answer ≡ put_answer fault → LeadsBy fault out out' (sizes_line number) → PutsOwn answer err err'
+  sizes_put : answer ≡ Ran Endings.Done → PutsAll out out' (sizes_line number) → err' ≡ err
+      → PutsSizes number answer out out' err err'
+  sizes_broken : (fault : Fault) → answer ≡ put_answer fault → LeadsBy fault out out' (sizes_line number)
+      → PutsOwn answer err err'
       → PutsSizes number answer out out' err err'
 
 -- The program ended, and the line of its sizes was put where it is that of a number; or it was broken off, or that line was.
-pub data HasRun (tables : Tables) (launch : Launch) (number : Option ℕ) (answer : Answer) (before after : CallStreams) : Type 0 where
+pub data HasRun (tables : Tables) (launch : Launch) (number : Option ℕ) (answer : Answer)
+    (before after : CallStreams) : Type 0 where
   has_ended : (seen : Observed) → RunsFlat tables launch seen → answer ≡ Ran (ending_held seen.ending)
       → after.left ≡ Some seen.outside.left
       → Gains before.output.held after.output.held (seen.outside.output ++ behind number seen.ending)
-      → Gains before.errors.held after.errors.held seen.outside.errors → HasRun tables launch number answer before after
+      → Gains before.errors.held after.errors.held seen.outside.errors
+      → HasRun tables launch number answer before after
   was_broken : (fault : RunFault) (between : SinkState) → answer ≡ of_run fault
       → EndsAtFirst {A = Ending} (Err fault) before (with_errors between after)
-      → IsBrokenOff tables launch fault before (with_errors between after) → Puts between after.errors (fault_line answer)
+      → IsBrokenOff tables launch fault before (with_errors between after)
+      → Puts between after.errors (fault_line answer)
       → HasRun tables launch number answer before after
-  was_broken_behind : (n : ℕ) (fault : RunFault) (between : SinkState) (seen : Observed) → number ≡ Some n → StopsPut fault
-      → answer ≡ of_run fault → EndsAtFirst {A = Ending} (Err fault) before (with_errors between after) → RunsFlat tables launch seen
+  was_broken_behind : (n : ℕ) (fault : RunFault) (between : SinkState) (seen : Observed) → number ≡ Some n
+      → StopsPut fault
+      → answer ≡ of_run fault → EndsAtFirst {A = Ending} (Err fault) before (with_errors between after)
+      → RunsFlat tables launch seen
       → LeavesBehind n seen before (with_errors between after) → Puts between after.errors (fault_line answer)
       → HasRun tables launch number answer before after

@@ -26,14 +26,18 @@ use source_bytes::{lines_of_bytes, texts_of_bytes};
 
 /// A list of tokens is at most one program.
 pub fn one_program()
-    ensures { (tokens : List Token) (a b : List Declaration) → TokensGive tokens (Ok a) → TokensGive tokens (Ok b) → a ≡ b }
+    ensures { (tokens : List Token) (a b : List Declaration) → TokensGive tokens (Ok a)
+        → TokensGive tokens (Ok b) → a ≡ b }
 {}
 
 /// The words, the files and the input ask for a job, where the files hold bytes, and for one alone, which answers no fault.
 pub fn one_job()
-    ensures some { (words : List (List ℕ)) (files : FileMap) (left : List ℕ) → HoldBytes files → (job : Job) × IsJob words files left job }
-    ensures one { (words : List (List ℕ)) (files : FileMap) (left : List ℕ) (a b : Job) → IsJob words files left a → IsJob words files left b → a ≡ b }
-    ensures faultless { (words : List (List ℕ)) (files : FileMap) (left : List ℕ) (job : Job) → IsJob words files left job → IsFault job.answer → ⊥ }
+    ensures some { (words : List (List ℕ)) (files : FileMap) (left : List ℕ) → HoldBytes files
+        → (job : Job) × IsJob words files left job }
+    ensures one { (words : List (List ℕ)) (files : FileMap) (left : List ℕ) (a b : Job)
+        → IsJob words files left a → IsJob words files left b → a ≡ b }
+    ensures faultless { (words : List (List ℕ)) (files : FileMap) (left : List ℕ) (job : Job)
+        → IsJob words files left job → IsFault job.answer → ⊥ }
 {
     one_reading();
     one_observation();
@@ -53,15 +57,21 @@ pub fn one_job()
 /// Units that were written as ucode and have no text over 268435456 bytes are read as the same units, so what they link is the same, their
 /// code is, and the image of a program that is made of it has the same name and the same bytes.
 pub fn units_link_alike()
-    ensures written { (words : List (List ℕ)) (before after : FileMap) (members : List Member) → IsTranslated words before (Ok members)
-        → WritesAll (Some before) (Some after) (ucode_files members) → AllFit members → StandAgain members before after }
+    ensures written { (words : List (List ℕ)) (before after : FileMap) (members : List Member)
+        → IsTranslated words before (Ok members)
+        → WritesAll (Some before) (Some after) (ucode_files members) → AllFit members
+        → StandAgain members before after }
     ensures come { (members : List Member) (files : FileMap) → All IsReadBack members → AreHeld files members
         → Come files (ucode_named members) (Ok (ucode_members members)) }
-    ensures gather { (before after : FileMap) (a b : List Member) (mentioned : List (List ℕ)) (more : List Member) → units_of b ≡ units_of a
-        → HoldTheOthers a before after → Gather before a mentioned (Ok more) → GathersAlike after b mentioned more }
+    ensures gather { (before after : FileMap) (a b : List Member) (mentioned : List (List ℕ))
+        (more : List Member) → units_of b ≡ units_of a
+        → HoldTheOthers a before after → Gather before a mentioned (Ok more)
+        → GathersAlike after b mentioned more }
     ensures linked { (a b : List Member) → units_of a ≡ units_of b → linked_code a ≡ linked_code b }
-    ensures program { (before after : FileMap) (named : List File) (members more : List Member) (tables : Tables) → Come before named (Ok members)
-        → All IsReadBack members → AreHeld after members → HoldTheOthers members before after → Load before named (Ok more)
+    ensures program { (before after : FileMap) (named : List File) (members more : List Member)
+        (tables : Tables) → Come before named (Ok members)
+        → All IsReadBack members → AreHeld after members → HoldTheOthers members before after
+        → Load before named (Ok more)
         → Links more (Ok tables) → LinksAlike after (ucode_named members) more tables }
 {
     one_spelling();

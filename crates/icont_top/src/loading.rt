@@ -37,7 +37,8 @@ pub fn translated<F: Files>(
     ensures translated { IfSome (F.held files.old) (λ held. AreTranslated held (texts names.now) result) }
     ensures others { IfErr result IsOfLoading }
     ensures files { F.held files.new ≡ F.held files.old }
-    ensures file_fault { CountsOnce (F.faults files.old) (F.faults files.new) (IsErrOf result Answer.FileFault) }
+    ensures file_fault { CountsOnce (F.faults files.old) (F.faults files.new)
+        (IsErrOf result Answer.FileFault) }
     ensures absence { HasCause (F.absences files.old) (F.absences files.new) (IsErrOfAbsence result) }
 {
     one_spelling();
@@ -72,11 +73,13 @@ pub fn linked_program<'a, F: Files>(
     names: &[&'a str],
     files: &mut F,
 ) -> Result<Program<'a>, Answer>
-    ensures program { IfSome (F.held files.old) (λ held. IsProgramOf (Load held (files_named (texts names.now)))
+    ensures program { IfSome (F.held files.old)
+        (λ held. IsProgramOf (Load held (files_named (texts names.now)))
         (Rose (F.absences files.old) (F.absences files.new)) result) }
     ensures others { IfErr result IsOfLoading }
     ensures files { F.held files.new ≡ F.held files.old }
-    ensures file_fault { CountsOnce (F.faults files.old) (F.faults files.new) (IsErrOf result Answer.FileFault) }
+    ensures file_fault { CountsOnce (F.faults files.old) (F.faults files.new)
+        (IsErrOf result Answer.FileFault) }
     ensures absence { HasCause (F.absences files.old) (F.absences files.new) (IsErrOfAbsence result) }
 {
     one_spelling();

@@ -67,7 +67,8 @@ fn link_members(alloc: Global, units: &[Unit]) -> Result<Code, Answer>
 
 // The answer where linking these units finds this fault: told of the later unit, of the one that links, or of the first.
 fn not_linked(alloc: Global, units: &[Unit], fault: &LinkFault) -> Answer
-    ensures given { (result ≡ Answer.NoMemory) ⊎ (link_answer (units_seen units.now) fault.now ≡ Some result) }
+    ensures given { (result ≡ Answer.NoMemory)
+        ⊎ (link_answer (units_seen units.now) fault.now ≡ Some result) }
     ensures others { IsOfLink result }
 {
     match fault {
@@ -80,7 +81,8 @@ fn not_linked(alloc: Global, units: &[Unit], fault: &LinkFault) -> Answer
 
 // The answer that a rule of linking refuses the unit at this place.
 fn refused(alloc: Global, units: &[Unit], place: u64, rule: Rule) -> Answer
-    ensures { (result ≡ Answer.NoMemory) ⊎ (result ≡ Refused (unit_named (units_seen units.now) place) 0 rule) }
+    ensures { (result ≡ Answer.NoMemory)
+        ⊎ (result ≡ Refused (unit_named (units_seen units.now) place) 0 rule) }
 {
     match Bytes::from_slice(alloc, name_at(units, place as usize)) {
         Ok(file) => Answer::Refused {
@@ -107,7 +109,8 @@ fn verified(alloc: Global, code: Code, members: &Members) -> Result<Verified, An
     requires sources { members.now.first_ucode ≡ None → IsVerified (tables_of code) }
     ensures same { IfOk result (λ verified. verified.code ≡ code) }
     ensures verified { OnOk result (IsVerified (tables_of code)) }
-    ensures refused { IfErr result (RefusesCode (units_seen members.now.units.items) members.now.first_ucode (tables_of code)) }
+    ensures refused { IfErr result
+        (RefusesCode (units_seen members.now.units.items) members.now.first_ucode (tables_of code)) }
     ensures others { IfErr result IsOfLink }
 {
     one_fault();
@@ -123,7 +126,8 @@ fn verified(alloc: Global, code: Code, members: &Members) -> Result<Verified, An
 
 // The answer that a rule of verified code is broken, told of the unit at this place.
 fn bad_code(alloc: Global, units: &[Unit], place: usize, rule: Rule) -> Answer
-    ensures { (result ≡ Answer.NoMemory) ⊎ (result ≡ BadUcode (first_name (unit_named (units_seen units.now) place)) rule) }
+    ensures { (result ≡ Answer.NoMemory)
+        ⊎ (result ≡ BadUcode (first_name (unit_named (units_seen units.now) place)) rule) }
 {
     match first_name(alloc, name_at(units, place)) {
         Ok(name) => Answer::BadUcode { name, rule },

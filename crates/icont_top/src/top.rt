@@ -71,36 +71,46 @@ pub fn icont_main<F: Files, I: Source, O: Sink, E: Sink>(
     err: &mut E,
 ) -> Answer
     // Where the files and the input tell their content, the job was done, or a fault is answered and leaves a part of it.
-    ensures outcome { IfSome (F.held files.old) (λ held. IfSome (I.left input.old) (λ left. Outcome (map string_bytes words.now) held left result
-        (told (F.held files.old) (call_streams (I.left input.old) (I.faults input.old) (O.state out.old) (E.state err.old)))
-        (told (F.held files.new) (call_streams (I.left input.new) (I.faults input.new) (O.state out.new) (E.state err.new))))) }
+    ensures outcome { IfSome (F.held files.old)
+        (λ held. IfSome (I.left input.old) (λ left. Outcome (map string_bytes words.now) held left result
+        (told (F.held files.old)
+        (call_streams (I.left input.old) (I.faults input.old) (O.state out.old) (E.state err.old)))
+        (told (F.held files.new)
+        (call_streams (I.left input.new) (I.faults input.new) (O.state out.new) (E.state err.new))))) }
 
     // Where no count of faults rose, no fault is answered but want of memory.
-    ensures faultless { ¬ Rose (F.faults files.old) (F.faults files.new) → ¬ Rose (I.faults input.old) (I.faults input.new)
-        → ¬ Rose (O.state out.old).faults (O.state out.new).faults → ¬ Rose (E.state err.old).faults (E.state err.new).faults
+    ensures faultless { ¬ Rose (F.faults files.old) (F.faults files.new)
+        → ¬ Rose (I.faults input.old) (I.faults input.new)
+        → ¬ Rose (O.state out.old).faults (O.state out.new).faults
+        → ¬ Rose (E.state err.old).faults (E.state err.new).faults
         → IsFault result → result ≡ Answer.NoMemory }
 
     // Where an image was written, its name holds the image of a code that `iconx` takes, and whose runs are what the program is: for
     // sources alone what they mean. Where units were, their texts are there, and are read back as these units.
     ensures headline { HasWritten result
-        → IfSome (F.held files.old) (λ held. HoldsWritten (map string_bytes words.now) held (F.held files.new)) }
+        → IfSome (F.held files.old)
+        (λ held. HoldsWritten (map string_bytes words.now) held (F.held files.new)) }
 
     // Where the files tell their content, it is said which of them changed, whatever the input tells.
-    ensures written { IfSome (F.held files.old) (λ held. LeavesFiles (map string_bytes words.now) held result (F.held files.old) (F.held files.new)) }
+    ensures written { IfSome (F.held files.old)
+        (λ held. LeavesFiles (map string_bytes words.now) held result (F.held files.old) (F.held files.new)) }
 
     // Every other answer's line was put, whatever the files and the input tell; of a run, its report behind what it put, where the
     // input tells its content.
-    ensures line { IsFault result ⊎ LineStands usage [] (I.left input.old) result (E.state err.old) (E.state err.new) }
+    ensures line { IsFault result
+        ⊎ LineStands usage [] (I.left input.old) result (E.state err.old) (E.state err.new) }
 
     // A fault's own line was put too, behind what was put of another answer's line or by a run: less than the whole of it is there
     // only where the error output's count of faults, or of its wants of memory, rose in that put.
     ensures fault_line { Reports usage [] (I.left input.old) (E.state err.old) (E.state err.new) result }
 
     // Where the files tell their content, the answer is the one that the words and the files ask for, or a fault.
-    ensures answered { IfSome (F.held files.old) (λ held. IsAnswered (map string_bytes words.now) held result) }
+    ensures answered { IfSome (F.held files.old)
+        (λ held. IsAnswered (map string_bytes words.now) held result) }
 
     // Where the words and the files ask for files to be written, they were, or a fault is answered.
-    ensures complete { IfSome (F.held files.old) (λ held. IsComplete (map string_bytes words.now) held result) }
+    ensures complete { IfSome (F.held files.old)
+        (λ held. IsComplete (map string_bytes words.now) held result) }
 
     // The words are faulty, and in which way, exactly where they come to that.
     ensures command { IsCommanded (map string_bytes words.now) result }
@@ -120,8 +130,10 @@ pub fn icont_main<F: Files, I: Source, O: Sink, E: Sink>(
     // The first fault ends the call: its object's count rose once, and no other count of faults did but at the put of the fault's
     // own line. An absence (also of an included file) is answered only where that count rose.
     ensures causes { EndsAtFirst result (IsAbsence result)
-        (outside (F.faults files.old) (F.absences files.old) (call_streams (I.left input.old) (I.faults input.old) (O.state out.old) (E.state err.old)))
-        (outside (F.faults files.new) (F.absences files.new) (call_streams (I.left input.new) (I.faults input.new) (O.state out.new) (E.state err.new))) }
+        (outside (F.faults files.old) (F.absences files.old)
+        (call_streams (I.left input.old) (I.faults input.old) (O.state out.old) (E.state err.old)))
+        (outside (F.faults files.new) (F.absences files.new)
+        (call_streams (I.left input.new) (I.faults input.new) (O.state out.new) (E.state err.new))) }
 {
     one_reading();
     one_fault();
@@ -154,15 +166,20 @@ fn translate_answer<F: Files, E: Sink>(
     files: &mut F,
     err: &mut E,
 ) -> Answer
-    ensures done { (words : List (List ℕ)) (left : Option (List ℕ)) (input : ℕ) (out : SinkState) → ComeTo words (Asks (Translate (texts names.now)))
-        → IfSome (F.held files.old) (λ held. IsDone words held result (told (F.held files.old) (call_streams left input out (E.state err.old)))
+    ensures done { (words : List (List ℕ)) (left : Option (List ℕ)) (input : ℕ) (out : SinkState)
+        → ComeTo words (Asks (Translate (texts names.now)))
+        → IfSome (F.held files.old) (λ held.
+        IsDone words held result (told (F.held files.old) (call_streams left input out (E.state err.old)))
         (told (F.held files.new) (call_streams left input out (E.state err.new)))) }
-    ensures reported { (left : Option (List ℕ)) → Reports usage [] left (E.state err.old) (E.state err.new) result }
+    ensures reported { (left : Option (List ℕ))
+        → Reports usage [] left (E.state err.old) (E.state err.new) result }
     ensures command { IsCommand result → ⊥ }
     ensures untouched { IsRefusal result → F.held files.new ≡ F.held files.old }
-    ensures causes { (left : Option (List ℕ)) (input : ℕ) (out : SinkState) → EndsAtFirst result (IsAbsence result)
+    ensures causes { (left : Option (List ℕ)) (input : ℕ) (out : SinkState)
+        → EndsAtFirst result (IsAbsence result)
         (outside (F.faults files.old) (F.absences files.old) (call_streams left input out (E.state err.old)))
-        (outside (F.faults files.new) (F.absences files.new) (call_streams left input out (E.state err.new))) }
+        (outside (F.faults files.new) (F.absences files.new)
+        (call_streams left input out (E.state err.new))) }
 {
     match translated(alloc, names, files) {
         Ok(texts) => texts_answer(&texts, files, err),
@@ -172,16 +189,20 @@ fn translate_answer<F: Files, E: Sink>(
 
 // Writes the ucode texts of units.
 fn texts_answer<F: Files, E: Sink>(texts: &[Text], files: &mut F, err: &mut E) -> Answer
-    ensures done { (words : List (List ℕ)) (held : FileMap) (members : List Member) (left : Option (List ℕ)) (input : ℕ) (out : SinkState)
+    ensures done { (words : List (List ℕ)) (held : FileMap) (members : List Member) (left : Option (List ℕ))
+        (input : ℕ) (out : SinkState)
         → IsTranslated words held (Ok members)
         → texts_seen texts.now ≡ ucode_files members → All IsReadBack members → F.held files.old ≡ Some held
         → IsDone words held result (told (F.held files.old) (call_streams left input out (E.state err.old)))
         (told (F.held files.new) (call_streams left input out (E.state err.new))) }
-    ensures reported { (left : Option (List ℕ)) → Reports usage [] left (E.state err.old) (E.state err.new) result }
+    ensures reported { (left : Option (List ℕ))
+        → Reports usage [] left (E.state err.old) (E.state err.new) result }
     ensures no_refusal { IsRefusal result → ⊥ }
-    ensures causes { (left : Option (List ℕ)) (input : ℕ) (out : SinkState) → EndsAtFirst result (IsAbsence result)
+    ensures causes { (left : Option (List ℕ)) (input : ℕ) (out : SinkState)
+        → EndsAtFirst result (IsAbsence result)
         (outside (F.faults files.old) (F.absences files.old) (call_streams left input out (E.state err.old)))
-        (outside (F.faults files.new) (F.absences files.new) (call_streams left input out (E.state err.new))) }
+        (outside (F.faults files.new) (F.absences files.new)
+        (call_streams left input out (E.state err.new))) }
 {
     match write_all(files, texts) {
         Ok(()) => Answer::Wrote,
@@ -201,12 +222,16 @@ fn link_answer<F: Files, I: Source, O: Sink, E: Sink>(
     err: &mut E,
 ) -> Answer
     ensures done { (words : List (List ℕ))
-        → ComeTo words (Asks (Link (texts names.now) (option_map (λ name. name.now) image.entry) (option_map run_seen run.entry)))
+        → ComeTo words (Asks (Link (texts names.now) (option_map (λ name. name.now) image.entry)
+        (option_map run_seen run.entry)))
         → IfSome (F.held files.old) (λ held. IsDone words held result
-        (told (F.held files.old) (call_streams (I.left input.old) (I.faults input.old) (O.state out.old) (E.state err.old)))
-        (told (F.held files.new) (call_streams (I.left input.new) (I.faults input.new) (O.state out.new) (E.state err.new)))) }
+        (told (F.held files.old)
+        (call_streams (I.left input.old) (I.faults input.old) (O.state out.old) (E.state err.old)))
+        (told (F.held files.new)
+        (call_streams (I.left input.new) (I.faults input.new) (O.state out.new) (E.state err.new)))) }
     ensures reported { Reports usage [] (I.left input.old) (E.state err.old) (E.state err.new) result }
-    ensures links { IfSome (F.held files.old) (λ held. (members : List Member) → Load held (files_named (texts names.now)) (Ok members)
+    ensures links { IfSome (F.held files.old)
+        (λ held. (members : List Member) → Load held (files_named (texts names.now)) (Ok members)
         → IsFault result ⊎ IsTold (Rose (F.absences files.old) (F.absences files.new)) members) }
     ensures input { IfSome (I.left input.old) (λ left. LosesSome left (I.left input.new)) }
     ensures command { IsCommand result → ⊥ }
@@ -214,8 +239,10 @@ fn link_answer<F: Files, I: Source, O: Sink, E: Sink>(
     ensures refused { (IsOfRun result → ⊥) → (O.state out.new).held ≡ (O.state out.old).held }
     ensures unread { (IsOfRun result → ⊥) → I.left input.new ≡ I.left input.old }
     ensures causes { EndsAtFirst result (IsAbsence result)
-        (outside (F.faults files.old) (F.absences files.old) (call_streams (I.left input.old) (I.faults input.old) (O.state out.old) (E.state err.old)))
-        (outside (F.faults files.new) (F.absences files.new) (call_streams (I.left input.new) (I.faults input.new) (O.state out.new) (E.state err.new))) }
+        (outside (F.faults files.old) (F.absences files.old)
+        (call_streams (I.left input.old) (I.faults input.old) (O.state out.old) (E.state err.old)))
+        (outside (F.faults files.new) (F.absences files.new)
+        (call_streams (I.left input.new) (I.faults input.new) (O.state out.new) (E.state err.new))) }
 {
     match linked_program(alloc, names, files) {
         Ok(program) => {
@@ -242,8 +269,10 @@ fn generate_answer<F: Files, I: Source, O: Sink, E: Sink>(
 ) -> Answer
     ensures done { (words : List (List ℕ)) → ComeTo words (Asks (Generate number turns))
         → IfSome (F.held files.old) (λ held. IsDone words held result
-        (told (F.held files.old) (call_streams (I.left input.old) (I.faults input.old) (O.state out.old) (E.state err.old)))
-        (told (F.held files.new) (call_streams (I.left input.new) (I.faults input.new) (O.state out.new) (E.state err.new)))) }
+        (told (F.held files.old)
+        (call_streams (I.left input.old) (I.faults input.old) (O.state out.old) (E.state err.old)))
+        (told (F.held files.new)
+        (call_streams (I.left input.new) (I.faults input.new) (O.state out.new) (E.state err.new)))) }
     ensures reported { Reports usage [] (I.left input.old) (E.state err.old) (E.state err.new) result }
     ensures input { IfSome (I.left input.old) (λ left. LosesSome left (I.left input.new)) }
     ensures command { IsCommand result → ⊥ }
@@ -251,8 +280,10 @@ fn generate_answer<F: Files, I: Source, O: Sink, E: Sink>(
     ensures refused { (IsOfRun result → ⊥) → (O.state out.new).held ≡ (O.state out.old).held }
     ensures unread { (IsOfRun result → ⊥) → I.left input.new ≡ I.left input.old }
     ensures causes { EndsAtFirst result (IsAbsence result)
-        (outside (F.faults files.old) (F.absences files.old) (call_streams (I.left input.old) (I.faults input.old) (O.state out.old) (E.state err.old)))
-        (outside (F.faults files.new) (F.absences files.new) (call_streams (I.left input.new) (I.faults input.new) (O.state out.new) (E.state err.new))) }
+        (outside (F.faults files.old) (F.absences files.old)
+        (call_streams (I.left input.old) (I.faults input.old) (O.state out.old) (E.state err.old)))
+        (outside (F.faults files.new) (F.absences files.new)
+        (call_streams (I.left input.new) (I.faults input.new) (O.state out.new) (E.state err.new))) }
 {
     match numbered_program(alloc, number) {
         Ok(program) => {
@@ -280,18 +311,23 @@ fn image_answer<F: Files, I: Source, O: Sink, E: Sink>(
     out: &mut O,
     err: &mut E,
 ) -> Answer
-    ensures done { (words : List (List ℕ)) (held : FileMap) (members : List Member) → IsReady words held members plan.entry program.now
+    ensures done { (words : List (List ℕ)) (held : FileMap) (members : List Member)
+        → IsReady words held members plan.entry program.now
         → F.held files.old ≡ Some held → IsDone words held result
-        (told (F.held files.old) (call_streams (I.left input.old) (I.faults input.old) (O.state out.old) (E.state err.old)))
-        (told (F.held files.new) (call_streams (I.left input.new) (I.faults input.new) (O.state out.new) (E.state err.new))) }
+        (told (F.held files.old)
+        (call_streams (I.left input.old) (I.faults input.old) (O.state out.old) (E.state err.old)))
+        (told (F.held files.new)
+        (call_streams (I.left input.new) (I.faults input.new) (O.state out.new) (E.state err.new))) }
     ensures reported { Reports usage [] (I.left input.old) (E.state err.old) (E.state err.new) result }
     ensures input { IfSome (I.left input.old) (λ left. LosesSome left (I.left input.new)) }
     ensures no_refusal { IsRefusal result → ⊥ }
     ensures refused { (IsOfRun result → ⊥) → (O.state out.new).held ≡ (O.state out.old).held }
     ensures unread { (IsOfRun result → ⊥) → I.left input.new ≡ I.left input.old }
     ensures causes { EndsAtFirst result (IsAbsence result)
-        (outside (F.faults files.old) (F.absences files.old) (call_streams (I.left input.old) (I.faults input.old) (O.state out.old) (E.state err.old)))
-        (outside (F.faults files.new) (F.absences files.new) (call_streams (I.left input.new) (I.faults input.new) (O.state out.new) (E.state err.new))) }
+        (outside (F.faults files.old) (F.absences files.old)
+        (call_streams (I.left input.old) (I.faults input.old) (O.state out.old) (E.state err.old)))
+        (outside (F.faults files.new) (F.absences files.new)
+        (call_streams (I.left input.new) (I.faults input.new) (O.state out.new) (E.state err.new))) }
 {
     one_spelling();
     same_ends();
@@ -338,7 +374,8 @@ fn ran_answer<I: Source, O: Sink, E: Sink>(
     out: &mut O,
     err: &mut E,
 ) -> Answer
-    ensures ran { IfSome (I.left input.old) (λ left. HasRun (tables_of code.now.code) (run_launch (run_seen run.entry) left) number result
+    ensures ran { IfSome (I.left input.old)
+        (λ left. HasRun (tables_of code.now.code) (run_launch (run_seen run.entry) left) number result
         (call_streams (I.left input.old) (I.faults input.old) (O.state out.old) (E.state err.old))
         (call_streams (I.left input.new) (I.faults input.new) (O.state out.new) (E.state err.new))) }
     ensures reported { Reports usage [] (I.left input.old) (E.state err.old) (E.state err.new) result }
@@ -369,7 +406,8 @@ fn run_answer<I: Source, O: Sink, E: Sink>(
     out: &mut O,
     err: &mut E,
 ) -> Answer
-    ensures ran { IfSome (I.left input.old) (λ left. IsRanOrBroken (tables_of code.now.code) (run_launch (run_seen asked.entry) left) result
+    ensures ran { IfSome (I.left input.old)
+        (λ left. IsRanOrBroken (tables_of code.now.code) (run_launch (run_seen asked.entry) left) result
         (call_streams (I.left input.old) (I.faults input.old) (O.state out.old) (E.state err.old))
         (call_streams (I.left input.new) (I.faults input.new) (O.state out.new) (E.state err.new))) }
     ensures reported { Reports usage [] (I.left input.old) (E.state err.old) (E.state err.new) result }
@@ -404,7 +442,8 @@ fn is_done(answer: &Answer) -> bool
 
 // Puts the line of the sizes of the program of a number, which was done.
 fn sizes_answer<O: Sink, E: Sink>(alloc: Global, number: u16, out: &mut O, err: &mut E) -> Answer
-    ensures { PutsSizes number result (O.state out.old) (O.state out.new) (E.state err.old) (E.state err.new) }
+    ensures { PutsSizes number result (O.state out.old) (O.state out.new) (E.state err.old)
+        (E.state err.new) }
 {
     match put_sizes(alloc, number, out) {
         Ok(()) => Answer::Ran(Ending::Done),
@@ -418,7 +457,8 @@ fn sizes_answer<O: Sink, E: Sink>(alloc: Global, number: u16, out: &mut O, err: 
 
 fn put_sizes<O: Sink>(alloc: Global, number: u16, out: &mut O) -> Result<(), Fault>
     ensures ok { OnOk result (PutsAll (O.state out.old) (O.state out.new) (sizes_line number)) }
-    ensures err { IfErr result (λ fault. LeadsBy fault (O.state out.old) (O.state out.new) (sizes_line number)) }
+    ensures err { IfErr result
+        (λ fault. LeadsBy fault (O.state out.old) (O.state out.new) (sizes_line number)) }
 {
     let line = sizes_line(alloc, number)?;
     put_line(&line, out)

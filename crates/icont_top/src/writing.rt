@@ -24,7 +24,8 @@ pub struct Text {
 ///
 /// Memory ran out.
 pub fn ucode_texts(alloc: Global, sources: &[File], units: &[Unit]) -> Result<Vec<Text>, AllocError>
-    ensures { IfOk result (λ texts. texts_seen texts.items ≡ units_written (bases (files_seen sources.now)) (units_seen units.now)) }
+    ensures { IfOk result (λ texts. texts_seen texts.items
+        ≡ units_written (bases (files_seen sources.now)) (units_seen units.now)) }
 {
     let mut texts = Vec::new(alloc);
     for (place, unit) in units.iter().enumerate() {
@@ -50,7 +51,8 @@ fn push_texts(
     unit: &Unit,
     texts: &mut Vec<Text>,
 ) -> Result<(), AllocError>
-    ensures { OnOk result (texts_seen texts.new.items ≡ texts_seen texts.old.items ++ unit_written base.now (unit_seen unit.now)) }
+    ensures { OnOk result (texts_seen texts.new.items ≡ texts_seen texts.old.items
+        ++ unit_written base.now (unit_seen unit.now)) }
 {
     let text = write_unit(alloc, unit)?;
     let first = name_with(alloc, base, ".u1")?;

@@ -38,20 +38,23 @@ files_seen files = map file_seen files
 abbrev pub new_files : List (List ℕ) → List File → List File
 new_files known [] = []
 new_files known (file ∷ files) =
-    if list_any (bytes_eq file.base) known then new_files known files else file ∷ new_files (known ++ file.base ∷ []) files
+    if list_any (bytes_eq file.base) known then new_files known files
+    else file ∷ new_files (known ++ file.base ∷ []) files
 
 -- Sources
 
 -- the source of this base is these declarations, or what refuses it is answered, or a fault
 abbrev pub IsSource : FileMap → List ℕ → Result Checked Answer → Type 0
-IsSource files base (Ok checked) = Comes files (source base) (Ok (FromSource base (declarations_of checked.text)))
+IsSource files base (Ok checked) =
+    Comes files (source base) (Ok (FromSource base (declarations_of checked.text)))
 IsSource files base (Err answer) = IsFault answer ⊎ Comes files (source base) (Err answer)
 
 -- the tokens are this file, or their refusal is answered, or want of memory
 abbrev pub AreFile : Scan → Result Checked Answer → Type 0
 AreFile scan (Ok checked) = TokensGive scan.tokens (Ok (declarations_of checked.text))
 AreFile scan (Err answer) = (answer ≡ NoMemory)
-    ⊎ ((rule : Rule) × ((place : Place) × (TokensGive scan.tokens (Err (rule, place)) × (answer ≡ refused_at scan.names rule place))))
+    ⊎ ((rule : Rule) × ((place : Place)
+    × (TokensGive scan.tokens (Err (rule, place)) × (answer ≡ refused_at scan.names rule place))))
 
 -- Texts
 
@@ -68,7 +71,8 @@ IsText held name (Err answer) = IsFault answer ⊎ ((held ≡ None) × (answer �
 abbrev pub AreTexts : Result (List ℕ × List ℕ) (List ℕ) → Result UnitTexts Answer → Type 0
 AreTexts held (Ok texts) = (first : List ℕ) × ((second : List ℕ) × ((held ≡ Ok (first, second))
     × ((texts.first.items ≡ first_bytes first) × (texts.second.items ≡ first_bytes second))))
-AreTexts held (Err answer) = IsFault answer ⊎ ((name : List ℕ) × ((held ≡ Err name) × (answer ≡ Missing name)))
+AreTexts held (Err answer) =
+    IsFault answer ⊎ ((name : List ℕ) × ((held ≡ Err name) × (answer ≡ Missing name)))
 
 -- Units
 
@@ -84,13 +88,16 @@ IsNamedUnit files base (Err answer) = IsFault answer ⊎ Comes files (ucode base
 
 -- both texts of the unit of this base are there, and come to this
 abbrev pub HeldAre : FileMap → List ℕ → (List ℕ → List ℕ → Type 0) → Type 0
-HeldAre files base claim = (first : List ℕ) × ((second : List ℕ) × (IsHeld files base first second × claim first second))
+HeldAre files base claim =
+    (first : List ℕ) × ((second : List ℕ) × (IsHeld files base first second × claim first second))
 
 -- the unit of this base that is linked, or none, or what refuses it, or a fault
 abbrev pub IsLinkedUnit : FileMap → List ℕ → Result (Option HeldUnit) Answer → Type 0
-IsLinkedUnit files base (Ok (Some unit)) = HeldAre files base (λ first second. AreJudged base first second (Ok (unit_seen unit)))
+IsLinkedUnit files base (Ok (Some unit)) =
+    HeldAre files base (λ first second. AreJudged base first second (Ok (unit_seen unit)))
 IsLinkedUnit files base (Ok None) = IsAbsent files base
-IsLinkedUnit files base (Err answer) = IsFault answer ⊎ HeldAre files base (λ first second. AreJudged base first second (Err answer))
+IsLinkedUnit files base (Err answer) =
+    IsFault answer ⊎ HeldAre files base (λ first second. AreJudged base first second (Err answer))
 
 -- a unit has this base name
 abbrev pub IsUnitOf : List ℕ → Result HeldUnit Answer → Type 0

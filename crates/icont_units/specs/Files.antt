@@ -14,7 +14,8 @@ pub record File : Type 0 where
 
 -- what stands before a suffix, where a name has it
 abbrev pub base_before : List ℕ → List ℕ → Option (List ℕ)
-base_before name suffix = if ends_with nat_eq name suffix then Some (take (length name - length suffix) name) else None
+base_before name suffix =
+    if ends_with nat_eq name suffix then Some (take (length name - length suffix) name) else None
 
 abbrev pub source : List ℕ → File
 source base = record { kind = Source; base = base }
@@ -24,7 +25,8 @@ ucode base = record { kind = Ucode; base = base }
 
 -- of a name that does not end in `.icn`: without any suffix it is the base of a source
 abbrev pub file_without_icn : List ℕ → File
-file_without_icn name = option_map_or ucode (base_before name (codes ".u1")) (option_map_or ucode (base_before name (codes ".u2")) (source name))
+file_without_icn name = option_map_or ucode (base_before name (codes ".u1"))
+    (option_map_or ucode (base_before name (codes ".u2")) (source name))
 
 -- the file that a word names: a source by `.icn` or without a suffix, ucode by `.u1` or `.u2`
 abbrev pub file_named : List ℕ → File

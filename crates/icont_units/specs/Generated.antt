@@ -17,7 +17,8 @@ abbrev pub numbers : ℕ → List ℕ
 numbers count = range_with_len 1 count
 
 abbrev pub procedure_lines : ℕ → List (List ℕ)
-procedure_lines i = (codes "procedure p" ++ decimal i ++ codes "(n)") ∷ (codes "suspend (n to n + 2) * " ++ decimal i) ∷ codes "end" ∷ []
+procedure_lines i = (codes "procedure p" ++ decimal i ++ codes "(n)")
+    ∷ (codes "suspend (n to n + 2) * " ++ decimal i) ∷ codes "end" ∷ []
 
 abbrev pub sum_line : ℕ → List ℕ
 sum_line i = codes "every t +:= p" ++ decimal i ++ codes "(1 to 3)"
@@ -25,7 +26,8 @@ sum_line i = codes "every t +:= p" ++ decimal i ++ codes "(1 to 3)"
 -- the lines without their ends
 abbrev pub program_lines : ℕ → List (List ℕ)
 program_lines count = flat_map procedure_lines (numbers count)
-    ++ codes "procedure main()" ∷ codes "t := 0" ∷ map sum_line (numbers count) ++ codes "write(t)" ∷ codes "end" ∷ []
+    ++ codes "procedure main()" ∷ codes "t := 0" ∷ map sum_line (numbers count)
+    ++ codes "write(t)" ∷ codes "end" ∷ []
 
 -- a line of the one file
 abbrev pub line_at : ℕ → List ℕ → SourceLine
@@ -50,7 +52,8 @@ generated_name = codes "gen.icn"
 
 -- what is put on the output once a program with so many lines and procedures is done
 abbrev pub sizes_text : ℕ → ℕ → List ℕ
-sizes_text lines procedures = codes "lines " ++ decimal lines ++ codes " procedures " ++ decimal procedures ++ codes "\n"
+sizes_text lines procedures =
+    codes "lines " ++ decimal lines ++ codes " procedures " ++ decimal procedures ++ codes "\n"
 
 -- how many lines and procedures the program of a number has, as it is put on the output
 abbrev pub sizes_line : ℕ → List ℕ
@@ -59,8 +62,11 @@ sizes_line count = sizes_text (length (program_lines count)) (suc count)
 -- the one unit of its lines, which are not read; or the rule that they break
 pub data GeneratedComes (number : ℕ) : Result (List Member) Answer → Type 0 where
   not_scanned : (rule : Rule) (file line : ℕ) → tokens_of (generated_lines number) ≡ Fault rule file line
-      → GeneratedComes number (Err (refused_at (generated_name ∷ []) rule (record { line = line; file = file })))
-  broken : (tokens : List Token) (rule : Rule) (place : Place) → tokens_of (generated_lines number) ≡ Scanned tokens
-      → TokensGive tokens (Err (rule, place)) → GeneratedComes number (Err (refused_at (generated_name ∷ []) rule place))
+      → GeneratedComes number
+      (Err (refused_at (generated_name ∷ []) rule (record { line = line; file = file })))
+  broken : (tokens : List Token) (rule : Rule) (place : Place)
+      → tokens_of (generated_lines number) ≡ Scanned tokens
+      → TokensGive tokens (Err (rule, place))
+      → GeneratedComes number (Err (refused_at (generated_name ∷ []) rule place))
   made : (tokens : List Token) (file : List Declaration) → tokens_of (generated_lines number) ≡ Scanned tokens
       → TokensGive tokens (Ok file) → GeneratedComes number (Ok (FromSource generated_base file ∷ []))

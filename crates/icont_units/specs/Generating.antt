@@ -15,14 +15,17 @@ use Rattle.icont_units.specs.Units.{FromSource, Member}
 
 -- the program of the number is these units, or what refuses it is answered, or want of memory
 abbrev pub IsGenerated : ℕ → Result Members Answer → Type 0
-IsGenerated number (Ok held) = (members : List Member) × (GeneratedComes number (Ok members) × Stands held members)
+IsGenerated number (Ok held) =
+    (members : List Member) × (GeneratedComes number (Ok members) × Stands held members)
 IsGenerated number (Err answer) = IsFault answer ⊎ GeneratedComes number (Err answer)
 
 -- the tokens are the file of the one unit, or their refusal is answered, or want of memory
 abbrev pub AreMember : Scan → Result Members Answer → Type 0
-AreMember scan (Ok held) = (file : List Declaration) × (TokensGive scan.tokens (Ok file) × Stands held (FromSource generated_base file ∷ []))
+AreMember scan (Ok held) = (file : List Declaration)
+    × (TokensGive scan.tokens (Ok file) × Stands held (FromSource generated_base file ∷ []))
 AreMember scan (Err answer) = (answer ≡ NoMemory)
-    ⊎ ((rule : Rule) × ((place : Place) × (TokensGive scan.tokens (Err (rule, place)) × (answer ≡ refused_at scan.names rule place))))
+    ⊎ ((rule : Rule) × ((place : Place)
+    × (TokensGive scan.tokens (Err (rule, place)) × (answer ≡ refused_at scan.names rule place))))
 
 -- an answer to lines that were made: the rule that they break, or want of memory
 abbrev pub IsOfLines : Answer → Type 0

@@ -71,7 +71,8 @@ pub record ComesBehind (files : FileMap) (file : File) (before : List Member) (h
 -- the file was read behind these members, or what refuses it is answered, or a fault
 abbrev pub IsRead : {A : Type 0} → FileMap → File → List Member → Members → Result A Answer → Type 0
 IsRead files file before held result =
-    MatchResult result (λ _. ComesBehind files file before held) (λ answer. IsFault answer ⊎ Comes files file (Err answer))
+    MatchResult result (λ _. ComesBehind files file before held)
+    (λ answer. IsFault answer ⊎ Comes files file (Err answer))
 
 -- the named files came to members for which these units stand, or what refuses them is answered, or a fault
 abbrev pub IsCome : FileMap → List File → Result Members Answer → Type 0
@@ -91,8 +92,10 @@ texts_in texts = map (λ text. text.items) texts
 
 -- Among the bases that were looked for are all that have a unit, and each of the others is absent in this sense.
 pub record Knows (IsLost : List ℕ → Type 0) (units : List UnitRead) (known : List (List ℕ)) : Type 0 where
-  pub met : (base : List ℕ) → list_any (bytes_eq base) known ≡ true → (list_any (bytes_eq base) (unit_names units) ≡ true) ⊎ IsLost base
-  pub new : (base : List ℕ) → list_any (bytes_eq base) known ≡ false → list_any (bytes_eq base) (unit_names units) ≡ false
+  pub met : (base : List ℕ) → list_any (bytes_eq base) known ≡ true
+      → (list_any (bytes_eq base) (unit_names units) ≡ true) ⊎ IsLost base
+  pub new : (base : List ℕ) → list_any (bytes_eq base) known ≡ false
+      → list_any (bytes_eq base) (unit_names units) ≡ false
 
 -- the count of files that were not there has risen, or a base is no text
 abbrev pub IsMissed : ℕ → ℕ → List ℕ → Type 0
@@ -108,38 +111,48 @@ pub record Adds (files : FileMap) (old new : Members) (bases : List (List ℕ)) 
   pub added : List UnitRead
   pub units : units_seen new.units.items ≡ units_seen old.units.items ++ added
   pub stands : (before : List Member) → Stands old before → Stands new (with_units before added)
-  pub gathers : (before : List Member) (rest : List (List ℕ)) (result : Result (List Member) Answer) → Stands old before
-      → Gather files (with_units before added) (rest ++ flat_map links_of added) result → Gather files before (bases ++ rest) result
+  pub gathers : (before : List Member) (rest : List (List ℕ)) (result : Result (List Member) Answer)
+      → Stands old before
+      → Gather files (with_units before added) (rest ++ flat_map links_of added) result
+      → Gather files before (bases ++ rest) result
 
 -- The same whatever the files tell: units were added, these bases are known now, and those without a unit were missed.
-pub record Grows (before now : ℕ) (old new : Members) (known_old known_new bases : List (List ℕ)) : Type 0 where
+pub record Grows (before now : ℕ) (old new : Members)
+    (known_old known_new bases : List (List ℕ)) : Type 0 where
   pub later : before ≤ now
   pub added : List UnitRead
   pub units : units_seen new.units.items ≡ units_seen old.units.items ++ added
   pub stands : (members : List Member) → Stands old members → Stands new (with_units members added)
   pub known : known_new ≡ with_texts known_old bases
-  pub missed : (start : ℕ) → start ≤ before → Knows (IsMissed start before) (units_seen old.units.items) known_old
+  pub missed : (start : ℕ) → start ≤ before
+      → Knows (IsMissed start before) (units_seen old.units.items) known_old
       → Knows (IsMissed start now) (units_seen new.units.items) known_new
 
 -- what refuses one of these bases, whatever is mentioned behind them
 pub record Refuses (files : FileMap) (old : Members) (bases : List (List ℕ)) (answer : Answer) : Type 0 where
-  pub gathers : (before : List Member) (rest : List (List ℕ)) → Stands old before → Gather files before (bases ++ rest) (Err answer)
+  pub gathers : (before : List Member) (rest : List (List ℕ)) → Stands old before
+      → Gather files before (bases ++ rest) (Err answer)
 
 -- these bases were looked for, and are known now; or what refuses one of them is answered, or a fault
-abbrev pub IsSought : {A : Type 0} → FileMap → Members → Members → List (List ℕ) → List (List ℕ) → Result A Answer → Type 0
+abbrev pub IsSought : {A : Type 0} → FileMap → Members → Members → List (List ℕ) → List (List ℕ)
+    → Result A Answer → Type 0
 IsSought files old new bases known result =
-    MatchResult result (λ _. Adds files old new bases × Knows (IsAbsent files) (units_seen new.units.items) known)
+    MatchResult result
+    (λ _. Adds files old new bases × Knows (IsAbsent files) (units_seen new.units.items) known)
     (λ answer. IsFault answer ⊎ Refuses files old bases answer)
 
 -- the members with those that they link, or what refuses one, or a fault
-abbrev pub IsGathered : {A : Type 0} → FileMap → List Member → List (List ℕ) → Members → Result A Answer → Type 0
+abbrev pub IsGathered : {A : Type 0} → FileMap → List Member → List (List ℕ) → Members → Result A Answer
+    → Type 0
 IsGathered files before mentioned held result =
-    MatchResult result (λ _. (members : List Member) × (Gather files before mentioned (Ok members) × Stands held members))
+    MatchResult result
+    (λ _. (members : List Member) × (Gather files before mentioned (Ok members) × Stands held members))
     (λ answer. IsFault answer ⊎ Gather files before mentioned (Err answer))
 
 -- the named files with those that they link, or what refuses one, or a fault
 abbrev pub IsLoaded : FileMap → List File → Result Members Answer → Type 0
-IsLoaded files named (Ok held) = (members : List Member) × (Load files named (Ok members) × Stands held members)
+IsLoaded files named (Ok held) =
+    (members : List Member) × (Load files named (Ok members) × Stands held members)
 IsLoaded files named (Err answer) = IsFault answer ⊎ Load files named (Err answer)
 
 -- the first base that is linked and has no unit was not there, or is no text

@@ -17,4 +17,5 @@ pub data TokensGive (tokens : List Token) : Result (List Declaration) (Rule × P
       → unparsed_by outcome ≡ Some (rule, place) → TokensGive tokens (Err (rule, place))
   out_of_context : (file : List Declaration) (fault : Fault) → IsOutcome tokens (IsTree file)
       → first_of (context_faults file) ≡ Some fault → TokensGive tokens (Err (fault.rule, fault.place))
-  is_file : (file : List Declaration) → IsOutcome tokens (IsTree file) → context_faults file ≡ [] → TokensGive tokens (Ok file)
+  is_file : (file : List Declaration) → IsOutcome tokens (IsTree file) → context_faults file ≡ []
+      → TokensGive tokens (Ok file)

@@ -60,7 +60,8 @@ is_too_long text = nat_lt 268435456 (length text)
 
 -- What two texts come to. Neither has over 268435456 bytes, which is looked at before both are read.
 pub data AreJudged (base first second : List ℕ) : Result UnitRead Answer → Type 0 where
-  first_too_long : 268435456 < length first → AreJudged base first second (Err (BadUcode (first_name base) U8))
+  first_too_long : 268435456 < length first
+      → AreJudged base first second (Err (BadUcode (first_name base) U8))
   second_too_long : length first ≤ 268435456 → 268435456 < length second
       → AreJudged base first second (Err (BadUcode (second_name base) U8))
   read : length first ≤ 268435456 → length second ≤ 268435456
@@ -71,12 +72,17 @@ pub data AreJudged (base first second : List ℕ) : Result UnitRead Answer → T
 -- What a file comes to: a source gives no tokens, or its tokens break a rule, or they are a file; the texts of a unit are not there, or
 -- they are judged.
 pub data Comes (files : FileMap) : File → Result Member Answer → Type 0 where
-  no_tokens : (base : List ℕ) (answer : Answer) → source_read files (source_name base) ≡ Err answer → Comes files (source base) (Err answer)
-  broken : (base : List ℕ) (scan : Scan) (rule : Rule) (place : Place) → source_read files (source_name base) ≡ Ok scan
-      → TokensGive scan.tokens (Err (rule, place)) → Comes files (source base) (Err (refused_at scan.names rule place))
-  translated : (base : List ℕ) (scan : Scan) (file : List Declaration) → source_read files (source_name base) ≡ Ok scan
+  no_tokens : (base : List ℕ) (answer : Answer) → source_read files (source_name base) ≡ Err answer
+      → Comes files (source base) (Err answer)
+  broken : (base : List ℕ) (scan : Scan) (rule : Rule) (place : Place)
+      → source_read files (source_name base) ≡ Ok scan
+      → TokensGive scan.tokens (Err (rule, place))
+      → Comes files (source base) (Err (refused_at scan.names rule place))
+  translated : (base : List ℕ) (scan : Scan) (file : List Declaration)
+      → source_read files (source_name base) ≡ Ok scan
       → TokensGive scan.tokens (Ok file) → Comes files (source base) (Ok (FromSource base file))
-  not_there : (base name : List ℕ) → texts_held files base ≡ Err name → Comes files (ucode base) (Err (Missing name))
+  not_there : (base name : List ℕ) → texts_held files base ≡ Err name
+      → Comes files (ucode base) (Err (Missing name))
   not_read : (base first second : List ℕ) (answer : Answer) → texts_held files base ≡ Ok (first, second)
       → AreJudged base first second (Err answer) → Comes files (ucode base) (Err answer)
   read : (base first second : List ℕ) (unit : UnitRead) → texts_held files base ≡ Ok (first, second)
@@ -85,11 +91,13 @@ pub data Comes (files : FileMap) : File → Result Member Answer → Type 0 wher
 -- What files come to, one after the other: the first that is refused refuses all.
 pub data Come (files : FileMap) : List File → Result (List Member) Answer → Type 0 where
   none : Come files [] (Ok [])
-  one_more : (file : File) (others : List File) (member : Member) (members : List Member) → Comes files file (Ok member)
+  one_more : (file : File) (others : List File) (member : Member) (members : List Member)
+      → Comes files file (Ok member)
       → Come files others (Ok members) → Come files (file ∷ others) (Ok (member ∷ members))
   first_refused : (file : File) (others : List File) (answer : Answer) → Comes files file (Err answer)
       → Come files (file ∷ others) (Err answer)
-  later_refused : (file : File) (others : List File) (member : Member) (answer : Answer) → Comes files file (Ok member)
+  later_refused : (file : File) (others : List File) (member : Member) (answer : Answer)
+      → Comes files file (Ok member)
       → Come files others (Err answer) → Come files (file ∷ others) (Err answer)
 
 -- Files that are linked
@@ -121,15 +129,21 @@ pub record IsHeld (files : FileMap) (base first second : List ℕ) : Type 0 wher
 -- what it mentions itself comes behind what was mentioned before. The first that is refused refuses all.
 pub data Gather (files : FileMap) : List Member → List (List ℕ) → Result (List Member) Answer → Type 0 where
   all : (members : List Member) → Gather files members [] (Ok members)
-  known : (members : List Member) (base : List ℕ) (mentioned : List (List ℕ)) (result : Result (List Member) Answer)
-      → is_there members base ≡ true → Gather files members mentioned result → Gather files members (base ∷ mentioned) result
-  absent : (members : List Member) (base : List ℕ) (mentioned : List (List ℕ)) (result : Result (List Member) Answer)
+  known : (members : List Member) (base : List ℕ) (mentioned : List (List ℕ))
+      (result : Result (List Member) Answer)
+      → is_there members base ≡ true → Gather files members mentioned result
+      → Gather files members (base ∷ mentioned) result
+  absent : (members : List Member) (base : List ℕ) (mentioned : List (List ℕ))
+      (result : Result (List Member) Answer)
       → is_there members base ≡ false → IsAbsent files base → Gather files members mentioned result
       → Gather files members (base ∷ mentioned) result
-  refused : (members : List Member) (base : List ℕ) (mentioned : List (List ℕ)) (first second : List ℕ) (answer : Answer)
-      → is_there members base ≡ false → IsHeld files base first second → AreJudged base first second (Err answer)
+  refused : (members : List Member) (base : List ℕ) (mentioned : List (List ℕ)) (first second : List ℕ)
+      (answer : Answer)
+      → is_there members base ≡ false → IsHeld files base first second
+      → AreJudged base first second (Err answer)
       → Gather files members (base ∷ mentioned) (Err answer)
-  read : (members : List Member) (base : List ℕ) (mentioned : List (List ℕ)) (first second : List ℕ) (unit : UnitRead)
+  read : (members : List Member) (base : List ℕ) (mentioned : List (List ℕ)) (first second : List ℕ)
+      (unit : UnitRead)
       (result : Result (List Member) Answer)
       → is_there members base ≡ false → IsHeld files base first second → AreJudged base first second (Ok unit)
       → Gather files (members ++ FromUcode unit ∷ []) (mentioned ++ links_of unit) result
@@ -160,4 +174,5 @@ link_answer units NoMemory = None
 -- Files that are written
 
 abbrev pub unit_texts : UnitRead → List (List ℕ × List ℕ)
-unit_texts unit = (first_name unit.name, procs_text unit.procs) ∷ (second_name unit.name, decls_text unit.decls) ∷ []
+unit_texts unit =
+    (first_name unit.name, procs_text unit.procs) ∷ (second_name unit.name, decls_text unit.decls) ∷ []

@@ -91,7 +91,8 @@ fn enter<'a>(
     files: &mut Vec<File<'a>>,
     name: &'a str,
 ) -> Result<(), AllocError>
-    ensures { OnOk result ((rest : List Named) → files_seen files.new.items ++ new_files (texts known.new.keys) rest
+    ensures { OnOk result ((rest : List Named)
+        → files_seen files.new.items ++ new_files (texts known.new.keys) rest
         ≡ files_seen files.old.items ++ new_files (texts known.old.keys) (file_named name.now ∷ rest)) }
 {
     let file = file_named(name);

@@ -56,7 +56,8 @@ fn tokens_member(alloc: Global, source: &SourceTokens) -> Result<Members, Answer
 }
 
 fn file_member(alloc: Global, file: &Checked) -> Result<Members, AllocError>
-    ensures { IfOk result (λ members. Stands members (FromSource generated_base (declarations_of file.now.text) ∷ [])) }
+    ensures { IfOk result
+        (λ members. Stands members (FromSource generated_base (declarations_of file.now.text) ∷ [])) }
 {
     let mut units = Vec::new(alloc);
     units.push(unit(alloc, BASE.as_bytes(), file)?)?;

@@ -36,10 +36,12 @@ pub struct Members {
 pub fn load<F: Files>(alloc: Global, named: &[File<'_>], files: &mut F) -> Result<Members, Answer>
     ensures loaded { IfSome (F.held files.old) (λ held. IsLoaded held (files_seen named.now) result) }
     ensures sound { IfOk result IsSound }
-    ensures absent { IfOk result (λ members. AreSought (F.absences files.old) (F.absences files.new) (kept_of members).units) }
+    ensures absent { IfOk result
+        (λ members. AreSought (F.absences files.old) (F.absences files.new) (kept_of members).units) }
     ensures others { IfErr result IsOfLoading }
     ensures files { F.held files.new ≡ F.held files.old }
-    ensures file_fault { CountsOnce (F.faults files.old) (F.faults files.new) (IsErrOf result Answer.FileFault) }
+    ensures file_fault { CountsOnce (F.faults files.old) (F.faults files.new)
+        (IsErrOf result Answer.FileFault) }
     ensures absence { HasCause (F.absences files.old) (F.absences files.new) (IsErrOfAbsence result) }
 {
     let mut members = come(alloc, named, files)?;
@@ -57,7 +59,8 @@ pub fn come<F: Files>(alloc: Global, named: &[File<'_>], files: &mut F) -> Resul
     ensures sound { IfOk result IsSound }
     ensures others { IfErr result IsOfLoading }
     ensures files { F.held files.new ≡ F.held files.old }
-    ensures file_fault { CountsOnce (F.faults files.old) (F.faults files.new) (IsErrOf result Answer.FileFault) }
+    ensures file_fault { CountsOnce (F.faults files.old) (F.faults files.new)
+        (IsErrOf result Answer.FileFault) }
     ensures absence { HasCause (F.absences files.old) (F.absences files.new) (IsErrOfAbsence result) }
 {
     let mut members = Members {
@@ -82,7 +85,8 @@ fn add_file<F: Files>(
     ensures sound { IsSound members.old → OnOk result (IsSound members.new) }
     ensures others { IfErr result IsOfLoading }
     ensures files { F.held files.new ≡ F.held files.old }
-    ensures file_fault { CountsOnce (F.faults files.old) (F.faults files.new) (IsErrOf result Answer.FileFault) }
+    ensures file_fault { CountsOnce (F.faults files.old) (F.faults files.new)
+        (IsErrOf result Answer.FileFault) }
     ensures absence { HasCause (F.absences files.old) (F.absences files.new) (IsErrOfAbsence result) }
 {
     match file.kind {
@@ -103,7 +107,8 @@ fn add_source<F: Files>(
     ensures sound { IsSound members.old → OnOk result (IsSound members.new) }
     ensures others { IfErr result IsOfLoading }
     ensures files { F.held files.new ≡ F.held files.old }
-    ensures file_fault { CountsOnce (F.faults files.old) (F.faults files.new) (IsErrOf result Answer.FileFault) }
+    ensures file_fault { CountsOnce (F.faults files.old) (F.faults files.new)
+        (IsErrOf result Answer.FileFault) }
     ensures absence { HasCause (F.absences files.old) (F.absences files.new) (IsErrOfAbsence result) }
 {
     let checked = checked_source(alloc, base, files)?;
@@ -125,7 +130,8 @@ fn add_named<F: Files>(
     ensures sound { IsSound members.old → OnOk result (IsSound members.new) }
     ensures others { IfErr result IsOfLoading }
     ensures files { F.held files.new ≡ F.held files.old }
-    ensures file_fault { CountsOnce (F.faults files.old) (F.faults files.new) (IsErrOf result Answer.FileFault) }
+    ensures file_fault { CountsOnce (F.faults files.old) (F.faults files.new)
+        (IsErrOf result Answer.FileFault) }
     ensures absence { HasCause (F.absences files.old) (F.absences files.new) (IsErrOfAbsence result) }
 {
     let unit = named_unit(alloc, base, files)?;

@@ -30,10 +30,12 @@ pub fn gather<F: Files>(alloc: Global, members: &mut Members, files: &mut F) -> 
     ensures gathered { IfSome (F.held files.old) (λ held. (before : List Member) → Stands members.old before
         → IsGathered held before (links_in before) members.new result) }
     ensures sound { IsSound members.old → OnOk result (IsSound members.new) }
-    ensures absent { OnOk result (AreSought (F.absences files.old) (F.absences files.new) (kept_of members.new).units) }
+    ensures absent { OnOk result
+        (AreSought (F.absences files.old) (F.absences files.new) (kept_of members.new).units) }
     ensures others { IfErr result IsOfLinked }
     ensures files { F.held files.new ≡ F.held files.old }
-    ensures file_fault { CountsOnce (F.faults files.old) (F.faults files.new) (IsErrOf result Answer.FileFault) }
+    ensures file_fault { CountsOnce (F.faults files.old) (F.faults files.new)
+        (IsErrOf result Answer.FileFault) }
     ensures absence { F.absences files.old ≤ F.absences files.new }
 {
     let Ok(mut known) = names_of(alloc, &members.units) else {
@@ -60,7 +62,8 @@ fn names_of(alloc: Global, units: &[Unit]) -> Result<IndexSet<Vec<u8>>, AllocErr
 
 // Adds a base, and tells whether it is new.
 fn enter(alloc: Global, known: &mut IndexSet<Vec<u8>>, base: &[u8]) -> Result<bool, AllocError>
-    ensures new { IfOk result (λ is_new. is_new ≡ not (list_any (bytes_eq base.now) (texts_in known.old.keys))) }
+    ensures new { IfOk result
+        (λ is_new. is_new ≡ not (list_any (bytes_eq base.now) (texts_in known.old.keys))) }
     ensures known { OnOk result (texts_in known.new.keys ≡ with_text (texts_in known.old.keys) base.now) }
 {
     let copy = Vec::from_slice(alloc, base)?;
@@ -77,13 +80,16 @@ fn gather_unit<F: Files>(
     files: &mut F,
 ) -> Result<(), Answer>
     requires { place < vec_len members.old.units }
-    ensures sought { IfSome (F.held files.old) (λ held. Knows (IsAbsent held) (kept_of members.old).units (texts_in known.old.keys)
-        → IsSought held members.old members.new (links_at (kept_of members.old).units place) (texts_in known.new.keys) result) }
+    ensures sought { IfSome (F.held files.old)
+        (λ held. Knows (IsAbsent held) (kept_of members.old).units (texts_in known.old.keys)
+        → IsSought held members.old members.new (links_at (kept_of members.old).units place)
+        (texts_in known.new.keys) result) }
     ensures grows { OnOk result (Grows (F.absences files.old) (F.absences files.new) members.old members.new
         (texts_in known.old.keys) (texts_in known.new.keys) (links_at (kept_of members.old).units place)) }
     ensures others { IfErr result IsOfLinked }
     ensures files { F.held files.new ≡ F.held files.old }
-    ensures file_fault { CountsOnce (F.faults files.old) (F.faults files.new) (IsErrOf result Answer.FileFault) }
+    ensures file_fault { CountsOnce (F.faults files.old) (F.faults files.new)
+        (IsErrOf result Answer.FileFault) }
     ensures absence { F.absences files.old ≤ F.absences files.new }
 {
     let Ok(bases) = linked_bases(alloc, &members.units[place].decls) else {
@@ -105,7 +111,8 @@ fn linked_bases(alloc: Global, decls: &[UnitDecl]) -> Result<Vec<Vec<u8>>, Alloc
 
 // Adds the base that a declaration links.
 fn push_link(alloc: Global, bases: &mut Vec<Vec<u8>>, decl: &UnitDecl) -> Result<(), AllocError>
-    ensures { OnOk result (texts_in bases.new.items ≡ texts_in bases.old.items ++ link_in (decl_seen decl.now)) }
+    ensures { OnOk result
+        (texts_in bases.new.items ≡ texts_in bases.old.items ++ link_in (decl_seen decl.now)) }
 {
     match decl {
         UnitDecl::Link(text) => push_base(alloc, bases, base_of(text.as_slice())),
@@ -129,13 +136,15 @@ fn gather_bases<F: Files>(
     known: &mut IndexSet<Vec<u8>>,
     files: &mut F,
 ) -> Result<(), Answer>
-    ensures sought { IfSome (F.held files.old) (λ held. Knows (IsAbsent held) (kept_of members.old).units (texts_in known.old.keys)
+    ensures sought { IfSome (F.held files.old)
+        (λ held. Knows (IsAbsent held) (kept_of members.old).units (texts_in known.old.keys)
         → IsSought held members.old members.new (texts_in bases.now) (texts_in known.new.keys) result) }
     ensures grows { OnOk result (Grows (F.absences files.old) (F.absences files.new) members.old members.new
         (texts_in known.old.keys) (texts_in known.new.keys) (texts_in bases.now)) }
     ensures others { IfErr result IsOfLinked }
     ensures files { F.held files.new ≡ F.held files.old }
-    ensures file_fault { CountsOnce (F.faults files.old) (F.faults files.new) (IsErrOf result Answer.FileFault) }
+    ensures file_fault { CountsOnce (F.faults files.old) (F.faults files.new)
+        (IsErrOf result Answer.FileFault) }
     ensures absence { F.absences files.old ≤ F.absences files.new }
 {
     for base in bases {
@@ -152,13 +161,15 @@ fn gather_base<F: Files>(
     known: &mut IndexSet<Vec<u8>>,
     files: &mut F,
 ) -> Result<(), Answer>
-    ensures sought { IfSome (F.held files.old) (λ held. Knows (IsAbsent held) (kept_of members.old).units (texts_in known.old.keys)
+    ensures sought { IfSome (F.held files.old)
+        (λ held. Knows (IsAbsent held) (kept_of members.old).units (texts_in known.old.keys)
         → IsSought held members.old members.new (base.now ∷ []) (texts_in known.new.keys) result) }
     ensures grows { OnOk result (Grows (F.absences files.old) (F.absences files.new) members.old members.new
         (texts_in known.old.keys) (texts_in known.new.keys) (base.now ∷ [])) }
     ensures others { IfErr result IsOfLinked }
     ensures files { F.held files.new ≡ F.held files.old }
-    ensures file_fault { CountsOnce (F.faults files.old) (F.faults files.new) (IsErrOf result Answer.FileFault) }
+    ensures file_fault { CountsOnce (F.faults files.old) (F.faults files.new)
+        (IsErrOf result Answer.FileFault) }
     ensures absence { F.absences files.old ≤ F.absences files.new }
 {
     match enter(alloc, known, base) {
@@ -175,7 +186,8 @@ fn add_linked<F: Files>(
     members: &mut Members,
     files: &mut F,
 ) -> Result<(), Answer>
-    ensures sought { IfSome (F.held files.old) (λ held. (known : List (List ℕ)) → list_any (bytes_eq base.now) known ≡ false
+    ensures sought { IfSome (F.held files.old)
+        (λ held. (known : List (List ℕ)) → list_any (bytes_eq base.now) known ≡ false
         → Knows (IsAbsent held) (kept_of members.old).units known
         → IsSought held members.old members.new (base.now ∷ []) (known ++ base.now ∷ []) result) }
     ensures grows { (known : List (List ℕ)) → list_any (bytes_eq base.now) known ≡ false
@@ -183,7 +195,8 @@ fn add_linked<F: Files>(
         known (known ++ base.now ∷ []) (base.now ∷ [])) }
     ensures others { IfErr result IsOfLinked }
     ensures files { F.held files.new ≡ F.held files.old }
-    ensures file_fault { CountsOnce (F.faults files.old) (F.faults files.new) (IsErrOf result Answer.FileFault) }
+    ensures file_fault { CountsOnce (F.faults files.old) (F.faults files.new)
+        (IsErrOf result Answer.FileFault) }
     ensures absence { F.absences files.old ≤ F.absences files.new }
 {
     match linked_unit(alloc, base, files)? {

@@ -37,7 +37,8 @@ pub fn checked_source<F: Files>(alloc: Global, base: &str, files: &mut F) -> Res
     ensures comes { IfSome (F.held files.old) (λ held. IsSource held base.now result) }
     ensures others { IfErr result IsOfRead }
     ensures files { F.held files.new ≡ F.held files.old }
-    ensures file_fault { CountsOnce (F.faults files.old) (F.faults files.new) (IsErrOf result Answer.FileFault) }
+    ensures file_fault { CountsOnce (F.faults files.old) (F.faults files.new)
+        (IsErrOf result Answer.FileFault) }
     ensures absence { HasCause (F.absences files.old) (F.absences files.new) (IsErrOfAbsence result) }
 {
     let Ok(name) = name_with(alloc, base, ".icn") else {
@@ -74,7 +75,8 @@ pub fn source_tokens<F: Files>(
     ensures scanned { IfOk result (λ source. AreScanned source.tokens.items) }
     ensures others { IfErr result IsOfRead }
     ensures files { F.held files.new ≡ F.held files.old }
-    ensures file_fault { CountsOnce (F.faults files.old) (F.faults files.new) (IsErrOf result Answer.FileFault) }
+    ensures file_fault { CountsOnce (F.faults files.old) (F.faults files.new)
+        (IsErrOf result Answer.FileFault) }
     ensures absence { HasCause (F.absences files.old) (F.absences files.new) (IsErrOfAbsence result) }
 {
     match preprocess(alloc, name, files) {

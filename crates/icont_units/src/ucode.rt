@@ -35,7 +35,8 @@ pub fn named_unit<F: Files>(alloc: Global, base: &str, files: &mut F) -> Result<
     ensures name { IsUnitOf base.now result }
     ensures others { IfErr result IsOfNamed }
     ensures files { F.held files.new ≡ F.held files.old }
-    ensures file_fault { CountsOnce (F.faults files.old) (F.faults files.new) (IsErrOf result Answer.FileFault) }
+    ensures file_fault { CountsOnce (F.faults files.old) (F.faults files.new)
+        (IsErrOf result Answer.FileFault) }
     ensures absence { HasCause (F.absences files.old) (F.absences files.new) (IsErrOfAbsence result) }
 {
     match both_texts(alloc, base, files) {
@@ -58,7 +59,8 @@ pub fn linked_unit<F: Files>(
     ensures name { IsUnitOfSome base.now result }
     ensures others { IfErr result IsOfLinked }
     ensures files { F.held files.new ≡ F.held files.old }
-    ensures file_fault { CountsOnce (F.faults files.old) (F.faults files.new) (IsErrOf result Answer.FileFault) }
+    ensures file_fault { CountsOnce (F.faults files.old) (F.faults files.new)
+        (IsErrOf result Answer.FileFault) }
     ensures absence { HasCause (F.absences files.old) (F.absences files.new) (IsLost base.now result) }
 {
     let Ok(base) = str::from_utf8(base) else {
@@ -118,7 +120,8 @@ fn both_texts<F: Files>(alloc: Global, base: &str, files: &mut F) -> Result<Unit
     ensures texts { IfSome (F.held files.old) (λ held. AreTexts (texts_held held base.now) result) }
     ensures others { IfErr result IsOfTexts }
     ensures files { F.held files.new ≡ F.held files.old }
-    ensures file_fault { CountsOnce (F.faults files.old) (F.faults files.new) (IsErrOf result Answer.FileFault) }
+    ensures file_fault { CountsOnce (F.faults files.old) (F.faults files.new)
+        (IsErrOf result Answer.FileFault) }
     ensures absence { HasCause (F.absences files.old) (F.absences files.new) (IsErrOfAbsence result) }
 {
     let first = text(alloc, base, ".u1", files)?;
@@ -128,10 +131,12 @@ fn both_texts<F: Files>(alloc: Global, base: &str, files: &mut F) -> Result<Unit
 
 // The text of this base name and this suffix.
 fn text<F: Files>(alloc: Global, base: &str, suffix: &str, files: &mut F) -> Result<Vec<u8>, Answer>
-    ensures text { IfSome (F.held files.old) (λ held. IsText (held (base.now ++ suffix.now)) (base.now ++ suffix.now) result) }
+    ensures text { IfSome (F.held files.old)
+        (λ held. IsText (held (base.now ++ suffix.now)) (base.now ++ suffix.now) result) }
     ensures others { IfErr result IsOfTexts }
     ensures files { F.held files.new ≡ F.held files.old }
-    ensures file_fault { CountsOnce (F.faults files.old) (F.faults files.new) (IsErrOf result Answer.FileFault) }
+    ensures file_fault { CountsOnce (F.faults files.old) (F.faults files.new)
+        (IsErrOf result Answer.FileFault) }
     ensures absence { HasCause (F.absences files.old) (F.absences files.new) (IsErrOfAbsence result) }
 {
     let Ok(name) = name_with(alloc, base, suffix) else {

@@ -18,7 +18,8 @@ run_seen run = record { arguments = map string_bytes run.arguments.now; turns = 
 -- a task, as definitions see it
 abbrev pub task_seen : TaskHeld → Task
 task_seen (Held.Translate names) = Translate (texts names.items)
-task_seen (Held.Link names image run) = Link (texts names.items) (option_map (λ name. name.now) image) (option_map run_seen run)
+task_seen (Held.Link names image run) =
+    Link (texts names.items) (option_map (λ name. name.now) image) (option_map run_seen run)
 task_seen (Held.Generate number turns) = Generate number turns
 
 -- the words come to this task, or they are faulty in this way, or memory was wanting

@@ -23,7 +23,8 @@ number_rule = option_rule (codes "number") 103
 
 -- any number of files
 abbrev pub file_rule : Rule
-file_rule = record (new_rule (codes "file")) { range = Some (record { start_inclusive = 0; end_inclusive = usize_max }) }
+file_rule = record (new_rule
+    (codes "file")) { range = Some (record { start_inclusive = 0; end_inclusive = usize_max }) }
 
 abbrev pub no_help : App → App
 no_help app = on_top (λ shape. record shape { disable_help_flag = true }) app

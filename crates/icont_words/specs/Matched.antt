@@ -30,7 +30,8 @@ pub record AreMeant (words : List (List ℕ)) (pieces : List Piece) : Type 0 whe
 
 -- The words say pieces, which the matches hold; or they say none, or memory was wanting.
 abbrev pub IsMatched : List (List ℕ) → Result ArgMatches WordsFault → Type 0
-IsMatched words (Ok matches) = (pieces : List Piece) × AreMeant words pieces × Holds (rows_of (found_of matches)) pieces
+IsMatched words (Ok matches) =
+    (pieces : List Piece) × AreMeant words pieces × Holds (rows_of (found_of matches)) pieces
 IsMatched words (Err (Faulty kind)) = (kind ≡ 1) × ((pieces : List Piece) → AreMeant words pieces → ⊥)
 IsMatched words (Err NoMemory) = Unit {0}
 

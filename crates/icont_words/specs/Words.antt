@@ -24,7 +24,8 @@ letter_byte Turns = 110
 letter_byte Number = 103
 
 abbrev pub letter_of : ℕ → Option Letter
-letter_of b = if b == 111 then Some Image else (if b == 110 then Some Turns else (if b == 103 then Some Number else None))
+letter_of b = if b == 111 then Some Image
+    else (if b == 110 then Some Turns else (if b == 103 then Some Number else None))
 
 -- `-` alone is no option
 abbrev pub is_dashed : List ℕ → Bool
@@ -41,15 +42,20 @@ value_in_word b rest = if b == 61 then rest else b ∷ rest
 pub data Says : List (List ℕ) → List Piece → Type 0 where
   says_nothing : Says [] []
   all_names : (words : List (List ℕ)) → Says ((45 ∷ 45 ∷ []) ∷ words) (map Named words)
-  a_name : (word : List ℕ) (words : List (List ℕ)) (pieces : List Piece) → is_dashed word ≡ false → Says words pieces
+  a_name : (word : List ℕ) (words : List (List ℕ)) (pieces : List Piece) → is_dashed word ≡ false
+      → Says words pieces
       → Says (word ∷ words) (Named word ∷ pieces)
-  a_flag : (words : List (List ℕ)) (pieces : List Piece) → Says words pieces → Says ((45 ∷ 99 ∷ []) ∷ words) (Units ∷ pieces)
+  a_flag : (words : List (List ℕ)) (pieces : List Piece) → Says words pieces
+      → Says ((45 ∷ 99 ∷ []) ∷ words) (Units ∷ pieces)
   flag_before : (b : ℕ) (rest : List ℕ) (words : List (List ℕ)) (pieces : List Piece) → b ≢ 45
       → Says ((45 ∷ b ∷ rest) ∷ words) pieces → Says ((45 ∷ 99 ∷ b ∷ rest) ∷ words) (Units ∷ pieces)
-  value_within : (letter : Letter) (a b : ℕ) (rest : List ℕ) (words : List (List ℕ)) (pieces : List Piece) → letter_of a ≡ Some letter
+  value_within : (letter : Letter) (a b : ℕ) (rest : List ℕ) (words : List (List ℕ)) (pieces : List Piece)
+      → letter_of a ≡ Some letter
       → Says words pieces → Says ((45 ∷ a ∷ b ∷ rest) ∷ words) (Valued letter (value_in_word b rest) ∷ pieces)
-  value_behind : (letter : Letter) (a : ℕ) (value : List ℕ) (words : List (List ℕ)) (pieces : List Piece) → letter_of a ≡ Some letter
-      → is_dashed value ≡ false → Says words pieces → Says ((45 ∷ a ∷ []) ∷ value ∷ words) (Valued letter value ∷ pieces)
+  value_behind : (letter : Letter) (a : ℕ) (value : List ℕ) (words : List (List ℕ)) (pieces : List Piece)
+      → letter_of a ≡ Some letter
+      → is_dashed value ≡ false → Says words pieces
+      → Says ((45 ∷ a ∷ []) ∷ value ∷ words) (Valued letter value ∷ pieces)
 
 -- What the pieces say together
 
@@ -65,7 +71,8 @@ same_letter a b = letter_byte a == letter_byte b
 abbrev pub values : Letter → List Piece → List (List ℕ)
 values letter [] = []
 values letter (Units ∷ pieces) = values letter pieces
-values letter (Valued other value ∷ pieces) = if same_letter letter other then value ∷ values letter pieces else values letter pieces
+values letter (Valued other value ∷ pieces) =
+    if same_letter letter other then value ∷ values letter pieces else values letter pieces
 values letter (Named name ∷ pieces) = values letter pieces
 
 abbrev pub names_said : List Piece → List (List ℕ)
@@ -147,7 +154,8 @@ abbrev pub units_with_others : Order → Bool
 units_with_others order = order.units && (is_some order.image || is_some order.run)
 
 abbrev pub number_with_others : Order → Bool
-number_with_others order = is_some order.number && (order.units || (is_some order.image || (is_some order.run || has_names order)))
+number_with_others order =
+    is_some order.number && (order.units || (is_some order.image || (is_some order.run || has_names order)))
 
 -- The way in which an order is wrong: a number is out of its form or range; what is said does not go together; or there is nothing
 -- to do.
@@ -178,11 +186,13 @@ abbrev pub run_of : Order → List (List ℕ) → Run
 run_of order arguments = record { arguments = arguments; turns = bound_of order }
 
 abbrev pub files_task : Order → Task
-files_task order = if order.units then Translate order.names else Link order.names order.image (option_map (run_of order) order.run)
+files_task order = if order.units then Translate order.names
+    else Link order.names order.image (option_map (run_of order) order.run)
 
 -- of an order that is not wrong
 abbrev pub task_of : Order → Task
-task_of order = option_map_or (λ number. Generate number (bound_of order)) (option_and_then number_of order.number) (files_task order)
+task_of order = option_map_or (λ number. Generate number (bound_of order))
+    (option_and_then number_of order.number) (files_task order)
 
 -- what the words come to: a task, or the kind of what is wrong with them
 pub data Reading : Type 0 where
@@ -200,4 +210,5 @@ pub record AreSaid (words : List (List ℕ)) (pieces : List Piece) : Type 0 wher
 -- What the words come to. They say no pieces, or some of them twice; or the pieces are judged.
 pub data ComeTo (words : List (List ℕ)) : Reading → Type 0 where
   unsaid : ((pieces : List Piece) → AreSaid words pieces → ⊥) → ComeTo words (Faulty 1)
-  said : (pieces : List Piece) → AreSaid words pieces → ComeTo words (order_reading (order_of pieces (behind_run (own_words words))))
+  said : (pieces : List Piece) → AreSaid words pieces
+      → ComeTo words (order_reading (order_of pieces (behind_run (own_words words))))

@@ -63,7 +63,8 @@ pub fn order_of<'a>(
 }
 
 fn names_of<'a>(alloc: Global, matches: &ArgMatches<'a>) -> Result<Vec<&'a str>, AllocError>
-    ensures { IfOk result (λ names. texts names.items ≡ unwrap_or (all_of (codes "file") (rows_of (found_of matches.now))) []) }
+    ensures { IfOk result
+        (λ names. texts names.items ≡ unwrap_or (all_of (codes "file") (rows_of (found_of matches.now))) []) }
 {
     match matches.get_strs("file") {
         Some(names) => Vec::from_slice(alloc, names),
@@ -128,7 +129,8 @@ fn number_of(text: Option<&str>) -> Option<u16>
 }
 
 fn files_task(order: Order<'_>, turns: u64) -> Task<'_>
-    ensures { turns ≡ bound_of (order_seen order.entry) → task_seen result ≡ files_task (order_seen order.entry) }
+    ensures { turns ≡ bound_of (order_seen order.entry)
+        → task_seen result ≡ files_task (order_seen order.entry) }
 {
     if order.units {
         return Task::Translate(order.names);

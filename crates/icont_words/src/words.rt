@@ -71,8 +71,10 @@ pub fn asked<'a>(alloc: Global, words: &'a [String]) -> Result<Task<'a>, WordsFa
 
 // The words before the first `-x`, which is not the program's name, and those behind it.
 fn parted(words: &[String]) -> (&[String], Option<&[String]>)
-    ensures before { own_words (map string_bytes result.0.now) ≡ before_run (own_words (map string_bytes words.now)) }
-    ensures behind { option_map (λ run. map string_bytes run.now) result.1 ≡ behind_run (own_words (map string_bytes words.now)) }
+    ensures before { own_words (map string_bytes result.0.now)
+        ≡ before_run (own_words (map string_bytes words.now)) }
+    ensures behind { option_map (λ run. map string_bytes run.now) result.1
+        ≡ behind_run (own_words (map string_bytes words.now)) }
 {
     let mut place = 1;
     while place < words.len() {

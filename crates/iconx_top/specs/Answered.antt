@@ -15,9 +15,13 @@ use Rattle.iconx_top.specs.Words.{Asks, Faulty, words_reading}
 pub data IsAnswered (words : List (List ℕ)) (files : FileMap) : Answer → Type 0 where
   fault : (answer : Answer) → IsFault answer → IsAnswered words files answer
   wrong_words : (kind : ℕ) → words_reading words ≡ Faulty kind → IsAnswered words files (Command kind)
-  missing : (bounds : Bounds) (name : List ℕ) (arguments : List (List ℕ)) → words_reading words ≡ Asks bounds name arguments → files name ≡ None
+  missing : (bounds : Bounds) (name : List ℕ) (arguments : List (List ℕ))
+      → words_reading words ≡ Asks bounds name arguments → files name ≡ None
       → IsAnswered words files (Missing name)
-  bad : (bounds : Bounds) (name bytes : List ℕ) (arguments : List (List ℕ)) (rule : Rule) → words_reading words ≡ Asks bounds name arguments
+  bad : (bounds : Bounds) (name bytes : List ℕ) (arguments : List (List ℕ)) (rule : Rule)
+      → words_reading words ≡ Asks bounds name arguments
       → files name ≡ Some bytes → IsJudged bytes (Err rule) → IsAnswered words files (BadImage rule)
-  ran : (bounds : Bounds) (name bytes : List ℕ) (arguments : List (List ℕ)) (tables : Tables) (ending : Ending)
-      → words_reading words ≡ Asks bounds name arguments → files name ≡ Some bytes → IsJudged bytes (Ok tables) → IsAnswered words files (Ran ending)
+  ran : (bounds : Bounds) (name bytes : List ℕ) (arguments : List (List ℕ)) (tables : Tables)
+      (ending : Ending)
+      → words_reading words ≡ Asks bounds name arguments → files name ≡ Some bytes
+      → IsJudged bytes (Ok tables) → IsAnswered words files (Ran ending)

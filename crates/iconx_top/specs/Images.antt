@@ -10,6 +10,8 @@ use Rattle.icn_verify.specs.Faults.{IsFirstFault, IsVerified}
 pub data IsJudged (bytes : List ℕ) : Result Tables Rule → Type 0 where
   too_long : 1073741824 < length bytes → IsJudged bytes (Err I6)
   broken : (rule : Rule) → length bytes ≤ 1073741824 → image_read bytes ≡ Err rule → IsJudged bytes (Err rule)
-  unverified : (tables : Tables) (rule : Rule) (number place : ℕ) → length bytes ≤ 1073741824 → image_read bytes ≡ Ok tables
+  unverified : (tables : Tables) (rule : Rule) (number place : ℕ) → length bytes ≤ 1073741824
+      → image_read bytes ≡ Ok tables
       → IsFirstFault tables.procs rule number place → IsJudged bytes (Err rule)
-  runs : (tables : Tables) → length bytes ≤ 1073741824 → image_read bytes ≡ Ok tables → IsVerified tables → IsJudged bytes (Ok tables)
+  runs : (tables : Tables) → length bytes ≤ 1073741824 → image_read bytes ≡ Ok tables → IsVerified tables
+      → IsJudged bytes (Ok tables)

@@ -25,7 +25,8 @@ pub record Job : Type 0 where
 
 -- nothing is done but to put the answer's own line
 abbrev pub refusal : FileMap → List ℕ → List ℕ → Answer → Job
-refusal files left name answer = record { answer = answer; files = files; left = left; output = []; errors = line_of usage name answer }
+refusal files left name answer =
+    record { answer = answer; files = files; left = left; output = []; errors = line_of usage name answer }
 
 -- a run was observed
 abbrev pub observation : FileMap → Observed → Job
@@ -38,7 +39,8 @@ observation files observed = record {
 }
 
 -- the code of the image that the words name, and what its run is begun with
-pub record IsRun (words : List (List ℕ)) (files : FileMap) (left : List ℕ) (tables : Tables) (launch : Launch) : Type 0 where
+pub record IsRun (words : List (List ℕ)) (files : FileMap) (left : List ℕ) (tables : Tables)
+    (launch : Launch) : Type 0 where
   pub name : List ℕ
   pub bytes : List ℕ
   pub asks : words_reading words ≡ Asks launch.bounds name launch.words
@@ -48,10 +50,15 @@ pub record IsRun (words : List (List ℕ)) (files : FileMap) (left : List ℕ) (
 
 -- what the words, the files and the input ask for
 pub data IsJob (words : List (List ℕ)) (files : FileMap) (left : List ℕ) : Job → Type 0 where
-  wrong_words : (kind : ℕ) → words_reading words ≡ Faulty kind → IsJob words files left (refusal files left [] (Command kind))
-  missing : (bounds : Bounds) (name : List ℕ) (arguments : List (List ℕ)) → words_reading words ≡ Asks bounds name arguments → files name ≡ None
+  wrong_words : (kind : ℕ) → words_reading words ≡ Faulty kind
+      → IsJob words files left (refusal files left [] (Command kind))
+  missing : (bounds : Bounds) (name : List ℕ) (arguments : List (List ℕ))
+      → words_reading words ≡ Asks bounds name arguments → files name ≡ None
       → IsJob words files left (refusal files left name (Missing name))
-  bad : (bounds : Bounds) (name bytes : List ℕ) (arguments : List (List ℕ)) (rule : Rule) → words_reading words ≡ Asks bounds name arguments
-      → files name ≡ Some bytes → IsJudged bytes (Err rule) → IsJob words files left (refusal files left name (BadImage rule))
-  ran : (tables : Tables) (launch : Launch) (observed : Observed) → IsRun words files left tables launch → Runs tables launch observed
+  bad : (bounds : Bounds) (name bytes : List ℕ) (arguments : List (List ℕ)) (rule : Rule)
+      → words_reading words ≡ Asks bounds name arguments
+      → files name ≡ Some bytes → IsJudged bytes (Err rule)
+      → IsJob words files left (refusal files left name (BadImage rule))
+  ran : (tables : Tables) (launch : Launch) (observed : Observed) → IsRun words files left tables launch
+      → Runs tables launch observed
       → IsJob words files left (observation files observed)

@@ -35,8 +35,10 @@ IsJudgement bytes (Err answer) = ⊥
 
 -- what the store holds under the image's name comes to this, or the outside failed
 abbrev pub IsLoaded : Option (List ℕ) → List ℕ → Result Verified Answer → Type 0
-IsLoaded held name (Ok verified) = (bytes : List ℕ) × ((held ≡ Some bytes) × IsJudged bytes (Ok (tables_of verified.code)))
-IsLoaded held name (Err (BadImage rule)) = (bytes : List ℕ) × ((held ≡ Some bytes) × IsJudged bytes (Err rule))
+IsLoaded held name (Ok verified) =
+    (bytes : List ℕ) × ((held ≡ Some bytes) × IsJudged bytes (Ok (tables_of verified.code)))
+IsLoaded held name (Err (BadImage rule)) =
+    (bytes : List ℕ) × ((held ≡ Some bytes) × IsJudged bytes (Err rule))
 IsLoaded held name (Err (Missing other)) = (other ≡ name) × (held ≡ None)
 IsLoaded held name (Err FileFault) = Unit {0}
 IsLoaded held name (Err NoMemory) = Unit {0}

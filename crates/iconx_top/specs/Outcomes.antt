@@ -25,20 +25,29 @@ pub record Completes (job : Job) (answer : Answer) (before after : Told) : Type 
 
 -- a refusal's line was not begun, or a part of it was put
 abbrev pub Begins : (Job → Type 0) → SinkState → SinkState → Type 0
-Begins IsJobOf before between = (between ≡ before) ⊎ ((job : Job) × IsJobOf job × Stops before between job.errors)
+Begins IsJobOf before between =
+    (between ≡ before) ⊎ ((job : Job) × IsJobOf job × Stops before between job.errors)
 
 -- A fault: nothing was done but that a refusal's line may be begun; or the run of the image that the words name was broken off, by the first
 -- failure. The fault's own line comes behind, as far as the error output took it.
-pub data Faults (words : List (List ℕ)) (files : FileMap) (left : List ℕ) (answer : Answer) (before after : Told) : Type 0 where
-  idle : (between : SinkState) → after.streams.left ≡ before.streams.left → after.streams.output ≡ before.streams.output
-      → Begins (IsJob words files left) before.streams.errors between → Puts between after.streams.errors (fault_line answer)
+pub data Faults (words : List (List ℕ)) (files : FileMap) (left : List ℕ) (answer : Answer)
+    (before after : Told) : Type 0 where
+  idle : (between : SinkState) → after.streams.left ≡ before.streams.left
+      → after.streams.output ≡ before.streams.output
+      → Begins (IsJob words files left) before.streams.errors between
+      → Puts between after.streams.errors (fault_line answer)
       → Faults words files left answer before after
-  broke : (fault : RunFault) (between : SinkState) (tables : Tables) (launch : Launch) → answer ≡ of_run fault → IsRun words files left tables launch
+  broke : (fault : RunFault) (between : SinkState) (tables : Tables) (launch : Launch) → answer ≡ of_run fault
+      → IsRun words files left tables launch
       → IsFirstFaultOf answer before.streams (with_errors between after.streams)
-      → IsBrokenOff tables launch fault before.streams (with_errors between after.streams) → Puts between after.streams.errors (fault_line answer)
+      → IsBrokenOff tables launch fault before.streams (with_errors between after.streams)
+      → Puts between after.streams.errors (fault_line answer)
       → Faults words files left answer before after
 
 -- the job was done, or a fault is answered
-pub data Outcome (words : List (List ℕ)) (files : FileMap) (left : List ℕ) (answer : Answer) (before after : Told) : Type 0 where
-  done : (job : Job) → IsJob words files left job → Completes job answer before after → Outcome words files left answer before after
-  fault : IsFault answer → after.files ≡ before.files → Faults words files left answer before after → Outcome words files left answer before after
+pub data Outcome (words : List (List ℕ)) (files : FileMap) (left : List ℕ) (answer : Answer)
+    (before after : Told) : Type 0 where
+  done : (job : Job) → IsJob words files left job → Completes job answer before after
+      → Outcome words files left answer before after
+  fault : IsFault answer → after.files ≡ before.files → Faults words files left answer before after
+      → Outcome words files left answer before after

@@ -21,10 +21,13 @@ option_of word =
 
 -- the limits with this one as a word says it
 abbrev pub with_limit : Limit → Bounds → List ℕ → Option Bounds
-with_limit Turns bounds text = option_map (λ n. record bounds { turns = n }) (number_within 0 18446744073709551615 text)
-with_limit Strings bounds text = option_map (λ n. record bounds { strings = n }) (number_within 0 1099511627776 text)
+with_limit Turns bounds text =
+    option_map (λ n. record bounds { turns = n }) (number_within 0 18446744073709551615 text)
+with_limit Strings bounds text =
+    option_map (λ n. record bounds { strings = n }) (number_within 0 1099511627776 text)
 with_limit Cells bounds text = option_map (λ n. record bounds { cells = n }) (number_within 0 4294967295 text)
-with_limit Levels bounds text = option_map (λ n. record bounds { levels = n }) (number_within 1 4294967295 text)
+with_limit Levels bounds text =
+    option_map (λ n. record bounds { levels = n }) (number_within 1 4294967295 text)
 
 abbrev pub is_dashed : List ℕ → Bool
 is_dashed [] = false
@@ -50,7 +53,8 @@ two_words bounds word value words (Some option) next = or_faulty (with_limit opt
 abbrev pub options : Bounds → List (List ℕ) → Reading
 options bounds [] = Faulty 2
 options bounds (word ∷ []) = last_word bounds word (option_of word)
-options bounds (word ∷ value ∷ words) = two_words bounds word value words (option_of word) (λ next. options next words)
+options bounds (word ∷ value ∷ words) =
+    two_words bounds word value words (option_of word) (λ next. options next words)
 
 -- the program's own name stands first
 abbrev pub words_reading : List (List ℕ) → Reading

@@ -10,9 +10,12 @@ use icn_verify::one_fault;
 
 /// The words, the files and the input ask for a job, where the files hold bytes, and for one alone, which answers no fault.
 pub fn one_job()
-    ensures some { (words : List (List ℕ)) (files : FileMap) (left : List ℕ) → HoldBytes files → (job : Job) × IsJob words files left job }
-    ensures one { (words : List (List ℕ)) (files : FileMap) (left : List ℕ) (a b : Job) → IsJob words files left a → IsJob words files left b → a ≡ b }
-    ensures faultless { (words : List (List ℕ)) (files : FileMap) (left : List ℕ) (job : Job) → IsJob words files left job → IsFault job.answer → ⊥ }
+    ensures some { (words : List (List ℕ)) (files : FileMap) (left : List ℕ) → HoldBytes files
+        → (job : Job) × IsJob words files left job }
+    ensures one { (words : List (List ℕ)) (files : FileMap) (left : List ℕ) (a b : Job)
+        → IsJob words files left a → IsJob words files left b → a ≡ b }
+    ensures faultless { (words : List (List ℕ)) (files : FileMap) (left : List ℕ) (job : Job)
+        → IsJob words files left job → IsFault job.answer → ⊥ }
 {
     one_spelling();
     one_fault();

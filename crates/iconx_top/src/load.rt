@@ -20,7 +20,8 @@ pub fn load<F: Files>(alloc: Global, name: &str, files: &mut F) -> Result<Verifi
     ensures loaded { IfSome (F.held files.old) (λ held. IsLoaded (held name.now) name.now result) }
     ensures others { IfErr result IsOfLoading }
     ensures files { F.held files.new ≡ F.held files.old }
-    ensures file_fault { CountsOnce (F.faults files.old) (F.faults files.new) (IsErrOf result Answer.FileFault) }
+    ensures file_fault { CountsOnce (F.faults files.old) (F.faults files.new)
+        (IsErrOf result Answer.FileFault) }
     ensures absence { HasCause (F.absences files.old) (F.absences files.new) (IsErrOfAbsence result) }
 {
     let mut bytes = Vec::new(alloc);

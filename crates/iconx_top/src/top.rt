@@ -40,17 +40,23 @@ pub fn iconx_main<F: Files, I: Source, O: Sink, E: Sink>(
     err: &mut E,
 ) -> Answer
     // Where the files and the input tell their content, the job was done, or a fault is answered and leaves a part of it.
-    ensures outcome { IfSome (F.held files.old) (λ held. IfSome (I.left input.old) (λ left. Outcome (map string_bytes words.now) held left result
-        (told (F.held files.old) (call_streams (I.left input.old) (I.faults input.old) (O.state out.old) (E.state err.old)))
-        (told (F.held files.new) (call_streams (I.left input.new) (I.faults input.new) (O.state out.new) (E.state err.new))))) }
+    ensures outcome { IfSome (F.held files.old)
+        (λ held. IfSome (I.left input.old) (λ left. Outcome (map string_bytes words.now) held left result
+        (told (F.held files.old)
+        (call_streams (I.left input.old) (I.faults input.old) (O.state out.old) (E.state err.old)))
+        (told (F.held files.new)
+        (call_streams (I.left input.new) (I.faults input.new) (O.state out.new) (E.state err.new))))) }
     // Where no count of faults rose, no fault is answered but want of memory.
-    ensures faultless { ¬ Rose (F.faults files.old) (F.faults files.new) → ¬ Rose (I.faults input.old) (I.faults input.new)
-        → ¬ Rose (O.state out.old).faults (O.state out.new).faults → ¬ Rose (E.state err.old).faults (E.state err.new).faults
+    ensures faultless { ¬ Rose (F.faults files.old) (F.faults files.new)
+        → ¬ Rose (I.faults input.old) (I.faults input.new)
+        → ¬ Rose (O.state out.old).faults (O.state out.new).faults
+        → ¬ Rose (E.state err.old).faults (E.state err.new).faults
         → IsFault result → result ≡ Answer.NoMemory }
 
     // Every other answer's line was put, whatever the files and the input tell; a run's report, behind what the program itself put,
     // where the input tells its content.
-    ensures line { IsFault result ⊎ LineStands usage (image_name (read (map string_bytes words.now))) (I.left input.old) result
+    ensures line { IsFault result
+        ⊎ LineStands usage (image_name (read (map string_bytes words.now))) (I.left input.old) result
         (E.state err.old) (E.state err.new) }
 
     // A fault's own line was put too, behind what was put of another answer's line or by the program: less than the whole of it is
@@ -59,7 +65,8 @@ pub fn iconx_main<F: Files, I: Source, O: Sink, E: Sink>(
         (I.left input.old) (E.state err.old) (E.state err.new) result }
 
     // Where the files tell their content, the answer is the one that the words and the files ask for, or a fault.
-    ensures answered { IfSome (F.held files.old) (λ held. IsAnswered (map string_bytes words.now) held result) }
+    ensures answered { IfSome (F.held files.old)
+        (λ held. IsAnswered (map string_bytes words.now) held result) }
 
     // The words are faulty exactly where they name no run of an image, in that way.
     ensures command { IsCommanded (read (map string_bytes words.now)) result }
@@ -72,8 +79,10 @@ pub fn iconx_main<F: Files, I: Source, O: Sink, E: Sink>(
     // The first fault ends the call: its object's count rose once, and no other count did but at the put of the fault's own line. An
     // absence is answered only where that count rose.
     ensures causes { EndsAtFirst result (IsAbsence result)
-        (outside (F.faults files.old) (F.absences files.old) (call_streams (I.left input.old) (I.faults input.old) (O.state out.old) (E.state err.old)))
-        (outside (F.faults files.new) (F.absences files.new) (call_streams (I.left input.new) (I.faults input.new) (O.state out.new) (E.state err.new))) }
+        (outside (F.faults files.old) (F.absences files.old)
+        (call_streams (I.left input.old) (I.faults input.old) (O.state out.old) (E.state err.old)))
+        (outside (F.faults files.new) (F.absences files.new)
+        (call_streams (I.left input.new) (I.faults input.new) (O.state out.new) (E.state err.new))) }
 {
     match asked(words) {
         Ok(asked) => image_answer(alloc, asked, files, input, out, err),
@@ -92,17 +101,23 @@ fn image_answer<F: Files, I: Source, O: Sink, E: Sink>(
 ) -> Answer
     ensures outcome { (words : List (List ℕ)) → read words ≡ run_reading run.entry
         → IfSome (F.held files.old) (λ held. IfSome (I.left input.old) (λ left. Outcome words held left result
-        (told (F.held files.old) (call_streams (I.left input.old) (I.faults input.old) (O.state out.old) (E.state err.old)))
-        (told (F.held files.new) (call_streams (I.left input.new) (I.faults input.new) (O.state out.new) (E.state err.new))))) }
-    ensures reported { Reports usage run.entry.image.now (I.left input.old) (E.state err.old) (E.state err.new) result }
-    ensures answered { (words : List (List ℕ)) → read words ≡ run_reading run.entry → IfSome (F.held files.old) (λ held. IsAnswered words held result) }
+        (told (F.held files.old)
+        (call_streams (I.left input.old) (I.faults input.old) (O.state out.old) (E.state err.old)))
+        (told (F.held files.new)
+        (call_streams (I.left input.new) (I.faults input.new) (O.state out.new) (E.state err.new))))) }
+    ensures reported { Reports usage run.entry.image.now (I.left input.old) (E.state err.old)
+        (E.state err.new) result }
+    ensures answered { (words : List (List ℕ)) → read words ≡ run_reading run.entry
+        → IfSome (F.held files.old) (λ held. IsAnswered words held result) }
     ensures command { IsCommand result → ⊥ }
     ensures refused { IsRefusal result → (O.state out.new).held ≡ (O.state out.old).held }
     ensures unread { IsRefusal result → I.left input.new ≡ I.left input.old }
     ensures files { F.held files.new ≡ F.held files.old }
     ensures causes { EndsAtFirst result (IsAbsence result)
-        (outside (F.faults files.old) (F.absences files.old) (call_streams (I.left input.old) (I.faults input.old) (O.state out.old) (E.state err.old)))
-        (outside (F.faults files.new) (F.absences files.new) (call_streams (I.left input.new) (I.faults input.new) (O.state out.new) (E.state err.new))) }
+        (outside (F.faults files.old) (F.absences files.old)
+        (call_streams (I.left input.old) (I.faults input.old) (O.state out.old) (E.state err.old)))
+        (outside (F.faults files.new) (F.absences files.new)
+        (call_streams (I.left input.new) (I.faults input.new) (O.state out.new) (E.state err.new))) }
 {
     match load(alloc, run.image, files) {
         Ok(verified) => run_answer(alloc, &verified, run, input, out, err),
@@ -119,12 +134,16 @@ fn run_answer<I: Source, O: Sink, E: Sink>(
     out: &mut O,
     err: &mut E,
 ) -> Answer
-    ensures outcome { (words : List (List ℕ)) (held : FileMap) (told_files : Option FileMap) → read words ≡ run_reading asked.entry
+    ensures outcome { (words : List (List ℕ)) (held : FileMap) (told_files : Option FileMap)
+        → read words ≡ run_reading asked.entry
         → IsLoaded (held asked.entry.image.now) asked.entry.image.now (Ok code.now) → told_files ≡ Some held
         → IfSome (I.left input.old) (λ left. Outcome words held left result
-        (told told_files (call_streams (I.left input.old) (I.faults input.old) (O.state out.old) (E.state err.old)))
-        (told told_files (call_streams (I.left input.new) (I.faults input.new) (O.state out.new) (E.state err.new)))) }
-    ensures reported { (name : List ℕ) → Reports usage name (I.left input.old) (E.state err.old) (E.state err.new) result }
+        (told told_files
+        (call_streams (I.left input.old) (I.faults input.old) (O.state out.old) (E.state err.old)))
+        (told told_files
+        (call_streams (I.left input.new) (I.faults input.new) (O.state out.new) (E.state err.new)))) }
+    ensures reported { (name : List ℕ)
+        → Reports usage name (I.left input.old) (E.state err.old) (E.state err.new) result }
     ensures others { IsOfRun result }
     ensures causes { RunEndsAtFirst result
         (call_streams (I.left input.old) (I.faults input.old) (O.state out.old) (E.state err.old))

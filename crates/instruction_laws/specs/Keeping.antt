@@ -34,14 +34,19 @@ pub record KeepVariables (before after : World) : Type 0 where
 
 -- each row leaves as many
 pub record RowsKeepVariables : Type 0 where
-  pub operations : (op : Op) (items : List Item) (at : Setting) → KeepVariables at.world (world_after (operation_row op items at))
-  pub functions : (names : Names) (func : Func) (items : List Item) (at : Setting) → KeepVariables at.world (world_after (the_values items (function_of names func) at))
+  pub operations : (op : Op) (items : List Item) (at : Setting)
+      → KeepVariables at.world (world_after (operation_row op items at))
+  pub functions : (names : Names) (func : Func) (items : List Item) (at : Setting)
+      → KeepVariables at.world (world_after (the_values items (function_of names func) at))
   pub resumed : (rest : Residual) (at : Setting) → KeepVariables at.world (world_after (again rest at))
   pub lists : (values : List Value) (at : Setting) → KeepVariables at.world (world_after (list_row values at))
-  pub records : (kind : ℕ) (values : List Value) (at : Setting) → KeepVariables at.world (world_after (record_row kind values at))
+  pub records : (kind : ℕ) (values : List Value) (at : Setting)
+      → KeepVariables at.world (world_after (record_row kind values at))
   pub texts : (value : Value) (at : Setting) → KeepVariables at.world (world_after (text_row value at))
-  pub coexpressions : (count : ℕ) (at : Setting) → KeepVariables at.world (world_after (coexpression_row count at))
-  pub words : (texts : List (List ℕ)) (at : Setting) → KeepVariables at.world (world_after (words_row texts at))
+  pub coexpressions : (count : ℕ) (at : Setting)
+      → KeepVariables at.world (world_after (coexpression_row count at))
+  pub words : (texts : List (List ℕ)) (at : Setting)
+      → KeepVariables at.world (world_after (words_row texts at))
 
 -- States
 
@@ -55,9 +60,15 @@ StateHasVariables tables stuck = Unit {0}
 -- The state with which a run starts has the variables of the tables, and where a state has them, so has the next, whatever the outside is.
 pub record StatesHaveVariables : Type 0 where
   pub starts : (tables : Tables) (launch : Launch) → StateHasVariables tables (start tables launch)
-  pub steps : (tables : Tables) (state : State Frames Frames) → StateHasVariables tables state → StateHasVariables tables (step flat tables state)
-  pub elsewhere : (tables : Tables) (outside : Outside) (state : State Frames Frames) → StateHasVariables tables state → StateHasVariables tables (over_outside outside state)
-  pub instructions : (tables : Tables) (instr : Instr) (m : Frames) (st : Store Frames) → HasVariables tables st → StateHasVariables tables (instruction flat tables instr m st)
-  pub failures : (tables : Tables) (m : Frames) (st : Store Frames) → HasVariables tables st → StateHasVariables tables (fails flat tables m st)
-  pub resuming : (tables : Tables) (why : Why) (m : Frames) (st : Store Frames) → HasVariables tables st → StateHasVariables tables (resume_by flat tables why m st)
-  pub hops : (tables : Tables) (m : Frames) (st : Store Frames) → HasVariables tables st → StateHasVariables tables (hop flat tables m st)
+  pub steps : (tables : Tables) (state : State Frames Frames) → StateHasVariables tables state
+      → StateHasVariables tables (step flat tables state)
+  pub elsewhere : (tables : Tables) (outside : Outside) (state : State Frames Frames)
+      → StateHasVariables tables state → StateHasVariables tables (over_outside outside state)
+  pub instructions : (tables : Tables) (instr : Instr) (m : Frames) (st : Store Frames)
+      → HasVariables tables st → StateHasVariables tables (instruction flat tables instr m st)
+  pub failures : (tables : Tables) (m : Frames) (st : Store Frames) → HasVariables tables st
+      → StateHasVariables tables (fails flat tables m st)
+  pub resuming : (tables : Tables) (why : Why) (m : Frames) (st : Store Frames) → HasVariables tables st
+      → StateHasVariables tables (resume_by flat tables why m st)
+  pub hops : (tables : Tables) (m : Frames) (st : Store Frames) → HasVariables tables st
+      → StateHasVariables tables (hop flat tables m st)

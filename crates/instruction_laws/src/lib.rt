@@ -20,6 +20,8 @@ pub fn variables_stay()
 /// At each state of a run of verified code in which a case is about to compare, a mark is open in the procedure that runs,
 /// whatever the outside is before each step.
 pub fn cases_stand()
-    ensures verified { (tables : Tables) → keeps_rules tables ≡ true → IsVerified tables → (launch : Launch) → CasesStandOver tables (flat.start tables launch) }
-    ensures shaped { (tables : Tables) → keeps_rules tables ≡ true → HaveShapes tables → (launch : Launch) → CasesStandOver tables (flat.start tables launch) }
+    ensures verified { (tables : Tables) → keeps_rules tables ≡ true → IsVerified tables → (launch : Launch)
+        → CasesStandOver tables (flat.start tables launch) }
+    ensures shaped { (tables : Tables) → keeps_rules tables ≡ true → HaveShapes tables → (launch : Launch)
+        → CasesStandOver tables (flat.start tables launch) }
 {}

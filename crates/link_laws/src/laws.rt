@@ -18,7 +18,8 @@ use icn_simulation::same_ends;
 /// speaks. Nothing is asked of the names but that there are as many as files, and nothing of what the linker refuses: a name that two
 /// files declare is resolved alike on both sides.
 pub fn translations_join()
-    ensures { (names : List (List ℕ)) (files : List (List Declaration)) → length names ≡ length files → All IsFaultless files
+    ensures { (names : List (List ℕ)) (files : List (List Declaration)) → length names ≡ length files
+        → All IsFaultless files
         → Joined files (joined (translated_units names files)) }
 {}
 
@@ -26,10 +27,12 @@ pub fn translations_join()
 /// with its report, what is put on both outputs, the input that is left, and the readings that were made. On linked marks, and on
 /// the flat stacks that a machine has.
 pub fn translations_run()
-    ensures on_marks { (names : List (List ℕ)) (files : List (List Declaration)) (launch : Launch) (seen : Observed)
+    ensures on_marks { (names : List (List ℕ)) (files : List (List Declaration)) (launch : Launch)
+        (seen : Observed)
         → length names ≡ length files → All IsFaultless files
         → FilesMean files launch seen ↔ RunsLinked (joined (translated_units names files)) launch seen }
-    ensures on_stacks { (names : List (List ℕ)) (files : List (List Declaration)) (launch : Launch) (seen : Observed)
+    ensures on_stacks { (names : List (List ℕ)) (files : List (List Declaration)) (launch : Launch)
+        (seen : Observed)
         → length names ≡ length files → All IsFaultless files
         → FilesMean files launch seen ↔ RunsFlat (joined (translated_units names files)) launch seen }
 {
@@ -39,12 +42,14 @@ pub fn translations_run()
 
 /// The linked code of a file that breaks no rule, from its translated unit, is the code of which the first law speaks.
 pub fn translated_units_join()
-    ensures { (name : List ℕ) (file : List Declaration) → IsFaultless file → Joined (file ∷ []) (joined (translated_unit name file ∷ [])) }
+    ensures { (name : List ℕ) (file : List Declaration) → IsFaultless file
+        → Joined (file ∷ []) (joined (translated_unit name file ∷ [])) }
 {}
 
 /// The translated unit of a file that breaks no rule can be joined, where the texts of the file are bytes. Nothing is asked of how many
 /// labels it has.
 pub fn translations_are_joinable()
-    ensures { (name : List ℕ) (file : List Declaration) → IsFaultless file → file_fits is_byte_text file ≡ true
+    ensures { (name : List ℕ) (file : List Declaration) → IsFaultless file
+        → file_fits is_byte_text file ≡ true
         → is_joinable (translated_unit name file) ≡ true }
 {}

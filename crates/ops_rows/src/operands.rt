@@ -149,7 +149,8 @@ pub fn items_of(alloc: Global, w: &World, line: &str, vals: &[Val]) -> Result<Ve
 
 // The operand that a field is, whose value has this place among the locals.
 fn item_of(field: &[u8], place: usize, vals: &[Val]) -> Item
-    ensures { (reach : Reach) → reach.locals ≡ length vals.now → All (IsLive reach.extent) vals.now → IsLiveItem reach result }
+    ensures { (reach : Reach) → reach.locals ≡ length vals.now → All (IsLive reach.extent) vals.now
+        → IsLiveItem reach result }
 {
     let Some(val) = vals.get(place) else {
         return Item::Val(Val::Null);

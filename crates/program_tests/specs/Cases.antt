@@ -144,7 +144,8 @@ on_flat c tables bounds =
 abbrev pub on_linked : Case → Tables → Bounds → Option Observed
 on_linked c tables bounds =
     let repeats = repeats_of tables in
-    Step.observed (Linked.steps repeats tables c.steps (Linked.start repeats tables (launch_of c.words bounds c.input)))
+    Step.observed
+    (Linked.steps repeats tables c.steps (Linked.start repeats tables (launch_of c.words bounds c.input)))
 
 -- where none of it was needed the run ends as ever
 abbrev pub short : ℕ → Ending → Ending → Option Ending

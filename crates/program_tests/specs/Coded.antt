@@ -16,4 +16,5 @@ cset_of members = record { bits = map (λ i. sum_by (bit_in i) members) (range_w
 
 -- the tables of a program's files
 abbrev pub tables_of : List (List Declaration) → Tables
-tables_of files = let declarations = joined_declarations files in code_with declarations (map cset_of (sets_of declarations))
+tables_of files = let declarations = joined_declarations files in
+    code_with declarations (map cset_of (sets_of declarations))

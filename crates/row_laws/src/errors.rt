@@ -11,7 +11,10 @@ ghost use Rattle.row_laws.specs.Unchanged.{is_exchange, UnchangedByError, undoes
 /// Where an operation, a function or a resumption is an error that is none of a limit, nothing was charged and nothing changed. Exchanges and
 /// their undos alone assign one side before they look at the other.
 pub fn errors_change_nothing()
-    ensures operations { (op : Op) (items : List Item) (at : Setting) → is_exchange op ≡ false → UnchangedByError at (operation_row op items at) }
-    ensures functions { (names : Names) (func : Func) (items : List Item) (at : Setting) → UnchangedByError at (function_row names func items at) }
-    ensures resumed { (residual : Residual) (at : Setting) → undoes_exchange residual ≡ false → UnchangedByError at (again residual at) }
+    ensures operations { (op : Op) (items : List Item) (at : Setting) → is_exchange op ≡ false
+        → UnchangedByError at (operation_row op items at) }
+    ensures functions { (names : Names) (func : Func) (items : List Item) (at : Setting)
+        → UnchangedByError at (function_row names func items at) }
+    ensures resumed { (residual : Residual) (at : Setting) → undoes_exchange residual ≡ false
+        → UnchangedByError at (again residual at) }
 {}

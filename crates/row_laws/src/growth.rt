@@ -10,7 +10,9 @@ ghost use Rattle.row_laws.specs.Growths.{GrowsIn};
 
 /// Where an operation, a function or a resumption goes on, nothing that was charged was given back, and no structure was taken away.
 pub fn nothing_is_given_back()
-    ensures operations { (op : Op) (items : List Item) (at : Setting) → GrowsIn at (operation_row op items at) }
-    ensures functions { (names : Names) (func : Func) (items : List Item) (at : Setting) → GrowsIn at (function_row names func items at) }
+    ensures operations { (op : Op) (items : List Item) (at : Setting)
+        → GrowsIn at (operation_row op items at) }
+    ensures functions { (names : Names) (func : Func) (items : List Item) (at : Setting)
+        → GrowsIn at (function_row names func items at) }
     ensures resumed { (residual : Residual) (at : Setting) → GrowsIn at (again residual at) }
 {}

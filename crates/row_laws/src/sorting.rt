@@ -16,14 +16,19 @@ ghost use Rattle.icn_value.specs.Values.{Value};
 /// has this.
 pub fn sorting_puts_in_order<T>()
     ensures same { (cmp : T → T → Ordering) (xs : List T) → IsPermutation xs (sorted cmp xs) }
-    ensures ascending { (cmp : T → T → Ordering) → IsTotalOrder cmp → (xs : List T) → IsSorted cmp (sorted cmp xs) }
-    ensures alone { (cmp : T → T → Ordering) → IsTotalOrder cmp → ((x y : T) → cmp x y ≡ Equal → x ≡ y) → (xs ys : List T) → IsPermutation xs ys → IsSorted cmp ys → ys ≡ sorted cmp xs }
+    ensures ascending { (cmp : T → T → Ordering) → IsTotalOrder cmp → (xs : List T)
+        → IsSorted cmp (sorted cmp xs) }
+    ensures alone { (cmp : T → T → Ordering) → IsTotalOrder cmp → ((x y : T) → cmp x y ≡ Equal → x ≡ y)
+        → (xs ys : List T) → IsPermutation xs ys → IsSorted cmp ys → ys ≡ sorted cmp xs }
 {}
 
 /// So a list that has the same values and ascends is the one that `sort` gives, and so are the pairs of a table by key, since its keys differ, or by
 /// value and then by key.
 pub fn sorting_is_one()
-    ensures values { (names : Names) (heap : Heap) (xs ys : List Value) → IsPermutation xs ys → IsSorted (value_cmp names heap) ys → ys ≡ sorted (value_cmp names heap) xs }
-    ensures keys { (names : Names) (heap : Heap) (xs ys : List (Value × Value)) → KeysDiffer same xs → IsPermutation xs ys → IsSorted (key_cmp names heap) ys → ys ≡ sorted (key_cmp names heap) xs }
-    ensures entries { (names : Names) (heap : Heap) (xs ys : List (Value × Value)) → IsPermutation xs ys → IsSorted (entry_cmp names heap) ys → ys ≡ sorted (entry_cmp names heap) xs }
+    ensures values { (names : Names) (heap : Heap) (xs ys : List Value) → IsPermutation xs ys
+        → IsSorted (value_cmp names heap) ys → ys ≡ sorted (value_cmp names heap) xs }
+    ensures keys { (names : Names) (heap : Heap) (xs ys : List (Value × Value)) → KeysDiffer same xs
+        → IsPermutation xs ys → IsSorted (key_cmp names heap) ys → ys ≡ sorted (key_cmp names heap) xs }
+    ensures entries { (names : Names) (heap : Heap) (xs ys : List (Value × Value)) → IsPermutation xs ys
+        → IsSorted (entry_cmp names heap) ys → ys ≡ sorted (entry_cmp names heap) xs }
 {}

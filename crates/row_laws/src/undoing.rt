@@ -9,7 +9,9 @@ ghost use Rattle.row_laws.specs.Undos.{assigned_and_undone, is_kept, part_at, wi
 /// An undo of an assignment to a global, a static, a local, an element or a field leaves everything as it was before the assignment; at a key
 /// of a table it is the value that was assigned last that is read; and a part of a text that is replaced, and replaced back, leaves the text.
 pub fn undoing_gives_back()
-    ensures whole { (root : Root) (value old : Value) (next : Row) (at : Setting) → is_kept root ≡ true → root_value at root ≡ Some old → assigned_and_undone root value old next at ≡ next at }
+    ensures whole { (root : Root) (value old : Value) (next : Row) (at : Setting) → is_kept root ≡ true
+        → root_value at root ≡ Some old → assigned_and_undone root value old next at ≡ next at }
     ensures key { (table : Table) (key value : Value) → table_value (with_value table key value) key ≡ value }
-    ensures part { (text new : List ℕ) (place size : ℕ) → 1 ≤ place → place - 1 + size ≤ length text → replaced (replaced text place size new) place (length new) (part_at text place size) ≡ text }
+    ensures part { (text new : List ℕ) (place size : ℕ) → 1 ≤ place → place - 1 + size ≤ length text
+        → replaced (replaced text place size new) place (length new) (part_at text place size) ≡ text }
 {}

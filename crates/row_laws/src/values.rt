@@ -20,7 +20,8 @@ pub fn equivalence_is_equality()
 /// The order of sort is total, and only one and the same value ties with a value.
 pub fn sorting_is_total()
     ensures total { (names : Names) (heap : Heap) → IsTotalOrder (value_cmp names heap) }
-    ensures ties { (names : Names) (heap : Heap) (a b : Value) → value_cmp names heap a b ≡ Equal → same a b ≡ true }
+    ensures ties { (names : Names) (heap : Heap) (a b : Value) → value_cmp names heap a b ≡ Equal
+        → same a b ≡ true }
 {}
 
 /// An integer of 64 bits becomes a text, and that text becomes the integer.
@@ -35,7 +36,8 @@ pub fn integers_survive_texts()
 pub fn positions_are_places()
     ensures low { (n : ℤ) (size place : ℕ) → place_of n size ≡ Some place → 1 ≤ place }
     ensures high { (n : ℤ) (size place : ℕ) → place_of n size ≡ Some place → place ≤ size + 1 }
-    ensures from_the_start { (size place : ℕ) → 1 ≤ place → place ≤ size + 1 → place_of (pos place) size ≡ Some place }
+    ensures from_the_start { (size place : ℕ) → 1 ≤ place → place ≤ size + 1
+        → place_of (pos place) size ≡ Some place }
     ensures behind_the_last { (size : ℕ) → place_of (pos 0) size ≡ Some (size + 1) }
     ensures from_the_end { (size n : ℕ) → suc n ≤ size → place_of (negsuc n) size ≡ Some (size - n) }
 {}

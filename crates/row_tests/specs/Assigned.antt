@@ -99,7 +99,8 @@ variables =
     case (op O.Swap (local_part 0 1 4 ∷ local_part 0 4 2 ∷ []))
     (Gave (local_part 0 1 2) (costs 8 0 (text_local (codes "lhell") plain)) ∷ []) ∷
     -- a part that would move below 1, and what was assigned by then
-    case (op O.Swap (local_part 0 1 5 ∷ local_part 0 2 1 ∷ [])) (Stopped 205 None (costs 1 0 (text_local (codes "e") plain)) ∷ []) ∷
+    case (op O.Swap (local_part 0 1 5 ∷ local_part 0 2 1 ∷ []))
+    (Stopped 205 None (costs 1 0 (text_local (codes "e") plain)) ∷ []) ∷
     -- x <- y and x <-> y, and what they take back
     case (op O.ReversibleAssign (local 1 ∷ int 2 ∷ []))
     (Suspended (local 1) (holding (Text (codes "hello") ∷ num 2 ∷ Null ∷ []) plain) ∷ fails) ∷
@@ -114,7 +115,8 @@ variables =
     case (op O.ReversibleAssign (position ∷ int 9 ∷ [])) fails ∷
     case_between (op O.Assign (subject ∷ str [] ∷ []) ∷ []) (op O.ReversibleAssign (position ∷ int 3 ∷ []))
     (Suspended position (having_position 3 plain) ∷ Stopped 205 None (having_subject [] plain) ∷ []) ∷
-    case_between (fn F.Pop (list 0 ∷ []) ∷ []) (op O.ReversibleAssign (whole (Element 0 (pos 1)) ∷ int 3 ∷ []))
+    case_between (fn F.Pop (list 0 ∷ []) ∷ [])
+    (op O.ReversibleAssign (whole (Element 0 (pos 1)) ∷ int 3 ∷ []))
     (Suspended (whole (Element 0 (pos 1))) plain
     ∷ Stopped 205 None (having_heap (with_list 0 (record {
       items = Text (codes "a") ∷ num 1 ∷ Null

@@ -46,16 +46,23 @@ local_part place from size = Var (Part (Local place) from size)
 
 abbrev pub names : Names
 names =
-    record { procedures = codes "main" ∷ codes "abs" ∷ []; records = codes "point" ∷ codes "pair" ∷ codes "point" ∷ [] }
+    record {
+      procedures = codes "main" ∷ codes "abs" ∷ [];
+      records = codes "point" ∷ codes "pair" ∷ codes "point" ∷ [];
+    }
 
 abbrev pub heap : Heap
 heap = record {
   lists = record { items = Integer (pos 3) ∷ Text (codes "a") ∷ Integer (pos 1) ∷ Null ∷ []; number = pos 1 }
       ∷ record { items = []; number = pos 4 } ∷ [];
   sets = (Integer (pos 1) ∷ Integer (pos 2) ∷ []) ∷ (Integer (pos 2) ∷ Text (codes "b") ∷ []) ∷ [] ∷ [];
-  tables = record { default = Integer (pos 0); pairs = (Text (codes "b"), Integer (pos 2)) ∷ (Text (codes "a"), Integer (pos 2)) ∷ [] }
+  tables = record {
+    default = Integer (pos 0);
+    pairs = (Text (codes "b"), Integer (pos 2)) ∷ (Text (codes "a"), Integer (pos 2)) ∷ [];
+  }
       ∷ record { default = Null; pairs = [] } ∷ [];
-  records = record { kind = 0; fields = Integer (pos 1) ∷ Text (codes "x") ∷ [] } ∷ record { kind = 1; fields = [] }
+  records = record { kind = 0; fields = Integer (pos 1) ∷ Text (codes "x") ∷ [] }
+      ∷ record { kind = 1; fields = [] }
       ∷ record { kind = 2; fields = Null ∷ [] } ∷ [];
   coexps = 0 ∷ 3 ∷ [];
   strings = 0;
@@ -80,7 +87,10 @@ plain = record {
 -- so many string bytes and cells more
 abbrev pub costs : ℕ → ℕ → Setting → Setting
 costs bytes cells setting =
-    record setting { world = record setting.world { heap = record setting.world.heap { strings = bytes; cells = 30 + cells } } }
+    record setting {
+      world =
+          record setting.world { heap = record setting.world.heap { strings = bytes; cells = 30 + cells } };
+    }
 
 abbrev pub holding : List Value → Setting → Setting
 holding values setting = record setting { locals = values }

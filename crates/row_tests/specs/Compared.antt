@@ -41,7 +41,8 @@ comparisons =
     -- /x and \x give the variable, .x its value
     case (op O.IsNull (local 2 ∷ [])) (gives (local 2)) ∷
     case (op O.IsNull (local 1 ∷ [])) fails ∷
-    case (op O.IsNull (Var (Whole (Key 1 (Integer (pos 5)))) ∷ [])) (gives (Var (Whole (Key 1 (Integer (pos 5)))))) ∷
+    case (op O.IsNull (Var (Whole (Key 1 (Integer (pos 5)))) ∷ []))
+    (gives (Var (Whole (Key 1 (Integer (pos 5)))))) ∷
     case (op O.IsNotNull (local 1 ∷ [])) (gives (local 1)) ∷
     case (op O.IsNotNull (null ∷ [])) fails ∷
     case (op O.Dereference (local 0 ∷ [])) (gives (str (codes "hello"))) ∷

@@ -11,7 +11,8 @@ use Rattle.row_tests.specs.Cases.{Case, case_from, plain, op, fn, int, str, null
 -- so many string bytes and cells may still be charged
 abbrev limited : ℕ → ℕ → Setting
 limited bytes cells =
-    having_heap (λ heap. record heap { bounds = record { turns = 100; strings = bytes; cells = 30 + cells; levels = 10 } }) plain
+    having_heap (λ heap.
+    record heap { bounds = record { turns = 100; strings = bytes; cells = 30 + cells; levels = 10 } }) plain
 
 -- nothing was charged when the limit of strings, or of cells, was met
 abbrev over_strings : ℕ → Row → Case

@@ -27,7 +27,8 @@ alone number text = record { number = number; offending = None; text = text }
 -- an error of each number, with its report
 abbrev pub reports : List Report
 reports =
-    of 101 (Text (codes "x")) (codes "Run-time error 101\ninteger expected or out of range\noffending value: \"x\"\n") ∷
+    of 101 (Text (codes "x"))
+    (codes "Run-time error 101\ninteger expected or out of range\noffending value: \"x\"\n") ∷
     of 102 Null (codes "Run-time error 102\nnumeric expected\noffending value: &null\n") ∷
     of 103 (AList 0) (codes "Run-time error 103\nstring expected\noffending value: list_1(4)\n") ∷
     of 104 Null (codes "Run-time error 104\ncset expected\noffending value: &null\n") ∷
@@ -57,9 +58,12 @@ reports =
     of 207 Null (codes "Run-time error 207\ninvalid field name\noffending value: &null\n") ∷
     alone 208 (codes "Run-time error 208\nsecond and third arguments to map of unequal length\n") ∷
     alone 211 (codes "Run-time error 211\nby value equal to zero\n") ∷
-    of 212 (Std Output) (codes "Run-time error 212\nattempt to read file not open for reading\noffending value: &output\n") ∷
-    of 213 (Std Input) (codes "Run-time error 213\nattempt to write file not open for writing\noffending value: &input\n") ∷
-    of 215 (ACoexp 0) (codes "Run-time error 215\nattempt to refresh &main\noffending value: co-expression_1(0)\n") ∷
+    of 212 (Std Output)
+    (codes "Run-time error 212\nattempt to read file not open for reading\noffending value: &output\n") ∷
+    of 213 (Std Input)
+    (codes "Run-time error 213\nattempt to write file not open for writing\noffending value: &input\n") ∷
+    of 215 (ACoexp 0)
+    (codes "Run-time error 215\nattempt to refresh &main\noffending value: co-expression_1(0)\n") ∷
     alone 301 (codes "Run-time error 301\nevaluation stack overflow\n") ∷
     alone 306 (codes "Run-time error 306\ninadequate space in string region\n") ∷
     alone 307 (codes "Run-time error 307\ninadequate space in block region\n") ∷ []

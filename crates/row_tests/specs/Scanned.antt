@@ -20,13 +20,15 @@ scanning =
     case (fn F.Find (str (codes "h") ∷ [])) fails ∷
     case (fn F.Find (str (codes "h") ∷ null ∷ int 1 ∷ [])) (gives_all (int 1 ∷ [])) ∷
     case (fn F.Find (str [] ∷ str (codes "ab") ∷ [])) (gives_all (int 1 ∷ int 2 ∷ int 3 ∷ [])) ∷
-    case (fn F.Find (str (codes "l") ∷ str (codes "hello") ∷ below 0 ∷ int 1 ∷ [])) (gives_all (int 3 ∷ int 4 ∷ [])) ∷
+    case (fn F.Find (str (codes "l") ∷ str (codes "hello") ∷ below 0 ∷ int 1 ∷ []))
+    (gives_all (int 3 ∷ int 4 ∷ [])) ∷
     case (fn F.Find (str (codes "lo") ∷ str (codes "hello") ∷ int 1 ∷ below 0 ∷ [])) fails ∷
     case (fn F.Find (str (codes "l") ∷ str (codes "hello") ∷ int 9 ∷ [])) fails ∷
     case (fn F.Find (int 1 ∷ int 212 ∷ []))
     (Suspended (int 2) (costs 4 0 plain) ∷ Failed (costs 4 0 plain) ∷ []) ∷
     case (fn F.Find (list 0 ∷ [])) (stops 103 (list 0)) ∷
-    case (fn F.Find (str (codes "a") ∷ str (codes "b") ∷ str (codes "x") ∷ [])) (stops 101 (str (codes "x"))) ∷
+    case (fn F.Find (str (codes "a") ∷ str (codes "b") ∷ str (codes "x") ∷ [])) (stops 101 (str (codes "x")))
+    ∷
     -- match, any, many
     case (fn F.Match (str (codes "he") ∷ str (codes "hello") ∷ [])) (gives (int 3)) ∷
     case (fn F.Match (str (codes "ell") ∷ [])) (gives (int 5)) ∷
@@ -45,7 +47,8 @@ scanning =
     case (fn F.Upto (list 0 ∷ [])) (stops 104 (list 0)) ∷
     case (fn F.Bal (str (codes "+") ∷ null ∷ null ∷ str (codes "(a+b)+c") ∷ [])) (gives_all (int 6 ∷ [])) ∷
     case (fn F.Bal (null ∷ null ∷ null ∷ str (codes "a)b") ∷ [])) (gives_all (int 1 ∷ int 2 ∷ [])) ∷
-    case (fn F.Bal (str (codes "+") ∷ str (codes "[") ∷ str (codes "]") ∷ str (codes "[+]+") ∷ [])) (gives_all (int 4 ∷ [])) ∷
+    case (fn F.Bal (str (codes "+") ∷ str (codes "[") ∷ str (codes "]") ∷ str (codes "[+]+") ∷ []))
+    (gives_all (int 4 ∷ [])) ∷
     case (fn F.Bal (null ∷ list 0 ∷ [])) (stops 104 (list 0)) ∷
     -- tab, move, pos and =s
     moves (fn F.Tab (int 4 ∷ [])) 4 (codes "el") ∷

@@ -45,11 +45,13 @@ more_set members setting = having_heap (λ heap. record heap { sets = heap.sets 
 
 abbrev more_table : Value → List (Value × Value) → Setting → Setting
 more_table default pairs setting =
-    having_heap (λ heap. record heap { tables = heap.tables ++ record { default = default; pairs = pairs } ∷ [] }) setting
+    having_heap
+    (λ heap. record heap { tables = heap.tables ++ record { default = default; pairs = pairs } ∷ [] }) setting
 
 abbrev more_record : ℕ → List Value → Setting → Setting
 more_record kind fields setting =
-    having_heap (λ heap. record heap { records = heap.records ++ record { kind = kind; fields = fields } ∷ [] }) setting
+    having_heap
+    (λ heap. record heap { records = heap.records ++ record { kind = kind; fields = fields } ∷ [] }) setting
 
 -- set 0 has these members, and table 0 these pairs
 abbrev first_set : List Value → Setting → Setting
@@ -65,7 +67,8 @@ new_list row items cells = case row (Gave (list 2) (costs 0 cells (more_list ite
 -- one list of many types
 abbrev mixed : Setting
 mixed =
-    first_list (ARecord 2 ∷ ARecord 1 ∷ ARecord 0 ∷ ATable 0 ∷ ASet 0 ∷ AList 0 ∷ Procedure 5 ∷ Procedure 1 ∷ Procedure 0 ∷ ACoexp 1
+    first_list (ARecord 2 ∷ ARecord 1 ∷ ARecord 0 ∷ ATable 0 ∷ ASet 0 ∷ AList 0 ∷ Procedure 5 ∷ Procedure 1
+    ∷ Procedure 0 ∷ ACoexp 1
     ∷ Std Input ∷ Std Errout ∷ Chars (codes "a") ∷ txt (codes "ab") ∷ txt (codes "B") ∷ num 10 ∷ num 9
     ∷ Null ∷ []) (pos 1) plain
 
@@ -73,10 +76,12 @@ mixed =
 abbrev pub structures : List Case
 structures =
     -- !x: elements, fields and values are variables, bytes of a variable are too
-    case (op O.Elements (list 0 ∷ [])) (gives_all (element 0 1 ∷ element 0 2 ∷ element 0 3 ∷ element 0 4 ∷ [])) ∷
+    case (op O.Elements (list 0 ∷ []))
+    (gives_all (element 0 1 ∷ element 0 2 ∷ element 0 3 ∷ element 0 4 ∷ [])) ∷
     case (op O.Elements (list 1 ∷ [])) fails ∷
     case (op O.Elements (Val (ASet 0) ∷ [])) (gives_all (int 1 ∷ int 2 ∷ [])) ∷
-    case (op O.Elements (Val (ATable 0) ∷ [])) (gives_all (key 0 (txt (codes "b")) ∷ key 0 (txt (codes "a")) ∷ [])) ∷
+    case (op O.Elements (Val (ATable 0) ∷ []))
+    (gives_all (key 0 (txt (codes "b")) ∷ key 0 (txt (codes "a")) ∷ [])) ∷
     case (op O.Elements (Val (ARecord 0) ∷ [])) (gives_all (field 0 0 ∷ field 0 1 ∷ [])) ∷
     case (op O.Elements (str (codes "ab") ∷ [])) (gives_all (str (codes "a") ∷ str (codes "b") ∷ [])) ∷
     case (op O.Elements (local_part 0 2 2 ∷ [])) (gives_all (local_part 0 2 1 ∷ local_part 0 3 1 ∷ [])) ∷
@@ -182,8 +187,10 @@ structures =
     ∷ Chars (codes "a") ∷ Std Errout ∷ Std Input ∷ ACoexp 1 ∷ Procedure 1 ∷ Procedure 5 ∷ Procedure 0
     ∷ AList 0 ∷ ASet 0 ∷ ATable 0
     ∷ ARecord 1 ∷ ARecord 0 ∷ ARecord 2 ∷ []) mixed)) ∷ []) ∷
-    new_list (fn F.Sort (Val (ATable 0) ∷ int 3 ∷ [])) (txt (codes "a") ∷ num 2 ∷ txt (codes "b") ∷ num 2 ∷ []) 5 ∷
-    new_list (fn F.Sort (Val (ATable 0) ∷ int 4 ∷ [])) (txt (codes "a") ∷ num 2 ∷ txt (codes "b") ∷ num 2 ∷ []) 5 ∷
+    new_list (fn F.Sort (Val (ATable 0) ∷ int 3 ∷ []))
+    (txt (codes "a") ∷ num 2 ∷ txt (codes "b") ∷ num 2 ∷ []) 5 ∷
+    new_list (fn F.Sort (Val (ATable 0) ∷ int 4 ∷ []))
+    (txt (codes "a") ∷ num 2 ∷ txt (codes "b") ∷ num 2 ∷ []) 5 ∷
     case (fn F.Sort (Val (ATable 0) ∷ [])) (Gave (list 4) (costs 0 9 (more_list (AList 2 ∷ AList 3 ∷ [])
     (more_list (txt (codes "b") ∷ num 2 ∷ []) (more_list (txt (codes "a") ∷ num 2 ∷ []) plain)))) ∷ []) ∷
     case (fn F.Sort (Val (ATable 0) ∷ int 5 ∷ [])) (stops 205 (int 5)) ∷

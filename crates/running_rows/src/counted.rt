@@ -61,5 +61,6 @@ impl<T: Copy> Stack<T> for CountedStack<T> {
         self.held.copy_up(from, to);
     }
 
-    ghost small = { λ s. Prim.omega (arith, length-reverse s.held.items.items, s.held.items.ok, s.held.items.small) };
+    ghost small = { λ s.
+        Prim.omega (arith, length-reverse s.held.items.items, s.held.items.ok, s.held.items.small) };
 }

@@ -27,7 +27,8 @@ pub fn tokens_of_bytes()
 
 /// Where lines are bytes, and no more than a named file may give, so are the literals of what is parsed, and the names that it links.
 pub fn texts_of_bytes()
-    ensures { (lines : List SourceLine) (tokens : List Token) (file : List Declaration) → joined_len lines ≤ 16777216
+    ensures { (lines : List SourceLine) (tokens : List Token) (file : List Declaration)
+        → joined_len lines ≤ 16777216
         → lines_are_of_bytes lines ≡ true → tokens_of lines ≡ Scanned tokens → IsOutcome tokens (IsTree file)
         → file_fits is_byte_text file ≡ true }
 {}

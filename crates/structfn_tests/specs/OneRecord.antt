@@ -20,4 +20,5 @@ AllNamed world locals = SettingNamed one_record (setting_of (outside_of []) worl
 
 -- so has what a call gave
 abbrev pub ComesNamed : World → List Val → Outcome → Type 0
-ComesNamed world locals outcome = OutcomeNamed one_record (outcome_in (extent_of world.heap) outcome (setting_of (outside_of []) world locals))
+ComesNamed world locals outcome = OutcomeNamed one_record
+    (outcome_in (extent_of world.heap) outcome (setting_of (outside_of []) world locals))

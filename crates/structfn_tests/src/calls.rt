@@ -54,7 +54,8 @@ fn applied(w: &mut World, l: &Slots, func: Func) -> Result<Outcome, Halt>
 fn values(w: &World, _l: &Slots) -> Result<Vec<Val>, AllocError>
     requires { AllNamed w.now _l.now.vals.items }
     ensures live { IfOk result (λ args. All (IsLive (extent_of w.now.heap)) args.items) }
-    ensures named { IfOk result (λ args. All (ValueNamed one_record) (map (value_in (extent_of w.now.heap)) args.items)) }
+    ensures named { IfOk result
+        (λ args. All (ValueNamed one_record) (map (value_in (extent_of w.now.heap)) args.items)) }
 {
     Ok(w.statics.as_slice().to_vec(*w.globals.allocator())?)
 }

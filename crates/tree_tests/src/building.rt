@@ -51,7 +51,8 @@ pub fn to_by(
     to: Expr,
     by: Expr,
 ) -> Result<Expr, AllocError>
-    ensures { IfOk result (λ expr. tree_of expr ≡ To place (tree_of from) (tree_of to) (Present (tree_of by))) }
+    ensures { IfOk result
+        (λ expr. tree_of expr ≡ To place (tree_of from) (tree_of to) (Present (tree_of by))) }
 {
     Ok(Expr::To {
         place,
